@@ -1,0 +1,4 @@
+pub mod OneThread
+pub mod Ran
+pub mod Status
+pub mod Command

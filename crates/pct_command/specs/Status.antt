@@ -1,0 +1,19 @@
+-- The codes of statuses.
+use Rattle.std.specs.Prelude.{ℕ}
+use Rattle.pct_command.specs.declared.status.Status.{Status}
+use Rattle.pct_command.specs.declared.status.Status.TheVariants as status
+
+-- the code with which the program exits
+abbrev pub code_of : Status → ℕ
+code_of status.Complete = 0
+code_of status.Deadlock = 1
+code_of status.Budget = 2
+code_of status.Undefined = 3
+code_of status.Open = 4
+code_of status.Usage = 5
+code_of status.ScriptRefused = 6
+code_of status.ScheduleRefused = 7
+code_of status.TooLong = 8
+code_of status.ReadFault = 9
+code_of status.WriteFault = 10
+code_of status.NoMemory = 11

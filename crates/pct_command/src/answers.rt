@@ -1,0 +1,81 @@
+//! What is written: reports and refusals, gathered on their way to the sink.
+
+ghost use Rattle.std.specs.Prelude.{[], ◌∷◌, ◌++◌, ◌<◌, ◌^◌, length, map};
+ghost use Rattle.std.specs.List.{join_with_byte};
+ghost use Rattle.pct_io.specs.Writes.{Writes};
+ghost use Rattle.pct_io.specs.Lines.{word_text};
+ghost use Rattle.pct_model.specs.Words.{line_text, text_of};
+ghost use Rattle.pct_model.specs.Report.{report_lines};
+ghost use Rattle.pct_model.specs.Outcome.{refused_words, refused_input, refused_script};
+
+use crate::report::write_report;
+use pct_io::{Failed, Gatherer, Sink, Word, write_line};
+use pct_model::{Config, Entry, Event, Keyword, ParseWhy, Script, Verdict};
+
+/// Writes a line through a gatherer.
+fn write_alone<K: Sink>(sink: &mut K, words: &[Word]) -> Result<(), Failed>
+    ensures { Writes K.written K.faults K.inners sink.old sink.new (join_with_byte 32 (map word_text words.now) ++ 10 ∷ []) result }
+{
+    let mut line = Gatherer::new(sink);
+    write_line(&mut line, words)?;
+    line.empty()
+}
+
+/// Writes the report of a run through a gatherer.
+pub(crate) fn write_ran<K: Sink>(
+    sink: &mut K,
+    script: &Script,
+    config: Config,
+    events: &[Event],
+    verdict: Verdict,
+    entries: &[Entry],
+) -> Result<(), Failed>
+    requires { length entries.now < 2 ^ 32 }
+    ensures { Writes K.written K.faults K.inners sink.old sink.new (text_of (report_lines script.now config events.now verdict entries.now)) result }
+{
+    let mut out = Gatherer::new(sink);
+    write_report(&mut out, script, config, events, verdict, entries)?;
+    out.empty()
+}
+
+#[tactic(auto, unfolding(pct_model::specs::Outcome::refused_words))]
+pub(crate) fn refuse_words<K: Sink>(sink: &mut K) -> Result<(), Failed>
+    ensures { Writes K.written K.faults K.inners sink.old sink.new (line_text refused_words) result }
+{
+    write_alone(
+        sink,
+        &[
+            Word::Text(Keyword::Refused.text()),
+            Word::Text(Keyword::Words.text()),
+        ],
+    )
+}
+
+#[tactic(auto, unfolding(pct_model::specs::Outcome::refused_input))]
+pub(crate) fn refuse_input<K: Sink>(sink: &mut K) -> Result<(), Failed>
+    ensures { Writes K.written K.faults K.inners sink.old sink.new (line_text refused_input) result }
+{
+    write_alone(
+        sink,
+        &[
+            Word::Text(Keyword::Refused.text()),
+            Word::Text(Keyword::Input.text()),
+            Word::Text(Keyword::TooLong.text()),
+        ],
+    )
+}
+
+#[tactic(auto, unfolding(pct_model::specs::Outcome::refused_script))]
+pub(crate) fn refuse_script<K: Sink>(sink: &mut K, line: u32, why: ParseWhy) -> Result<(), Failed>
+    ensures { Writes K.written K.faults K.inners sink.old sink.new (line_text (refused_script line why)) result }
+{
+    write_alone(
+        sink,
+        &[
+            Word::Text(Keyword::Refused.text()),
+            Word::Text(Keyword::Script.text()),
+            Word::Number(line),
+            Word::Text(why.name().text()),
+        ],
+    )
+}

@@ -1,0 +1,23 @@
+//! The top call: `command` reads words and an input, runs the script and writes the report.
+#![tactic(auto)]
+
+mod answers;
+mod cleanup;
+mod events;
+mod go;
+mod machine;
+mod process;
+mod report;
+mod returns;
+mod schedule;
+mod stack;
+mod status;
+mod top;
+mod words;
+
+pub use status::Status;
+pub use top::command;
+pub use words::{Job, RunOptions, Usage, read_words};
+
+#[cfg(test)]
+mod tests;

@@ -1,0 +1,88 @@
+//! The machine of one thread: it runs a script from its opening until the run is no longer open.
+
+ghost use Rattle.std.specs.Prelude.{◌≡◌, ◌≤◌, length, IfOk, IsTrue};
+ghost use Rattle.pct_model.specs.World.{opening};
+ghost use Rattle.pct_model.specs.Run.{is_config, verdict_of};
+ghost use Rattle.pct_command.specs.OneThread.{world_of};
+ghost use Rattle.pct_command.specs.Ran.{IsRan, MayGo};
+ghost use Rattle.pct_model.specs.declared.stop.Verdict.TheVariants as verdict;
+
+use crate::events::record_entry;
+use crate::go::{can_go, go};
+use crate::process::{Frames, Handlers, OneProcess, OneThread, new_frame};
+use pct_io::NoMemory;
+use pct_model::{Config, Entry, Event, FrameKind, Mode, Script, State, Status, Verdict, main_of};
+use std::alloc::Global;
+
+/// A run that is over: its events and its entries in order, and how it stands.
+#[derive(Drop)]
+pub(crate) struct Ran {
+    pub(crate) events: Vec<Event>,
+    pub(crate) history: Vec<Entry>,
+    pub(crate) verdict: Verdict,
+}
+
+/// Runs the script alone: the first thread of the first process goes on until the run is not open.
+pub(crate) fn run_alone(alloc: Global, script: &Script, config: Config) -> Result<Ran, NoMemory>
+    requires { IsTrue (is_config config) }
+    ensures ran { IfOk result (λ ran. IsRan script.now config ran.events.items ran.history.items ran.verdict) }
+    ensures within { IfOk result (λ ran. length ran.history.items ≤ config.budget) }
+{
+    let budget = config.budget as usize;
+    let mut events = Vec::with_capacity(alloc, budget)?;
+    let mut history = Vec::with_capacity(alloc, budget)?;
+    let mut process = opening_of(alloc, script)?;
+    let mut verdict = verdict_after(script, config, &process, 0);
+    while let Verdict::Open = verdict {
+        go(script, config, &mut process, &mut events);
+        record_entry(&mut history);
+        verdict = verdict_after(script, config, &process, history.len());
+    }
+    Ok(Ran {
+        events,
+        history,
+        verdict,
+    })
+}
+
+// The first process at its beginning.
+#[tactic(auto, unfolding(pct_model::specs::World::opening))]
+fn opening_of(alloc: Global, script: &Script) -> Result<OneProcess, NoMemory>
+    ensures { IfOk result (λ process. opening script.now ≡ world_of script.now process) }
+{
+    let main = main_of(script.funcs.as_slice()) as u32;
+    let mut frames = Frames::new();
+    frames.push(new_frame(main, 0, FrameKind::Main));
+    Ok(OneProcess {
+        thread: OneThread {
+            status: Status::Running,
+            state: State::Enable,
+            mode: Mode::Deferred,
+            frames,
+            handlers: Handlers::new(),
+        },
+        globals: vec![in alloc; 0; script.globals.as_slice().len()]?,
+        exit: None,
+        ended: None,
+        stop: None,
+    })
+}
+
+// How a run of so many entries stands.
+#[tactic(auto, unfolding(pct_model::specs::Run::verdict_of))]
+fn verdict_after(script: &Script, config: Config, process: &OneProcess, count: usize) -> Verdict
+    ensures value { result ≡ verdict_of script.now config (world_of script.now process.now) count }
+    ensures open { result ≡ verdict.Open → MayGo script.now config process.now count }
+{
+    if let Some(why) = process.stop {
+        Verdict::Undefined(why)
+    } else if process.ended.is_some() {
+        Verdict::Complete
+    } else if !can_go(script, config, process) {
+        Verdict::Deadlock
+    } else if count == config.budget as usize {
+        Verdict::Budget
+    } else {
+        Verdict::Open
+    }
+}

@@ -1,0 +1,55 @@
+//! How the program ends.
+
+ghost use Rattle.std.specs.Prelude.{◌≡◌};
+ghost use Rattle.pct_command.specs.Status.{code_of};
+
+/// How the program ends. Its exit status is the code.
+#[derive(Clone, Copy, Debug, PartialEq, Eq)]
+pub enum Status {
+    /// 0: the run is complete.
+    Complete,
+    /// 1: the run can take no further step.
+    Deadlock,
+    /// 2: the run used up its budget.
+    Budget,
+    /// 3: the run was stopped.
+    Undefined,
+    /// 4: the run that was replayed can go on.
+    Open,
+    /// 5: the words are not accepted.
+    Usage,
+    /// 6: the script is refused.
+    ScriptRefused,
+    /// 7: the schedule is refused.
+    ScheduleRefused,
+    /// 8: the input has more than 16,777,216 bytes.
+    TooLong,
+    /// 9: the input could not be read.
+    ReadFault,
+    /// 10: the output could not be written.
+    WriteFault,
+    /// 11: memory ran out.
+    NoMemory,
+}
+
+impl Status {
+    /// The exit status of the program.
+    pub fn code(&self) -> u8
+        ensures { result ≡ code_of self.now }
+    {
+        match self {
+            Status::Complete => 0,
+            Status::Deadlock => 1,
+            Status::Budget => 2,
+            Status::Undefined => 3,
+            Status::Open => 4,
+            Status::Usage => 5,
+            Status::ScriptRefused => 6,
+            Status::ScheduleRefused => 7,
+            Status::TooLong => 8,
+            Status::ReadFault => 9,
+            Status::WriteFault => 10,
+            Status::NoMemory => 11,
+        }
+    }
+}

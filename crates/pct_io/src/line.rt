@@ -1,0 +1,77 @@
+//! Lines of words.
+
+ghost use Rattle.std.specs.Prelude.{[], ◌∷◌, ◌++◌, map};
+ghost use Rattle.std.specs.List.{flat_map, join_with_byte};
+ghost use Rattle.pct_io.specs.Writes.{Writes};
+ghost use Rattle.pct_io.specs.Lines.{word_text};
+
+use crate::whole::{write_all, write_parts};
+use crate::{Failed, Sink};
+use itoa::Buffer;
+
+/// A word of a line.
+#[derive(Clone, Copy)]
+pub enum Word<'a> {
+    /// These bytes.
+    Text(&'a [u8]),
+    /// A number in decimal, without leading zeros.
+    Number(u32),
+    /// Two numbers, parted by a dot.
+    Dotted(u32, u32),
+}
+
+/// Writes a line: its words, parted by one space, and then a line's end (byte 10). At `Failed` a front of the line was
+/// written, and the sink's count of faults rose. It takes no memory.
+pub fn write_line<K: Sink>(sink: &mut K, words: &[Word]) -> Result<(), Failed>
+    ensures { Writes K.written K.faults K.inners sink.old sink.new (join_with_byte 32 (map word_text words.now) ++ 10 ∷ []) result }
+{
+    write_words(sink, words)?;
+    write_all(sink, b"\n")
+}
+
+// Writes the words, parted by one space.
+fn write_words<K: Sink>(sink: &mut K, words: &[Word]) -> Result<(), Failed>
+    ensures { Writes K.written K.faults K.inners sink.old sink.new (join_with_byte 32 (map word_text words.now)) result }
+{
+    match words.split_first() {
+        None => Ok(()),
+        Some((first, rest)) => {
+            write_word(sink, first)?;
+            write_spaced(sink, rest)
+        }
+    }
+}
+
+// Writes the words, each behind a space.
+fn write_spaced<K: Sink>(sink: &mut K, words: &[Word]) -> Result<(), Failed>
+    ensures { Writes K.written K.faults K.inners sink.old sink.new (flat_map (λ word. 32 ∷ word_text word) words.now) result }
+{
+    for word in words {
+        write_spaced_word(sink, word)?;
+    }
+    Ok(())
+}
+
+fn write_spaced_word<K: Sink>(sink: &mut K, word: &Word) -> Result<(), Failed>
+    ensures { Writes K.written K.faults K.inners sink.old sink.new (32 ∷ word_text word.now) result }
+{
+    write_all(sink, b" ")?;
+    write_word(sink, word)
+}
+
+fn write_word<K: Sink>(sink: &mut K, word: &Word) -> Result<(), Failed>
+    ensures { Writes K.written K.faults K.inners sink.old sink.new (word_text word.now) result }
+{
+    match word {
+        Word::Text(text) => write_all(sink, text),
+        Word::Number(number) => write_all(sink, Buffer::new().format(*number).as_bytes()),
+        Word::Dotted(first, second) => write_parts(
+            sink,
+            &[
+                Buffer::new().format(*first).as_bytes(),
+                b".",
+                Buffer::new().format(*second).as_bytes(),
+            ],
+        ),
+    }
+}

@@ -1,0 +1,9 @@
+pub mod Words
+pub mod Static
+pub mod Canon
+pub mod World
+pub mod Alternatives
+pub mod Step
+pub mod Run
+pub mod Report
+pub mod Outcome

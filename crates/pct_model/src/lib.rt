@@ -1,0 +1,33 @@
+//! What a reader of this host must believe: the data of scripts, schedules, events and refusals, and the definitions
+//! of the machine that runs them. The definitions stand in `specs/`; the Rust types here are their data.
+#![tactic(auto)]
+
+mod event;
+mod frame;
+mod limits;
+mod name;
+mod point;
+mod refusal;
+mod schedule;
+mod script;
+mod sequence;
+mod state;
+mod statement;
+mod stop;
+mod word;
+
+pub use event::{Caller, Event, What};
+pub use frame::Frame;
+pub use limits::{
+    MAX_FRAMES, MAX_FUNCTIONS, MAX_HANDLERS, MAX_INPUT, MAX_LOCALS, MAX_STATEMENTS, MAX_WORKER,
+};
+pub use name::{MAX_NAME, Name};
+pub use point::{Point, PointKind, PointWait};
+pub use refusal::{ParseWhy, ScheduleWhy};
+pub use schedule::{Alt, Config, Entry};
+pub use script::{Func, Script, SemDecl, main_of};
+pub use sequence::{Funcs, Names, SemDecls, Sequence, Stmts};
+pub use state::{Cause, ForkAt, FrameKind, Mode, Phase, Reason, State, Status};
+pub use statement::{Dest, Operand, Stmt};
+pub use stop::{Verdict, Why};
+pub use word::Keyword;

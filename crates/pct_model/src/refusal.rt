@@ -1,0 +1,61 @@
+//! Why a text is refused.
+
+ghost use Rattle.std.specs.Prelude.{◌≡◌};
+ghost use Rattle.pct_model.specs.Outcome.{name_of_fault};
+
+use crate::word::Keyword;
+
+/// Why a script is refused, in the order in which the checks are made.
+#[derive(Clone, Copy, Debug, PartialEq, Eq)]
+pub enum ParseWhy {
+    NotAscii,
+    UnknownWord,
+    WordCount,
+    BadNumber,
+    BadName,
+    Misplaced,
+    StrayEnd,
+    PopUnmatched,
+    Unclosed,
+    TooMany,
+    NameTwice,
+    UnknownName,
+    ReturnInPush,
+    NotPlain,
+    NoMain,
+}
+
+impl ParseWhy {
+    /// The word that names the fault.
+    pub fn name(self) -> Keyword
+        ensures { result ≡ name_of_fault self }
+    {
+        match self {
+            ParseWhy::NotAscii => Keyword::NotAscii,
+            ParseWhy::UnknownWord => Keyword::UnknownWord,
+            ParseWhy::WordCount => Keyword::WordCount,
+            ParseWhy::BadNumber => Keyword::BadNumber,
+            ParseWhy::BadName => Keyword::BadName,
+            ParseWhy::Misplaced => Keyword::Misplaced,
+            ParseWhy::StrayEnd => Keyword::StrayEnd,
+            ParseWhy::PopUnmatched => Keyword::PopUnmatched,
+            ParseWhy::Unclosed => Keyword::Unclosed,
+            ParseWhy::TooMany => Keyword::TooMany,
+            ParseWhy::NameTwice => Keyword::NameTwice,
+            ParseWhy::UnknownName => Keyword::UnknownName,
+            ParseWhy::ReturnInPush => Keyword::ReturnInPush,
+            ParseWhy::NotPlain => Keyword::NotPlain,
+            ParseWhy::NoMain => Keyword::NoMain,
+        }
+    }
+}
+
+/// Why a schedule is refused.
+#[derive(Clone, Copy, Debug, PartialEq, Eq)]
+pub enum ScheduleWhy {
+    BadHeader,
+    BadEntry,
+    TooMany,
+    BadEnd,
+    Trailing,
+}

@@ -1,0 +1,28 @@
+-- What a step that gave something gave.
+use Rattle.std.proofs.Common.{◌≡◌, ℕ, Bool, true, false, cond, List, Option, Some, None, refl, bytes_eq, option_map}
+use Rattle.std.specs.Option.{option_map_or}
+use Rattle.std.proofs.lemmas.Option.{same_Some}
+use Rattle.std.proofs.lemmas.Slice.Eq.{bytes_eq-Decides}
+use Rattle.pct_script.specs.Reading.{◌>>=◌}
+
+pub same_bytes : (xs ys : List ℕ) → bytes_eq xs ys ≡ true → xs ≡ ys
+same_bytes xs ys h = (bytes_eq-Decides xs ys).0 h
+
+pub bytes_eq-refl : (xs : List ℕ) → bytes_eq xs xs ≡ true
+bytes_eq-refl xs = (bytes_eq-Decides xs xs).1 refl
+
+pub bind_some : {A B : Type 0} (o : Option A) (f : A → Option B) (y : B) → (o >>= f) ≡ Some y → (x : A) × (o ≡ Some x) × (f x ≡ Some y)
+bind_some None f y e = absurd cc
+bind_some (Some x) f y e = (x, refl, e)
+
+pub map_some : {A B : Type 0} (f : A → B) (o : Option A) (y : B) → option_map f o ≡ Some y → (x : A) × (o ≡ Some x) × (f x ≡ y)
+map_some f None y e = absurd cc
+map_some f (Some x) y e = (x, refl, same_Some (f x) y e)
+
+pub cond_cases : {A : Type 0} (P : Type 0) (b : Bool) (x y z : A) → cond b x y ≡ z → (b ≡ true → x ≡ z → P) → (b ≡ false → y ≡ z → P) → P
+cond_cases P true x y z e f g = f refl e
+cond_cases P false x y z e f g = g refl e
+
+pub map_or_cases : {A B : Type 0} (P : Type 0) (f : A → B) (o : Option A) (d z : B) → option_map_or f o d ≡ z → (o ≡ None → d ≡ z → P) → ((x : A) → o ≡ Some x → f x ≡ z → P) → P
+map_or_cases P f None d z e g h = g refl e
+map_or_cases P f (Some x) d z e g h = h x refl e

@@ -1,0 +1,48 @@
+//! Why a text gave no script.
+
+ghost use Rattle.std.specs.Prelude.{◌≡◌};
+ghost use Rattle.pct_model.specs.declared.refusal.ParseWhy.TheVariants.{UnknownWord};
+ghost use Rattle.pct_script.specs.declared.fault.ParseFault.TheVariants.{NoMemory, Refused};
+
+use pct_model::ParseWhy;
+use std::alloc::{AllocError, AllocFailed};
+use thiserror::Error;
+
+/// Why a text gave no script.
+#[derive(Debug, Drop, Error)]
+pub enum ParseFault {
+    /// The text spells no script: its first fault, and the line of it, counted from 1.
+    #[error("line {line}: {why:?}")]
+    Refused { line: u32, why: ParseWhy },
+    /// Memory ran out.
+    #[error("memory ran out")]
+    NoMemory,
+}
+
+impl From<AllocError> for ParseFault {
+    ghost from_gives = { λ _ fault. fault ≡ NoMemory };
+
+    fn from(_failed: AllocError) -> ParseFault {
+        ParseFault::NoMemory
+    }
+}
+
+impl<T: Drop> From<AllocFailed<T>> for ParseFault {
+    ghost from_gives = { λ _ fault. fault ≡ NoMemory };
+
+    fn from(_failed: AllocFailed<T>) -> ParseFault {
+        ParseFault::NoMemory
+    }
+}
+
+impl ParseFault {
+    /// The answer to each text that spells no script.
+    pub(crate) fn unread() -> ParseFault
+        ensures { result ≡ Refused 1 UnknownWord }
+    {
+        ParseFault::Refused {
+            line: 1,
+            why: ParseWhy::UnknownWord,
+        }
+    }
+}

@@ -1,0 +1,20 @@
+//! Scripts from their texts. So far one form of text is read: the canonical text of a script that passes all checks,
+//! where each declaration and statement is a line of its own, words are parted by one space and numbers have no
+//! leading zeros. Every other text is refused as a whole.
+#![tactic(auto)]
+
+mod checking;
+mod cutting;
+mod fault;
+mod naming;
+mod nesting;
+mod number;
+mod parsing;
+mod reader;
+mod statements;
+
+pub use fault::ParseFault;
+pub use parsing::parse;
+
+#[cfg(test)]
+mod tests;
