@@ -9,7 +9,6 @@ mod machine;
 mod process;
 mod report;
 mod returns;
-mod schedule;
 mod stack;
 mod status;
 mod top;

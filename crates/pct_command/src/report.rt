@@ -8,7 +8,7 @@ ghost use Rattle.pct_model.specs.Static.{names_of};
 ghost use Rattle.pct_model.specs.Canon.{name_at};
 ghost use Rattle.pct_model.specs.Report.{event_line, verdict_line, report_lines, schedule_lines, title_line};
 
-use crate::schedule::write_schedule;
+use pct_history::write_schedule;
 use pct_io::{Failed, Sink, Word, write_line};
 use pct_model::{Config, Entry, Event, Keyword, Script, Verdict, What};
 

@@ -29,12 +29,12 @@ use std::thread::Threads;
 ///   nothing is written, at the second a front of the text.
 /// - `NoMemory` may come where the words are accepted, before the first byte is written.
 pub fn command<R: Threads + Sync, S: Source, K: Sink, G: Gate>(
-    _rt: &R,
+    rt: &R,
     alloc: Global,
     words: &[String],
     source: &mut S,
     sink: &mut K,
-    _gate: &G,
+    gate: &G,
 ) -> Status
     ensures answers { Answers (map string_bytes words.now)
         (record { left = S.left source.old; read_faults = S.faults source.old; written = K.written sink.old; write_faults = K.faults sink.old })

@@ -1,3 +1,8 @@
+pub mod Bytes
+pub mod Cuts
+pub mod Lines
+pub mod Numbers
 pub mod Runs
 pub mod StaticFacts
 mod Rows
+mod ScheduleRows

@@ -7,3 +7,5 @@ pub mod Step
 pub mod Run
 pub mod Report
 pub mod Outcome
+pub mod Lines
+pub mod Schedule

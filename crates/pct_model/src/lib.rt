@@ -7,6 +7,7 @@ mod frame;
 mod limits;
 mod name;
 mod point;
+mod reading;
 mod refusal;
 mod schedule;
 mod script;
@@ -19,10 +20,12 @@ mod word;
 pub use event::{Caller, Event, What};
 pub use frame::Frame;
 pub use limits::{
-    MAX_FRAMES, MAX_FUNCTIONS, MAX_HANDLERS, MAX_INPUT, MAX_LOCALS, MAX_STATEMENTS, MAX_WORKER,
+    MAX_BUDGET, MAX_FRAMES, MAX_FUNCTIONS, MAX_HANDLERS, MAX_INPUT, MAX_LOCALS, MAX_PASSES,
+    MAX_SLOTS, MAX_STATEMENTS, MAX_WORKER, MIN_PASSES,
 };
 pub use name::{MAX_NAME, Name};
 pub use point::{Point, PointKind, PointWait};
+pub use reading::{cut, is_digit, number_of};
 pub use refusal::{ParseWhy, ScheduleWhy};
 pub use schedule::{Alt, Config, Entry};
 pub use script::{Func, Script, SemDecl, main_of};

@@ -14,3 +14,11 @@ pub const MAX_FRAMES: usize = 16;
 pub const MAX_HANDLERS: usize = 32;
 /// The number of a worker.
 pub const MAX_WORKER: u32 = 16;
+/// The steps of a run.
+pub const MAX_BUDGET: u32 = 200_000;
+/// The fewest passes over the destructors of an ending thread.
+pub const MIN_PASSES: u32 = 4;
+/// The most passes over the destructors of an ending thread.
+pub const MAX_PASSES: u32 = 16;
+/// The stack slots of a process.
+pub const MAX_SLOTS: u32 = 64;

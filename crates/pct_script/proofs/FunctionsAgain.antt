@@ -12,7 +12,8 @@ use Rattle.pct_model.specs.declared.word.Keyword.TheVariants as word
 use Rattle.pct_model.specs.Static.{is_name, is_parameter, is_closing, is_body, is_function, open_after, open_in_handler, statement_lines}
 use Rattle.pct_model.specs.Words.{keyword_text, line_text, text_of}
 use Rattle.pct_model.specs.Canon.{statement_words, function_lines}
-use Rattle.pct_script.specs.Reading.{cut, head_at, statement_at, body_at, function_at, functions_at}
+use Rattle.pct_model.specs.Lines.{cut}
+use Rattle.pct_script.specs.Reading.{head_at, statement_at, body_at, function_at, functions_at}
 use Rattle.pct_script.proofs.LinesAgain.{AreNames, is_said, said_goes_on, closing_is_end, said_in_main, said_in_handler, statement_at_again, end_at_again, head_at_again}
 
 -- what a rule lets stand

@@ -11,8 +11,10 @@ use Rattle.pct_model.specs.declared.word.Keyword.{Keyword}
 use Rattle.pct_model.specs.declared.word.Keyword.TheVariants as word
 use Rattle.pct_model.specs.Static.{is_name, is_closing, names_of, statement_lines}
 use Rattle.pct_model.specs.Words.{keyword_text}
-use Rattle.pct_script.specs.Reading.{◌>>=◌, cut, operand_of, push_of, with_operand, with_words, statement_of, head_of, name_in, names_in, head_at, statement_at, body_at, function_at, functions_at}
-use Rattle.pct_script.proofs.Steps.{same_bytes, bind_some, map_some, cond_cases, map_or_cases}
+use Rattle.pct_model.specs.Lines.{◌>>=◌, cut}
+use Rattle.pct_script.specs.Reading.{operand_of, push_of, with_operand, with_words, statement_of, head_of, name_in, names_in, head_at, statement_at, body_at, function_at, functions_at}
+use Rattle.pct_model.proofs.Bytes.{same_bytes}
+use Rattle.pct_script.proofs.Steps.{bind_some, map_some, cond_cases, map_or_cases}
 
 -- the first word of a statement is not `fn`
 other_word : (k : Keyword) (head : List ℕ) → bytes_eq (keyword_text k) (keyword_text word.Fn) ≡ false → bytes_eq head (keyword_text k) ≡ true → bytes_eq head (keyword_text word.Fn) ≡ false

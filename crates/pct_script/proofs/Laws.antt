@@ -14,6 +14,7 @@ use Rattle.pct_script.specs.declared.fault.ParseFault.{ParseFault}
 use Rattle.pct_script.specs.declared.fault.ParseFault.TheVariants as fault
 use Rattle.pct_script.specs.Fault.{IsFaultOf}
 use Rattle.pct_script.specs.Reading.{Fails, names_in, functions_at, read}
+use Rattle.pct_model.proofs.StaticFacts.{names_of_functions}
 use Rattle.pct_script.proofs.FunctionsAgain.{functions_again}
 use Rattle.pct_script.proofs.Heads.{names_in_functions}
 use Rattle.pct_script.proofs.LinesAgain.{AreNames}
@@ -34,17 +35,6 @@ checked fs h =
     let c = and_parts (nat_le (length fs) 64 && nat_le (statement_lines fs) 2000) (all_different names) b.0 in
     let d = and_parts (nat_le (length fs) 64) (nat_le (statement_lines fs) 2000) c.0 in
     record { few = leb-true (length fs) 64 d.0; short = leb-true (statement_lines fs) 2000 d.1; different = c.1; each = a.1 }
-
--- a function that passes its checks has a name
-name_of_function : (names : List (List ℕ)) (f : Func) → is_function names f ≡ true → is_name f.name ≡ true
-unfolding is_function
-name_of_function names f h = (and_parts (is_name f.name) (is_parameter f.locals) (and_parts (is_name f.name && is_parameter f.locals) _ h).0).0
-
-names_of_functions : (names : List (List ℕ)) (fs : List Func) → list_all (is_function names) fs ≡ true → list_all is_name (names_of fs) ≡ true
-names_of_functions names [] h = refl
-names_of_functions names (f ∷ fs) h =
-    let parts = and_parts (is_function names f) (list_all (is_function names) fs) h in
-    and_from (is_name f.name) (list_all is_name (names_of fs)) (name_of_function names f parts.0) (names_of_functions names fs parts.1)
 
 are_names : (fs : List Func) → Checked fs → AreNames (names_of fs)
 are_names fs ok =

@@ -1,10 +1,8 @@
-pub mod Cuts
 pub mod FunctionsAgain
 pub mod Heads
 pub mod Laws
 pub mod LinesAgain
 pub mod Loops
 pub mod Names
-pub mod Numbers
 pub mod Spelled
 pub mod Steps

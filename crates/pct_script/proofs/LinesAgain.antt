@@ -12,11 +12,12 @@ use Rattle.pct_model.specs.declared.word.Keyword.TheVariants as word
 use Rattle.pct_model.specs.Static.{is_name, is_digit, is_name_byte, all_different, is_operand, main_of, is_handler, open_after, open_in_handler, is_closing}
 use Rattle.pct_model.specs.Words.{keyword_text, line_text}
 use Rattle.pct_model.specs.Canon.{name_at, operand_text, statement_words}
-use Rattle.pct_script.specs.Reading.{cut, operand_of, push_of, with_operand, with_words, statement_of, head_of, head_at, statement_at}
-use Rattle.pct_script.proofs.Cuts.{cut_again, lacks-append, lacks-cons}
+use Rattle.pct_model.specs.Lines.{cut}
+use Rattle.pct_script.specs.Reading.{operand_of, push_of, with_operand, with_words, statement_of, head_of, head_at, statement_at}
+use Rattle.pct_model.proofs.Cuts.{cut_again, lacks-append, lacks-cons}
 use Rattle.pct_script.proofs.Names.{name_lacks, name_within, place_again}
-use Rattle.pct_script.proofs.Numbers.{number_again, decimal_lacks, decimal_is_no_name}
-use Rattle.pct_script.proofs.Steps.{bytes_eq-refl}
+use Rattle.pct_model.proofs.Numbers.{number_again, decimal_lacks, decimal_is_no_name}
+use Rattle.pct_model.proofs.Bytes.{bytes_eq-refl}
 
 -- what reading needs of the names of a script's functions
 pub record AreNames (names : List (List ℕ)) : Type 0 where
@@ -38,14 +39,14 @@ value_again : (p : List ℕ) (v : Operand) → is_name p ≡ true → is_operand
 unfolding operand_of operand_text is_operand name_at
 value_again p (operand.Num n) name is =
     let fits : n ≤ 4294967295 = leb-true n 4294967295 is in
-    rw (decimal_is_no_name n p fits name, number_again n fits) refl
+    rw (decimal_is_no_name n p name, number_again n fits) refl
 value_again p (operand.Local i) name is =
     subst (λ (k : ℕ). operand_of p (operand_text (p ∷ []) (operand.Local k)) ≡ Some (operand.Local k)) (sym (eqb-true i 0 is)) (rw (bytes_eq-refl p) refl)
 value_again p (operand.Global i) name is = absurd cc
 
 value_lacks : (c : ℕ) (p : List ℕ) (v : Operand) → is_name_byte c ≡ false → is_digit c ≡ false → is_name p ≡ true → is_operand v ≡ true → cut c (operand_text (p ∷ []) v) ≡ None
 unfolding operand_text is_operand name_at
-value_lacks c p (operand.Num n) other no_digit name is = decimal_lacks c n no_digit (leb-true n 4294967295 is)
+value_lacks c p (operand.Num n) other no_digit name is = decimal_lacks c n no_digit
 value_lacks c p (operand.Local i) other no_digit name is =
     subst (λ (k : ℕ). cut c (operand_text (p ∷ []) (operand.Local k)) ≡ None) (sym (eqb-true i 0 is)) (name_lacks c p other name)
 value_lacks c p (operand.Global i) other no_digit name is = absurd cc

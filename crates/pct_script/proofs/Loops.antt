@@ -6,7 +6,8 @@ use Rattle.pct_model.specs.declared.statement.Stmt.{Stmt}
 use Rattle.pct_model.specs.Static.{is_closing}
 use Rattle.pct_script.specs.declared.fault.ParseFault.{ParseFault}
 use Rattle.pct_script.specs.declared.fault.ParseFault.TheVariants as fault
-use Rattle.pct_script.specs.Reading.{◌>>=◌, Fails, cut, name_in, names_in, statement_at, body_at, function_at, functions_at}
+use Rattle.pct_model.specs.Lines.{◌>>=◌, cut}
+use Rattle.pct_script.specs.Reading.{Fails, name_in, names_in, statement_at, body_at, function_at, functions_at}
 
 -- ---- names
 

@@ -8,9 +8,10 @@ use Rattle.std.proofs.lemmas.List.Sums.{position_or_len_is}
 use Rattle.std.proofs.lemmas.Option.{unwrap_or-slice_get}
 use Rattle.pct_model.specs.Static.{is_digit, is_name_byte, is_name, all_different}
 use Rattle.pct_model.specs.Canon.{name_at}
-use Rattle.pct_script.specs.Reading.{◌>>=◌, cut, place_of}
-use Rattle.pct_script.proofs.Cuts.{lacks_other}
-use Rattle.pct_script.proofs.Steps.{bytes_eq-refl}
+use Rattle.pct_model.specs.Lines.{◌>>=◌, cut}
+use Rattle.pct_script.specs.Reading.{place_of}
+use Rattle.pct_model.proofs.Cuts.{lacks_other}
+use Rattle.pct_model.proofs.Bytes.{bytes_eq-refl}
 
 -- a name has 1 to 31 bytes
 pub length_of_name : (w : List ℕ) → is_name w ≡ true → (0 < length w) × (length w ≤ 31)

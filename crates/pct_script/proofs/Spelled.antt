@@ -15,9 +15,11 @@ use Rattle.pct_model.specs.declared.word.Keyword.TheVariants as word
 use Rattle.pct_model.specs.Static.{is_name, is_closing}
 use Rattle.pct_model.specs.Words.{keyword_text, line_text, text_of}
 use Rattle.pct_model.specs.Canon.{name_at, operand_text, statement_words, function_lines}
-use Rattle.pct_script.specs.Reading.{◌>>=◌, cut, value_from, number_of, place_of, operand_of, push_of, with_operand, with_words, statement_of, head_of, head_at, statement_at, body_at, function_at, functions_at}
-use Rattle.pct_script.proofs.Cuts.{cut_parts}
-use Rattle.pct_script.proofs.Steps.{same_bytes, bind_some, map_some, cond_cases, map_or_cases}
+use Rattle.pct_model.specs.Lines.{◌>>=◌, cut, value_from, number_of}
+use Rattle.pct_script.specs.Reading.{place_of, operand_of, push_of, with_operand, with_words, statement_of, head_of, head_at, statement_at, body_at, function_at, functions_at}
+use Rattle.pct_model.proofs.Cuts.{cut_parts}
+use Rattle.pct_model.proofs.Bytes.{same_bytes}
+use Rattle.pct_script.proofs.Steps.{bind_some, map_some, cond_cases, map_or_cases}
 
 number_takes : (w : List ℕ) (n : ℕ) → number_of w ≡ Some n → w ≡ decimal n
 unfolding number_of

@@ -1,6 +1,6 @@
 -- Reading the canonical text of a script, from left to right: what each function of the reader gives. Reading asks for
 -- the spelling alone; whether the functions that were read pass all checks is decided afterwards.
-use Rattle.std.specs.Prelude.{◌≡◌, ℕ, zero, suc, ◌+◌, ◌-◌, ◌*◌, ◌&&◌, if◌then◌else◌, List, [], ◌∷◌, ◌++◌, Option, Some, None, Result, Ok, Err, option_and_then, nat_eq, nat_lt, nat_le, bytes_eq, decimal, position}
+use Rattle.std.specs.Prelude.{◌≡◌, ℕ, zero, suc, ◌&&◌, if◌then◌else◌, List, [], ◌∷◌, ◌++◌, Option, Some, None, Result, Ok, Err, nat_lt, bytes_eq, position}
 use Rattle.std.specs.Option.{option_map, option_map_or}
 use Rattle.pct_model.specs.declared.refusal.ParseWhy.TheVariants.{UnknownWord}
 use Rattle.pct_model.specs.declared.script.Func.{Func}
@@ -9,14 +9,11 @@ use Rattle.pct_model.specs.declared.statement.Operand.TheVariants as operand
 use Rattle.pct_model.specs.declared.statement.Stmt.{Stmt}
 use Rattle.pct_model.specs.declared.statement.Stmt.TheVariants as statement
 use Rattle.pct_model.specs.declared.word.Keyword.TheVariants as word
-use Rattle.pct_model.specs.Static.{is_digit, is_name, is_closing}
+use Rattle.pct_model.specs.Static.{is_name, is_closing}
 use Rattle.pct_model.specs.Words.{keyword_text}
+use Rattle.pct_model.specs.Lines.{◌>>=◌, cut, number_of}
 use Rattle.pct_script.specs.declared.fault.ParseFault.{ParseFault}
 use Rattle.pct_script.specs.declared.fault.ParseFault.TheVariants as fault
-
-infixl 10 ◌>>=◌
-abbrev pub ◌>>=◌ : {A B : Type 0} → Option A → (A → Option B) → Option B
-o >>= f = option_and_then f o
 
 -- a refusal says that nothing is read, and always the same
 abbrev pub Fails : {Y : Type 0} → ParseFault → Option Y → Type 0
@@ -29,26 +26,6 @@ Gives view (Ok x) read = read ≡ Some (view x)
 Gives view (Err e) read = Fails e read
 
 -- ---- words
-
--- what stands before the first c, and what stands behind it
-unfoldable pub cut : ℕ → List ℕ → Option (List ℕ × List ℕ)
-cut c [] = None
-cut c (b ∷ bs) = if nat_eq b c then Some ([], bs) else option_map (λ p. (b ∷ p.0, p.1)) (cut c bs)
-
--- a number of 32 bits with one more digit
-unfoldable pub with_digit : ℕ → ℕ → Option ℕ
-with_digit n d = if is_digit d && nat_le (n * 10 + (d - 48)) 4294967295 then Some (n * 10 + (d - 48)) else None
-
--- the number with these further digits
-unfoldable pub value_from : ℕ → List ℕ → Option ℕ
-value_from n [] = Some n
-value_from n (d ∷ ds) = with_digit n d >>= λ m. value_from m ds
-
--- the number of 32 bits that is printed as this word
-unfoldable pub number_of : List ℕ → Option ℕ
-number_of w = do
-  n ← value_from 0 w
-  if bytes_eq (decimal n) w then Some n else None
 
 -- the place of a name, among the first 64
 unfoldable pub place_of : List (List ℕ) → List ℕ → Option ℕ

@@ -4,11 +4,9 @@
 #![tactic(auto)]
 
 mod checking;
-mod cutting;
 mod fault;
 mod naming;
 mod nesting;
-mod number;
 mod parsing;
 mod reader;
 mod statements;

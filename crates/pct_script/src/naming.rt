@@ -2,17 +2,10 @@
 
 ghost use Rattle.std.specs.Prelude.{◌≡◌, bytes_eq, position};
 ghost use Rattle.std.specs.List.{list_all};
-ghost use Rattle.pct_model.specs.Static.{is_digit, is_letter, is_name_byte, is_name};
+ghost use Rattle.pct_model.specs.Static.{is_letter, is_name_byte, is_name};
 ghost use Rattle.pct_script.specs.Reading.{place_of};
 
-use pct_model::{MAX_FUNCTIONS, MAX_NAME, Name};
-
-/// Whether the byte is a decimal digit.
-pub fn is_digit(byte: u8) -> bool
-    ensures { result ≡ is_digit byte }
-{
-    b'0' <= byte && byte <= b'9'
-}
+use pct_model::{MAX_FUNCTIONS, MAX_NAME, Name, is_digit};
 
 fn is_letter(byte: u8) -> bool
     ensures { result ≡ is_letter byte }

@@ -4,11 +4,10 @@ ghost use Rattle.std.specs.Prelude.{◌≡◌, ◌++◌, IfOk, OnOk};
 ghost use Rattle.std.specs.Option.{option_map};
 ghost use Rattle.pct_script.specs.Reading.{Gives, name_in, names_in, statement_at, body_at, head_at, function_at, functions_at};
 
-use crate::cutting::cut;
 use crate::fault::ParseFault;
 use crate::nesting::is_closing;
 use crate::statements::{head_of, statement_of};
-use pct_model::{Func, MAX_FUNCTIONS, MAX_STATEMENTS, Name, Sequence, Stmt};
+use pct_model::{Func, MAX_FUNCTIONS, MAX_STATEMENTS, Name, Sequence, Stmt, cut};
 use std::alloc::{AllocError, Global};
 
 /// The most lines of a script: those of its functions' heads, and its statement lines.

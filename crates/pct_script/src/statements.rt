@@ -3,10 +3,8 @@
 ghost use Rattle.std.specs.Prelude.{◌≡◌};
 ghost use Rattle.pct_script.specs.Reading.{operand_of, push_of, with_operand, with_words, statement_of, head_of};
 
-use crate::cutting::cut;
 use crate::naming::{is_name, place_of};
-use crate::number::number_of;
-use pct_model::{Keyword, Name, Operand, Stmt};
+use pct_model::{Keyword, Name, Operand, Stmt, cut, number_of};
 
 #[tactic(auto, unfolding(crate::specs::Reading::operand_of))]
 fn operand_of(parameter: &[u8], word: &[u8]) -> Option<Operand>

@@ -1,0 +1,37 @@
+-- The law that the schedule of a report is read back from it.
+use Rattle.std.specs.Prelude.{◌≡◌, ℕ, ◌≤◌, Bool, true, ◌&&◌, List, length, Ok, nat_le, IsTrue}
+use Rattle.std.specs.List.{list_all}
+use Rattle.pct_model.specs.declared.script.Script.{Script}
+use Rattle.pct_model.specs.declared.schedule.Alt.{Alt}
+use Rattle.pct_model.specs.declared.schedule.Alt.TheVariants as alt
+use Rattle.pct_model.specs.declared.schedule.Config.{Config}
+use Rattle.pct_model.specs.declared.schedule.Entry.{Entry}
+use Rattle.pct_model.specs.declared.event.Event.{Event}
+use Rattle.pct_model.specs.declared.stop.Verdict.{Verdict}
+use Rattle.pct_model.specs.Words.{text_of}
+use Rattle.pct_model.specs.Report.{report_lines}
+use Rattle.pct_model.specs.Run.{is_config}
+use Rattle.pct_model.specs.Schedule.{sched_of}
+
+-- a number of 32 bits
+abbrev pub fits : ℕ → Bool
+fits n = nat_le n 4294967295
+
+-- an alternative whose number, if it has one, has 32 bits
+abbrev pub is_choice : Alt → Bool
+is_choice alt.Go = true
+is_choice (alt.Act n) = fits n
+is_choice (alt.New n) = fits n
+is_choice (alt.Pick n) = fits n
+is_choice (alt.Dtor n) = fits n
+
+-- an entry of numbers of 32 bits, with a worker of at most 16
+abbrev pub is_entry : Entry → Bool
+is_entry e = nat_le e.worker 16 && fits e.pid && fits e.tid && is_choice e.alt
+
+-- whatever the script, the events and the verdict of a report are, its schedule is read back from its text
+abbrev pub ReportsAreReadBack : Type 0
+ReportsAreReadBack =
+    (script : Script) (config : Config) (events : List Event) (verdict : Verdict) (entries : List Entry)
+    → IsTrue (is_config config) → length entries ≤ config.budget → IsTrue (list_all is_entry entries)
+    → sched_of (text_of (report_lines script config events verdict entries)) ≡ Ok (config, entries)
