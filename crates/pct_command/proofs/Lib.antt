@@ -1,3 +1,9 @@
+pub mod Asked
+pub mod Choices
+pub mod NotLegal
 pub mod Steps
+pub mod Replays
 pub mod Texts
 pub mod Outcomes
+pub mod Told
+pub mod Complete

@@ -1,41 +1,79 @@
 -- What is answered is an outcome.
-use Rattle.std.proofs.Common.{◌≡◌, ◌≢◌, ℕ, ◌<◌, ◌≤◌, true, false, List, [], length, reverse, Option, Some, refl, sym, ap, ◌∙◌, inl, inr, arith}
+use Rattle.std.proofs.Common.{◌≡◌, ◌≢◌, ℕ, zero, suc, ◌<◌, ◌≤◌, true, false, List, [], ◌∷◌, length, replicate, reverse, Some, Ok, Err, refl, sym, ap, ◌∙◌, inl, inr, arith}
 use Rattle.std.specs.Prelude.{option_map}
+use Rattle.std.specs.List.{list_all}
 use Rattle.std.proofs.lemmas.List.{reverse-reverse}
-use Rattle.std.specs.Io.KnownBytes.{Appends, Consumes, IsAtEnd}
-use Rattle.pct_io.specs.Faults.{Rose}
-use Rattle.pct_io.specs.Sinks.{AppendsPart}
+use Rattle.std.proofs.lemmas.Bool.{true≢false}
 use Rattle.pct_model.specs.declared.script.Script.{Script}
 use Rattle.pct_model.specs.declared.schedule.Config.{Config}
 use Rattle.pct_model.specs.declared.schedule.Entry.{Entry}
 use Rattle.pct_model.specs.declared.event.Event.{Event}
 use Rattle.pct_model.specs.declared.refusal.ParseWhy.{ParseWhy}
+use Rattle.pct_model.specs.declared.refusal.ScheduleWhy.{ScheduleWhy}
 use Rattle.pct_model.specs.declared.stop.Verdict.{Verdict}
 use Rattle.pct_model.specs.declared.stop.Verdict.TheVariants as verdict
-use Rattle.pct_model.specs.Words.{line_text, text_of}
+use Rattle.pct_model.specs.declared.word.Keyword.TheVariants as word
+use Rattle.pct_model.specs.Words.{keyword_text, line_text, text_of}
 use Rattle.pct_model.specs.Canon.{Spells, FirstFault}
-use Rattle.pct_model.specs.Run.{verdict_of}
+use Rattle.pct_model.specs.Schedule.{sched_of}
+use Rattle.pct_model.specs.Run.{first_illegal, verdict_of}
 use Rattle.pct_model.specs.Report.{report_lines, report_of, report}
-use Rattle.pct_model.specs.Outcome.{is_accepted, default_config, refused_words, refused_input, refused_script, code_of_verdict, Outcome}
-use Rattle.pct_command.specs.declared.status.Status.{Status}
-use Rattle.pct_command.specs.declared.status.Status.TheVariants as status
+use Rattle.pct_model.specs.Outcome.{is_asked, is_accepted, script_part, schedule_part, default_config, first_goes, FirstGoesAlone, refused_words, refused_input, refused_script, refused_schedule, refused_entry, code_of_verdict, Outcome}
+use Rattle.pct_history.specs.ReadBack.{is_entry, IsSchedule}
+use Rattle.pct_history.proofs.ReadBack.{report_again}
+use Rattle.pct_history.proofs.Within.{sched_within}
 use Rattle.pct_command.specs.Ran.{IsRan}
-use Rattle.pct_command.specs.Command.{Outside, Tells, TellsPart, TextAnswers, Answers, status_of_verdict}
+use Rattle.pct_command.specs.Command.{IsReplayed, Answer}
+use Rattle.pct_command.proofs.Asked.{asks_run_alone, part_of_run, replay_asks_replay}
 
--- ---- runs
+-- ---- the schedule of a report
 
-pub report-is : (script : Script) (config : Config) (events : List Event) (entries : List Entry) (v : Verdict) → IsRan script config events entries v → report script config entries ≡ Some (text_of (report_lines script config events v entries))
+-- entries that let the first thread go on are entries that a text can tell
+goes-are_entries : (n : ℕ) → list_all is_entry (replicate n first_goes) ≡ true
+goes-are_entries zero = refl
+goes-are_entries (suc n) = goes-are_entries n
+
+alone-is_schedule : (entries : List Entry) → FirstGoesAlone entries → length entries ≤ 10000 → IsSchedule default_config entries
+alone-is_schedule entries alone few = record { config_fits = refl; few = few; each = ap (list_all is_entry) alone ∙ goes-are_entries (length entries) }
+
+-- ---- reports
+
+-- the text of the report
+abbrev pub told : Script → Config → List Event → Verdict → List Entry → List ℕ
+told script config events v entries = text_of (report_lines script config events v entries)
+
+report-is : (script : Script) (config : Config) (events : List Event) (entries : List Entry) (v : Verdict) → IsRan script config events entries v → report script config entries ≡ Some (told script config events v entries)
 unfolding report
 report-is script config events entries v ran =
     ap (option_map (report_of script config entries)) ran.is_run
     ∙ ap (λ (es : List Event). Some (text_of (report_lines script config es (verdict_of script config ran.world (length entries)) entries))) (reverse-reverse events)
     ∙ ap (λ (x : Verdict). Some (text_of (report_lines script config events x entries))) (sym ran.verdict_is)
 
-pub run-outcome : (words : List (List ℕ)) (input : List ℕ) (script : Script) (events : List Event) (entries : List Entry) (v : Verdict) → is_accepted words ≡ true → length input ≤ 16777216 → Spells input script → IsRan script default_config events entries v → Outcome words input entries (code_of_verdict v) (text_of (report_lines script default_config events v entries))
-unfolding code_of_verdict
-run-outcome words input script events entries v accepted fits spelled ran =
-    inr (inr (inr (record {
-      accepted = accepted;
+-- the run of a schedule that is read from an input is the outcome of `replay`
+replay-outcome : (words : List (List ℕ)) (input : List ℕ) (schedule : List Entry) (script : Script) (config : Config) (events : List Event) (entries : List Entry) (v : Verdict)
+    → is_asked word.Replay words ≡ true → length input ≤ 16777216 → Spells (script_part words input) script → sched_of (schedule_part input) ≡ Ok (config, entries) → IsRan script config events entries v
+    → Outcome words input schedule (code_of_verdict v) (told script config events v entries)
+replay-outcome words input schedule script config events entries v asked fits spelled read ran =
+    inr (inr (inr (inr (inr (inl (record {
+      accepted = asked;
+      fits = fits;
+      script = script;
+      spelled = spelled;
+      config = config;
+      entries = entries;
+      read = read;
+      after = record { world = ran.world; events = reverse events };
+      is_run = ran.is_run;
+      code_is = ap code_of_verdict ran.verdict_is;
+      text_is = report-is script config events entries v ran;
+    }))))))
+
+run-outcome : (words : List (List ℕ)) (input : List ℕ) (script : Script) (events : List Event) (entries : List Entry) (v : Verdict)
+    → is_asked word.Run words ≡ true → length input ≤ 16777216 → Spells input script → IsRan script default_config events entries v
+    → Outcome words input entries (code_of_verdict v) (told script default_config events v entries)
+run-outcome words input script events entries v asked fits spelled ran =
+    inr (inr (inr (inr (inr (inr (record {
+      accepted = asked;
       fits = fits;
       script = script;
       spelled = spelled;
@@ -43,16 +81,16 @@ run-outcome words input script events entries v accepted fits spelled ran =
       is_run = ran.is_run;
       code_is = ap code_of_verdict ran.verdict_is;
       text_is = report-is script default_config events entries v ran;
-    })))
+    }))))))
 
--- the whole report was written: the status is that of the verdict
-pub run-tells : (words : List (List ℕ)) (input : List ℕ) (before after : Outside) (script : Script) (events : List Event) (entries : List Entry) (v : Verdict) → is_accepted words ≡ true → length input ≤ 16777216 → Spells input script → IsRan script default_config events entries v → Appends before.written after.written (text_of (report_lines script default_config events v entries)) → TextAnswers words input before after (status_of_verdict v)
-unfolding code_of_verdict
-run-tells words input before after script events entries verdict.Complete accepted fits spelled ran wrote = record { schedule = entries; alone = ran.alone; text = text_of (report_lines script default_config events verdict.Complete entries); is_outcome = run-outcome words input script events entries verdict.Complete accepted fits spelled ran; wrote = wrote }
-run-tells words input before after script events entries verdict.Deadlock accepted fits spelled ran wrote = record { schedule = entries; alone = ran.alone; text = text_of (report_lines script default_config events verdict.Deadlock entries); is_outcome = run-outcome words input script events entries verdict.Deadlock accepted fits spelled ran; wrote = wrote }
-run-tells words input before after script events entries verdict.Budget accepted fits spelled ran wrote = record { schedule = entries; alone = ran.alone; text = text_of (report_lines script default_config events verdict.Budget entries); is_outcome = run-outcome words input script events entries verdict.Budget accepted fits spelled ran; wrote = wrote }
-run-tells words input before after script events entries (verdict.Undefined why) accepted fits spelled ran wrote = record { schedule = entries; alone = ran.alone; text = text_of (report_lines script default_config events (verdict.Undefined why) entries); is_outcome = run-outcome words input script events entries (verdict.Undefined why) accepted fits spelled ran; wrote = wrote }
-run-tells words input before after script events entries verdict.Open accepted fits spelled ran wrote = absurd (ran.closed refl)
+-- a schedule that is told in a text is replayed, in whichever input it stands
+is-replayed : (words : List (List ℕ)) (input : List ℕ) (script : Script) (config : Config) (events : List Event) (entries : List Entry) (v : Verdict)
+    → Spells (script_part words input) script → sched_of (told script config events v entries) ≡ Ok (config, entries) → IsRan script config events entries v
+    → IsReplayed words input (code_of_verdict v) (told script config events v entries)
+is-replayed words input script config events entries v spelled is_told ran = λ other again schedule same_part part same fits.
+    replay-outcome (keyword_text word.Replay ∷ []) again schedule script config events entries v replay_asks_replay fits (part ∙ sym same_part ∙ spelled) (same ∙ is_told) ran
+
+-- ---- answers
 
 -- a run that is not open has another code
 closed_code : (v : Verdict) → v ≢ verdict.Open → code_of_verdict v ≢ 4
@@ -63,44 +101,51 @@ closed_code verdict.Budget closed e = absurd (omega (arith, e))
 closed_code (verdict.Undefined why) closed e = absurd (omega (arith, e))
 closed_code verdict.Open closed e = closed refl
 
--- the write of the report failed
-pub run-tells_part : (words : List (List ℕ)) (input : List ℕ) (before after : Outside) (script : Script) (events : List Event) (entries : List Entry) (v : Verdict) → is_accepted words ≡ true → length input ≤ 16777216 → Spells input script → IsRan script default_config events entries v → AppendsPart before.written after.written (text_of (report_lines script default_config events v entries)) → Rose before.write_faults after.write_faults → TellsPart words input before after
-run-tells_part words input before after script events entries v accepted fits spelled ran wrote rose = record { schedule = entries; alone = ran.alone; code = code_of_verdict v; text = text_of (report_lines script default_config events v entries); is_outcome = run-outcome words input script events entries v accepted fits spelled ran; closed = closed_code v ran.closed; wrote = wrote; cause = rose }
+pub run-answer : (words : List (List ℕ)) (input : List ℕ) (script : Script) (events : List Event) (entries : List Entry) (v : Verdict)
+    → is_asked word.Run words ≡ true → length input ≤ 16777216 → Spells (script_part words input) script → IsRan script default_config events entries v → FirstGoesAlone entries → v ≢ verdict.Open → length entries ≤ 10000
+    → Answer words input (code_of_verdict v) (told script default_config events v entries)
+run-answer words input script events entries v asked fits spelled ran alone closed few =
+    let is_told = report_again script default_config events v entries (alone-is_schedule entries alone few) in
+    record {
+      schedule = entries;
+      is_outcome = run-outcome words input script events entries v asked fits (sym (part_of_run words input asked) ∙ spelled) ran;
+      run = λ yes below. record { told = is_told; alone = alone; closed = closed_code v closed };
+      replayed = λ below. is-replayed words input script default_config events entries v spelled is_told ran;
+    }
+
+pub replay-answer : (words : List (List ℕ)) (input : List ℕ) (script : Script) (config : Config) (events : List Event) (entries : List Entry) (v : Verdict)
+    → is_asked word.Replay words ≡ true → length input ≤ 16777216 → Spells (script_part words input) script → sched_of (schedule_part input) ≡ Ok (config, entries) → IsRan script config events entries v
+    → Answer words input (code_of_verdict v) (told script config events v entries)
+replay-answer words input script config events entries v asked fits spelled read ran =
+    record {
+      schedule = [];
+      is_outcome = replay-outcome words input [] script config events entries v asked fits spelled read ran;
+      run = λ yes below. absurd (true≢false (sym asked ∙ asks_run_alone words yes));
+      replayed = λ below. is-replayed words input script config events entries v spelled (report_again script config events v entries (sched_within (schedule_part input) config entries read)) ran;
+    }
 
 -- ---- refusals
 
-pub words-outcome : (words : List (List ℕ)) (input : List ℕ) → is_accepted words ≡ false → Outcome words input [] 5 (line_text refused_words)
-words-outcome words input refused = inl (record { refused = refused; code_is = refl; text_is = refl })
+-- a refusal tells no run
+refusal : (words : List (List ℕ)) (input : List ℕ) (code : ℕ) (text : List ℕ) → 4 < code → Outcome words input [] code text → Answer words input code text
+refusal words input code text above is_outcome = record { schedule = []; is_outcome = is_outcome; run = λ yes below. absurd (omega (arith, above, below)); replayed = λ below. absurd (omega (arith, above, below)) }
 
-pub input-outcome : (words : List (List ℕ)) (input : List ℕ) → is_accepted words ≡ true → 16777216 < length input → Outcome words input [] 8 (line_text refused_input)
-input-outcome words input accepted too_long = inr (inl (record { accepted = accepted; too_long = too_long; code_is = refl; text_is = refl }))
+pub words-answer : (words : List (List ℕ)) (input : List ℕ) → is_accepted words ≡ false → Answer words input 5 (line_text refused_words)
+words-answer words input refused = refusal words input 5 _ (omega arith) (inl (record { refused = refused; code_is = refl; text_is = refl }))
 
-pub script-outcome : (words : List (List ℕ)) (input : List ℕ) (line : ℕ) (why : ParseWhy) → is_accepted words ≡ true → length input ≤ 16777216 → FirstFault input line why → Outcome words input [] 6 (line_text (refused_script line why))
-script-outcome words input line why accepted fits first = inr (inr (inl (record { accepted = accepted; fits = fits; line = line; why = why; first = first; code_is = refl; text_is = refl })))
+pub input-answer : (words : List (List ℕ)) (input : List ℕ) → is_accepted words ≡ true → 16777216 < length input → Answer words input 8 (line_text refused_input)
+input-answer words input accepted too_long = refusal words input 8 _ (omega arith) (inr (inl (record { accepted = accepted; too_long = too_long; code_is = refl; text_is = refl })))
 
--- a refusal was written whole
-pub refusal-tells : (words : List (List ℕ)) (input : List ℕ) (code : ℕ) (text : List ℕ) {left left' written written' : Option (List ℕ)} {reads reads' writes writes' : ℕ} → Outcome words input [] code text → Appends written written' text
-    → Tells words input (record { left = left; read_faults = reads; written = written; write_faults = writes }) (record { left = left'; read_faults = reads'; written = written'; write_faults = writes' }) code
-refusal-tells words input code text is_outcome wrote = record { schedule = []; alone = refl; text = text; is_outcome = is_outcome; wrote = wrote }
+pub script-answer : (words : List (List ℕ)) (input : List ℕ) (line : ℕ) (why : ParseWhy) → is_accepted words ≡ true → length input ≤ 16777216 → FirstFault (script_part words input) line why → Answer words input 6 (line_text (refused_script line why))
+script-answer words input line why accepted fits first =
+    refusal words input 6 _ (omega arith) (inr (inr (inl (record { accepted = accepted; fits = fits; line = line; why = why; first = first; code_is = refl; text_is = refl }))))
 
--- the write of a refusal failed
-pub refusal-tells_part : (words : List (List ℕ)) (input : List ℕ) (code : ℕ) (text : List ℕ) {left left' written written' : Option (List ℕ)} {reads reads' writes writes' : ℕ} → code ≢ 4 → Outcome words input [] code text → AppendsPart written written' text → Rose writes writes'
-    → TellsPart words input (record { left = left; read_faults = reads; written = written; write_faults = writes }) (record { left = left'; read_faults = reads'; written = written'; write_faults = writes' })
-refusal-tells_part words input code text closed is_outcome wrote rose = record { schedule = []; alone = refl; code = code; text = text; is_outcome = is_outcome; closed = closed; wrote = wrote; cause = rose }
+pub schedule-answer : (words : List (List ℕ)) (input : List ℕ) (script : Script) (line : ℕ) (why : ScheduleWhy) → is_asked word.Replay words ≡ true → length input ≤ 16777216 → Spells (script_part words input) script
+    → sched_of (schedule_part input) ≡ Err (line, why) → Answer words input 7 (line_text (refused_schedule line why))
+schedule-answer words input script line why asked fits spelled first =
+    refusal words input 7 _ (omega arith) (inr (inr (inr (inl (record { accepted = asked; fits = fits; script = script; spelled = spelled; line = line; why = why; first = first; code_is = refl; text_is = refl })))))
 
--- ---- the source
-
--- what answers a text answers a source that was read to its end
-pub read-answers : (words : List (List ℕ)) (input : List ℕ) (before after : Outside) (s : Status) → is_accepted words ≡ true → Consumes before.left after.left input → IsAtEnd after.left → TextAnswers words input before after s → Answers words before after s
-read-answers words input before after status.Complete accepted read end tells = record { input = input; read = read; to_end = λ _ _. end; tells = tells }
-read-answers words input before after status.Deadlock accepted read end tells = record { input = input; read = read; to_end = λ _ _. end; tells = tells }
-read-answers words input before after status.Budget accepted read end tells = record { input = input; read = read; to_end = λ _ _. end; tells = tells }
-read-answers words input before after status.Undefined accepted read end tells = record { input = input; read = read; to_end = λ _ _. end; tells = tells }
-read-answers words input before after status.ScriptRefused accepted read end tells = record { input = input; read = read; to_end = λ _ _. end; tells = tells }
-read-answers words input before after status.WriteFault accepted read end tells = record { input = input; read = read; tells = tells }
-read-answers words input before after status.NoMemory accepted read end tells = record { accepted = accepted; nothing = tells }
-read-answers words input before after status.Open accepted read end tells = absurd tells
-read-answers words input before after status.Usage accepted read end tells = absurd tells
-read-answers words input before after status.ScheduleRefused accepted read end tells = absurd tells
-read-answers words input before after status.TooLong accepted read end tells = absurd tells
-read-answers words input before after status.ReadFault accepted read end tells = absurd tells
+pub entry-answer : (words : List (List ℕ)) (input : List ℕ) (script : Script) (config : Config) (entries : List Entry) (place : ℕ) → is_asked word.Replay words ≡ true → length input ≤ 16777216 → Spells (script_part words input) script
+    → sched_of (schedule_part input) ≡ Ok (config, entries) → first_illegal script config entries ≡ Some place → Answer words input 7 (line_text (refused_entry place))
+entry-answer words input script config entries place asked fits spelled read illegal =
+    refusal words input 7 _ (omega arith) (inr (inr (inr (inr (inl (record { accepted = asked; fits = fits; script = script; spelled = spelled; config = config; entries = entries; read = read; place = place; illegal = illegal; code_is = refl; text_is = refl }))))))

@@ -1,12 +1,19 @@
 -- What `command` promises, by its answer.
-use Rattle.std.specs.Prelude.{◌≡◌, ◌≢◌, ℕ, true, List, Option}
+use Rattle.std.specs.Prelude.{◌≡◌, ◌≢◌, ◌⊎◌, ℕ, ◌<◌, ◌≤◌, true, List, [], ◌∷◌, length, Option, Some, None, Ok}
 use Rattle.std.specs.Io.KnownBytes.{Appends, Consumes, IsAtEnd, Keeps}
 use Rattle.pct_io.specs.Faults.{Rose}
 use Rattle.pct_io.specs.Sinks.{AppendsPart}
+use Rattle.pct_model.specs.declared.script.Script.{Script}
+use Rattle.pct_model.specs.declared.schedule.Config.{Config}
 use Rattle.pct_model.specs.declared.schedule.Entry.{Entry}
 use Rattle.pct_model.specs.declared.stop.Verdict.{Verdict}
 use Rattle.pct_model.specs.declared.stop.Verdict.TheVariants as verdict
-use Rattle.pct_model.specs.Outcome.{is_accepted, FirstGoesAlone, Outcome}
+use Rattle.pct_model.specs.declared.word.Keyword.TheVariants as word
+use Rattle.pct_model.specs.Words.{keyword_text}
+use Rattle.pct_model.specs.Canon.{Spells}
+use Rattle.pct_model.specs.Schedule.{sched_of}
+use Rattle.pct_model.specs.Run.{first_illegal}
+use Rattle.pct_model.specs.Outcome.{is_asked, is_accepted, script_part, schedule_part, default_config, FirstGoesAlone, Outcome}
 use Rattle.pct_command.specs.declared.status.Status.{Status}
 use Rattle.pct_command.specs.declared.status.Status.TheVariants as status
 use Rattle.pct_command.specs.Status.{code_of}
@@ -18,36 +25,45 @@ pub record Outside : Type 0 where
   pub written : Option (List ℕ)
   pub write_faults : ℕ
 
--- the code and the whole text that was written are the outcome of the words and the input, under a schedule in which the
--- first thread of the first process makes each step
-pub record Tells (words : List (List ℕ)) (input : List ℕ) (before after : Outside) (code : ℕ) : Type 0 where
-  pub schedule : List Entry
-  pub alone : FirstGoesAlone schedule
-  pub text : List ℕ
-  pub is_outcome : Outcome words input schedule code text
-  pub wrote : Appends before.written after.written text
+-- ---- what is written
 
--- a write failed: the sink counted it, and a front of the text of an outcome was written, which is not that of a run that can go on
-pub record TellsPart (words : List (List ℕ)) (input : List ℕ) (before after : Outside) : Type 0 where
-  pub schedule : List Entry
+-- of a `run` that was not refused: the schedule is the one that the text tells, the first thread of the first process makes
+-- each step of it, and the run does not go on
+pub record IsRunToItsEnd (schedule : List Entry) (code : ℕ) (text : List ℕ) : Type 0 where
+  pub told : sched_of text ≡ Ok (default_config, schedule)
   pub alone : FirstGoesAlone schedule
+  pub closed : code ≢ 4
+
+-- `replay` of the script and of the schedule that the text tells, in whichever input they stand, has the same outcome
+abbrev pub IsReplayed : List (List ℕ) → List ℕ → ℕ → List ℕ → Type 0
+IsReplayed words input code text =
+    (script : Script) (again : List ℕ) (schedule : List Entry)
+    → Spells (script_part words input) script → Spells (script_part (keyword_text word.Replay ∷ []) again) script
+    → sched_of (schedule_part again) ≡ sched_of text → length again ≤ 16777216
+    → Outcome (keyword_text word.Replay ∷ []) again schedule code text
+
+-- the code and the text are the outcome of the words and the input
+pub record Answer (words : List (List ℕ)) (input : List ℕ) (code : ℕ) (text : List ℕ) : Type 0 where
+  pub schedule : List Entry
+  pub is_outcome : Outcome words input schedule code text
+  pub run : is_asked word.Run words ≡ true → code < 5 → IsRunToItsEnd schedule code text
+  pub replayed : code < 5 → IsReplayed words input code text
+
+-- the whole text was written
+pub record Tells (words : List (List ℕ)) (input : List ℕ) (before after : Option (List ℕ)) (code : ℕ) : Type 0 where
+  pub text : List ℕ
+  pub answer : Answer words input code text
+  pub wrote : Appends before after text
+
+-- a write failed: the sink counted it, and a front of the text was written
+pub record TellsPart (words : List (List ℕ)) (input : List ℕ) (before after : Option (List ℕ)) (faults_before faults_after : ℕ) : Type 0 where
   pub code : ℕ
   pub text : List ℕ
-  pub is_outcome : Outcome words input schedule code text
-  pub closed : code ≢ 4
-  pub wrote : AppendsPart before.written after.written text
-  pub cause : Rose before.write_faults after.write_faults
+  pub answer : Answer words input code text
+  pub wrote : AppendsPart before after text
+  pub cause : Rose faults_before faults_after
 
--- what a text of at most 16,777,216 bytes that was read is answered with
-abbrev pub TextAnswers : List (List ℕ) → List ℕ → Outside → Outside → Status → Type 0
-TextAnswers words input before after status.NoMemory = Keeps before.written after.written
-TextAnswers words input before after status.WriteFault = TellsPart words input before after
-TextAnswers words input before after status.ReadFault = ⊥
-TextAnswers words input before after status.TooLong = ⊥
-TextAnswers words input before after status.Usage = ⊥
-TextAnswers words input before after status.Open = ⊥
-TextAnswers words input before after status.ScheduleRefused = ⊥
-TextAnswers words input before after s = Tells words input before after (code_of s)
+-- ---- a text that was read
 
 -- the status that tells how a run ended
 abbrev pub status_of_verdict : Verdict → Status
@@ -57,17 +73,33 @@ status_of_verdict verdict.Budget = status.Budget
 status_of_verdict (verdict.Undefined why) = status.Undefined
 status_of_verdict verdict.Open = status.Open
 
+-- what a text of at most 16,777,216 bytes, which was read to its end, is answered with
+abbrev pub TextAnswers : List (List ℕ) → List ℕ → Option (List ℕ) → Option (List ℕ) → ℕ → ℕ → Status → Type 0
+TextAnswers words input before after faults_before faults_after status.NoMemory = Keeps before after
+TextAnswers words input before after faults_before faults_after status.WriteFault = TellsPart words input before after faults_before faults_after
+TextAnswers words input before after faults_before faults_after status.ReadFault = ⊥
+TextAnswers words input before after faults_before faults_after status.TooLong = ⊥
+TextAnswers words input before after faults_before faults_after status.Usage = ⊥
+TextAnswers words input before after faults_before faults_after s = Tells words input before after (code_of s)
+
+-- ---- the answers
+
 -- what was read is a front of what the source had left, and all of it but where the words are refused or there is too much
+pub record Reads (before after : Option (List ℕ)) (input : List ℕ) (code : ℕ) : Type 0 where
+  pub front : Consumes before after input
+  pub to_end : code ≢ 5 → code ≢ 8 → IsAtEnd after
+
+-- the whole text was written
 pub record Decides (words : List (List ℕ)) (before after : Outside) (code : ℕ) : Type 0 where
   pub input : List ℕ
-  pub read : Consumes before.left after.left input
-  pub to_end : code ≢ 5 → code ≢ 8 → IsAtEnd after.left
-  pub tells : Tells words input before after code
+  pub read : Reads before.left after.left input code
+  pub tells : Tells words input before.written after.written code
 
+-- a write failed: the sink counted it, and a front of the text was written
 pub record FailsToWrite (words : List (List ℕ)) (before after : Outside) : Type 0 where
   pub input : List ℕ
-  pub read : Consumes before.left after.left input
-  pub tells : TellsPart words input before after
+  pub tells : TellsPart words input before.written after.written before.write_faults after.write_faults
+  pub read : Reads before.left after.left input tells.code
 
 -- a read failed: the source counted it, and nothing was written
 pub record FailsToRead (words : List (List ℕ)) (before after : Outside) : Type 0 where
@@ -80,11 +112,32 @@ pub record LacksMemory (words : List (List ℕ)) (before after : Outside) : Type
   pub accepted : is_accepted words ≡ true
   pub nothing : Keeps before.written after.written
 
--- what `command` promises of each answer; a run that can go on, and a schedule, are never answered so far
+-- what `command` promises of each answer
 abbrev pub Answers : List (List ℕ) → Outside → Outside → Status → Type 0
 Answers words before after status.ReadFault = FailsToRead words before after
 Answers words before after status.WriteFault = FailsToWrite words before after
 Answers words before after status.NoMemory = LacksMemory words before after
-Answers words before after status.Open = ⊥
-Answers words before after status.ScheduleRefused = ⊥
 Answers words before after s = Decides words before after (code_of s)
+
+-- ---- completeness
+
+-- the schedule of the input of `replay` can be read, and each of its entries is legal in its place
+pub record HasLegalSchedule (script : Script) (input : List ℕ) : Type 0 where
+  pub config : Config
+  pub entries : List Entry
+  pub read : sched_of (schedule_part input) ≡ Ok (config, entries)
+  pub legal : first_illegal script config entries ≡ None
+
+-- an input that is not refused
+pub record IsValid (words : List (List ℕ)) (input : List ℕ) : Type 0 where
+  pub fits : length input ≤ 16777216
+  pub script : Script
+  pub spelled : Spells (script_part words input) script
+  pub schedule : is_asked word.Replay words ≡ true → HasLegalSchedule script input
+
+-- accepted words, a valid input and no fault that was counted give a status from 0 to 4 and the whole text, or memory ran out
+abbrev pub IsComplete : List (List ℕ) → Outside → Outside → Status → Type 0
+IsComplete words before after s =
+    (input : List ℕ) → before.left ≡ Some input → is_accepted words ≡ true → IsValid words input
+    → ¬ Rose before.read_faults after.read_faults → ¬ Rose before.write_faults after.write_faults
+    → (s ≡ status.NoMemory) ⊎ ((code_of s < 5) × Tells words input before.written after.written (code_of s))

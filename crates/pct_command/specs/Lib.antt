@@ -1,4 +1,5 @@
 pub mod OneThread
 pub mod Ran
 pub mod Status
+pub mod Words
 pub mod Command

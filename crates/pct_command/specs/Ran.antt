@@ -1,24 +1,28 @@
--- A run that is over.
-use Rattle.std.specs.Prelude.{◌≡◌, ◌≢◌, ℕ, List, Some, None, false, length, replicate, reverse}
+-- Runs of the machine of one thread.
+use Rattle.std.specs.Prelude.{◌≡◌, ◌≢◌, ℕ, Bool, true, false, ◌&&◌, List, Some, None, length, reverse, nat_eq, nat_le}
 use Rattle.pct_model.specs.declared.script.Script.{Script}
+use Rattle.pct_model.specs.declared.schedule.Alt.TheVariants.{Go}
 use Rattle.pct_model.specs.declared.schedule.Config.{Config}
 use Rattle.pct_model.specs.declared.schedule.Entry.{Entry}
 use Rattle.pct_model.specs.declared.event.Event.{Event}
 use Rattle.pct_model.specs.declared.stop.Verdict.{Verdict}
-use Rattle.pct_model.specs.declared.stop.Verdict.TheVariants as verdict
 use Rattle.pct_model.specs.World.{World}
-use Rattle.pct_model.specs.Run.{run, verdict_of, is_stuck}
-use Rattle.pct_model.specs.Outcome.{first_goes}
+use Rattle.pct_model.specs.Step.{same_choice}
+use Rattle.pct_model.specs.Run.{Run, run, first_illegal, verdict_of, is_stuck}
 use Rattle.pct_command.specs.declared.process.OneProcess.{OneProcess}
-use Rattle.pct_command.specs.OneThread.{alternatives_of}
+use Rattle.pct_command.specs.declared.replay.ReplayFault.{ReplayFault}
+use Rattle.pct_command.specs.declared.replay.ReplayFault.TheVariants as fault
+use Rattle.pct_command.specs.OneThread.{world_of, alternatives_of}
 
--- these are the events and the entries, in order, of a run in which the first thread makes each step, and that is how it stands
+-- the world for which the parts stand, with these events, the newest first
+abbrev pub run_at : Script → OneProcess → List Event → Run
+run_at script p events = record { world = world_of script p; events = events }
+
+-- these are the events, in order, of the run under these entries, each of which is legal in its place, and that is how it stands
 pub record IsRan (script : Script) (config : Config) (events : List Event) (entries : List Entry) (v : Verdict) : Type 0 where
   pub world : World
   pub is_run : run script config entries ≡ Some (record { world = world; events = reverse events })
-  pub alone : entries ≡ replicate (length entries) first_goes
   pub verdict_is : v ≡ verdict_of script config world (length entries)
-  pub closed : v ≢ verdict.Open
 
 -- the run goes on: it was not stopped, its process has not ended, its thread has an alternative, and the budget is not used up
 pub record MayGo (script : Script) (config : Config) (p : OneProcess) (count : ℕ) : Type 0 where
@@ -26,3 +30,19 @@ pub record MayGo (script : Script) (config : Config) (p : OneProcess) (count : �
   pub lives : p.ended ≡ None
   pub can : is_stuck (alternatives_of script config p) ≡ false
   pub below : count ≢ config.budget
+
+-- an entry that lets the first thread of the first process go on, made by a worker of at most 16
+abbrev pub is_first : Entry → Bool
+is_first e = nat_le e.worker 16 && nat_eq e.pid 1 && nat_eq e.tid 1 && same_choice Go e.alt
+
+-- the entry takes the one alternative there is
+pub record IsTaken (script : Script) (config : Config) (p : OneProcess) (e : Entry) : Type 0 where
+  pub first : is_first e ≡ true
+  pub running : p.stop ≡ None
+  pub lives : p.ended ≡ None
+  pub can : is_stuck (alternatives_of script config p) ≡ false
+
+-- why a schedule was not replayed: an entry is the first that is not legal in its place, or memory ran out
+abbrev pub StopsReplay : Script → Config → List Entry → ReplayFault → Type 0
+StopsReplay script config entries (fault.NotLegal place) = first_illegal script config entries ≡ Some place
+StopsReplay script config entries fault.NoMemory = Unit {0}

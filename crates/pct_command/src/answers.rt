@@ -6,11 +6,11 @@ ghost use Rattle.pct_io.specs.Writes.{Writes};
 ghost use Rattle.pct_io.specs.Lines.{word_text};
 ghost use Rattle.pct_model.specs.Words.{line_text, text_of};
 ghost use Rattle.pct_model.specs.Report.{report_lines};
-ghost use Rattle.pct_model.specs.Outcome.{refused_words, refused_input, refused_script};
+ghost use Rattle.pct_model.specs.Outcome.{refused_words, refused_input, refused_script, refused_schedule, refused_entry};
 
 use crate::report::write_report;
 use pct_io::{Failed, Gatherer, Sink, Word, write_line};
-use pct_model::{Config, Entry, Event, Keyword, ParseWhy, Script, Verdict};
+use pct_model::{Config, Entry, Event, Keyword, ParseWhy, ScheduleWhy, Script, Verdict};
 
 /// Writes a line through a gatherer.
 fn write_alone<K: Sink>(sink: &mut K, words: &[Word]) -> Result<(), Failed>
@@ -76,6 +76,39 @@ pub(crate) fn refuse_script<K: Sink>(sink: &mut K, line: u32, why: ParseWhy) -> 
             Word::Text(Keyword::Script.text()),
             Word::Number(line),
             Word::Text(why.name().text()),
+        ],
+    )
+}
+
+#[tactic(auto, unfolding(pct_model::specs::Outcome::refused_schedule))]
+pub(crate) fn refuse_schedule<K: Sink>(
+    sink: &mut K,
+    line: u32,
+    why: ScheduleWhy,
+) -> Result<(), Failed>
+    ensures { Writes K.written K.faults K.inners sink.old sink.new (line_text (refused_schedule line why)) result }
+{
+    write_alone(
+        sink,
+        &[
+            Word::Text(Keyword::Refused.text()),
+            Word::Text(Keyword::Schedule.text()),
+            Word::Number(line),
+            Word::Text(why.name().text()),
+        ],
+    )
+}
+
+#[tactic(auto, unfolding(pct_model::specs::Outcome::refused_entry))]
+pub(crate) fn refuse_entry<K: Sink>(sink: &mut K, place: u32) -> Result<(), Failed>
+    ensures { Writes K.written K.faults K.inners sink.old sink.new (line_text (refused_entry place)) result }
+{
+    write_alone(
+        sink,
+        &[
+            Word::Text(Keyword::Refused.text()),
+            Word::Text(Keyword::Entry.text()),
+            Word::Number(place),
         ],
     )
 }

@@ -1,4 +1,4 @@
-//! The top call: `command` reads words and an input, runs the script and writes the report.
+//! The top call: `command` reads words and an input, runs the script or replays a schedule of it, and writes the report.
 #![tactic(auto)]
 
 mod answers;
@@ -7,8 +7,11 @@ mod events;
 mod go;
 mod machine;
 mod process;
+mod replay;
+mod replay_command;
 mod report;
 mod returns;
+mod run_command;
 mod stack;
 mod status;
 mod top;

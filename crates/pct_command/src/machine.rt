@@ -1,10 +1,11 @@
 //! The machine of one thread: it runs a script from its opening until the run is no longer open.
 
-ghost use Rattle.std.specs.Prelude.{◌≡◌, ◌≤◌, length, IfOk, IsTrue};
+ghost use Rattle.std.specs.Prelude.{◌≡◌, ◌≢◌, ◌≤◌, length, IfOk, IsTrue};
 ghost use Rattle.pct_model.specs.World.{opening};
 ghost use Rattle.pct_model.specs.Run.{is_config, verdict_of};
 ghost use Rattle.pct_command.specs.OneThread.{world_of};
 ghost use Rattle.pct_command.specs.Ran.{IsRan, MayGo};
+ghost use Rattle.pct_model.specs.Outcome.{FirstGoesAlone};
 ghost use Rattle.pct_model.specs.declared.stop.Verdict.TheVariants as verdict;
 
 use crate::events::record_entry;
@@ -26,6 +27,8 @@ pub(crate) struct Ran {
 pub(crate) fn run_alone(alloc: Global, script: &Script, config: Config) -> Result<Ran, NoMemory>
     requires { IsTrue (is_config config) }
     ensures ran { IfOk result (λ ran. IsRan script.now config ran.events.items ran.history.items ran.verdict) }
+    ensures alone { IfOk result (λ ran. FirstGoesAlone ran.history.items) }
+    ensures closed { IfOk result (λ ran. ran.verdict ≢ verdict.Open) }
     ensures within { IfOk result (λ ran. length ran.history.items ≤ config.budget) }
 {
     let budget = config.budget as usize;
@@ -45,9 +48,9 @@ pub(crate) fn run_alone(alloc: Global, script: &Script, config: Config) -> Resul
     })
 }
 
-// The first process at its beginning.
+/// The first process at its beginning.
 #[tactic(auto, unfolding(pct_model::specs::World::opening))]
-fn opening_of(alloc: Global, script: &Script) -> Result<OneProcess, NoMemory>
+pub(crate) fn opening_of(alloc: Global, script: &Script) -> Result<OneProcess, NoMemory>
     ensures { IfOk result (λ process. opening script.now ≡ world_of script.now process) }
 {
     let main = main_of(script.funcs.as_slice()) as u32;
@@ -68,9 +71,14 @@ fn opening_of(alloc: Global, script: &Script) -> Result<OneProcess, NoMemory>
     })
 }
 
-// How a run of so many entries stands.
+/// How a run of so many entries stands.
 #[tactic(auto, unfolding(pct_model::specs::Run::verdict_of))]
-fn verdict_after(script: &Script, config: Config, process: &OneProcess, count: usize) -> Verdict
+pub(crate) fn verdict_after(
+    script: &Script,
+    config: Config,
+    process: &OneProcess,
+    count: usize,
+) -> Verdict
     ensures value { result ≡ verdict_of script.now config (world_of script.now process.now) count }
     ensures open { result ≡ verdict.Open → MayGo script.now config process.now count }
 {

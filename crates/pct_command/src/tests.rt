@@ -105,9 +105,165 @@ fn reports(rt: HostRuntime) -> Result<(), Fail> {
     Ok(())
 }
 
+// The smallest script, a line `%%`, and these lines.
+fn behind_smallest(alloc: Global, schedule: &[u8]) -> Result<Vec<u8>, AllocError> {
+    let mut input = Vec::from_slice(alloc, SMALLEST)?;
+    input.extend_from_slice(b"%%\n")?;
+    input.extend_from_slice(schedule)?;
+    Ok(input)
+}
+
+#[test]
+fn replays(rt: HostRuntime) -> Result<(), Fail> {
+    let rows: [(&[u8], Status, &[u8]); 17] = [
+        (
+            b"schedule 1 10000 4 64\n1 1 1 go\n1 1 1 go\nend 2\n",
+            Status::Complete,
+            b"report 1\n1.1 exit 0\n1.1 process_end 0\nverdict complete\nschedule 1 10000 4 64\n1 1 1 go\n1 1 1 go\nend 2\n",
+        ),
+        (
+            b"report 1\n1.1 exit 0\n1.1 process_end 0\nverdict complete\nschedule 1 10000 4 64\n1 1 1 go\n1 1 1 go\nend 2\n",
+            Status::Complete,
+            b"report 1\n1.1 exit 0\n1.1 process_end 0\nverdict complete\nschedule 1 10000 4 64\n1 1 1 go\n1 1 1 go\nend 2\n",
+        ),
+        (
+            b"schedule 1 2 16 1\r\n0 1 1 go\r\n16 1 1 go\r\nend 2",
+            Status::Complete,
+            b"report 1\n1.1 exit 0\n1.1 process_end 0\nverdict complete\nschedule 1 2 16 1\n0 1 1 go\n16 1 1 go\nend 2\n",
+        ),
+        (
+            b"schedule 1 100 4 64\n1 1 1 go\nend 1\n",
+            Status::Open,
+            b"report 1\n1.1 exit 0\nverdict open\nschedule 1 100 4 64\n1 1 1 go\nend 1\n",
+        ),
+        (
+            b"schedule 1 100 4 64\nend 0\n",
+            Status::Open,
+            b"report 1\nverdict open\nschedule 1 100 4 64\nend 0\n",
+        ),
+        (
+            b"schedule 1 1 4 64\n1 1 1 go\nend 1\n",
+            Status::Budget,
+            b"report 1\n1.1 exit 0\nverdict budget\nschedule 1 1 4 64\n1 1 1 go\nend 1\n",
+        ),
+        (
+            b"schedule 1 100 4 64\n1 1 1 go\n1 1 1 go\n1 1 1 go\nend 3\n",
+            Status::ScheduleRefused,
+            b"refused entry 3\n",
+        ),
+        (
+            b"schedule 1 100 4 64\n1 1 2 go\n1 1 1 go\nend 2\n",
+            Status::ScheduleRefused,
+            b"refused entry 1\n",
+        ),
+        (
+            b"schedule 1 100 4 64\n1 1 1 go\n1 2 1 go\nend 2\n",
+            Status::ScheduleRefused,
+            b"refused entry 2\n",
+        ),
+        (
+            b"schedule 1 100 4 64\n1 1 1 act 0\nend 1\n",
+            Status::ScheduleRefused,
+            b"refused entry 1\n",
+        ),
+        (
+            b"schedule 1 100 4 64\n17 1 1 go\nend 1\n",
+            Status::ScheduleRefused,
+            b"refused schedule 2 bad_entry\n",
+        ),
+        (
+            b"schedule 1 100 4 64\nend 1\n",
+            Status::ScheduleRefused,
+            b"refused schedule 2 bad_end\n",
+        ),
+        (
+            b"schedule 1 1 4 64\n1 1 1 go\n1 1 1 go\nend 2\n",
+            Status::ScheduleRefused,
+            b"refused schedule 3 too_many\n",
+        ),
+        (
+            b"schedule 1 100 3 64\nend 0\n",
+            Status::ScheduleRefused,
+            b"refused schedule 1 bad_header\n",
+        ),
+        (
+            b"report 1\nverdict open\nschedule 1 100 4 65\nend 0\n",
+            Status::ScheduleRefused,
+            b"refused schedule 3 bad_header\n",
+        ),
+        (
+            b"schedule 1 100 4 64\nend 0\n\n",
+            Status::ScheduleRefused,
+            b"refused schedule 3 trailing\n",
+        ),
+        (
+            b"",
+            Status::ScheduleRefused,
+            b"refused schedule 1 bad_header\n",
+        ),
+    ];
+    for (schedule, status, text) in rows {
+        let input = behind_smallest(rt.alloc(), schedule)?;
+        let told = call(&rt, rt.alloc(), &["replay"], &input, &QUIET)?;
+        assert_eq!(rt; told.status, status);
+        assert_eq!(rt; told.text.as_slice(), text);
+        assert_eq!(rt; told.left, 0);
+    }
+    assert_eq!(rt; Status::Open.code(), 4);
+    assert_eq!(rt; Status::ScheduleRefused.code(), 7);
+    Ok(())
+}
+
+#[test]
+fn the_parts_of_a_replay(rt: HostRuntime) -> Result<(), Fail> {
+    let rows: [(&[u8], Status, &[u8]); 4] = [
+        // Without a line `%%` there is no schedule.
+        (
+            SMALLEST,
+            Status::ScheduleRefused,
+            b"refused schedule 1 bad_header\n",
+        ),
+        // The script is refused before the schedule is looked at.
+        (
+            b"fn main  x\nreturn 0\nend\n%%\nschedule 1 100 3 64\n",
+            Status::ScriptRefused,
+            b"refused script 1 unknown_word\n",
+        ),
+        (
+            b"",
+            Status::ScriptRefused,
+            b"refused script 1 unknown_word\n",
+        ),
+        // The first line `%%` parts the input, and may end in a byte 13.
+        (
+            b"fn main x\nreturn 0\nend\n%%\r\n%%\nschedule 1 100 4 64\nend 1\n",
+            Status::ScheduleRefused,
+            b"refused schedule 3 bad_end\n",
+        ),
+    ];
+    for (input, status, text) in rows {
+        let told = call(&rt, rt.alloc(), &["replay"], input, &QUIET)?;
+        assert_eq!(rt; told.status, status);
+        assert_eq!(rt; told.text.as_slice(), text);
+    }
+
+    let write_fails = Outside {
+        read_fails: &[],
+        write_chunk: 1,
+        write_fails: &[2],
+    };
+    let input = behind_smallest(rt.alloc(), b"schedule 1 100 4 64\nend 0\n")?;
+    let told = call(&rt, rt.alloc(), &["replay"], &input, &write_fails)?;
+    assert_eq!(rt; told.status, Status::WriteFault);
+    assert_eq!(rt; told.text.as_slice(), b"r".as_slice());
+    Ok(())
+}
+
 #[test]
 fn words(rt: HostRuntime) -> Result<(), Fail> {
-    let rows: [&[&str]; 8] = [
+    let rows: [&[&str]; 10] = [
+        &["replay", "x"],
+        &["run", "replay"],
         &["run", "--budget", "0"],
         &["run", "--seed", "1", "--seed", "2"],
         &["run", "--"],
@@ -230,6 +386,13 @@ fn a_run_of_all_the_budget_is_complete(rt: HostRuntime) -> Result<(), Fail> {
     let told = call(&rt, rt.alloc(), &["run"], &script, &QUIET)?;
     let ends = b"1.1 exit 0\n1.1 process_end 0\nverdict complete\n";
     let report = long_report(rt.alloc(), 98, ends)?;
+    assert_eq!(rt; told.status, Status::Complete);
+    assert_eq!(rt; told.text.as_slice(), report.as_slice());
+
+    let mut input = script;
+    input.extend_from_slice(b"%%\n")?;
+    input.extend_from_slice(&report)?;
+    let told = call(&rt, rt.alloc(), &["replay"], &input, &QUIET)?;
     assert_eq!(rt; told.status, Status::Complete);
     assert_eq!(rt; told.text.as_slice(), report.as_slice());
     Ok(())

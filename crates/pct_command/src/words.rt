@@ -1,8 +1,8 @@
 //! The words after the program's name.
 
 ghost use Rattle.std.specs.Prelude.{◌≡◌, map, string_bytes, true, false, IsOk, ◌↔◌, IfOk};
-ghost use Rattle.pct_model.specs.Outcome.{is_accepted, default_config};
-ghost use Rattle.pct_command.specs.declared.words.Job.TheVariants.{Run};
+ghost use Rattle.pct_model.specs.Outcome.{is_accepted};
+ghost use Rattle.pct_command.specs.Words.{Asks};
 
 use pct_model::{Config, Keyword};
 
@@ -37,16 +37,20 @@ impl RunOptions {
 pub enum Job {
     /// Run the script of the input, and write its report.
     Run(RunOptions),
+    /// Run the script of the input under the schedule that stands behind it, and write its report.
+    Replay,
 }
 
-/// What the words ask for. So far `run` alone is accepted, and `Usage` comes with all other words. It takes no memory.
-#[tactic(auto, unfolding(pct_model::specs::Outcome::is_accepted))]
+/// What the words ask for. So far `run` alone and `replay` alone are accepted, and `Usage` comes with all other words.
+/// It takes no memory.
+#[tactic(auto, unfolding(pct_model::specs::Outcome::is_asked))]
 pub fn read_words(words: &[String]) -> Result<Job, Usage>
     ensures accepted { IsOk result ↔ (is_accepted (map string_bytes words.now) ≡ true) }
-    ensures job { IfOk result (λ job. job ≡ Run (record { config = default_config; seed = 1; workers = 1; turns = 10000 })) }
+    ensures job { IfOk result (λ job. Asks (map string_bytes words.now) job) }
 {
     match words {
         [word] if word.as_bytes() == Keyword::Run.text() => Ok(Job::Run(RunOptions::DEFAULT)),
+        [word] if word.as_bytes() == Keyword::Replay.text() => Ok(Job::Replay),
         _ => Err(Usage),
     }
 }

@@ -4,3 +4,4 @@ pub mod Loops
 pub mod Plain
 pub mod ReadBack
 pub mod Texts
+pub mod Within

@@ -9,8 +9,8 @@ use Rattle.pct_model.specs.declared.refusal.ScheduleWhy.{ScheduleWhy}
 use Rattle.pct_model.specs.declared.refusal.ScheduleWhy.TheVariants as why
 use Rattle.pct_model.specs.declared.word.Keyword.TheVariants as word
 use Rattle.pct_model.specs.Words.{keyword_text}
-use Rattle.pct_model.specs.Lines.{lines_of, without_return}
-use Rattle.pct_model.specs.Schedule.{Schedule, begins, header_of, entry_of, is_end, ended, with_entry, entries_in, with_header, schedule_in, is_marker, marker_in, parts_at}
+use Rattle.pct_model.specs.Lines.{lines_of}
+use Rattle.pct_model.specs.Schedule.{Schedule, begins, header_of, entry_of, is_end, ended, with_entry, entries_in, with_header, schedule_in, marker_in, parts_at}
 use Rattle.pct_model.proofs.Lines.{lines_of-nil}
 use Rattle.pct_history.specs.declared.fault.ScheduleFault.{ScheduleFault}
 use Rattle.pct_history.specs.declared.fault.ScheduleFault.TheVariants as fault

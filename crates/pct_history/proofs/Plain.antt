@@ -1,5 +1,5 @@
 -- The words of a report: none has a space, a line's end or a byte 13 in it.
-use Rattle.std.proofs.Common.{◌≡◌, ℕ, zero, suc, ◌≤◌, ◌<◌, Bool, true, false, not, ◌&&◌, ◌||◌, cond, List, [], ◌∷◌, ◌++◌, length, refl, sym, ap, ◌∙◌, arith, nat_eq, nat_lt, nat_le, ltb-false, leb-true, lt-ltb, ne_eqb, true≢false, decimal}
+use Rattle.std.proofs.Common.{◌≡◌, ℕ, zero, suc, ◌≤◌, Bool, true, false, not, ◌&&◌, List, [], ◌∷◌, length, refl, sym, ◌∙◌, arith, nat_lt, nat_le, ltb-false, leb-true, lt-ltb, ne_eqb, decimal}
 use Rattle.std.specs.List.{list_all}
 use Rattle.std.proofs.lemmas.Bool.{and_parts, and_from, lt-leb}
 use Rattle.std.proofs.lemmas.List.Folds.{list_all-append}
@@ -94,6 +94,7 @@ keyword_plain word.CleanupPush = refl
 keyword_plain word.CleanupPop = refl
 keyword_plain word.Return = refl
 keyword_plain word.End = refl
+keyword_plain word.Replay = refl
 keyword_plain word.Push = refl
 keyword_plain word.Pop = refl
 keyword_plain word.Run = refl
@@ -151,6 +152,11 @@ keyword_plain word.UnknownName = refl
 keyword_plain word.ReturnInPush = refl
 keyword_plain word.NotPlain = refl
 keyword_plain word.NoMain = refl
+keyword_plain word.Entry = refl
+keyword_plain word.BadHeader = refl
+keyword_plain word.BadEntry = refl
+keyword_plain word.BadEnd = refl
+keyword_plain word.Trailing = refl
 
 -- ---- lines
 

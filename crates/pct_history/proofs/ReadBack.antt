@@ -1,11 +1,12 @@
 -- The schedule of a report is read back from its text.
-use Rattle.std.proofs.Common.{◌≡◌, ℕ, ◌+◌, ◌≤◌, ◌<◌, Bool, true, false, ◌&&◌, cond, List, [], ◌∷◌, ◌++◌, Option, Some, None, Result, Ok, Err, length, map, refl, sym, ap, ◌∙◌, append_assoc, append-nil, arith, nat_eq, nat_lt, nat_le, leb-true, lt-ltb, eq-eqb, true≢false, bytes_eq, decimal, length-append}
+use Rattle.std.proofs.Common.{◌≡◌, ℕ, ◌+◌, ◌≤◌, ◌<◌, Bool, true, false, ◌&&◌, cond, List, [], ◌∷◌, ◌++◌, Option, Some, None, Ok, Err, length, map, refl, sym, ap, ◌∙◌, append_assoc, append-nil, arith, nat_eq, nat_le, leb-true, lt-ltb, eq-eqb, true≢false, bytes_eq, decimal, length-append, option_map, reverse}
 use Rattle.std.specs.List.{list_all, join_with_byte}
 use Rattle.std.specs.Fmt.{digits}
 use Rattle.std.specs.Option.{option_map_or}
 use Rattle.std.proofs.lemmas.Bool.{and_parts, false_from_ne_true}
 use Rattle.std.proofs.lemmas.List.Concat.{flat_map-cons}
 use Rattle.std.proofs.lemmas.List.Folds.{list_all-append}
+use Rattle.std.proofs.lemmas.Option.{same_Some}
 use Rattle.pct_model.specs.declared.script.Script.{Script}
 use Rattle.pct_model.specs.declared.event.Event.{Event}
 use Rattle.pct_model.specs.declared.schedule.Alt.{Alt}
@@ -17,15 +18,15 @@ use Rattle.pct_model.specs.declared.refusal.ScheduleWhy.TheVariants as why
 use Rattle.pct_model.specs.declared.word.Keyword.TheVariants as word
 use Rattle.pct_model.specs.Words.{keyword_text, line_text, text_of}
 use Rattle.pct_model.specs.Static.{is_digit}
-use Rattle.pct_model.specs.Report.{thread_text, event_words, event_line, alt_words, entry_line, header_line, end_line, schedule_lines, verdict_words, verdict_line, title_line, report_lines}
-use Rattle.pct_model.specs.Lines.{◌>>=◌, cut, lines_of, without_return, number_of}
-use Rattle.pct_model.specs.Run.{is_config}
-use Rattle.pct_model.specs.Schedule.{Schedule, begins, header_of, numbered_choice, entry_of, is_number, is_end, ended, with_entry, entries_in, with_header, schedule_in, sched_of}
+use Rattle.pct_model.specs.Report.{thread_text, event_words, event_line, alt_words, entry_line, header_line, end_line, schedule_lines, verdict_words, verdict_line, title_line, report_lines, report_of, report}
+use Rattle.pct_model.specs.Lines.{cut, lines_of, without_return}
+use Rattle.pct_model.specs.Run.{Run, is_config, run, verdict_of}
+use Rattle.pct_model.specs.Schedule.{Schedule, begins, header_of, entry_of, is_end, ended, with_entry, entries_in, with_header, schedule_in, sched_of}
 use Rattle.pct_model.proofs.Bytes.{same_bytes, bytes_eq-refl}
 use Rattle.pct_model.proofs.Cuts.{cut_again, lacks_other, lacks-append, lacks-cons}
 use Rattle.pct_model.proofs.Numbers.{number_again, decimal_lacks, digits_of_decimal}
 use Rattle.pct_model.proofs.Lines.{without_return-lacks, lines_of-nil, lines_of-line}
-use Rattle.pct_history.specs.ReadBack.{fits, is_choice, is_entry}
+use Rattle.pct_history.specs.ReadBack.{fits, is_choice, is_entry, IsSchedule}
 use Rattle.pct_history.specs.Reading.{begins_with, config_in, header_in, choice_in, entry_in, ends_with}
 use Rattle.pct_history.proofs.ByCuts.{begins-schedule, begins-end, header_same, entry_same, end_same}
 use Rattle.pct_history.proofs.Plain.{is_plain_byte, is_plain, are_plain, keyword_plain, decimal_plain, event_line_plain, verdict_line_plain, title_line_plain, end_line_plain, header_line_plain, entry_line_plain}
@@ -287,23 +288,35 @@ entries_again total config (e ∷ entries) most few all n front same =
 
 -- ---- reports
 
-schedule_again : (config : Config) (entries : List Entry) → is_config config ≡ true → length entries ≤ config.budget → list_all is_entry entries ≡ true
-    → (n : ℕ) → schedule_in n (lines_of (text_of (schedule_lines config entries))) ≡ Ok (config, entries)
+schedule_again : (config : Config) (entries : List Entry) → IsSchedule config entries → (n : ℕ) → schedule_in n (lines_of (text_of (schedule_lines config entries))) ≡ Ok (config, entries)
 unfolding schedule_lines
-schedule_again config entries is most all n =
-    let limits = in_limits config is in
-    header_found n config (map entry_line entries ++ (end_line (length entries) ∷ [])) is
-    ∙ entries_again (length entries) config entries most (omega (arith, limits.budget)) all (n + 1) [] (omega arith)
+schedule_again config entries is n =
+    let limits = in_limits config is.config_fits in
+    header_found n config (map entry_line entries ++ (end_line (length entries) ∷ [])) is.config_fits
+    ∙ entries_again (length entries) config entries is.few (omega (arith, is.few, limits.budget)) is.each (n + 1) [] (omega arith)
 
 grouped : {A : Type 0} (a : A) (bs : List A) (c : A) (ds : List A) → (a ∷ []) ++ bs ++ (c ∷ []) ++ ds ≡ a ∷ (bs ++ (c ∷ ds))
 grouped a bs c ds = ap (λ xs. a ∷ xs) (append_assoc bs (c ∷ []) ds)
 
-pub report_again : (script : Script) (config : Config) (events : List Event) (v : Verdict) (entries : List Entry) → is_config config ≡ true → length entries ≤ config.budget
-    → list_all is_entry entries ≡ true → sched_of (text_of (report_lines script config events v entries)) ≡ Ok (config, entries)
+pub report_again : (script : Script) (config : Config) (events : List Event) (v : Verdict) (entries : List Entry) → IsSchedule config entries
+    → sched_of (text_of (report_lines script config events v entries)) ≡ Ok (config, entries)
 unfolding sched_of report_lines
-report_again script config events v entries is most all =
+report_again script config events v entries is =
     let schedule = schedule_lines config entries in
     let told = map (event_line script) events in
     ap (λ (lines : List (List (List ℕ))). schedule_in 1 (lines_of (text_of lines))) (grouped title_line told (verdict_line v) schedule)
     ∙ title_passed 1 (told ++ (verdict_line v ∷ schedule))
-    ∙ events_passed script events (verdict_line v ∷ schedule) (Ok (config, entries)) (λ n. verdict_passed n v schedule ∙ schedule_again config entries is most all (n + 1)) 2
+    ∙ events_passed script events (verdict_line v ∷ schedule) (Ok (config, entries)) (λ n. verdict_passed n v schedule ∙ schedule_again config entries is (n + 1)) 2
+
+by_run : (script : Script) (config : Config) (entries : List Entry) (text : List ℕ) (o : Option Run) → option_map (report_of script config entries) o ≡ Some text → IsSchedule config entries
+    → sched_of text ≡ Ok (config, entries)
+by_run script config entries text None e is = absurd cc
+by_run script config entries text (Some r) e is =
+    ap sched_of (sym (same_Some (report_of script config entries r) text e))
+    ∙ report_again script config (reverse r.events) (verdict_of script config r.world (length entries)) entries is
+
+-- the schedule of a run is read back from the run's report
+pub report_is_read_back : (script : Script) (config : Config) (entries : List Entry) (text : List ℕ) → report script config entries ≡ Some text → IsSchedule config entries
+    → sched_of text ≡ Ok (config, entries)
+unfolding report
+report_is_read_back script config entries text e is = by_run script config entries text (run script config entries) e is

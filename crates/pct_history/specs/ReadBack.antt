@@ -1,5 +1,5 @@
 -- The law that the schedule of a report is read back from it.
-use Rattle.std.specs.Prelude.{◌≡◌, ℕ, ◌≤◌, Bool, true, ◌&&◌, List, length, Ok, nat_le, IsTrue}
+use Rattle.std.specs.Prelude.{◌≡◌, ℕ, ◌≤◌, Bool, true, ◌&&◌, List, length, Ok, nat_le}
 use Rattle.std.specs.List.{list_all}
 use Rattle.pct_model.specs.declared.script.Script.{Script}
 use Rattle.pct_model.specs.declared.schedule.Alt.{Alt}
@@ -29,9 +29,14 @@ is_choice (alt.Dtor n) = fits n
 abbrev pub is_entry : Entry → Bool
 is_entry e = nat_le e.worker 16 && fits e.pid && fits e.tid && is_choice e.alt
 
+-- numbers under which a run may go, and entries that a text can tell, at most as many as the budget
+pub record IsSchedule (config : Config) (entries : List Entry) : Type 0 where
+  pub config_fits : is_config config ≡ true
+  pub few : length entries ≤ config.budget
+  pub each : list_all is_entry entries ≡ true
+
 -- whatever the script, the events and the verdict of a report are, its schedule is read back from its text
 abbrev pub ReportsAreReadBack : Type 0
 ReportsAreReadBack =
     (script : Script) (config : Config) (events : List Event) (verdict : Verdict) (entries : List Entry)
-    → IsTrue (is_config config) → length entries ≤ config.budget → IsTrue (list_all is_entry entries)
-    → sched_of (text_of (report_lines script config events verdict entries)) ≡ Ok (config, entries)
+    → IsSchedule config entries → sched_of (text_of (report_lines script config events verdict entries)) ≡ Ok (config, entries)

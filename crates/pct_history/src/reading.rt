@@ -1,10 +1,11 @@
 //! A schedule from its text.
 
-ghost use Rattle.std.specs.Prelude.{◌≡◌, ◌+◌, ◌-◌, ◌<◌, ◌≤◌, ◌^◌, length, IfSome, []};
+ghost use Rattle.std.specs.Prelude.{◌≡◌, ◌+◌, ◌-◌, ◌<◌, ◌≤◌, ◌^◌, length, IfSome, IfOk, []};
 ghost use Rattle.std.specs.Option.{option_map};
 ghost use Rattle.pct_model.specs.Lines.{lines_of};
 ghost use Rattle.pct_model.specs.Schedule.{entries_in, sched_of};
 ghost use Rattle.pct_history.specs.Gives.{Gives};
+ghost use Rattle.pct_history.specs.ReadBack.{IsSchedule};
 ghost use Rattle.pct_history.specs.Reading.{from_header, entry_at, end_at};
 
 use crate::fault::ScheduleFault;
@@ -118,7 +119,8 @@ fn read_entries(
 /// nothing of the text.
 pub fn read_schedule(alloc: Global, text: &[u8]) -> Result<(Config, Entries), ScheduleFault>
     requires { length text.now ≤ 16777216 }
-    ensures { Gives (λ schedule. (schedule.0, schedule.1)) result (sched_of text.now) }
+    ensures read { Gives (λ schedule. (schedule.0, schedule.1)) result (sched_of text.now) }
+    ensures within { IfOk result (λ schedule. IsSchedule schedule.0 schedule.1) }
 {
     let Some((number, line, behind)) = find_header(text) else {
         return Err(ScheduleFault::Refused {

@@ -1,6 +1,6 @@
 //! The parts of an input that holds a script and a schedule.
 
-ghost use Rattle.std.specs.Prelude.{◌≡◌};
+ghost use Rattle.std.specs.Prelude.{◌≡◌, ◌≤◌, length};
 ghost use Rattle.pct_model.specs.Schedule.{replay_parts};
 
 use crate::lines::first_line;
@@ -8,7 +8,8 @@ use crate::lines::first_line;
 /// Where the script's part of an input ends, and where the part behind the first line `%%` begins. Where there is no
 /// such line, both are the input's length.
 pub fn split_replay(input: &[u8]) -> (usize, usize)
-    ensures { result ≡ replay_parts input.now }
+    ensures parts { result ≡ replay_parts input.now }
+    ensures within { (result.0 ≤ length input.now) × (result.1 ≤ length input.now) }
 {
     let mut rest = input;
     while let Some((line, behind)) = first_line(rest) {

@@ -11,6 +11,7 @@ mod line;
 mod memory;
 mod sink;
 mod source;
+mod tail;
 mod whole;
 
 pub use edge::{StdSink, StdSource};

@@ -94,6 +94,55 @@ fn parts_follow_one_another(rt: HostRuntime) -> Result<(), Fail> {
 }
 
 #[test]
+fn a_line_is_its_words(rt: HostRuntime) -> Result<(), Fail> {
+    let rows: [(&[Word], &[u8]); 6] = [
+        (&[], b"\n"),
+        (&[Word::Text(b"")], b"\n"),
+        (&[Word::Text(b""), Word::Text(b"")], b" \n"),
+        (&[Word::Text(b"end"), Word::Number(0)], b"end 0\n"),
+        (&[Word::Number(4_294_967_295)], b"4294967295\n"),
+        (
+            &[Word::Dotted(4_294_967_295, 10), Word::Text(b"exit")],
+            b"4294967295.10 exit\n",
+        ),
+    ];
+    for (words, line) in rows {
+        let mut sink = MemSink::new(rt.alloc(), 99, 99, &[])?;
+        write_line(&mut sink, words)?;
+        assert_eq!(rt; sink.written(), line);
+    }
+    Ok(())
+}
+
+#[test]
+fn lines_may_be_of_any_length(rt: HostRuntime) -> Result<(), Fail> {
+    let alloc = rt.alloc();
+    let text = [b'a'; 150];
+    for length in 0..=150 {
+        let name = &text[..length];
+        // Room for all, and for all but the line's end.
+        for room in [length as u32 + 16, length as u32 + 15] {
+            let mut sink = MemSink::new(alloc, room, 7, &[])?;
+            let mut same = MemSink::new(alloc, room, 7, &[])?;
+            assert_eq!(rt;
+                write_line(
+                    &mut sink,
+                    &[
+                        Word::Dotted(1, 2),
+                        Word::Text(name),
+                        Word::Number(1_000_000_000)
+                    ],
+                ),
+                write_parts(&mut same, &[b"1.2 ", name, b" 1000000000", b"\n"]),
+                "{length} bytes"
+            );
+            assert_eq!(rt; sink.written(), same.written());
+        }
+    }
+    Ok(())
+}
+
+#[test]
 fn what_was_not_taken_is_still_held(rt: HostRuntime) -> Result<(), Fail> {
     let mut sink = MemSink::new(rt.alloc(), 99, 4, &[2])?;
     let mut out = Gatherer::new(&mut sink);

@@ -12,6 +12,7 @@ use Rattle.pct_model.specs.declared.event.What.{What}
 use Rattle.pct_model.specs.declared.event.What.TheVariants as what
 use Rattle.pct_model.specs.declared.frame.Frame.{Frame}
 use Rattle.pct_model.specs.declared.refusal.ParseWhy.TheVariants as fault
+use Rattle.pct_model.specs.declared.refusal.ScheduleWhy.TheVariants as schedule_fault
 use Rattle.pct_model.specs.declared.schedule.Alt.TheVariants as alt
 use Rattle.pct_model.specs.declared.schedule.Config.{Config}
 use Rattle.pct_model.specs.declared.schedule.Entry.{Entry}
@@ -26,9 +27,11 @@ use Rattle.pct_model.specs.Canon.{name_at, operand_text, statement_words, functi
 use Rattle.pct_model.specs.World.{Thread, Process, World, first_process, statement_at, value_of, new_frame, new_thread, opening}
 use Rattle.pct_model.specs.Alternatives.{stops, emits, pushes, pops, exits, returns_by, ends_process, running_at}
 use Rattle.pct_model.specs.Step.{process_ends, step, is_legal}
-use Rattle.pct_model.specs.Run.{run_step, run_from, run, verdict_of}
+use Rattle.pct_model.specs.Run.{run_step, run_from, illegal_from, first_illegal, run, verdict_of}
 use Rattle.pct_model.specs.Report.{stop_words, event_words, thread_text, event_line, alt_words, entry_line, header_line, end_line, schedule_lines, verdict_words, verdict_line, title_line, report_lines, report}
-use Rattle.pct_model.specs.Outcome.{is_accepted, default_config, first_goes, refused_words, refused_input, refused_script, code_of_verdict}
+use Rattle.pct_model.specs.Lines.{lines_of, without_return}
+use Rattle.pct_model.specs.Schedule.{marker_in, replay_parts}
+use Rattle.pct_model.specs.Outcome.{is_asked, is_accepted, script_part, schedule_part, default_config, first_goes, refused_words, refused_input, refused_script, refused_schedule, refused_entry, code_of_verdict}
 
 -- ---- forms
 
@@ -126,6 +129,12 @@ smallest_ends = refl
 smallest_past_budget : run smallest (with_budget 1) (replicate 2 first_goes) ≡ None
 unfolding main_of keyword_text statement_at value_of opening stops emits pushes pops exits returns_by ends_process running_at step run_step run_from run verdict_of
 smallest_past_budget = refl
+
+-- which entry is the first that is not legal in its place, counted from 1: a third step, another thread, another process,
+-- another choice; any worker of at most 16 may make a step
+smallest_illegal : (first_illegal smallest default_config (replicate 2 first_goes) ≡ None) × (first_illegal smallest default_config (replicate 4 first_goes) ≡ Some 3) × (first_illegal smallest default_config (record { worker = 1; pid = 1; tid = 2; alt = alt.Go } ∷ []) ≡ Some 1) × (first_illegal smallest default_config (first_goes ∷ record { worker = 1; pid = 2; tid = 1; alt = alt.Go } ∷ first_goes ∷ []) ≡ Some 2) × (first_illegal smallest default_config (record { worker = 1; pid = 1; tid = 1; alt = alt.Act 0 } ∷ first_goes ∷ []) ≡ Some 1) × (first_illegal smallest default_config (record { worker = 16; pid = 1; tid = 1; alt = alt.Go } ∷ record { worker = 0; pid = 1; tid = 1; alt = alt.Go } ∷ []) ≡ None) × (first_illegal smallest default_config (record { worker = 17; pid = 1; tid = 1; alt = alt.Go } ∷ []) ≡ Some 1)
+unfolding main_of keyword_text statement_at value_of opening stops emits pushes pops exits returns_by ends_process running_at step run_step illegal_from
+smallest_illegal = (refl, refl, refl, refl, refl, refl, refl)
 
 -- ---- a handler that a pop calls
 
@@ -420,10 +429,10 @@ statement_lines_of_all = (refl, refl)
 
 -- ---- words and refusals
 
--- `run` alone is accepted
-accepted_words : (IsTrue (is_accepted (codes "run" ∷ []))) × (IsFalse (is_accepted [])) × (IsFalse (is_accepted (codes "walk" ∷ []))) × (IsFalse (is_accepted (codes "run" ∷ codes "--" ∷ []))) × (IsFalse (is_accepted (codes "run" ∷ codes "--budget" ∷ codes "0" ∷ [])))
-unfolding is_accepted keyword_text
-accepted_words = (refl, refl, refl, refl, refl)
+-- `run` alone and `replay` alone are accepted
+accepted_words : (IsTrue (is_accepted (codes "run" ∷ []))) × (IsTrue (is_accepted (codes "replay" ∷ []))) × (IsFalse (is_accepted [])) × (IsFalse (is_accepted (codes "walk" ∷ []))) × (IsFalse (is_accepted (codes "run" ∷ codes "--" ∷ []))) × (IsFalse (is_accepted (codes "run" ∷ codes "--budget" ∷ codes "0" ∷ [])))
+unfolding is_asked keyword_text
+accepted_words = (refl, refl, refl, refl, refl, refl)
 
 -- the texts of the refusals of words and input
 refusal_texts : (line_text refused_words ≡ codes "refused words\n") × (line_text refused_input ≡ codes "refused input too_long\n")
@@ -434,6 +443,16 @@ refusal_texts = (refl, refl)
 script_refusal_texts : flat_map (λ w. line_text (refused_script 10 w)) (fault.NotAscii ∷ fault.UnknownWord ∷ fault.WordCount ∷ fault.BadNumber ∷ fault.BadName ∷ fault.Misplaced ∷ fault.StrayEnd ∷ fault.PopUnmatched ∷ fault.Unclosed ∷ fault.TooMany ∷ fault.NameTwice ∷ fault.UnknownName ∷ fault.ReturnInPush ∷ fault.NotPlain ∷ fault.NoMain ∷ []) ≡ codes "refused script 10 not_ascii\nrefused script 10 unknown_word\nrefused script 10 word_count\nrefused script 10 bad_number\nrefused script 10 bad_name\nrefused script 10 misplaced\nrefused script 10 stray_end\nrefused script 10 pop_unmatched\nrefused script 10 unclosed\nrefused script 10 too_many\nrefused script 10 name_twice\nrefused script 10 unknown_name\nrefused script 10 return_in_push\nrefused script 10 not_plain\nrefused script 10 no_main\n"
 unfolding digits refused_script keyword_text
 script_refusal_texts = refl
+
+-- of a schedule, and of an entry
+schedule_refusal_texts : flat_map (λ w. line_text (refused_schedule 10 w)) (schedule_fault.BadHeader ∷ schedule_fault.BadEntry ∷ schedule_fault.TooMany ∷ schedule_fault.BadEnd ∷ schedule_fault.Trailing ∷ []) ++ line_text (refused_entry 3) ≡ codes "refused schedule 10 bad_header\nrefused schedule 10 bad_entry\nrefused schedule 10 too_many\nrefused schedule 10 bad_end\nrefused schedule 10 trailing\nrefused entry 3\n"
+unfolding digits refused_schedule refused_entry keyword_text
+schedule_refusal_texts = refl
+
+-- which part of an input is the script's, and which the schedule's
+parts_of_an_input : (script_part (codes "run" ∷ []) (codes "a\n%%\nb\n") ≡ codes "a\n%%\nb\n") × (script_part (codes "replay" ∷ []) (codes "a\n%%\nb\n") ≡ codes "a\n") × (schedule_part (codes "a\n%%\nb\n") ≡ codes "b\n") × (script_part (codes "replay" ∷ []) (codes "a\n") ≡ codes "a\n") × (schedule_part (codes "a\n") ≡ [])
+unfolding is_asked keyword_text script_part schedule_part replay_parts marker_in lines_of without_return
+parts_of_an_input = (refl, refl, refl, refl, refl)
 
 -- the codes of the verdicts
 status_codes : map code_of_verdict (verdict.Complete ∷ verdict.Deadlock ∷ verdict.Budget ∷ verdict.Undefined why.ExitTwice ∷ verdict.Open ∷ []) ≡ 0 ∷ 1 ∷ 2 ∷ 3 ∷ 4 ∷ []

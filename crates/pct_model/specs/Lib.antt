@@ -9,3 +9,5 @@ pub mod Report
 pub mod Outcome
 pub mod Lines
 pub mod Schedule
+pub mod Points
+pub mod Cancelability

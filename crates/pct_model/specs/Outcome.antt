@@ -1,7 +1,9 @@
 -- What the program answers to its words and its input: a status, by its code, and the bytes that it writes.
-use Rattle.std.specs.Prelude.{◌≡◌, ◌⊎◌, ℕ, ◌<◌, ◌≤◌, Bool, true, false, List, [], ◌∷◌, length, replicate, Some, bytes_eq, decimal}
+use Rattle.std.specs.Prelude.{◌≡◌, ◌⊎◌, ℕ, ◌<◌, ◌≤◌, Bool, true, false, ◌||◌, if◌then◌else◌, List, [], ◌∷◌, length, take, drop, replicate, Some, Ok, Err, bytes_eq, decimal}
 use Rattle.pct_model.specs.declared.refusal.ParseWhy.{ParseWhy}
 use Rattle.pct_model.specs.declared.refusal.ParseWhy.TheVariants as fault
+use Rattle.pct_model.specs.declared.refusal.ScheduleWhy.{ScheduleWhy}
+use Rattle.pct_model.specs.declared.refusal.ScheduleWhy.TheVariants as schedule_fault
 use Rattle.pct_model.specs.declared.script.Script.{Script}
 use Rattle.pct_model.specs.declared.schedule.Alt.TheVariants.{Go}
 use Rattle.pct_model.specs.declared.schedule.Config.{Config}
@@ -12,16 +14,29 @@ use Rattle.pct_model.specs.declared.word.Keyword.{Keyword}
 use Rattle.pct_model.specs.declared.word.Keyword.TheVariants as word
 use Rattle.pct_model.specs.Words.{keyword_text, line_text}
 use Rattle.pct_model.specs.Canon.{Spells, FirstFault}
-use Rattle.pct_model.specs.Run.{Run, run, verdict_of}
+use Rattle.pct_model.specs.Schedule.{sched_of, replay_parts}
+use Rattle.pct_model.specs.Run.{Run, run, first_illegal, verdict_of}
 use Rattle.pct_model.specs.Report.{report}
 
 -- ---- words
 
--- the words that are accepted: `run` alone
-unfoldable pub is_accepted : List (List ℕ) → Bool
-is_accepted [] = false
-is_accepted (w ∷ []) = bytes_eq w (keyword_text word.Run)
-is_accepted (w ∷ next ∷ words) = false
+-- the words are this one alone
+unfoldable pub is_asked : Keyword → List (List ℕ) → Bool
+is_asked keyword [] = false
+is_asked keyword (w ∷ []) = bytes_eq w (keyword_text keyword)
+is_asked keyword (w ∷ next ∷ words) = false
+
+-- the words that are accepted: `run` alone, or `replay` alone
+abbrev pub is_accepted : List (List ℕ) → Bool
+is_accepted words = is_asked word.Run words || is_asked word.Replay words
+
+-- the script's part of the input: all of it for `run`, and for `replay` what stands before the first line `%%`
+unfoldable pub script_part : List (List ℕ) → List ℕ → List ℕ
+script_part words input = if is_asked word.Replay words then take (replay_parts input).0 input else input
+
+-- the schedule's part of the input of `replay`: what stands behind that line
+unfoldable pub schedule_part : List ℕ → List ℕ
+schedule_part input = drop (replay_parts input).1 input
 
 -- the numbers under which `run` goes where no word says otherwise
 abbrev pub default_config : Config
@@ -54,6 +69,13 @@ name_of_fault fault.ReturnInPush = word.ReturnInPush
 name_of_fault fault.NotPlain = word.NotPlain
 name_of_fault fault.NoMain = word.NoMain
 
+abbrev pub name_of_schedule_fault : ScheduleWhy → Keyword
+name_of_schedule_fault schedule_fault.BadHeader = word.BadHeader
+name_of_schedule_fault schedule_fault.BadEntry = word.BadEntry
+name_of_schedule_fault schedule_fault.TooMany = word.TooMany
+name_of_schedule_fault schedule_fault.BadEnd = word.BadEnd
+name_of_schedule_fault schedule_fault.Trailing = word.Trailing
+
 unfoldable pub refused_words : List (List ℕ)
 refused_words = keyword_text word.Refused ∷ keyword_text word.Words ∷ []
 
@@ -62,6 +84,12 @@ refused_input = keyword_text word.Refused ∷ keyword_text word.Input ∷ keywor
 
 unfoldable pub refused_script : ℕ → ParseWhy → List (List ℕ)
 refused_script line why = keyword_text word.Refused ∷ keyword_text word.Script ∷ decimal line ∷ keyword_text (name_of_fault why) ∷ []
+
+unfoldable pub refused_schedule : ℕ → ScheduleWhy → List (List ℕ)
+refused_schedule line why = keyword_text word.Refused ∷ keyword_text word.Schedule ∷ decimal line ∷ keyword_text (name_of_schedule_fault why) ∷ []
+
+unfoldable pub refused_entry : ℕ → List (List ℕ)
+refused_entry place = keyword_text word.Refused ∷ keyword_text word.Entry ∷ decimal place ∷ []
 
 -- ---- the outcome
 
@@ -92,13 +120,53 @@ pub record RefusesScript (words : List (List ℕ)) (input : List ℕ) (code : �
   pub fits : length input ≤ 16777216
   pub line : ℕ
   pub why : ParseWhy
-  pub first : FirstFault input line why
+  pub first : FirstFault (script_part words input) line why
   pub code_is : code ≡ 6
   pub text_is : text ≡ line_text (refused_script line why)
 
+-- a schedule that cannot be read is refused, with its first fault
+pub record RefusesSchedule (words : List (List ℕ)) (input : List ℕ) (code : ℕ) (text : List ℕ) : Type 0 where
+  pub accepted : is_asked word.Replay words ≡ true
+  pub fits : length input ≤ 16777216
+  pub script : Script
+  pub spelled : Spells (script_part words input) script
+  pub line : ℕ
+  pub why : ScheduleWhy
+  pub first : sched_of (schedule_part input) ≡ Err (line, why)
+  pub code_is : code ≡ 7
+  pub text_is : text ≡ line_text (refused_schedule line why)
+
+-- a schedule with an entry that is not legal in its place is refused, with the first such place
+pub record RefusesEntry (words : List (List ℕ)) (input : List ℕ) (code : ℕ) (text : List ℕ) : Type 0 where
+  pub accepted : is_asked word.Replay words ≡ true
+  pub fits : length input ≤ 16777216
+  pub script : Script
+  pub spelled : Spells (script_part words input) script
+  pub config : Config
+  pub entries : List Entry
+  pub read : sched_of (schedule_part input) ≡ Ok (config, entries)
+  pub place : ℕ
+  pub illegal : first_illegal script config entries ≡ Some place
+  pub code_is : code ≡ 7
+  pub text_is : text ≡ line_text (refused_entry place)
+
+-- a script is replayed under the schedule of the input, which is legal throughout
+pub record Replays (words : List (List ℕ)) (input : List ℕ) (code : ℕ) (text : List ℕ) : Type 0 where
+  pub accepted : is_asked word.Replay words ≡ true
+  pub fits : length input ≤ 16777216
+  pub script : Script
+  pub spelled : Spells (script_part words input) script
+  pub config : Config
+  pub entries : List Entry
+  pub read : sched_of (schedule_part input) ≡ Ok (config, entries)
+  pub after : Run
+  pub is_run : run script config entries ≡ Some after
+  pub code_is : code ≡ code_of_verdict (verdict_of script config after.world (length entries))
+  pub text_is : report script config entries ≡ Some text
+
 -- a script is run under the schedule, which is legal throughout: the code tells how the run stands, and the text is its report
 pub record Runs (words : List (List ℕ)) (input : List ℕ) (schedule : List Entry) (code : ℕ) (text : List ℕ) : Type 0 where
-  pub accepted : is_accepted words ≡ true
+  pub accepted : is_asked word.Run words ≡ true
   pub fits : length input ≤ 16777216
   pub script : Script
   pub spelled : Spells input script
@@ -110,4 +178,4 @@ pub record Runs (words : List (List ℕ)) (input : List ℕ) (schedule : List En
 -- what the program answers and writes for these words and this input, under this schedule
 abbrev pub Outcome : List (List ℕ) → List ℕ → List Entry → ℕ → List ℕ → Type 0
 Outcome words input schedule code text =
-    RefusesWords words code text ⊎ RefusesInput words input code text ⊎ RefusesScript words input code text ⊎ Runs words input schedule code text
+    RefusesWords words code text ⊎ RefusesInput words input code text ⊎ RefusesScript words input code text ⊎ RefusesSchedule words input code text ⊎ RefusesEntry words input code text ⊎ Replays words input code text ⊎ Runs words input schedule code text

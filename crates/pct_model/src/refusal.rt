@@ -1,7 +1,7 @@
 //! Why a text is refused.
 
 ghost use Rattle.std.specs.Prelude.{◌≡◌};
-ghost use Rattle.pct_model.specs.Outcome.{name_of_fault};
+ghost use Rattle.pct_model.specs.Outcome.{name_of_fault, name_of_schedule_fault};
 
 use crate::word::Keyword;
 
@@ -58,4 +58,19 @@ pub enum ScheduleWhy {
     TooMany,
     BadEnd,
     Trailing,
+}
+
+impl ScheduleWhy {
+    /// The word that names the fault.
+    pub fn name(self) -> Keyword
+        ensures { result ≡ name_of_schedule_fault self }
+    {
+        match self {
+            ScheduleWhy::BadHeader => Keyword::BadHeader,
+            ScheduleWhy::BadEntry => Keyword::BadEntry,
+            ScheduleWhy::TooMany => Keyword::TooMany,
+            ScheduleWhy::BadEnd => Keyword::BadEnd,
+            ScheduleWhy::Trailing => Keyword::Trailing,
+        }
+    }
 }

@@ -14,6 +14,8 @@ pub enum Keyword {
     CleanupPop,
     Return,
     End,
+    // the other words that the program takes
+    Replay,
     // the words of an event
     Push,
     Pop,
@@ -75,6 +77,11 @@ pub enum Keyword {
     ReturnInPush,
     NotPlain,
     NoMain,
+    Entry,
+    BadHeader,
+    BadEntry,
+    BadEnd,
+    Trailing,
 }
 
 impl Keyword {
@@ -91,6 +98,7 @@ impl Keyword {
             Keyword::CleanupPop => b"pthread_cleanup_pop",
             Keyword::Return => b"return",
             Keyword::End => b"end",
+            Keyword::Replay => b"replay",
             Keyword::Push => b"push",
             Keyword::Pop => b"pop",
             Keyword::Run => b"run",
@@ -148,6 +156,11 @@ impl Keyword {
             Keyword::ReturnInPush => b"return_in_push",
             Keyword::NotPlain => b"not_plain",
             Keyword::NoMain => b"no_main",
+            Keyword::Entry => b"entry",
+            Keyword::BadHeader => b"bad_header",
+            Keyword::BadEntry => b"bad_entry",
+            Keyword::BadEnd => b"bad_end",
+            Keyword::Trailing => b"trailing",
         }
     }
 }

@@ -1,13 +1,13 @@
 -- The two laws of reading: what is read is spelled so, and what passes all checks is read again from its text.
-use Rattle.std.proofs.Common.{◌≡◌, ℕ, ◌≤◌, true, false, ◌&&◌, List, [], ◌∷◌, Some, None, length, refl, sym, ap, ◌∙◌, subst, arith, nat_eq, nat_lt, nat_le, leb-true, true≢false, flat_map}
+use Rattle.std.proofs.Common.{◌≡◌, ℕ, ◌≤◌, true, false, ◌&&◌, List, Some, None, length, refl, sym, ap, ◌∙◌, subst, arith, nat_eq, nat_lt, nat_le, leb-true, true≢false, flat_map}
 use Rattle.std.specs.List.{list_all}
-use Rattle.std.proofs.lemmas.Bool.{and_parts, and_from}
+use Rattle.std.proofs.lemmas.Bool.{and_parts}
 use Rattle.std.proofs.lemmas.List.{length-map}
 use Rattle.std.proofs.lemmas.Option.{same_Some, none-some}
 use Rattle.pct_model.specs.declared.refusal.ParseWhy.TheVariants.{UnknownWord}
 use Rattle.pct_model.specs.declared.script.Func.{Func}
 use Rattle.pct_model.specs.declared.script.Script.{Script}
-use Rattle.pct_model.specs.Static.{is_name, is_parameter, is_function, names_of, main_of, all_different, statement_lines, are_functions, is_static}
+use Rattle.pct_model.specs.Static.{is_function, names_of, main_of, all_different, statement_lines, are_functions, is_static}
 use Rattle.pct_model.specs.Words.{text_of}
 use Rattle.pct_model.specs.Canon.{function_lines, functions_text, Spells, FirstFault}
 use Rattle.pct_script.specs.declared.fault.ParseFault.{ParseFault}

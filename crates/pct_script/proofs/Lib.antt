@@ -4,5 +4,6 @@ pub mod Laws
 pub mod LinesAgain
 pub mod Loops
 pub mod Names
+pub mod OneScript
 pub mod Spelled
 pub mod Steps

@@ -38,9 +38,8 @@ pub fn parse(alloc: Global, text: &[u8]) -> Result<Script, ParseFault>
     // A refusal names the first fault of the text, and such a text spells no script.
     ensures refused { IfErr result (λ fault. IsFaultOf text.now fault) }
 
-    // No other functions have this text.
-    ensures one { IfOk result (λ script.
-        (other : Script) → Spells text.now other → other.funcs ≡ script.funcs) }
+    // No other script has this text.
+    ensures one { IfOk result (λ script. (other : Script) → Spells text.now other → other ≡ script) }
 {
     let functions = read(alloc, text)?;
     if !are_functions(&functions) {

@@ -1,4 +1,5 @@
 use Rattle.std.proofs.Common.{◌≡◌, length, reverse, refl, arith, vec_len}
+use Rattle.pct_model.specs.Outcome.{first_goes}
 use Rattle.pct_command.specs.OneThread.{world_of}
 use Rattle.pct_command.proofs.Steps.{leads-on, begins, goes_on, alone-more, is-run}
 use Rattle.pct_command.proofs.machine.run_alone.Goals as goal
@@ -22,7 +23,7 @@ pub loop-verdict-preserved : goal.loop-verdict-preserved
 loop-verdict-preserved c =
     let so_far = c.loop-verdict.invariant in
     let goes = so_far.goes c.in-Open.is in
-    let stepped = leads-on c.args.script.now c.args.config c.loop-verdict.process c.go.new.process (reverse c.loop-verdict.events.items) (reverse c.go.new.events.items) _ goes.running goes.lives refl c.go.ensures.leads in
+    let stepped = leads-on c.args.script.now c.args.config c.loop-verdict.process c.go.new.process (reverse c.loop-verdict.events.items) (reverse c.go.new.events.items) first_goes refl goes.running goes.lives c.go.ensures.leads in
     let entry = c.record_entry.ensures in
     record {
       is_run = goes_on c.args.script.now c.args.config c.loop-verdict.history.items c.record_entry.new.history.items _ _ so_far.is_run stepped entry.last;
@@ -42,10 +43,14 @@ returns-clause-ran c =
     record {
       world = world_of c.args.script.now c.loop-verdict.process;
       is_run = is-run c.args.script.now c.args.config c.loop-verdict.history.items _ c.requires (omega (arith, len, so_far.within)) so_far.is_run;
-      alone = rw len so_far.alone;
       verdict_is = rw len so_far.verdict_is;
-      closed = c.in_default.not-Open;
     }
+
+pub returns-clause-alone : goal.returns-clause-alone
+returns-clause-alone c =
+    let so_far = c.loop-verdict.invariant in
+    let len : length c.loop-verdict.history.items ≡ vec_len c.loop-verdict.history = omega (arith, c.loop-verdict.history.ok.0) in
+    rw len so_far.alone
 
 pub returns-clause-within : goal.returns-clause-within
 returns-clause-within c = omega (arith, c.loop-verdict.invariant.within, c.loop-verdict.history.ok.0)

@@ -1,4 +1,4 @@
-use Rattle.std.proofs.Common.{◌≡◌, ℕ, ◌-◌, ◌≤◌, Bool, true, false, List, length, refl, sym, ap, ◌∙◌, arith, bytes_eq}
+use Rattle.std.proofs.Common.{◌≡◌, ℕ, ◌-◌, Bool, true, false, List, length, sym, ap, ◌∙◌, arith, bytes_eq}
 use Rattle.std.specs.Prelude.{codes}
 use Rattle.pct_model.specs.Lines.{lines_of}
 use Rattle.pct_model.specs.Schedule.{marker_in, parts_at, replay_parts}
@@ -22,8 +22,8 @@ loop-line-init c = (begins_at_front c.args.input.now, omega arith)
 pub overflow_sub-result-then-eq : goal.overflow_sub-result-then-eq
 overflow_sub-result-then-eq c = omega (arith, shorter_behind c.loop-line.rest.now c.in-Some.line.now c.in-Some.behind.now (sym c.in-Some.ensures))
 
-pub returns-then-eq : goal.returns-then-eq
-returns-then-eq c =
+pub returns-then-eq-clause-parts : goal.returns-then-eq-clause-parts
+returns-then-eq-clause-parts c =
     parted_here (length c.args.input.now) c.loop-line.rest.now c.in-Some.line.now c.in-Some.behind.now _ (sym c.in-Some.ensures)
     (compared c.in-Some.line.now c.as_slice.result.now (codes "%%") true c.if-eq.ensures c.as_slice.ensures) c.loop-line.invariant.1 c.loop-line.invariant.0
 
@@ -37,5 +37,5 @@ loop-line-preserved c = (
   omega (arith, shorter_behind c.loop-line.rest.now c.in-Some.line.now c.in-Some.behind.now (sym c.in-Some.ensures)),
 )
 
-pub returns : goal.returns
-returns c = not_parted (length c.args.input.now) c.loop-line.rest.now _ (sym c.in_default.ensures) c.loop-line.invariant.0
+pub returns-clause-parts : goal.returns-clause-parts
+returns-clause-parts c = not_parted (length c.args.input.now) c.loop-line.rest.now _ (sym c.in_default.ensures) c.loop-line.invariant.0

@@ -2,7 +2,8 @@ use Rattle.std.proofs.Common.{◌≡◌, true, false, sym, ap, ◌∙◌}
 use Rattle.std.proofs.lemmas.Result.{err_from_is_err_and}
 use Rattle.pct_model.specs.Static.{are_functions}
 use Rattle.pct_model.specs.Canon.{functions_text}
-use Rattle.pct_script.proofs.Laws.{spelled_back, same_functions, nothing_is_read, not_static}
+use Rattle.pct_script.proofs.Laws.{spelled_back, nothing_is_read, not_static}
+use Rattle.pct_script.proofs.OneScript.{spells_one_script}
 use Rattle.pct_script.proofs.parsing.parse.Goals as goal
 
 pub returns-in_err-functions-clause-refused : goal.returns-in_err-functions-clause-refused
@@ -21,4 +22,4 @@ returns-clause-spelled c =
     spelled_back c.args.text.now c.in_ok-functions.functions.items c.in_ok-functions.ensures passes ∙ ap functions_text (sym c.of-5.ensures)
 
 pub returns-clause-one : goal.returns-clause-one
-returns-clause-one c = λ other spells. same_functions c.args.text.now c.in_ok-functions.functions.items other c.in_ok-functions.ensures spells ∙ sym c.of-5.ensures
+returns-clause-one c = λ other spells. spells_one_script c.args.text.now other _ spells (returns-clause-spelled c)

@@ -1,0 +1,2 @@
+mod Table
+pub mod Names

@@ -1,0 +1,113 @@
+//! The table of cancellation points (XSH 2.9.5.2).
+
+ghost use Rattle.std.specs.Prelude.{◌≡◌, ◌<◌, Some, bytes_eq, position, slice_get};
+ghost use Rattle.pct_io.specs.Writes.{Writes};
+ghost use Rattle.pct_model.specs.Points.{point_of, point_name};
+ghost use Rattle.pct_cancel.specs.declared.point.TheConstants.{POINTS};
+ghost use Rattle.pct_cancel.specs.Calls.{call_name};
+
+use crate::PointKind::{Optional, Required};
+use crate::PointWait::{Inside, Never, NoWait, Outside};
+use crate::call::Call;
+use crate::{Point, PointKind, PointWait};
+use pct_io::{Failed, Sink, write_all};
+
+// The rows in the order of their indexes.
+static POINTS: [(Call, PointKind, PointWait); 58] = [
+    (Call::Accept, Required, Outside),
+    (Call::AioSuspend, Required, Outside),
+    (Call::ClockNanosleep, Required, Outside),
+    (Call::Close, Required, Outside),
+    (Call::Connect, Required, Outside),
+    (Call::Creat, Required, Outside),
+    (Call::Fdatasync, Required, Outside),
+    (Call::Fsync, Required, Outside),
+    (Call::MqReceive, Required, Outside),
+    (Call::MqSend, Required, Outside),
+    (Call::Msgrcv, Required, Outside),
+    (Call::Msgsnd, Required, Outside),
+    (Call::Msync, Required, Outside),
+    (Call::Nanosleep, Required, Outside),
+    (Call::Open, Required, Outside),
+    (Call::Openat, Required, Outside),
+    (Call::Pause, Required, Never),
+    (Call::Poll, Required, Outside),
+    (Call::Pread, Required, Outside),
+    (Call::Pselect, Required, Outside),
+    (Call::PthreadCondTimedwait, Required, Inside),
+    (Call::PthreadCondWait, Required, Inside),
+    (Call::PthreadJoin, Required, Inside),
+    (Call::PthreadTestcancel, Required, NoWait),
+    (Call::Pwrite, Required, Outside),
+    (Call::Read, Required, Outside),
+    (Call::Readv, Required, Outside),
+    (Call::Recv, Required, Outside),
+    (Call::Recvfrom, Required, Outside),
+    (Call::Recvmsg, Required, Outside),
+    (Call::Select, Required, Outside),
+    (Call::SemTimedwait, Required, Inside),
+    (Call::SemWait, Required, Inside),
+    (Call::Send, Required, Outside),
+    (Call::Sendmsg, Required, Outside),
+    (Call::Sendto, Required, Outside),
+    (Call::Sigsuspend, Required, Never),
+    (Call::Sigtimedwait, Required, Outside),
+    (Call::Sigwait, Required, Never),
+    (Call::Sigwaitinfo, Required, Never),
+    (Call::Sleep, Required, Outside),
+    (Call::Tcdrain, Required, Outside),
+    (Call::Wait, Required, Inside),
+    (Call::Waitid, Required, Inside),
+    (Call::Waitpid, Required, Inside),
+    (Call::Write, Required, Outside),
+    (Call::Writev, Required, Outside),
+    (Call::Fclose, Optional, NoWait),
+    (Call::Fflush, Optional, NoWait),
+    (Call::Fgets, Optional, NoWait),
+    (Call::Fopen, Optional, NoWait),
+    (Call::Fprintf, Optional, NoWait),
+    (Call::Fputs, Optional, NoWait),
+    (Call::Printf, Optional, NoWait),
+    (Call::Puts, Optional, NoWait),
+    (Call::Opendir, Optional, NoWait),
+    (Call::Closedir, Optional, NoWait),
+    (Call::Readdir, Optional, NoWait),
+];
+
+/// The point with this name: its index in the table, whether the standard requires it, and what a thread at it waits
+/// for. `None` comes exactly where no point has the name (XSH 2.9.5.2). It takes no memory.
+pub fn point_of(name: &[u8]) -> Option<Point>
+    ensures { result ≡ point_of name.now }
+{
+    let place = place_of(name)?;
+    let (_, kind, wait) = row_at(place);
+    Some(Point {
+        index: place as u32,
+        kind,
+        wait,
+    })
+}
+
+/// Writes the name of the point with this index, which is below 58, and nothing else. At `Failed` a front of the name
+/// was written, and the sink's count of faults rose. It takes no memory.
+pub fn write_point<K: Sink>(index: u32, sink: &mut K) -> Result<(), Failed>
+    requires { index < 58 }
+    ensures { Writes K.written K.faults K.inners sink.old sink.new (point_name index) result }
+{
+    write_all(sink, row_at(index as usize).0.name())
+}
+
+// The index of the first row with this name.
+fn place_of(name: &[u8]) -> Option<usize>
+    ensures { result ≡ position (λ row. bytes_eq (call_name row.0) name.now) POINTS }
+{
+    POINTS.iter().position(|row| row.0.name() == name)
+}
+
+// The row with this index.
+fn row_at(index: usize) -> (Call, PointKind, PointWait)
+    requires { index < 58 }
+    ensures { slice_get POINTS index ≡ Some result }
+{
+    POINTS[index]
+}

@@ -1,0 +1,131 @@
+-- An input that is not refused is told whole, where no fault was counted and there was memory.
+use Rattle.std.proofs.Common.{◌≡◌, ◌≢◌, inl, inr, ℕ, ◌<◌, ◌≤◌, true, List, ◌++◌, length, Option, Some, None, Ok, Err, refl, sym, ap, ◌∙◌, subst, arith}
+use Rattle.std.proofs.lemmas.Bool.{true≢false}
+use Rattle.std.proofs.lemmas.List.{append-nil, length-append}
+use Rattle.std.proofs.lemmas.Option.{none-some}
+use Rattle.std.specs.Io.KnownBytes.{Consumes, IsAtEnd}
+use Rattle.pct_model.specs.declared.script.Script.{Script}
+use Rattle.pct_model.specs.declared.schedule.Config.{Config}
+use Rattle.pct_model.specs.declared.schedule.Entry.{Entry}
+use Rattle.pct_model.specs.declared.refusal.ScheduleWhy.{ScheduleWhy}
+use Rattle.pct_model.specs.declared.stop.Verdict.{Verdict}
+use Rattle.pct_model.specs.declared.stop.Verdict.TheVariants as verdict
+use Rattle.pct_model.specs.Schedule.{Schedule, sched_of}
+use Rattle.pct_model.specs.Run.{first_illegal, verdict_of}
+use Rattle.pct_model.specs.Outcome.{is_accepted, schedule_part, default_config, code_of_verdict, Outcome}
+use Rattle.pct_script.proofs.OneScript.{spells_one_script}
+use Rattle.pct_command.specs.declared.status.Status.{Status}
+use Rattle.pct_command.specs.declared.status.Status.TheVariants as status
+use Rattle.pct_command.specs.Command.{Outside, Tells, Decides, Answers, HasLegalSchedule, IsValid, IsComplete}
+
+-- ---- which codes are refusals
+
+verdict_code : (v : Verdict) → code_of_verdict v < 5
+unfolding code_of_verdict
+verdict_code verdict.Complete = omega arith
+verdict_code verdict.Deadlock = omega arith
+verdict_code verdict.Budget = omega arith
+verdict_code (verdict.Undefined why) = omega arith
+verdict_code verdict.Open = omega arith
+
+-- the two schedules of an input are the same
+no_fault : (input : List ℕ) (config : Config) (entries : List Entry) (line : ℕ) (why : ScheduleWhy) → sched_of (schedule_part input) ≡ Ok (config, entries) → sched_of (schedule_part input) ≡ Err (line, why) → ⊥
+no_fault input config entries line why good bad = absurd cc
+
+given_by : Schedule → Config × List Entry → Config × List Entry
+given_by (Ok given) other = given
+given_by (Err e) other = other
+
+same_schedule : (input : List ℕ) (one other : Config × List Entry) → sched_of (schedule_part input) ≡ Ok one → sched_of (schedule_part input) ≡ Ok other → one ≡ other
+unfolding given_by
+same_schedule input one other reads also = ap (λ (s : Schedule). given_by s one) (sym reads ∙ also)
+
+not_illegal : (input : List ℕ) (script other : Script) (config : Config) (entries : List Entry) (place : ℕ) (valid : HasLegalSchedule script input) → other ≡ script → sched_of (schedule_part input) ≡ Ok (config, entries) → first_illegal other config entries ≡ Some place → ⊥
+not_illegal input script other config entries place valid same read illegal =
+    let schedules : (config, entries) ≡ (valid.config, valid.entries) = same_schedule input (config, entries) (valid.config, valid.entries) read valid.read in
+    none-some place
+    (sym valid.legal
+    ∙ ap (λ (s : Config × List Entry). first_illegal script s.0 s.1) (sym schedules)
+    ∙ ap (λ (s : Script). first_illegal s config entries) (sym same)
+    ∙ illegal)
+
+-- an input that is not refused has an outcome with another code
+not_refused : (words : List (List ℕ)) (input : List ℕ) (schedule : List Entry) (code : ℕ) (text : List ℕ) → is_accepted words ≡ true → IsValid words input → Outcome words input schedule code text → code < 5
+not_refused words input schedule code text accepted valid (inl refuses) = absurd (true≢false (sym accepted ∙ refuses.refused))
+not_refused words input schedule code text accepted valid (inr (inl refuses)) = absurd (omega (arith, valid.fits, refuses.too_long))
+not_refused words input schedule code text accepted valid (inr (inr (inl refuses))) = absurd (refuses.first.0 valid.script valid.spelled)
+not_refused words input schedule code text accepted valid (inr (inr (inr (inl refuses)))) =
+    let legal = valid.schedule refuses.accepted in
+    absurd (no_fault input legal.config legal.entries refuses.line refuses.why legal.read refuses.first)
+not_refused words input schedule code text accepted valid (inr (inr (inr (inr (inl refuses))))) =
+    absurd (not_illegal input valid.script refuses.script refuses.config refuses.entries refuses.place (valid.schedule refuses.accepted) (spells_one_script _ refuses.script valid.script refuses.spelled valid.spelled) refuses.read refuses.illegal)
+not_refused words input schedule code text accepted valid (inr (inr (inr (inr (inr (inl replays)))))) = rw replays.code_is (verdict_code _)
+not_refused words input schedule code text accepted valid (inr (inr (inr (inr (inr (inr runs)))))) = rw runs.code_is (verdict_code _)
+
+-- accepted words are not refused
+usage_here : (words : List (List ℕ)) (input : List ℕ) (schedule : List Entry) (text : List ℕ) → is_accepted words ≡ true → Outcome words input schedule 5 text → ⊥
+usage_here words input schedule text accepted (inl refuses) = true≢false (sym accepted ∙ refuses.refused)
+usage_here words input schedule text accepted (inr (inl refuses)) = absurd (omega (arith, refuses.code_is))
+usage_here words input schedule text accepted (inr (inr (inl refuses))) = absurd (omega (arith, refuses.code_is))
+usage_here words input schedule text accepted (inr (inr (inr (inl refuses)))) = absurd (omega (arith, refuses.code_is))
+usage_here words input schedule text accepted (inr (inr (inr (inr (inl refuses))))) = absurd (omega (arith, refuses.code_is))
+usage_here words input schedule text accepted (inr (inr (inr (inr (inr (inl replays)))))) = absurd (omega (arith, replays.code_is, verdict_code (verdict_of replays.script replays.config replays.after.world (length replays.entries))))
+usage_here words input schedule text accepted (inr (inr (inr (inr (inr (inr runs)))))) = absurd (omega (arith, runs.code_is, verdict_code (verdict_of runs.script default_config runs.after.world (length schedule))))
+
+-- an input that fits is not too long
+too_long_here : (words : List (List ℕ)) (input : List ℕ) (schedule : List Entry) (text : List ℕ) → length input ≤ 16777216 → Outcome words input schedule 8 text → ⊥
+too_long_here words input schedule text fits (inl refuses) = absurd (omega (arith, refuses.code_is))
+too_long_here words input schedule text fits (inr (inl refuses)) = absurd (omega (arith, fits, refuses.too_long))
+too_long_here words input schedule text fits (inr (inr (inl refuses))) = absurd (omega (arith, refuses.code_is))
+too_long_here words input schedule text fits (inr (inr (inr (inl refuses)))) = absurd (omega (arith, refuses.code_is))
+too_long_here words input schedule text fits (inr (inr (inr (inr (inl refuses))))) = absurd (omega (arith, refuses.code_is))
+too_long_here words input schedule text fits (inr (inr (inr (inr (inr (inl replays)))))) = absurd (omega (arith, replays.code_is, verdict_code (verdict_of replays.script replays.config replays.after.world (length replays.entries))))
+too_long_here words input schedule text fits (inr (inr (inr (inr (inr (inr runs)))))) = absurd (omega (arith, runs.code_is, verdict_code (verdict_of runs.script default_config runs.after.world (length schedule))))
+
+-- ---- what was read
+
+-- a source that was read to its end gave all that it had left
+all_read : (before after : Option (List ℕ)) (input given : List ℕ) → before ≡ Some input → Consumes before after given → IsAtEnd after → given ≡ input
+all_read None after input given has front end = absurd cc
+all_read (Some xs) None input given has front end = absurd front
+all_read (Some xs) (Some ys) input given has front end =
+    let same : xs ≡ input = cc in
+    sym (append-nil given) ∙ ap (λ (rest : List ℕ). given ++ rest) (sym end) ∙ sym front ∙ same
+
+-- and a front of it is no longer
+front_length : (before after : Option (List ℕ)) (input given : List ℕ) → before ≡ Some input → Consumes before after given → length given ≤ length input
+front_length None after input given has front = absurd cc
+front_length (Some xs) None input given has front = absurd front
+front_length (Some xs) (Some ys) input given has front =
+    let same : xs ≡ input = cc in
+    rw (← same, front, length-append) (omega arith)
+
+-- ---- the answers
+
+tells_valid : (words : List (List ℕ)) (before after : Outside) (code : ℕ) (input : List ℕ) → code ≢ 5 → code ≢ 8 → before.left ≡ Some input → is_accepted words ≡ true → IsValid words input → Decides words before after code → (code < 5) × Tells words input before.written after.written code
+tells_valid words before after code input not_usage not_long has accepted valid decides =
+    let same = all_read before.left after.left input decides.input has decides.read.front (decides.read.to_end not_usage not_long) in
+    let told = subst (λ (x : List ℕ). Tells words x before.written after.written code) same decides.tells in
+    (not_refused words input told.answer.schedule code told.text accepted valid told.answer.is_outcome, told)
+
+-- an input that is valid is not too long
+not_too_long : (words : List (List ℕ)) (before after : Outside) (input : List ℕ) → before.left ≡ Some input → is_accepted words ≡ true → IsValid words input → Decides words before after 8 → ⊥
+not_too_long words before after input has accepted valid decides =
+    too_long_here words decides.input decides.tells.answer.schedule decides.tells.text (omega (arith, valid.fits, front_length before.left after.left input decides.input has decides.read.front)) decides.tells.answer.is_outcome
+
+not_usage : (words : List (List ℕ)) (before after : Outside) → is_accepted words ≡ true → Decides words before after 5 → ⊥
+not_usage words before after accepted decides = usage_here words decides.input decides.tells.answer.schedule decides.tells.text accepted decides.tells.answer.is_outcome
+
+pub complete : (words : List (List ℕ)) (before after : Outside) (s : Status) → Answers words before after s → IsComplete words before after s
+complete words before after status.Complete answers = λ input has accepted valid no_read_fault no_write_fault. inr (tells_valid words before after 0 input (λ e. absurd (omega (arith, e))) (λ e. absurd (omega (arith, e))) has accepted valid answers)
+complete words before after status.Deadlock answers = λ input has accepted valid no_read_fault no_write_fault. inr (tells_valid words before after 1 input (λ e. absurd (omega (arith, e))) (λ e. absurd (omega (arith, e))) has accepted valid answers)
+complete words before after status.Budget answers = λ input has accepted valid no_read_fault no_write_fault. inr (tells_valid words before after 2 input (λ e. absurd (omega (arith, e))) (λ e. absurd (omega (arith, e))) has accepted valid answers)
+complete words before after status.Undefined answers = λ input has accepted valid no_read_fault no_write_fault. inr (tells_valid words before after 3 input (λ e. absurd (omega (arith, e))) (λ e. absurd (omega (arith, e))) has accepted valid answers)
+complete words before after status.Open answers = λ input has accepted valid no_read_fault no_write_fault. inr (tells_valid words before after 4 input (λ e. absurd (omega (arith, e))) (λ e. absurd (omega (arith, e))) has accepted valid answers)
+complete words before after status.ScriptRefused answers = λ input has accepted valid no_read_fault no_write_fault. inr (tells_valid words before after 6 input (λ e. absurd (omega (arith, e))) (λ e. absurd (omega (arith, e))) has accepted valid answers)
+complete words before after status.ScheduleRefused answers = λ input has accepted valid no_read_fault no_write_fault. inr (tells_valid words before after 7 input (λ e. absurd (omega (arith, e))) (λ e. absurd (omega (arith, e))) has accepted valid answers)
+complete words before after status.Usage answers = λ input has accepted valid no_read_fault no_write_fault. absurd (not_usage words before after accepted answers)
+complete words before after status.TooLong answers = λ input has accepted valid no_read_fault no_write_fault. absurd (not_too_long words before after input has accepted valid answers)
+complete words before after status.ReadFault answers = λ input has accepted valid no_read_fault no_write_fault. absurd (no_read_fault answers.cause)
+complete words before after status.WriteFault answers = λ input has accepted valid no_read_fault no_write_fault. absurd (no_write_fault answers.tells.cause)
+complete words before after status.NoMemory answers = λ input has accepted valid no_read_fault no_write_fault. inl refl

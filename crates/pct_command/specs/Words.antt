@@ -1,0 +1,16 @@
+-- What the words of the program ask for.
+use Rattle.std.specs.Prelude.{◌≡◌, ℕ, true, List}
+use Rattle.pct_model.specs.declared.word.Keyword.TheVariants as word
+use Rattle.pct_model.specs.Outcome.{is_asked, default_config}
+use Rattle.pct_command.specs.declared.words.Job.{Job}
+use Rattle.pct_command.specs.declared.words.Job.TheVariants.{Run, Replay}
+
+-- the words ask for this job: so far `run` goes under the default numbers
+abbrev pub Asks : List (List ℕ) → Job → Type 0
+Asks words (Run options) = (is_asked word.Run words ≡ true) × (options ≡ record { config = default_config; seed = 1; workers = 1; turns = 10000 })
+Asks words Replay = is_asked word.Replay words ≡ true
+
+-- a job goes under the default numbers
+abbrev pub HasDefaults : Job → Type 0
+HasDefaults (Run options) = options.config ≡ default_config
+HasDefaults Replay = Unit {0}

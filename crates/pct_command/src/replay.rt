@@ -1,0 +1,99 @@
+//! A run that is made again, under a schedule that is given.
+
+ghost use Rattle.std.specs.Prelude.{◌≡◌, ◌+◌, ◌≤◌, false, length, reverse, true, vec_len, vec_capacity, Some, None, IfErr, IfNone, IfOk, IfSome, IsTrue};
+ghost use Rattle.pct_model.specs.Step.{step, same_choice};
+ghost use Rattle.pct_model.specs.Run.{illegal_from, is_config, run_from};
+ghost use Rattle.pct_model.specs.declared.schedule.Alt.TheVariants.{Go as GoOn};
+ghost use Rattle.pct_command.specs.OneThread.{world_of};
+ghost use Rattle.pct_command.specs.Ran.{IsRan, IsTaken, StopsReplay, is_first, run_at};
+
+use crate::go::{can_go, go};
+use crate::machine::{opening_of, verdict_after};
+use crate::process::OneProcess;
+use pct_model::{Alt, Config, Entry, Event, MAX_WORKER, Script, Verdict};
+use std::alloc::Global;
+
+/// A run that was made again: its events in order, and how it stands.
+#[derive(Drop)]
+pub(crate) struct Replayed {
+    pub(crate) events: Vec<Event>,
+    pub(crate) verdict: Verdict,
+}
+
+/// Why a schedule was not replayed.
+#[derive(Drop)]
+pub(crate) enum ReplayFault {
+    /// The entry at this place, counted from 1, is the first that is not legal in its place.
+    NotLegal { place: u32 },
+    /// Memory ran out.
+    NoMemory,
+}
+
+/// Runs the script under these entries. All memory is taken before the first step.
+pub(crate) fn replay(
+    alloc: Global,
+    script: &Script,
+    config: Config,
+    entries: &[Entry],
+) -> Result<Replayed, ReplayFault>
+    requires config { IsTrue (is_config config) }
+    requires few { length entries.now ≤ config.budget }
+    ensures ran { IfOk result (λ replayed. IsRan script.now config replayed.events.items entries.now replayed.verdict) }
+    ensures fault { IfErr result (λ fault. StopsReplay script.now config entries.now fault) }
+{
+    let Ok(mut events) = Vec::with_capacity(alloc, entries.len()) else {
+        return Err(ReplayFault::NoMemory);
+    };
+    let Ok(mut process) = opening_of(alloc, script) else {
+        return Err(ReplayFault::NoMemory);
+    };
+    match make_steps(script, config, &mut process, &mut events, entries) {
+        Some(place) => Err(ReplayFault::NotLegal { place }),
+        None => {
+            let verdict = verdict_after(script, config, &process, entries.len());
+            Ok(Replayed { events, verdict })
+        }
+    }
+}
+
+// Makes the steps of the entries up to the first that is not legal, and answers the place of that one, counted from 1.
+fn make_steps(
+    script: &Script,
+    config: Config,
+    process: &mut OneProcess,
+    events: &mut Vec<Event>,
+    entries: &[Entry],
+) -> Option<u32>
+    requires few { length entries.now ≤ 200000 }
+    requires room { vec_len events.old + length entries.now ≤ vec_capacity events.old }
+    ensures all { IfNone result (run_from script.now config (run_at script.now process.old (reverse events.old.items)) entries.now ≡ Some (run_at script.now process.new (reverse events.new.items))) }
+    ensures first { IfSome result (λ place. illegal_from script.now config 0 (Some (run_at script.now process.old (reverse events.old.items))) entries.now ≡ Some place) }
+{
+    let mut place = 0;
+    for entry in entries {
+        place += 1;
+        if !is_legal(script, config, process, *entry) {
+            return Some(place);
+        }
+        go(script, config, process, events);
+    }
+    None
+}
+
+// Whether an entry is legal.
+fn is_legal(script: &Script, config: Config, process: &OneProcess, entry: Entry) -> bool
+    ensures legal { result ≡ true → IsTaken script.now config process.now entry }
+    ensures illegal { result ≡ false → step script.now config (world_of script.now process.now) entry ≡ None }
+{
+    match (process.stop, process.ended) {
+        (None, None) => lets_first_go(entry) && can_go(script, config, process),
+        _ => false,
+    }
+}
+
+// Whether an entry lets the first thread of the first process go on, and its worker is one.
+fn lets_first_go(entry: Entry) -> bool
+    ensures { result ≡ is_first entry }
+{
+    entry.worker <= MAX_WORKER && entry.pid == 1 && entry.tid == 1 && matches!(entry.alt, Alt::Go)
+}
