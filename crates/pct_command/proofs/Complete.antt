@@ -1,5 +1,5 @@
 -- An input that is not refused is told whole, where no fault was counted and there was memory.
-use Rattle.std.proofs.Common.{◌≡◌, ◌≢◌, inl, inr, ℕ, ◌<◌, ◌≤◌, true, List, ◌++◌, length, Option, Some, None, Ok, Err, refl, sym, ap, ◌∙◌, subst, arith}
+use Rattle.std.proofs.Common.{◌≡◌, ◌≢◌, ◌⊎◌, inl, inr, ℕ, ◌<◌, ◌≤◌, true, List, ◌++◌, length, Option, Some, None, Ok, Err, refl, sym, ap, ◌∙◌, subst, arith}
 use Rattle.std.proofs.lemmas.Bool.{true≢false}
 use Rattle.std.proofs.lemmas.List.{append-nil, length-append}
 use Rattle.std.proofs.lemmas.Option.{none-some}
@@ -13,9 +13,11 @@ use Rattle.pct_model.specs.declared.stop.Verdict.TheVariants as verdict
 use Rattle.pct_model.specs.Schedule.{Schedule, sched_of}
 use Rattle.pct_model.specs.Run.{first_illegal, verdict_of}
 use Rattle.pct_model.specs.Outcome.{is_accepted, schedule_part, default_config, code_of_verdict, Outcome}
+use Rattle.pct_model.specs.Outcome as outcome
 use Rattle.pct_script.proofs.OneScript.{spells_one_script}
 use Rattle.pct_command.specs.declared.status.Status.{Status}
 use Rattle.pct_command.specs.declared.status.Status.TheVariants as status
+use Rattle.pct_command.specs.Status.{code_of}
 use Rattle.pct_command.specs.Command.{Outside, Tells, Decides, Answers, HasLegalSchedule, IsValid, IsComplete}
 
 -- ---- which codes are refusals
@@ -51,36 +53,38 @@ not_illegal input script other config entries place valid same read illegal =
 
 -- an input that is not refused has an outcome with another code
 not_refused : (words : List (List ℕ)) (input : List ℕ) (schedule : List Entry) (code : ℕ) (text : List ℕ) → is_accepted words ≡ true → IsValid words input → Outcome words input schedule code text → code < 5
-not_refused words input schedule code text accepted valid (inl refuses) = absurd (true≢false (sym accepted ∙ refuses.refused))
-not_refused words input schedule code text accepted valid (inr (inl refuses)) = absurd (omega (arith, valid.fits, refuses.too_long))
-not_refused words input schedule code text accepted valid (inr (inr (inl refuses))) = absurd (refuses.first.0 valid.script valid.spelled)
-not_refused words input schedule code text accepted valid (inr (inr (inr (inl refuses)))) =
+not_refused words input schedule code text accepted valid (outcome.WordsRefused refuses) = absurd (true≢false (sym accepted ∙ refuses.refused))
+not_refused words input schedule code text accepted valid (outcome.InputRefused refuses) = absurd (omega (arith, valid.fits, refuses.too_long))
+not_refused words input schedule code text accepted valid (outcome.ScriptRefused refuses) = absurd (refuses.first.0 valid.script valid.spelled)
+not_refused words input schedule code text accepted valid (outcome.ScheduleRefused refuses) =
     let legal = valid.schedule refuses.accepted in
     absurd (no_fault input legal.config legal.entries refuses.line refuses.why legal.read refuses.first)
-not_refused words input schedule code text accepted valid (inr (inr (inr (inr (inl refuses))))) =
+not_refused words input schedule code text accepted valid (outcome.EntryRefused refuses) =
     absurd (not_illegal input valid.script refuses.script refuses.config refuses.entries refuses.place (valid.schedule refuses.accepted) (spells_one_script _ refuses.script valid.script refuses.spelled valid.spelled) refuses.read refuses.illegal)
-not_refused words input schedule code text accepted valid (inr (inr (inr (inr (inr (inl replays)))))) = rw replays.code_is (verdict_code _)
-not_refused words input schedule code text accepted valid (inr (inr (inr (inr (inr (inr runs)))))) = rw runs.code_is (verdict_code _)
+not_refused words input schedule code text accepted valid (outcome.Replayed replays) = rw replays.code_is (verdict_code _)
+not_refused words input schedule code text accepted valid (outcome.Ran runs) = rw runs.code_is (verdict_code _)
 
--- accepted words are not refused
-usage_here : (words : List (List ℕ)) (input : List ℕ) (schedule : List Entry) (text : List ℕ) → is_accepted words ≡ true → Outcome words input schedule 5 text → ⊥
-usage_here words input schedule text accepted (inl refuses) = true≢false (sym accepted ∙ refuses.refused)
-usage_here words input schedule text accepted (inr (inl refuses)) = absurd (omega (arith, refuses.code_is))
-usage_here words input schedule text accepted (inr (inr (inl refuses))) = absurd (omega (arith, refuses.code_is))
-usage_here words input schedule text accepted (inr (inr (inr (inl refuses)))) = absurd (omega (arith, refuses.code_is))
-usage_here words input schedule text accepted (inr (inr (inr (inr (inl refuses))))) = absurd (omega (arith, refuses.code_is))
-usage_here words input schedule text accepted (inr (inr (inr (inr (inr (inl replays)))))) = absurd (omega (arith, replays.code_is, verdict_code (verdict_of replays.script replays.config replays.after.world (length replays.entries))))
-usage_here words input schedule text accepted (inr (inr (inr (inr (inr (inr runs)))))) = absurd (omega (arith, runs.code_is, verdict_code (verdict_of runs.script default_config runs.after.world (length schedule))))
+-- ---- refusals that don't look at the whole input
 
--- an input that fits is not too long
-too_long_here : (words : List (List ℕ)) (input : List ℕ) (schedule : List Entry) (text : List ℕ) → length input ≤ 16777216 → Outcome words input schedule 8 text → ⊥
-too_long_here words input schedule text fits (inl refuses) = absurd (omega (arith, refuses.code_is))
-too_long_here words input schedule text fits (inr (inl refuses)) = absurd (omega (arith, fits, refuses.too_long))
-too_long_here words input schedule text fits (inr (inr (inl refuses))) = absurd (omega (arith, refuses.code_is))
-too_long_here words input schedule text fits (inr (inr (inr (inl refuses)))) = absurd (omega (arith, refuses.code_is))
-too_long_here words input schedule text fits (inr (inr (inr (inr (inl refuses))))) = absurd (omega (arith, refuses.code_is))
-too_long_here words input schedule text fits (inr (inr (inr (inr (inr (inl replays)))))) = absurd (omega (arith, replays.code_is, verdict_code (verdict_of replays.script replays.config replays.after.world (length replays.entries))))
-too_long_here words input schedule text fits (inr (inr (inr (inr (inr (inr runs)))))) = absurd (omega (arith, runs.code_is, verdict_code (verdict_of runs.script default_config runs.after.world (length schedule))))
+-- where the words are refused, any input has that outcome
+any_input : (words : List (List ℕ)) (input given : List ℕ) (schedule : List Entry) (text : List ℕ) → Outcome words given schedule 5 text → Outcome words input schedule 5 text
+any_input words input given schedule text (outcome.WordsRefused refuses) = outcome.WordsRefused refuses
+any_input words input given schedule text (outcome.InputRefused refuses) = absurd (omega (arith, refuses.code_is))
+any_input words input given schedule text (outcome.ScriptRefused refuses) = absurd (omega (arith, refuses.code_is))
+any_input words input given schedule text (outcome.ScheduleRefused refuses) = absurd (omega (arith, refuses.code_is))
+any_input words input given schedule text (outcome.EntryRefused refuses) = absurd (omega (arith, refuses.code_is))
+any_input words input given schedule text (outcome.Replayed replays) = absurd (omega (arith, replays.code_is, verdict_code (verdict_of replays.script replays.config replays.after.world (length replays.entries))))
+any_input words input given schedule text (outcome.Ran runs) = absurd (omega (arith, runs.code_is, verdict_code (verdict_of runs.script default_config runs.after.world (length schedule))))
+
+-- where a front of it is too long, the input is
+longer_input : (words : List (List ℕ)) (input given : List ℕ) (schedule : List Entry) (text : List ℕ) → length given ≤ length input → Outcome words given schedule 8 text → Outcome words input schedule 8 text
+longer_input words input given schedule text longer (outcome.InputRefused refuses) = outcome.InputRefused (record { accepted = refuses.accepted; too_long = omega (arith, longer, refuses.too_long); code_is = refl; text_is = refuses.text_is })
+longer_input words input given schedule text longer (outcome.WordsRefused refuses) = absurd (omega (arith, refuses.code_is))
+longer_input words input given schedule text longer (outcome.ScriptRefused refuses) = absurd (omega (arith, refuses.code_is))
+longer_input words input given schedule text longer (outcome.ScheduleRefused refuses) = absurd (omega (arith, refuses.code_is))
+longer_input words input given schedule text longer (outcome.EntryRefused refuses) = absurd (omega (arith, refuses.code_is))
+longer_input words input given schedule text longer (outcome.Replayed replays) = absurd (omega (arith, replays.code_is, verdict_code (verdict_of replays.script replays.config replays.after.world (length replays.entries))))
+longer_input words input given schedule text longer (outcome.Ran runs) = absurd (omega (arith, runs.code_is, verdict_code (verdict_of runs.script default_config runs.after.world (length schedule))))
 
 -- ---- what was read
 
@@ -102,30 +106,55 @@ front_length (Some xs) (Some ys) input given has front =
 
 -- ---- the answers
 
-tells_valid : (words : List (List ℕ)) (before after : Outside) (code : ℕ) (input : List ℕ) → code ≢ 5 → code ≢ 8 → before.left ≡ Some input → is_accepted words ≡ true → IsValid words input → Decides words before after code → (code < 5) × Tells words input before.written after.written code
-tells_valid words before after code input not_usage not_long has accepted valid decides =
-    let same = all_read before.left after.left input decides.input has decides.read.front (decides.read.to_end not_usage not_long) in
-    let told = subst (λ (x : List ℕ). Tells words x before.written after.written code) same decides.tells in
-    (not_refused words input told.answer.schedule code told.text accepted valid told.answer.is_outcome, told)
+-- what is promised of a status, where no fault was counted
+abbrev IsWhole : List (List ℕ) → Outside → Outside → Status → List ℕ → Type 0
+IsWhole words before after s input = (s ≡ status.NoMemory) ⊎ (Tells words input before.written after.written (code_of s) × (is_accepted words ≡ true → IsValid words input → code_of s < 5))
 
--- an input that is valid is not too long
-not_too_long : (words : List (List ℕ)) (before after : Outside) (input : List ℕ) → before.left ≡ Some input → is_accepted words ≡ true → IsValid words input → Decides words before after 8 → ⊥
-not_too_long words before after input has accepted valid decides =
-    too_long_here words decides.input decides.tells.answer.schedule decides.tells.text (omega (arith, valid.fits, front_length before.left after.left input decides.input has decides.read.front)) decides.tells.answer.is_outcome
+whole : (words : List (List ℕ)) (before after : Outside) (s : Status) (input : List ℕ) → Tells words input before.written after.written (code_of s) → IsWhole words before after s input
+whole words before after s input tells = inr (tells, λ accepted valid. not_refused words input tells.answer.schedule (code_of s) tells.text accepted valid tells.answer.is_outcome)
 
-not_usage : (words : List (List ℕ)) (before after : Outside) → is_accepted words ≡ true → Decides words before after 5 → ⊥
-not_usage words before after accepted decides = usage_here words decides.input decides.tells.answer.schedule decides.tells.text accepted decides.tells.answer.is_outcome
+-- a source that was read to its end
+whole_read : (words : List (List ℕ)) (before after : Outside) (s : Status) (input : List ℕ) → code_of s ≢ 5 → code_of s ≢ 8 → before.left ≡ Some input → Decides words before after (code_of s) → IsWhole words before after s input
+whole_read words before after s input not_usage not_long has decides =
+    whole words before after s input
+    (subst (λ (x : List ℕ). Tells words x before.written after.written (code_of s)) (all_read before.left after.left input decides.input has decides.read.front (decides.read.to_end not_usage not_long)) decides.tells)
+
+-- a refusal tells no run
+refused_for : (words : List (List ℕ)) (given input : List ℕ) (code : ℕ) (before after : Option (List ℕ)) (tells : Tells words given before after code) → 4 < code → Outcome words input tells.answer.schedule code tells.text → Tells words input before after code
+refused_for words given input code before after tells above is_outcome = record {
+  text = tells.text;
+  answer = record {
+    schedule = tells.answer.schedule;
+    is_outcome = is_outcome;
+    run = λ yes below. absurd (omega (arith, above, below));
+    replay = λ yes below. absurd (omega (arith, above, below));
+    replayed = λ below. absurd (omega (arith, above, below));
+  };
+  wrote = tells.wrote;
+}
+
+whole_usage : (words : List (List ℕ)) (before after : Outside) (input : List ℕ) → Decides words before after 5 → IsWhole words before after status.Usage input
+whole_usage words before after input decides =
+    whole words before after status.Usage input
+    (refused_for words decides.input input 5 before.written after.written decides.tells (omega arith)
+    (any_input words input decides.input decides.tells.answer.schedule decides.tells.text decides.tells.answer.is_outcome))
+
+whole_too_long : (words : List (List ℕ)) (before after : Outside) (input : List ℕ) → before.left ≡ Some input → Decides words before after 8 → IsWhole words before after status.TooLong input
+whole_too_long words before after input has decides =
+    whole words before after status.TooLong input
+    (refused_for words decides.input input 8 before.written after.written decides.tells (omega arith)
+    (longer_input words input decides.input decides.tells.answer.schedule decides.tells.text (front_length before.left after.left input decides.input has decides.read.front) decides.tells.answer.is_outcome))
 
 pub complete : (words : List (List ℕ)) (before after : Outside) (s : Status) → Answers words before after s → IsComplete words before after s
-complete words before after status.Complete answers = λ input has accepted valid no_read_fault no_write_fault. inr (tells_valid words before after 0 input (λ e. absurd (omega (arith, e))) (λ e. absurd (omega (arith, e))) has accepted valid answers)
-complete words before after status.Deadlock answers = λ input has accepted valid no_read_fault no_write_fault. inr (tells_valid words before after 1 input (λ e. absurd (omega (arith, e))) (λ e. absurd (omega (arith, e))) has accepted valid answers)
-complete words before after status.Budget answers = λ input has accepted valid no_read_fault no_write_fault. inr (tells_valid words before after 2 input (λ e. absurd (omega (arith, e))) (λ e. absurd (omega (arith, e))) has accepted valid answers)
-complete words before after status.Undefined answers = λ input has accepted valid no_read_fault no_write_fault. inr (tells_valid words before after 3 input (λ e. absurd (omega (arith, e))) (λ e. absurd (omega (arith, e))) has accepted valid answers)
-complete words before after status.Open answers = λ input has accepted valid no_read_fault no_write_fault. inr (tells_valid words before after 4 input (λ e. absurd (omega (arith, e))) (λ e. absurd (omega (arith, e))) has accepted valid answers)
-complete words before after status.ScriptRefused answers = λ input has accepted valid no_read_fault no_write_fault. inr (tells_valid words before after 6 input (λ e. absurd (omega (arith, e))) (λ e. absurd (omega (arith, e))) has accepted valid answers)
-complete words before after status.ScheduleRefused answers = λ input has accepted valid no_read_fault no_write_fault. inr (tells_valid words before after 7 input (λ e. absurd (omega (arith, e))) (λ e. absurd (omega (arith, e))) has accepted valid answers)
-complete words before after status.Usage answers = λ input has accepted valid no_read_fault no_write_fault. absurd (not_usage words before after accepted answers)
-complete words before after status.TooLong answers = λ input has accepted valid no_read_fault no_write_fault. absurd (not_too_long words before after input has accepted valid answers)
-complete words before after status.ReadFault answers = λ input has accepted valid no_read_fault no_write_fault. absurd (no_read_fault answers.cause)
-complete words before after status.WriteFault answers = λ input has accepted valid no_read_fault no_write_fault. absurd (no_write_fault answers.tells.cause)
-complete words before after status.NoMemory answers = λ input has accepted valid no_read_fault no_write_fault. inl refl
+complete words before after status.Complete answers = λ input has no_read_fault no_write_fault. whole_read words before after status.Complete input (λ e. absurd (omega (arith, e))) (λ e. absurd (omega (arith, e))) has answers
+complete words before after status.Deadlock answers = λ input has no_read_fault no_write_fault. whole_read words before after status.Deadlock input (λ e. absurd (omega (arith, e))) (λ e. absurd (omega (arith, e))) has answers
+complete words before after status.Budget answers = λ input has no_read_fault no_write_fault. whole_read words before after status.Budget input (λ e. absurd (omega (arith, e))) (λ e. absurd (omega (arith, e))) has answers
+complete words before after status.Undefined answers = λ input has no_read_fault no_write_fault. whole_read words before after status.Undefined input (λ e. absurd (omega (arith, e))) (λ e. absurd (omega (arith, e))) has answers
+complete words before after status.Open answers = λ input has no_read_fault no_write_fault. whole_read words before after status.Open input (λ e. absurd (omega (arith, e))) (λ e. absurd (omega (arith, e))) has answers
+complete words before after status.ScriptRefused answers = λ input has no_read_fault no_write_fault. whole_read words before after status.ScriptRefused input (λ e. absurd (omega (arith, e))) (λ e. absurd (omega (arith, e))) has answers
+complete words before after status.ScheduleRefused answers = λ input has no_read_fault no_write_fault. whole_read words before after status.ScheduleRefused input (λ e. absurd (omega (arith, e))) (λ e. absurd (omega (arith, e))) has answers
+complete words before after status.Usage answers = λ input has no_read_fault no_write_fault. whole_usage words before after input answers
+complete words before after status.TooLong answers = λ input has no_read_fault no_write_fault. whole_too_long words before after input has answers
+complete words before after status.ReadFault answers = λ input has no_read_fault no_write_fault. absurd (no_read_fault answers.cause)
+complete words before after status.WriteFault answers = λ input has no_read_fault no_write_fault. absurd (no_write_fault answers.tells.cause)
+complete words before after status.NoMemory answers = λ input has no_read_fault no_write_fault. inl refl

@@ -7,3 +7,4 @@ pub mod Texts
 pub mod Outcomes
 pub mod Told
 pub mod Complete
+pub mod OneOutcome

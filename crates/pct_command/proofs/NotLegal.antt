@@ -14,7 +14,7 @@ use Rattle.pct_model.specs.Step.{after, same_choice, taken, step}
 use Rattle.pct_model.specs.Run.{is_stuck}
 use Rattle.pct_command.specs.declared.process.OneProcess.{OneProcess}
 use Rattle.pct_command.specs.OneThread.{world_of, process_of, thread_of, alternatives_of}
-use Rattle.pct_command.specs.Ran.{is_first}
+use Rattle.pct_command.specs.Ran.{lets_first_go}
 use Rattle.pct_command.proofs.Choices.{all-go, find-none}
 
 at_most_this : {A B : Type 0} (b : Bool) (x : A) (f : A → Option B) → f x ≡ None → option_and_then f (cond b (Some x) None) ≡ None
@@ -109,5 +109,5 @@ not-before_choice : (script : Script) (config : Config) (p : OneProcess) (e : En
 not-before_choice script config p e (inl differs) = not-before_thread script config p e (not_both (nat_le e.worker 16 && nat_eq e.pid 1) (nat_eq e.tid 1) differs)
 not-before_choice script config p e (inr differs) = not-the_choice script config p e differs
 
-pub not-first : (script : Script) (config : Config) (p : OneProcess) (e : Entry) → is_first e ≡ false → step script config (world_of script p) e ≡ None
+pub not-first : (script : Script) (config : Config) (p : OneProcess) (e : Entry) → lets_first_go e ≡ false → step script config (world_of script p) e ≡ None
 not-first script config p e differs = not-before_choice script config p e (not_both (nat_le e.worker 16 && nat_eq e.pid 1 && nat_eq e.tid 1) (same_choice Go e.alt) differs)

@@ -1,5 +1,5 @@
 -- What is answered is an outcome.
-use Rattle.std.proofs.Common.{◌≡◌, ◌≢◌, ℕ, zero, suc, ◌<◌, ◌≤◌, true, false, List, [], ◌∷◌, length, replicate, reverse, Some, Ok, Err, refl, sym, ap, ◌∙◌, inl, inr, arith}
+use Rattle.std.proofs.Common.{◌≡◌, ◌≢◌, ℕ, zero, suc, ◌<◌, ◌≤◌, true, false, List, [], ◌∷◌, length, replicate, reverse, Some, Ok, Err, refl, sym, ap, ◌∙◌, arith}
 use Rattle.std.specs.Prelude.{option_map}
 use Rattle.std.specs.List.{list_all}
 use Rattle.std.proofs.lemmas.List.{reverse-reverse}
@@ -19,6 +19,7 @@ use Rattle.pct_model.specs.Schedule.{sched_of}
 use Rattle.pct_model.specs.Run.{first_illegal, verdict_of}
 use Rattle.pct_model.specs.Report.{report_lines, report_of, report}
 use Rattle.pct_model.specs.Outcome.{is_asked, is_accepted, script_part, schedule_part, default_config, first_goes, FirstGoesAlone, refused_words, refused_input, refused_script, refused_schedule, refused_entry, code_of_verdict, Outcome}
+use Rattle.pct_model.specs.Outcome as outcome
 use Rattle.pct_history.specs.ReadBack.{is_entry, IsSchedule}
 use Rattle.pct_history.proofs.ReadBack.{report_again}
 use Rattle.pct_history.proofs.Within.{sched_within}
@@ -54,7 +55,7 @@ replay-outcome : (words : List (List ℕ)) (input : List ℕ) (schedule : List E
     → is_asked word.Replay words ≡ true → length input ≤ 16777216 → Spells (script_part words input) script → sched_of (schedule_part input) ≡ Ok (config, entries) → IsRan script config events entries v
     → Outcome words input schedule (code_of_verdict v) (told script config events v entries)
 replay-outcome words input schedule script config events entries v asked fits spelled read ran =
-    inr (inr (inr (inr (inr (inl (record {
+    outcome.Replayed (record {
       accepted = asked;
       fits = fits;
       script = script;
@@ -66,13 +67,13 @@ replay-outcome words input schedule script config events entries v asked fits sp
       is_run = ran.is_run;
       code_is = ap code_of_verdict ran.verdict_is;
       text_is = report-is script config events entries v ran;
-    }))))))
+    })
 
 run-outcome : (words : List (List ℕ)) (input : List ℕ) (script : Script) (events : List Event) (entries : List Entry) (v : Verdict)
     → is_asked word.Run words ≡ true → length input ≤ 16777216 → Spells input script → IsRan script default_config events entries v
     → Outcome words input entries (code_of_verdict v) (told script default_config events v entries)
 run-outcome words input script events entries v asked fits spelled ran =
-    inr (inr (inr (inr (inr (inr (record {
+    outcome.Ran (record {
       accepted = asked;
       fits = fits;
       script = script;
@@ -81,14 +82,14 @@ run-outcome words input script events entries v asked fits spelled ran =
       is_run = ran.is_run;
       code_is = ap code_of_verdict ran.verdict_is;
       text_is = report-is script default_config events entries v ran;
-    }))))))
+    })
 
 -- a schedule that is told in a text is replayed, in whichever input it stands
 is-replayed : (words : List (List ℕ)) (input : List ℕ) (script : Script) (config : Config) (events : List Event) (entries : List Entry) (v : Verdict)
     → Spells (script_part words input) script → sched_of (told script config events v entries) ≡ Ok (config, entries) → IsRan script config events entries v
     → IsReplayed words input (code_of_verdict v) (told script config events v entries)
-is-replayed words input script config events entries v spelled is_told ran = λ other again schedule same_part part same fits.
-    replay-outcome (keyword_text word.Replay ∷ []) again schedule script config events entries v replay_asks_replay fits (part ∙ sym same_part ∙ spelled) (same ∙ is_told) ran
+is-replayed words input script config events entries v spelled is_told ran = λ other again same_part part same fits.
+    replay-outcome (keyword_text word.Replay ∷ []) again [] script config events entries v replay_asks_replay fits (part ∙ sym same_part ∙ spelled) (same ∙ is_told) ran
 
 -- ---- answers
 
@@ -110,6 +111,7 @@ run-answer words input script events entries v asked fits spelled ran alone clos
       schedule = entries;
       is_outcome = run-outcome words input script events entries v asked fits (sym (part_of_run words input asked) ∙ spelled) ran;
       run = λ yes below. record { told = is_told; alone = alone; closed = closed_code v closed };
+      replay = λ yes below. absurd (true≢false (sym yes ∙ asks_run_alone words asked));
       replayed = λ below. is-replayed words input script default_config events entries v spelled is_told ran;
     }
 
@@ -117,35 +119,37 @@ pub replay-answer : (words : List (List ℕ)) (input : List ℕ) (script : Scrip
     → is_asked word.Replay words ≡ true → length input ≤ 16777216 → Spells (script_part words input) script → sched_of (schedule_part input) ≡ Ok (config, entries) → IsRan script config events entries v
     → Answer words input (code_of_verdict v) (told script config events v entries)
 replay-answer words input script config events entries v asked fits spelled read ran =
+    let is_told = report_again script config events v entries (sched_within (schedule_part input) config entries read) in
     record {
       schedule = [];
       is_outcome = replay-outcome words input [] script config events entries v asked fits spelled read ran;
       run = λ yes below. absurd (true≢false (sym asked ∙ asks_run_alone words yes));
-      replayed = λ below. is-replayed words input script config events entries v spelled (report_again script config events v entries (sched_within (schedule_part input) config entries read)) ran;
+      replay = λ yes below. is_told ∙ sym read;
+      replayed = λ below. is-replayed words input script config events entries v spelled is_told ran;
     }
 
 -- ---- refusals
 
 -- a refusal tells no run
 refusal : (words : List (List ℕ)) (input : List ℕ) (code : ℕ) (text : List ℕ) → 4 < code → Outcome words input [] code text → Answer words input code text
-refusal words input code text above is_outcome = record { schedule = []; is_outcome = is_outcome; run = λ yes below. absurd (omega (arith, above, below)); replayed = λ below. absurd (omega (arith, above, below)) }
+refusal words input code text above is_outcome = record { schedule = []; is_outcome = is_outcome; run = λ yes below. absurd (omega (arith, above, below)); replay = λ yes below. absurd (omega (arith, above, below)); replayed = λ below. absurd (omega (arith, above, below)) }
 
 pub words-answer : (words : List (List ℕ)) (input : List ℕ) → is_accepted words ≡ false → Answer words input 5 (line_text refused_words)
-words-answer words input refused = refusal words input 5 _ (omega arith) (inl (record { refused = refused; code_is = refl; text_is = refl }))
+words-answer words input refused = refusal words input 5 _ (omega arith) (outcome.WordsRefused (record { refused = refused; code_is = refl; text_is = refl }))
 
 pub input-answer : (words : List (List ℕ)) (input : List ℕ) → is_accepted words ≡ true → 16777216 < length input → Answer words input 8 (line_text refused_input)
-input-answer words input accepted too_long = refusal words input 8 _ (omega arith) (inr (inl (record { accepted = accepted; too_long = too_long; code_is = refl; text_is = refl })))
+input-answer words input accepted too_long = refusal words input 8 _ (omega arith) (outcome.InputRefused (record { accepted = accepted; too_long = too_long; code_is = refl; text_is = refl }))
 
 pub script-answer : (words : List (List ℕ)) (input : List ℕ) (line : ℕ) (why : ParseWhy) → is_accepted words ≡ true → length input ≤ 16777216 → FirstFault (script_part words input) line why → Answer words input 6 (line_text (refused_script line why))
 script-answer words input line why accepted fits first =
-    refusal words input 6 _ (omega arith) (inr (inr (inl (record { accepted = accepted; fits = fits; line = line; why = why; first = first; code_is = refl; text_is = refl }))))
+    refusal words input 6 _ (omega arith) (outcome.ScriptRefused (record { accepted = accepted; fits = fits; line = line; why = why; first = first; code_is = refl; text_is = refl }))
 
 pub schedule-answer : (words : List (List ℕ)) (input : List ℕ) (script : Script) (line : ℕ) (why : ScheduleWhy) → is_asked word.Replay words ≡ true → length input ≤ 16777216 → Spells (script_part words input) script
     → sched_of (schedule_part input) ≡ Err (line, why) → Answer words input 7 (line_text (refused_schedule line why))
 schedule-answer words input script line why asked fits spelled first =
-    refusal words input 7 _ (omega arith) (inr (inr (inr (inl (record { accepted = asked; fits = fits; script = script; spelled = spelled; line = line; why = why; first = first; code_is = refl; text_is = refl })))))
+    refusal words input 7 _ (omega arith) (outcome.ScheduleRefused (record { accepted = asked; fits = fits; script = script; spelled = spelled; line = line; why = why; first = first; code_is = refl; text_is = refl }))
 
 pub entry-answer : (words : List (List ℕ)) (input : List ℕ) (script : Script) (config : Config) (entries : List Entry) (place : ℕ) → is_asked word.Replay words ≡ true → length input ≤ 16777216 → Spells (script_part words input) script
     → sched_of (schedule_part input) ≡ Ok (config, entries) → first_illegal script config entries ≡ Some place → Answer words input 7 (line_text (refused_entry place))
 entry-answer words input script config entries place asked fits spelled read illegal =
-    refusal words input 7 _ (omega arith) (inr (inr (inr (inr (inl (record { accepted = asked; fits = fits; script = script; spelled = spelled; config = config; entries = entries; read = read; place = place; illegal = illegal; code_is = refl; text_is = refl }))))))
+    refusal words input 7 _ (omega arith) (outcome.EntryRefused (record { accepted = asked; fits = fits; script = script; spelled = spelled; config = config; entries = entries; read = read; place = place; illegal = illegal; code_is = refl; text_is = refl }))

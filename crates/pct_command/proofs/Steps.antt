@@ -17,7 +17,7 @@ use Rattle.pct_model.specs.Outcome.{first_goes}
 use Rattle.pct_model.proofs.Runs.{run_from-more}
 use Rattle.pct_command.specs.declared.process.OneProcess.{OneProcess}
 use Rattle.pct_command.specs.OneThread.{world_of, alternatives_of, Leads}
-use Rattle.pct_command.specs.Ran.{is_first, run_at}
+use Rattle.pct_command.specs.Ran.{lets_first_go, run_at}
 
 -- ---- legal entries
 
@@ -43,7 +43,7 @@ record IsFirst (e : Entry) : Type 0 where
   worker : nat_le e.worker 16 ≡ true
   is : e ≡ goes_by e.worker
 
-first-is : (e : Entry) → is_first e ≡ true → IsFirst e
+first-is : (e : Entry) → lets_first_go e ≡ true → IsFirst e
 first-is e first =
     let a = and_parts (nat_le e.worker 16 && nat_eq e.pid 1 && nat_eq e.tid 1) (same_choice Go e.alt) first in
     let b = and_parts (nat_le e.worker 16 && nat_eq e.pid 1) (nat_eq e.tid 1) a.0 in
@@ -74,7 +74,7 @@ leads-on_by script config old new before now (a ∷ []) worker is_worker running
 leads-on_by script config old new before now (a ∷ b ∷ rest) worker is_worker running lives alts leads = absurd leads
 
 -- the one alternative is a step of the run
-pub leads-on : (script : Script) (config : Config) (old new : OneProcess) (before now : List Event) (e : Entry) → is_first e ≡ true → old.stop ≡ None → old.ended ≡ None → Leads script old new before now (alternatives_of script config old) → run_step script config (run_at script old before) e ≡ Some (run_at script new now)
+pub leads-on : (script : Script) (config : Config) (old new : OneProcess) (before now : List Event) (e : Entry) → lets_first_go e ≡ true → old.stop ≡ None → old.ended ≡ None → Leads script old new before now (alternatives_of script config old) → run_step script config (run_at script old before) e ≡ Some (run_at script new now)
 leads-on script config old new before now e first running lives leads =
     let parts = first-is e first in
     ap (run_step script config (run_at script old before)) parts.is

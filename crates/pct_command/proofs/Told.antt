@@ -8,7 +8,8 @@ use Rattle.pct_model.specs.declared.stop.Verdict.TheVariants as verdict
 use Rattle.pct_model.specs.Outcome.{is_accepted, code_of_verdict}
 use Rattle.pct_command.specs.declared.status.Status.{Status}
 use Rattle.pct_command.specs.declared.status.Status.TheVariants as status
-use Rattle.pct_command.specs.Command.{Outside, Answer, Tells, TellsPart, TextAnswers, Answers, status_of_verdict}
+use Rattle.pct_command.specs.Command.{Outside, Answer, Tells, TellsPart, Answers}
+use Rattle.pct_command.specs.Texts.{TextAnswers, status_of_verdict}
 
 -- the whole text was written
 pub tells : (words : List (List ℕ)) (input : List ℕ) (code : ℕ) (text : List ℕ) {before after : Option (List ℕ)} → Answer words input code text → Appends before after text → Tells words input before after code
@@ -37,7 +38,7 @@ read-answers words input before after status.Open accepted front end tells = rec
 read-answers words input before after status.ScriptRefused accepted front end tells = record { input = input; read = record { front = front; to_end = λ _ _. end }; tells = tells }
 read-answers words input before after status.ScheduleRefused accepted front end tells = record { input = input; read = record { front = front; to_end = λ _ _. end }; tells = tells }
 read-answers words input before after status.WriteFault accepted front end tells = record { input = input; tells = tells; read = record { front = front; to_end = λ _ _. end } }
-read-answers words input before after status.NoMemory accepted front end tells = record { accepted = accepted; nothing = tells }
+read-answers words input before after status.NoMemory accepted front end tells = record { accepted = accepted; nothing = tells; taken = input; front = front }
 read-answers words input before after status.Usage accepted front end tells = absurd tells
 read-answers words input before after status.TooLong accepted front end tells = absurd tells
 read-answers words input before after status.ReadFault accepted front end tells = absurd tells

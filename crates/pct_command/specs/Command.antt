@@ -6,8 +6,6 @@ use Rattle.pct_io.specs.Sinks.{AppendsPart}
 use Rattle.pct_model.specs.declared.script.Script.{Script}
 use Rattle.pct_model.specs.declared.schedule.Config.{Config}
 use Rattle.pct_model.specs.declared.schedule.Entry.{Entry}
-use Rattle.pct_model.specs.declared.stop.Verdict.{Verdict}
-use Rattle.pct_model.specs.declared.stop.Verdict.TheVariants as verdict
 use Rattle.pct_model.specs.declared.word.Keyword.TheVariants as word
 use Rattle.pct_model.specs.Words.{keyword_text}
 use Rattle.pct_model.specs.Canon.{Spells}
@@ -28,25 +26,26 @@ pub record Outside : Type 0 where
 -- ---- what is written
 
 -- of a `run` that was not refused: the schedule is the one that the text tells, the first thread of the first process makes
--- each step of it, and the run does not go on
-pub record IsRunToItsEnd (schedule : List Entry) (code : ℕ) (text : List ℕ) : Type 0 where
+-- each step of it, and the run is not open
+pub record IsClosedRun (schedule : List Entry) (code : ℕ) (text : List ℕ) : Type 0 where
   pub told : sched_of text ≡ Ok (default_config, schedule)
   pub alone : FirstGoesAlone schedule
   pub closed : code ≢ 4
 
--- `replay` of the script and of the schedule that the text tells, in whichever input they stand, has the same outcome
+-- `replay` of the script and of the schedule that the text tells, in whichever input they stand, has this outcome
 abbrev pub IsReplayed : List (List ℕ) → List ℕ → ℕ → List ℕ → Type 0
 IsReplayed words input code text =
-    (script : Script) (again : List ℕ) (schedule : List Entry)
+    (script : Script) (again : List ℕ)
     → Spells (script_part words input) script → Spells (script_part (keyword_text word.Replay ∷ []) again) script
     → sched_of (schedule_part again) ≡ sched_of text → length again ≤ 16777216
-    → Outcome (keyword_text word.Replay ∷ []) again schedule code text
+    → Outcome (keyword_text word.Replay ∷ []) again [] code text
 
--- the code and the text are the outcome of the words and the input
+-- the code and the text are the outcome of the words and the input; a report tells its schedule
 pub record Answer (words : List (List ℕ)) (input : List ℕ) (code : ℕ) (text : List ℕ) : Type 0 where
   pub schedule : List Entry
   pub is_outcome : Outcome words input schedule code text
-  pub run : is_asked word.Run words ≡ true → code < 5 → IsRunToItsEnd schedule code text
+  pub run : is_asked word.Run words ≡ true → code < 5 → IsClosedRun schedule code text
+  pub replay : is_asked word.Replay words ≡ true → code < 5 → sched_of text ≡ sched_of (schedule_part input)
   pub replayed : code < 5 → IsReplayed words input code text
 
 -- the whole text was written
@@ -63,25 +62,6 @@ pub record TellsPart (words : List (List ℕ)) (input : List ℕ) (before after 
   pub wrote : AppendsPart before after text
   pub cause : Rose faults_before faults_after
 
--- ---- a text that was read
-
--- the status that tells how a run ended
-abbrev pub status_of_verdict : Verdict → Status
-status_of_verdict verdict.Complete = status.Complete
-status_of_verdict verdict.Deadlock = status.Deadlock
-status_of_verdict verdict.Budget = status.Budget
-status_of_verdict (verdict.Undefined why) = status.Undefined
-status_of_verdict verdict.Open = status.Open
-
--- what a text of at most 16,777,216 bytes, which was read to its end, is answered with
-abbrev pub TextAnswers : List (List ℕ) → List ℕ → Option (List ℕ) → Option (List ℕ) → ℕ → ℕ → Status → Type 0
-TextAnswers words input before after faults_before faults_after status.NoMemory = Keeps before after
-TextAnswers words input before after faults_before faults_after status.WriteFault = TellsPart words input before after faults_before faults_after
-TextAnswers words input before after faults_before faults_after status.ReadFault = ⊥
-TextAnswers words input before after faults_before faults_after status.TooLong = ⊥
-TextAnswers words input before after faults_before faults_after status.Usage = ⊥
-TextAnswers words input before after faults_before faults_after s = Tells words input before after (code_of s)
-
 -- ---- the answers
 
 -- what was read is a front of what the source had left, and all of it but where the words are refused or there is too much
@@ -89,34 +69,35 @@ pub record Reads (before after : Option (List ℕ)) (input : List ℕ) (code : �
   pub front : Consumes before after input
   pub to_end : code ≢ 5 → code ≢ 8 → IsAtEnd after
 
--- the whole text was written
+-- what was read, and the whole answer to it was written
 pub record Decides (words : List (List ℕ)) (before after : Outside) (code : ℕ) : Type 0 where
   pub input : List ℕ
   pub read : Reads before.left after.left input code
   pub tells : Tells words input before.written after.written code
 
--- a write failed: the sink counted it, and a front of the text was written
+-- what was read, and a front of the answer to it was written
 pub record FailsToWrite (words : List (List ℕ)) (before after : Outside) : Type 0 where
   pub input : List ℕ
   pub tells : TellsPart words input before.written after.written before.write_faults after.write_faults
   pub read : Reads before.left after.left input tells.code
 
--- a read failed: the source counted it, and nothing was written
+-- nothing was written, and what was taken is a front of what the source had left
+pub record Takes (words : List (List ℕ)) (before after : Outside) : Type 0 where
+  pub accepted : is_accepted words ≡ true
+  pub nothing : Keeps before.written after.written
+  pub taken : List ℕ
+  pub front : Consumes before.left after.left taken
+
+-- a read failed: the source counted it
 pub record FailsToRead (words : List (List ℕ)) (before after : Outside) : Type 0 where
-  pub accepted : is_accepted words ≡ true
+  pub takes : Takes words before after
   pub cause : Rose before.read_faults after.read_faults
-  pub nothing : Keeps before.written after.written
 
--- memory ran out before the first byte was written
-pub record LacksMemory (words : List (List ℕ)) (before after : Outside) : Type 0 where
-  pub accepted : is_accepted words ≡ true
-  pub nothing : Keeps before.written after.written
-
--- what `command` promises of each answer
+-- what `command` promises of each answer; memory runs out before the first byte is written
 abbrev pub Answers : List (List ℕ) → Outside → Outside → Status → Type 0
 Answers words before after status.ReadFault = FailsToRead words before after
 Answers words before after status.WriteFault = FailsToWrite words before after
-Answers words before after status.NoMemory = LacksMemory words before after
+Answers words before after status.NoMemory = Takes words before after
 Answers words before after s = Decides words before after (code_of s)
 
 -- ---- completeness
@@ -135,9 +116,16 @@ pub record IsValid (words : List (List ℕ)) (input : List ℕ) : Type 0 where
   pub spelled : Spells (script_part words input) script
   pub schedule : is_asked word.Replay words ≡ true → HasLegalSchedule script input
 
--- accepted words, a valid input and no fault that was counted give a status from 0 to 4 and the whole text, or memory ran out
+-- where no fault was counted, the outcome of all that the source had left was written whole, or memory ran out; accepted
+-- words and a valid input are not refused
 abbrev pub IsComplete : List (List ℕ) → Outside → Outside → Status → Type 0
 IsComplete words before after s =
-    (input : List ℕ) → before.left ≡ Some input → is_accepted words ≡ true → IsValid words input
+    (input : List ℕ) → before.left ≡ Some input
     → ¬ Rose before.read_faults after.read_faults → ¬ Rose before.write_faults after.write_faults
-    → (s ≡ status.NoMemory) ⊎ ((code_of s < 5) × Tells words input before.written after.written (code_of s))
+    → (s ≡ status.NoMemory) ⊎ (Tells words input before.written after.written (code_of s) × (is_accepted words ≡ true → IsValid words input → code_of s < 5))
+
+-- words, an input and a schedule have one outcome at the most
+abbrev pub OutcomesAreOne : Type 0
+OutcomesAreOne =
+    (words : List (List ℕ)) (input : List ℕ) (schedule : List Entry) (code other_code : ℕ) (text other_text : List ℕ)
+    → Outcome words input schedule code text → Outcome words input schedule other_code other_text → (code ≡ other_code) × (text ≡ other_text)

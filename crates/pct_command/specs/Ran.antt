@@ -24,23 +24,25 @@ pub record IsRan (script : Script) (config : Config) (events : List Event) (entr
   pub is_run : run script config entries ≡ Some (record { world = world; events = reverse events })
   pub verdict_is : v ≡ verdict_of script config world (length entries)
 
--- the run goes on: it was not stopped, its process has not ended, its thread has an alternative, and the budget is not used up
-pub record MayGo (script : Script) (config : Config) (p : OneProcess) (count : ℕ) : Type 0 where
+-- the thread can go on: the run was not stopped, the process has not ended, and the thread has an alternative
+pub record CanGo (script : Script) (config : Config) (p : OneProcess) : Type 0 where
   pub running : p.stop ≡ None
   pub lives : p.ended ≡ None
   pub can : is_stuck (alternatives_of script config p) ≡ false
-  pub below : count ≢ config.budget
 
--- an entry that lets the first thread of the first process go on, made by a worker of at most 16
-abbrev pub is_first : Entry → Bool
-is_first e = nat_le e.worker 16 && nat_eq e.pid 1 && nat_eq e.tid 1 && same_choice Go e.alt
+-- and the budget is not used up
+pub record MayGo (script : Script) (config : Config) (p : OneProcess) (count : ℕ) : Type 0 where
+  pub goes : CanGo script config p
+  pub left : count ≢ config.budget
+
+-- an entry lets the first thread of the first process go on, and its worker is at most 16
+abbrev pub lets_first_go : Entry → Bool
+lets_first_go e = nat_le e.worker 16 && nat_eq e.pid 1 && nat_eq e.tid 1 && same_choice Go e.alt
 
 -- the entry takes the one alternative there is
 pub record IsTaken (script : Script) (config : Config) (p : OneProcess) (e : Entry) : Type 0 where
-  pub first : is_first e ≡ true
-  pub running : p.stop ≡ None
-  pub lives : p.ended ≡ None
-  pub can : is_stuck (alternatives_of script config p) ≡ false
+  pub first : lets_first_go e ≡ true
+  pub goes : CanGo script config p
 
 -- why a schedule was not replayed: an entry is the first that is not legal in its place, or memory ran out
 abbrev pub StopsReplay : Script → Config → List Entry → ReplayFault → Type 0

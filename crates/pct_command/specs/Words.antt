@@ -10,7 +10,7 @@ abbrev pub Asks : List (List ℕ) → Job → Type 0
 Asks words (Run options) = (is_asked word.Run words ≡ true) × (options ≡ record { config = default_config; seed = 1; workers = 1; turns = 10000 })
 Asks words Replay = is_asked word.Replay words ≡ true
 
--- a job goes under the default numbers
+-- a run goes under the default numbers; a replay has those of its schedule
 abbrev pub HasDefaults : Job → Type 0
 HasDefaults (Run options) = options.config ≡ default_config
 HasDefaults Replay = Unit {0}

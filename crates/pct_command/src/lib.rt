@@ -5,6 +5,7 @@ mod answers;
 mod cleanup;
 mod events;
 mod go;
+mod law;
 mod machine;
 mod process;
 mod replay;
@@ -17,6 +18,7 @@ mod status;
 mod top;
 mod words;
 
+pub use law::outcomes_are_one;
 pub use status::Status;
 pub use top::command;
 pub use words::{Job, RunOptions, Usage, read_words};

@@ -2,10 +2,10 @@
 
 ghost use Rattle.std.specs.Prelude.{◌≡◌, ◌+◌, ◌≤◌, false, length, reverse, true, vec_len, vec_capacity, Some, None, IfErr, IfNone, IfOk, IfSome, IsTrue};
 ghost use Rattle.pct_model.specs.Step.{step, same_choice};
-ghost use Rattle.pct_model.specs.Run.{illegal_from, is_config, run_from};
+ghost use Rattle.pct_model.specs.Run.{illegal_in, is_config, run_from};
 ghost use Rattle.pct_model.specs.declared.schedule.Alt.TheVariants.{Go as GoOn};
 ghost use Rattle.pct_command.specs.OneThread.{world_of};
-ghost use Rattle.pct_command.specs.Ran.{IsRan, IsTaken, StopsReplay, is_first, run_at};
+ghost use Rattle.pct_command.specs.Ran.{IsRan, IsTaken, StopsReplay, lets_first_go as first_goes_by, run_at};
 
 use crate::go::{can_go, go};
 use crate::machine::{opening_of, verdict_after};
@@ -67,7 +67,7 @@ fn make_steps(
     requires few { length entries.now ≤ 200000 }
     requires room { vec_len events.old + length entries.now ≤ vec_capacity events.old }
     ensures all { IfNone result (run_from script.now config (run_at script.now process.old (reverse events.old.items)) entries.now ≡ Some (run_at script.now process.new (reverse events.new.items))) }
-    ensures first { IfSome result (λ place. illegal_from script.now config 0 (Some (run_at script.now process.old (reverse events.old.items))) entries.now ≡ Some place) }
+    ensures first { IfSome result (λ place. illegal_in script.now config (run_at script.now process.old (reverse events.old.items)) entries.now ≡ Some place) }
 {
     let mut place = 0;
     for entry in entries {
@@ -93,7 +93,7 @@ fn is_legal(script: &Script, config: Config, process: &OneProcess, entry: Entry)
 
 // Whether an entry lets the first thread of the first process go on, and its worker is one.
 fn lets_first_go(entry: Entry) -> bool
-    ensures { result ≡ is_first entry }
+    ensures { result ≡ first_goes_by entry }
 {
     entry.worker <= MAX_WORKER && entry.pid == 1 && entry.tid == 1 && matches!(entry.alt, Alt::Go)
 }

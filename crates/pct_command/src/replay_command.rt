@@ -7,7 +7,8 @@ ghost use Rattle.pct_model.specs.Run.{is_config};
 ghost use Rattle.pct_model.specs.Outcome.{is_asked, script_part, schedule_part};
 ghost use Rattle.pct_model.specs.declared.word.Keyword.TheVariants as word;
 ghost use Rattle.pct_history.specs.Gives.{Fails};
-ghost use Rattle.pct_command.specs.Command.{TextAnswers};
+ghost use Rattle.pct_io.specs.Inners.{KeepsInners};
+ghost use Rattle.pct_command.specs.Texts.{TextAnswers};
 ghost use Rattle.pct_command.specs.Ran.{StopsReplay};
 
 use crate::answers::{refuse_entry, refuse_schedule, write_ran};
@@ -26,6 +27,7 @@ pub(crate) fn replay_text<K: Sink>(alloc: Global, text: &[u8], sink: &mut K) -> 
     ensures answers { (words : List (List ℕ)) → is_asked word.Replay words ≡ true
         → TextAnswers words text.now (K.written sink.old) (K.written sink.new) (K.faults sink.old) (K.faults sink.new) result }
     ensures write_faults { K.faults sink.old ≤ K.faults sink.new }
+    ensures inners { KeepsInners (K.inners sink.old) (K.inners sink.new) }
 {
     let (end, start) = split_replay(text);
     match parse(alloc, &text[..end]) {
@@ -40,6 +42,7 @@ fn replay_script<K: Sink>(alloc: Global, script: &Script, schedule: &[u8], sink:
     ensures answers { (words : List (List ℕ)) (input : List ℕ) → is_asked word.Replay words ≡ true → length input ≤ 16777216 → Spells (script_part words input) script.now → schedule.now ≡ schedule_part input
         → TextAnswers words input (K.written sink.old) (K.written sink.new) (K.faults sink.old) (K.faults sink.new) result }
     ensures write_faults { K.faults sink.old ≤ K.faults sink.new }
+    ensures inners { KeepsInners (K.inners sink.old) (K.inners sink.new) }
 {
     match read_schedule(alloc, schedule) {
         Ok((config, entries)) => replay_entries(alloc, script, config, entries.as_slice(), sink),
@@ -52,6 +55,7 @@ fn answer_schedule_fault<K: Sink>(fault: ScheduleFault, script: &Script, sink: &
     ensures answers { (words : List (List ℕ)) (input : List ℕ) → is_asked word.Replay words ≡ true → length input ≤ 16777216 → Spells (script_part words input) script.now → Fails fault (sched_of (schedule_part input))
         → TextAnswers words input (K.written sink.old) (K.written sink.new) (K.faults sink.old) (K.faults sink.new) result }
     ensures write_faults { K.faults sink.old ≤ K.faults sink.new }
+    ensures inners { KeepsInners (K.inners sink.old) (K.inners sink.new) }
 {
     match fault {
         ScheduleFault::NoMemory => Status::NoMemory,
@@ -75,6 +79,7 @@ fn replay_entries<K: Sink>(
     ensures answers { (words : List (List ℕ)) (input : List ℕ) → is_asked word.Replay words ≡ true → length input ≤ 16777216 → Spells (script_part words input) script.now → sched_of (schedule_part input) ≡ IsRead (config, entries.now)
         → TextAnswers words input (K.written sink.old) (K.written sink.new) (K.faults sink.old) (K.faults sink.new) result }
     ensures write_faults { K.faults sink.old ≤ K.faults sink.new }
+    ensures inners { KeepsInners (K.inners sink.old) (K.inners sink.new) }
 {
     match replay(alloc, script, config, entries) {
         Ok(replayed) => {
@@ -106,6 +111,7 @@ fn answer_replay_fault<K: Sink>(
     ensures answers { (words : List (List ℕ)) (input : List ℕ) → is_asked word.Replay words ≡ true → length input ≤ 16777216 → Spells (script_part words input) script.now → sched_of (schedule_part input) ≡ IsRead (config, entries.now) → StopsReplay script.now config entries.now fault
         → TextAnswers words input (K.written sink.old) (K.written sink.new) (K.faults sink.old) (K.faults sink.new) result }
     ensures write_faults { K.faults sink.old ≤ K.faults sink.new }
+    ensures inners { KeepsInners (K.inners sink.old) (K.inners sink.new) }
 {
     match fault {
         ReplayFault::NoMemory => Status::NoMemory,

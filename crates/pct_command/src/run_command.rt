@@ -5,7 +5,8 @@ ghost use Rattle.pct_model.specs.Canon.{Spells};
 ghost use Rattle.pct_model.specs.Outcome.{is_accepted, is_asked, default_config, script_part};
 ghost use Rattle.pct_model.specs.declared.word.Keyword.TheVariants as word;
 ghost use Rattle.pct_script.specs.Fault.{IsFaultOf};
-ghost use Rattle.pct_command.specs.Command.{TextAnswers, status_of_verdict};
+ghost use Rattle.pct_io.specs.Inners.{KeepsInners};
+ghost use Rattle.pct_command.specs.Texts.{TextAnswers, status_of_verdict};
 ghost use Rattle.pct_command.specs.Words.{Asks};
 ghost use Rattle.pct_command.specs.declared.words.Job.TheVariants.{Run as RunJob};
 
@@ -30,6 +31,7 @@ pub(crate) fn run_text<K: Sink>(
     ensures answers { (words : List (List ℕ)) → Asks words (RunJob options)
         → TextAnswers words text.now (K.written sink.old) (K.written sink.new) (K.faults sink.old) (K.faults sink.new) result }
     ensures write_faults { K.faults sink.old ≤ K.faults sink.new }
+    ensures inners { KeepsInners (K.inners sink.old) (K.inners sink.new) }
 {
     match parse(alloc, text) {
         Ok(script) => run_script(alloc, options.config, &script, sink),
@@ -42,6 +44,7 @@ pub(crate) fn answer_fault<K: Sink>(fault: ParseFault, sink: &mut K) -> Status
     ensures answers { (words : List (List ℕ)) (input : List ℕ) → is_accepted words ≡ true → length input ≤ 16777216 → IsFaultOf (script_part words input) fault
         → TextAnswers words input (K.written sink.old) (K.written sink.new) (K.faults sink.old) (K.faults sink.new) result }
     ensures write_faults { K.faults sink.old ≤ K.faults sink.new }
+    ensures inners { KeepsInners (K.inners sink.old) (K.inners sink.new) }
 {
     match fault {
         ParseFault::NoMemory => Status::NoMemory,
@@ -58,6 +61,7 @@ fn run_script<K: Sink>(alloc: Global, config: Config, script: &Script, sink: &mu
     ensures answers { (words : List (List ℕ)) (input : List ℕ) → is_asked word.Run words ≡ true → length input ≤ 16777216 → Spells (script_part words input) script.now
         → TextAnswers words input (K.written sink.old) (K.written sink.new) (K.faults sink.old) (K.faults sink.new) result }
     ensures write_faults { K.faults sink.old ≤ K.faults sink.new }
+    ensures inners { KeepsInners (K.inners sink.old) (K.inners sink.new) }
 {
     match run_alone(alloc, script, config) {
         Err(NoMemory) => Status::NoMemory,

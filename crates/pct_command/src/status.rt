@@ -14,7 +14,7 @@ pub enum Status {
     Budget,
     /// 3: the run was stopped.
     Undefined,
-    /// 4: the run that was replayed can go on.
+    /// 4: the verdict of the run that was replayed is open.
     Open,
     /// 5: the words are not accepted.
     Usage,

@@ -2,7 +2,9 @@
 
 ghost use Rattle.std.specs.Prelude.{◌≡◌, ◌⊎◌, ◌≤◌, List, ℕ, false, length, map, string_bytes};
 ghost use Rattle.pct_model.specs.Outcome.{is_accepted};
-ghost use Rattle.pct_command.specs.Command.{Answers, IsComplete, TextAnswers};
+ghost use Rattle.pct_io.specs.Inners.{KeepsInners};
+ghost use Rattle.pct_command.specs.Command.{Answers, IsComplete};
+ghost use Rattle.pct_command.specs.Texts.{TextAnswers};
 ghost use Rattle.pct_command.specs.Words.{Asks, HasDefaults};
 
 use crate::answers::{refuse_input, refuse_words};
@@ -17,19 +19,24 @@ use std::thread::Threads;
 
 /// Does what the words ask for, with the source's bytes as the input, and writes the answer to the sink.
 ///
-/// So far the words are `run` alone or `replay` alone. The input of `run` is a script, which is run, and its report is
-/// written. The input of `replay` is a script, a line `%%` and a schedule, or a whole report: the script is run under
-/// that schedule, and the report is written. Each refusal is written too, as a line of its own.
+/// So far the words are `run` alone or `replay` alone. `run` reads a script and runs it. `replay` reads a script, a line
+/// `%%` and a schedule, in whose place a whole report may stand, and runs the script under that schedule. What is written
+/// is the report, or one line that says what is refused. `rt` and `gate` are not used so far.
 ///
-/// - `Complete`, `Deadlock`, `Budget` and `Undefined` tell how the run stands whose report was written.
-/// - `Open` comes exactly where a replayed schedule is legal, and the run can go on behind it; never from `run`.
-/// - `Usage` comes exactly where the words are not accepted; nothing is read then.
-/// - `TooLong` comes exactly where more than 16,777,216 bytes were read.
-/// - `ScriptRefused` comes exactly where the script's part of the input spells no script.
-/// - `ScheduleRefused` comes exactly where the schedule's part cannot be read, or an entry is not legal in its place.
-/// - `ReadFault` and `WriteFault` come only where the source or the sink counted a fault in this call; at the first
-///   nothing is written, at the second a front of the text.
-/// - `NoMemory` may come where the words are accepted, before the first byte is written.
+/// The answer is the first of these that holds, unless `ReadFault`, `WriteFault` or `NoMemory` comes in its place:
+///
+/// - `Usage`: the words are not accepted; nothing is read.
+/// - `TooLong`: more than 16,777,216 bytes were read.
+/// - `ScriptRefused`: the script's part of the input spells no script.
+/// - `ScheduleRefused`, from `replay` alone: the schedule's part cannot be read, or an entry is not legal in its place.
+/// - `Complete`, `Deadlock`, `Budget`, `Undefined` or `Open`: the verdict of the run whose report was written. `run` never
+///   gives `Open`.
+///
+/// But for `Usage` and `TooLong` the input was read to its end. What was reported is replayed with the same bytes.
+///
+/// - `ReadFault` comes only with accepted words, and where the source counted a fault in this call; nothing is written.
+/// - `WriteFault` comes only where the sink counted a fault in this call; a front of the text is written.
+/// - `NoMemory` comes only with accepted words; nothing is written.
 pub fn command<R: Threads + Sync, S: Source, K: Sink, G: Gate>(
     rt: &R,
     alloc: Global,
@@ -43,7 +50,7 @@ pub fn command<R: Threads + Sync, S: Source, K: Sink, G: Gate>(
         (record { left = S.left source.new; read_faults = S.faults source.new; written = K.written sink.new; write_faults = K.faults sink.new })
         result }
 
-    // What is not refused is told whole, where no fault was counted and there was memory.
+    // Where no fault was counted and there was memory, the whole outcome was written; what is valid is not refused.
     ensures complete { IsComplete (map string_bytes words.now)
         (record { left = S.left source.old; read_faults = S.faults source.old; written = K.written sink.old; write_faults = K.faults sink.old })
         (record { left = S.left source.new; read_faults = S.faults source.new; written = K.written sink.new; write_faults = K.faults sink.new })
@@ -55,6 +62,9 @@ pub fn command<R: Threads + Sync, S: Source, K: Sink, G: Gate>(
     // The counts of faults never fall.
     ensures read_faults { S.faults source.old ≤ S.faults source.new }
     ensures write_faults { K.faults sink.old ≤ K.faults sink.new }
+
+    // The sink still writes through the same sinks, and what is behind each has only grown.
+    ensures inners { KeepsInners (K.inners sink.old) (K.inners sink.new) }
 {
     match read_words(words) {
         Err(Usage) => match refuse_words(sink) {
@@ -74,6 +84,7 @@ fn answer_input<S: Source, K: Sink>(alloc: Global, job: Job, source: &mut S, sin
         result }
     ensures read_faults { S.faults source.old ≤ S.faults source.new }
     ensures write_faults { K.faults sink.old ≤ K.faults sink.new }
+    ensures inners { KeepsInners (K.inners sink.old) (K.inners sink.new) }
 {
     match read_all(alloc, source, MAX_INPUT) {
         Ok(text) => answer_text(alloc, job, &text, sink),
@@ -93,6 +104,7 @@ fn answer_text<K: Sink>(alloc: Global, job: Job, text: &[u8], sink: &mut K) -> S
     ensures answers { (words : List (List ℕ)) → Asks words job
         → TextAnswers words text.now (K.written sink.old) (K.written sink.new) (K.faults sink.old) (K.faults sink.new) result }
     ensures write_faults { K.faults sink.old ≤ K.faults sink.new }
+    ensures inners { KeepsInners (K.inners sink.old) (K.inners sink.new) }
 {
     match job {
         Job::Run(options) => run_text(alloc, options, text, sink),

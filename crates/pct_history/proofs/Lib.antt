@@ -1,7 +1,12 @@
 pub mod ByCuts
+pub mod ByLines
+pub mod Checked
 pub mod FirstLines
 pub mod Loops
+pub mod Marked
 pub mod Plain
 pub mod ReadBack
+pub mod ReplayInput
+pub mod Sizes
 pub mod Texts
 pub mod Within

@@ -10,12 +10,12 @@ use Rattle.pct_model.specs.declared.refusal.ScheduleWhy.TheVariants as why
 use Rattle.pct_model.specs.declared.word.Keyword.TheVariants as word
 use Rattle.pct_model.specs.Words.{keyword_text}
 use Rattle.pct_model.specs.Lines.{lines_of}
-use Rattle.pct_model.specs.Schedule.{Schedule, begins, header_of, entry_of, is_end, ended, with_entry, entries_in, with_header, schedule_in, marker_in, parts_at}
+use Rattle.pct_model.specs.Schedule.{Schedule, begins, header_of, entry_of, is_end, marker_in, parts_at}
 use Rattle.pct_model.proofs.Lines.{lines_of-nil}
 use Rattle.pct_history.specs.declared.fault.ScheduleFault.{ScheduleFault}
 use Rattle.pct_history.specs.declared.fault.ScheduleFault.TheVariants as fault
 use Rattle.pct_history.specs.Gives.{Fails}
-use Rattle.pct_history.specs.Reading.{first_line, begins_with, entry_at, nothing_behind, end_at}
+use Rattle.pct_history.specs.Reading.{first_line, begins_with, ended, with_entry, entries_in, with_header, schedule_in, entry_at, nothing_behind, end_at}
 use Rattle.pct_history.proofs.FirstLines.{IsFirstLine, first_line_is, no_first_line, has_a_line}
 use Rattle.pct_history.proofs.ByCuts.{begins-schedule, begins-end}
 

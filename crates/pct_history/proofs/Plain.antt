@@ -33,7 +33,7 @@ is_plain w = list_all is_plain_byte w
 abbrev pub are_plain : List (List ℕ) → Bool
 are_plain words = list_all is_plain words
 
-more : (w : List ℕ) (words : List (List ℕ)) → is_plain w ≡ true → are_plain words ≡ true → are_plain (w ∷ words) ≡ true
+pub more : (w : List ℕ) (words : List (List ℕ)) → is_plain w ≡ true → are_plain words ≡ true → are_plain (w ∷ words) ≡ true
 more w words first rest = and_from (is_plain w) (are_plain words) first rest
 
 -- ---- bytes
@@ -64,14 +64,14 @@ wider p q each (x ∷ xs) all =
 pub decimal_plain : (n : ℕ) → is_plain (decimal n) ≡ true
 decimal_plain n = wider is_digit is_plain_byte digit_is_plain (decimal n) (digits_of_decimal n)
 
-plain_name : (w : List ℕ) → is_name w ≡ true → is_plain w ≡ true
+pub plain_name : (w : List ℕ) → is_name w ≡ true → is_plain w ≡ true
 unfolding is_name
 plain_name [] is = refl
 plain_name (b ∷ bs) is =
     let first = (and_parts (not (is_digit b) && list_all is_name_byte (b ∷ bs)) (nat_le (length (b ∷ bs)) 31) is).0 in
     wider is_name_byte is_plain_byte name_byte_is_plain (b ∷ bs) (and_parts (not (is_digit b)) (list_all is_name_byte (b ∷ bs)) first).1
 
-name_at_plain : (names : List (List ℕ)) (f : ℕ) → list_all is_name names ≡ true → is_plain (name_at names f) ≡ true
+pub name_at_plain : (names : List (List ℕ)) (f : ℕ) → list_all is_name names ≡ true → is_plain (name_at names f) ≡ true
 unfolding name_at
 name_at_plain [] f all = refl
 name_at_plain (name ∷ names) zero all = plain_name name (and_parts (is_name name) (list_all is_name names) all).0

@@ -21,20 +21,21 @@ use Rattle.pct_model.specs.Static.{is_digit}
 use Rattle.pct_model.specs.Report.{thread_text, event_words, event_line, alt_words, entry_line, header_line, end_line, schedule_lines, verdict_words, verdict_line, title_line, report_lines, report_of, report}
 use Rattle.pct_model.specs.Lines.{cut, lines_of, without_return}
 use Rattle.pct_model.specs.Run.{Run, is_config, run, verdict_of}
-use Rattle.pct_model.specs.Schedule.{Schedule, begins, header_of, entry_of, is_end, ended, with_entry, entries_in, with_header, schedule_in, sched_of}
+use Rattle.pct_model.specs.Schedule.{Schedule, begins, header_of, entry_of, is_end, sched_of}
 use Rattle.pct_model.proofs.Bytes.{same_bytes, bytes_eq-refl}
 use Rattle.pct_model.proofs.Cuts.{cut_again, lacks_other, lacks-append, lacks-cons}
 use Rattle.pct_model.proofs.Numbers.{number_again, decimal_lacks, digits_of_decimal}
 use Rattle.pct_model.proofs.Lines.{without_return-lacks, lines_of-nil, lines_of-line}
 use Rattle.pct_history.specs.ReadBack.{fits, is_choice, is_entry, IsSchedule}
-use Rattle.pct_history.specs.Reading.{begins_with, config_in, header_in, choice_in, entry_in, ends_with}
+use Rattle.pct_history.specs.Reading.{begins_with, config_in, header_in, choice_in, entry_in, ends_with, ended, with_entry, entries_in, with_header, schedule_in}
 use Rattle.pct_history.proofs.ByCuts.{begins-schedule, begins-end, header_same, entry_same, end_same}
+use Rattle.pct_history.proofs.ByLines.{by_lines}
 use Rattle.pct_history.proofs.Plain.{is_plain_byte, is_plain, are_plain, keyword_plain, decimal_plain, event_line_plain, verdict_line_plain, title_line_plain, end_line_plain, header_line_plain, entry_line_plain}
 
 -- ---- lines
 
 -- a line of plain words has no byte that is not plain, but for the spaces
-line_lacks : (c : ℕ) (words : List (List ℕ)) → is_plain_byte c ≡ false → nat_eq 32 c ≡ false → are_plain words ≡ true → cut c (join_with_byte 32 words) ≡ None
+pub line_lacks : (c : ℕ) (words : List (List ℕ)) → is_plain_byte c ≡ false → nat_eq 32 c ≡ false → are_plain words ≡ true → cut c (join_with_byte 32 words) ≡ None
 unfolding cut
 line_lacks c [] fails other plain = refl
 line_lacks c (w ∷ []) fails other plain = lacks_other is_plain_byte c w fails (and_parts (is_plain w) true plain).0
@@ -48,7 +49,7 @@ line_again words lines plain =
     ap lines_of (flat_map-cons line_text words lines ∙ append_assoc (join_with_byte 32 words) (10 ∷ []) (text_of lines))
     ∙ lines_of-line (join_with_byte 32 words) (text_of lines) (line_lacks 10 words refl refl plain)
 
-line_kept : (words : List (List ℕ)) → are_plain words ≡ true → without_return (join_with_byte 32 words) ≡ join_with_byte 32 words
+pub line_kept : (words : List (List ℕ)) → are_plain words ≡ true → without_return (join_with_byte 32 words) ≡ join_with_byte 32 words
 line_kept words plain = without_return-lacks (join_with_byte 32 words) (line_lacks 13 words refl refl plain)
 
 -- ---- first words
@@ -136,12 +137,12 @@ title_passed n lines = passed_over n (keyword_text word.Report) (decimal 1 ∷ [
 -- ---- the header
 
 -- the limits of a run's numbers
-record InLimits (c : Config) : Type 0 where
-  budget : c.budget ≤ 200000
-  passes : c.passes ≤ 16
-  slots : c.slots ≤ 64
+pub record InLimits (c : Config) : Type 0 where
+  pub budget : c.budget ≤ 200000
+  pub passes : c.passes ≤ 16
+  pub slots : c.slots ≤ 64
 
-in_limits : (c : Config) → is_config c ≡ true → InLimits c
+pub in_limits : (c : Config) → is_config c ≡ true → InLimits c
 in_limits c is =
     let a = and_parts (nat_le 1 c.budget && nat_le c.budget 200000 && nat_le 4 c.passes && nat_le c.passes 16 && nat_le 1 c.slots) (nat_le c.slots 64) is in
     let b = and_parts (nat_le 1 c.budget && nat_le c.budget 200000 && nat_le 4 c.passes && nat_le c.passes 16) (nat_le 1 c.slots) a.0 in
@@ -203,13 +204,13 @@ entry_joined w p t (alt.Pick n) = refl
 entry_joined w p t (alt.Dtor n) = refl
 
 -- what is asked of an entry
-record FitsEntry (e : Entry) : Type 0 where
-  worker : nat_le e.worker 16 ≡ true
-  pid : e.pid ≤ 4294967295
-  tid : e.tid ≤ 4294967295
-  choice : is_choice e.alt ≡ true
+pub record FitsEntry (e : Entry) : Type 0 where
+  pub worker : nat_le e.worker 16 ≡ true
+  pub pid : e.pid ≤ 4294967295
+  pub tid : e.tid ≤ 4294967295
+  pub choice : is_choice e.alt ≡ true
 
-fits_entry : (e : Entry) → is_entry e ≡ true → FitsEntry e
+pub fits_entry : (e : Entry) → is_entry e ≡ true → FitsEntry e
 fits_entry e is =
     let a = and_parts (nat_le e.worker 16 && fits e.pid && fits e.tid) (is_choice e.alt) is in
     let b = and_parts (nat_le e.worker 16 && fits e.pid) (fits e.tid) a.0 in
@@ -288,7 +289,7 @@ entries_again total config (e ∷ entries) most few all n front same =
 
 -- ---- reports
 
-schedule_again : (config : Config) (entries : List Entry) → IsSchedule config entries → (n : ℕ) → schedule_in n (lines_of (text_of (schedule_lines config entries))) ≡ Ok (config, entries)
+pub schedule_again : (config : Config) (entries : List Entry) → IsSchedule config entries → (n : ℕ) → schedule_in n (lines_of (text_of (schedule_lines config entries))) ≡ Ok (config, entries)
 unfolding schedule_lines
 schedule_again config entries is n =
     let limits = in_limits config is.config_fits in
@@ -300,11 +301,12 @@ grouped a bs c ds = ap (λ xs. a ∷ xs) (append_assoc bs (c ∷ []) ds)
 
 pub report_again : (script : Script) (config : Config) (events : List Event) (v : Verdict) (entries : List Entry) → IsSchedule config entries
     → sched_of (text_of (report_lines script config events v entries)) ≡ Ok (config, entries)
-unfolding sched_of report_lines
+unfolding report_lines
 report_again script config events v entries is =
     let schedule = schedule_lines config entries in
     let told = map (event_line script) events in
-    ap (λ (lines : List (List (List ℕ))). schedule_in 1 (lines_of (text_of lines))) (grouped title_line told (verdict_line v) schedule)
+    by_lines (text_of (report_lines script config events v entries))
+    ∙ ap (λ (lines : List (List (List ℕ))). schedule_in 1 (lines_of (text_of lines))) (grouped title_line told (verdict_line v) schedule)
     ∙ title_passed 1 (told ++ (verdict_line v ∷ schedule))
     ∙ events_passed script events (verdict_line v ∷ schedule) (Ok (config, entries)) (λ n. verdict_passed n v schedule ∙ schedule_again config entries is (n + 1)) 2
 

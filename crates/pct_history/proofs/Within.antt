@@ -1,7 +1,8 @@
 -- What is read is within its limits: the numbers and entries of a schedule, and the parts of an input.
-use Rattle.std.proofs.Common.{◌≡◌, ℕ, ◌+◌, ◌*◌, ◌-◌, ◌≤◌, ◌<◌, Bool, true, false, ◌&&◌, cond, List, [], ◌∷◌, ◌++◌, Option, Some, None, Ok, Err, length, refl, ◌∙◌, subst, arith, nat_eq, nat_lt, nat_le, ltb-true, leb-true, bytes_eq, decimal, length-append, suc}
+use Rattle.std.proofs.Common.{◌≡◌, ℕ, ◌+◌, ◌≤◌, ◌<◌, Bool, true, false, ◌&&◌, cond, List, [], ◌∷◌, ◌++◌, Option, Some, None, Ok, Err, length, refl, sym, ◌∙◌, subst, arith, nat_eq, nat_lt, nat_le, ltb-true, leb-true, bytes_eq, decimal, length-append, suc}
 use Rattle.std.specs.Prelude.{IfSome}
 use Rattle.std.specs.List.{list_all, slice_split, onto_first}
+use Rattle.std.specs.Str.Parse.{digits_value}
 use Rattle.std.proofs.lemmas.Bool.{and_parts, and_from, cond_both}
 use Rattle.std.proofs.lemmas.List.Folds.{list_all-append}
 use Rattle.std.proofs.lemmas.List.Splits.{length-slice_split}
@@ -12,11 +13,12 @@ use Rattle.pct_model.specs.declared.schedule.Entry.{Entry}
 use Rattle.pct_model.specs.declared.refusal.ScheduleWhy.TheVariants as why
 use Rattle.pct_model.specs.declared.word.Keyword.TheVariants as word
 use Rattle.pct_model.specs.Words.{keyword_text}
-use Rattle.pct_model.specs.Static.{is_digit}
-use Rattle.pct_model.specs.Lines.{◌>>=◌, lines_of, without_empty_last, without_return, words_of, with_digit, value_from, number_of}
+use Rattle.pct_model.specs.Lines.{◌>>=◌, lines_of, without_empty_last, without_return, words_of, number_of}
 use Rattle.pct_model.specs.Run.{is_config}
-use Rattle.pct_model.specs.Schedule.{Schedule, begins, config_of, header_of_words, header_of, numbered_choice, choice_of, entry_of_parts, entry_of_words, entry_of, is_end, ended, with_entry, entries_in, with_header, schedule_in, sched_of, is_marker, marker_in, parts_at, replay_parts}
+use Rattle.pct_model.specs.Schedule.{Schedule, begins, config_of, header_of_words, header_of, numbered_choice, choice_of, entry_of_parts, entry_of_words, entry_of, is_end, sched_of, is_marker, marker_in, parts_at, replay_parts}
 use Rattle.pct_history.specs.ReadBack.{fits, is_choice, is_entry, IsSchedule}
+use Rattle.pct_history.specs.Reading.{ended, with_entry, entries_in, with_header, schedule_in}
+use Rattle.pct_history.proofs.ByLines.{by_lines}
 
 -- ---- values that pass a test
 
@@ -33,22 +35,12 @@ if_passes test b x y here otherwise = cond_both b x y (Passes test) here (λ _. 
 
 -- ---- numbers
 
-digit_fits : (n digit : ℕ) → Passes fits (with_digit n digit)
-unfolding with_digit
-digit_fits n digit =
-    let m = n * 10 + (digit - 48) in
-    if_passes fits (is_digit digit && nat_le m 4294967295) (Some m) None (λ e. (and_parts (is_digit digit) (nat_le m 4294967295) e).1) tt
-
-value_fits : (n : ℕ) (digits : List ℕ) → fits n ≡ true → Passes fits (value_from n digits)
-unfolding value_from
-value_fits n [] is = is
-value_fits n (digit ∷ digits) is = bind_passes fits fits (with_digit n digit) (λ m. value_from m digits) (digit_fits n digit) (λ m fit. value_fits m digits fit)
-
 number_fits : (word : List ℕ) → Passes fits (number_of word)
 unfolding number_of
 number_fits word =
-    bind_passes fits fits (value_from 0 word) (λ n. cond (bytes_eq (decimal n) word) (Some n) None) (value_fits 0 word refl)
-    (λ n fit. if_passes fits (bytes_eq (decimal n) word) (Some n) None (λ _. fit) tt)
+    let n = digits_value 10 word in
+    let printed = bytes_eq (decimal n) word in
+    if_passes fits (printed && nat_le n 4294967295) (Some n) None (λ e. (and_parts printed (nat_le n 4294967295) e).1) tt
 
 -- ---- entries
 
@@ -164,8 +156,7 @@ lines_within n (line ∷ lines) =
 
 -- the schedule that a text gives is within its limits
 pub sched_within : (text : List ℕ) (config : Config) (entries : List Entry) → sched_of text ≡ Ok (config, entries) → IsSchedule config entries
-unfolding sched_of
-sched_within text config entries e = subst Within e (lines_within 1 (lines_of text))
+sched_within text config entries e = subst Within (sym (by_lines text) ∙ e) (lines_within 1 (lines_of text))
 
 -- ---- the parts of an input
 

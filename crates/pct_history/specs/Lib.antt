@@ -1,3 +1,4 @@
 pub mod Gives
 pub mod ReadBack
 pub mod Reading
+pub mod ReplayInput

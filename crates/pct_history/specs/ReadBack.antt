@@ -1,5 +1,5 @@
--- The law that the schedule of a report is read back from it.
-use Rattle.std.specs.Prelude.{◌≡◌, ℕ, ◌≤◌, Bool, true, ◌&&◌, List, length, Ok, nat_le}
+-- The laws that the schedule of a report is read back from it.
+use Rattle.std.specs.Prelude.{◌≡◌, ℕ, ◌≤◌, Bool, true, ◌&&◌, List, length, Some, Ok, nat_le}
 use Rattle.std.specs.List.{list_all}
 use Rattle.pct_model.specs.declared.script.Script.{Script}
 use Rattle.pct_model.specs.declared.schedule.Alt.{Alt}
@@ -9,7 +9,7 @@ use Rattle.pct_model.specs.declared.schedule.Entry.{Entry}
 use Rattle.pct_model.specs.declared.event.Event.{Event}
 use Rattle.pct_model.specs.declared.stop.Verdict.{Verdict}
 use Rattle.pct_model.specs.Words.{text_of}
-use Rattle.pct_model.specs.Report.{report_lines}
+use Rattle.pct_model.specs.Report.{report_lines, report}
 use Rattle.pct_model.specs.Run.{is_config}
 use Rattle.pct_model.specs.Schedule.{sched_of}
 
@@ -40,3 +40,9 @@ abbrev pub ReportsAreReadBack : Type 0
 ReportsAreReadBack =
     (script : Script) (config : Config) (events : List Event) (verdict : Verdict) (entries : List Entry)
     → IsSchedule config entries → sched_of (text_of (report_lines script config events verdict entries)) ≡ Ok (config, entries)
+
+-- and so is the schedule of a run, from the report of that run
+abbrev pub RunReportsAreReadBack : Type 0
+RunReportsAreReadBack =
+    (script : Script) (config : Config) (entries : List Entry) (text : List ℕ)
+    → report script config entries ≡ Some text → IsSchedule config entries → sched_of text ≡ Ok (config, entries)

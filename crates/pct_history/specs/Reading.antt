@@ -1,5 +1,5 @@
 -- Reading a schedule as the code does it: a line after the other, and a word after the other.
-use Rattle.std.specs.Prelude.{ℕ, ◌+◌, Bool, false, ◌&&◌, if◌then◌else◌, List, [], ◌∷◌, Option, Some, None, Result, Ok, Err, nat_lt, nat_le, bytes_eq, codes}
+use Rattle.std.specs.Prelude.{ℕ, ◌+◌, Bool, false, ◌&&◌, if◌then◌else◌, List, [], ◌∷◌, ◌++◌, length, Option, Some, None, Result, Ok, Err, nat_lt, nat_le, bytes_eq, codes}
 use Rattle.std.specs.Option.{option_map_or}
 use Rattle.pct_model.specs.declared.schedule.Alt.{Alt}
 use Rattle.pct_model.specs.declared.schedule.Alt.TheVariants as alt
@@ -11,7 +11,7 @@ use Rattle.pct_model.specs.declared.word.Keyword.TheVariants as word
 use Rattle.pct_model.specs.Words.{keyword_text}
 use Rattle.pct_model.specs.Lines.{◌>>=◌, cut, lines_of, without_return, number_of}
 use Rattle.pct_model.specs.Run.{is_config}
-use Rattle.pct_model.specs.Schedule.{Schedule, numbered_choice, is_number, header_of, entry_of, is_end, with_header}
+use Rattle.pct_model.specs.Schedule.{Schedule, begins, numbered_choice, is_number, header_of, entry_of, is_end}
 
 -- ---- lines
 
@@ -65,7 +65,37 @@ entry_in line = do
 unfoldable pub ends_with : ℕ → List ℕ → Bool
 ends_with n line = option_map_or (λ parts. bytes_eq parts.0 (keyword_text word.End) && is_number n (number_of parts.1)) (cut 32 line) false
 
--- ---- schedules
+-- ---- schedules, with the entries so far
+
+-- the end of a schedule, with the lines behind it
+abbrev pub ended : ℕ → Config → List Entry → List (List ℕ) → Schedule
+ended n config entries [] = Ok (config, entries)
+ended n config entries (line ∷ lines) = Err (n, why.Trailing)
+
+-- one line behind the header, and how reading goes on
+abbrev pub with_entry : ℕ → Config → ℕ → Option Entry → (Entry → Schedule) → Schedule
+with_entry n config count None go = Err (n, why.BadEntry)
+with_entry n config count (Some e) go = if nat_lt count config.budget then go e else Err (n, why.TooMany)
+
+-- the lines behind the header, from line n on, behind these entries
+unfoldable pub entries_in : ℕ → Config → List Entry → List (List ℕ) → Schedule
+entries_in n config entries [] = Err (n, why.BadEnd)
+entries_in n config entries (line ∷ lines) =
+    if begins (keyword_text word.End) (without_return line)
+    then (if is_end (length entries) (without_return line) then ended (n + 1) config entries lines else Err (n, why.BadEnd))
+    else with_entry n config (length entries) (entry_of (without_return line)) (λ e. entries_in (n + 1) config (entries ++ e ∷ []) lines)
+
+-- the header, and what stands behind it
+abbrev pub with_header : ℕ → Option Config → List (List ℕ) → Schedule
+with_header n None lines = Err (n, why.BadHeader)
+with_header n (Some config) lines = entries_in (n + 1) config [] lines
+
+-- the lines from line n on: those before the first that begins with `schedule ` are passed over
+unfoldable pub schedule_in : ℕ → List (List ℕ) → Schedule
+schedule_in n [] = Err (1, why.BadHeader)
+schedule_in n (line ∷ lines) = if begins (keyword_text word.Schedule) (without_return line) then with_header n (header_of (without_return line)) lines else schedule_in (n + 1) lines
+
+-- ---- schedules, a line of a text after the other
 
 -- what the line of the header and what stands behind it give, by the line's number
 abbrev pub from_header : Option (ℕ × List ℕ × List ℕ) → Schedule

@@ -11,7 +11,7 @@ mod words;
 mod writing;
 
 pub use fault::ScheduleFault;
-pub use law::reports_are_read_back;
+pub use law::{replay_inputs_are_at_hand, reports_are_read_back};
 pub use reading::{Entries, read_schedule};
 pub use splitting::split_replay;
 pub use writing::write_schedule;

@@ -3,10 +3,10 @@
 ghost use Rattle.std.specs.Prelude.{◌≡◌, ◌+◌, ◌-◌, ◌<◌, ◌≤◌, ◌^◌, length, IfSome, IfOk, []};
 ghost use Rattle.std.specs.Option.{option_map};
 ghost use Rattle.pct_model.specs.Lines.{lines_of};
-ghost use Rattle.pct_model.specs.Schedule.{entries_in, sched_of};
+ghost use Rattle.pct_model.specs.Schedule.{sched_of};
 ghost use Rattle.pct_history.specs.Gives.{Gives};
 ghost use Rattle.pct_history.specs.ReadBack.{IsSchedule};
-ghost use Rattle.pct_history.specs.Reading.{from_header, entry_at, end_at};
+ghost use Rattle.pct_history.specs.Reading.{entries_in, from_header, entry_at, end_at};
 
 use crate::fault::ScheduleFault;
 use crate::lines::first_line;

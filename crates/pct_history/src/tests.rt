@@ -176,6 +176,7 @@ fn splits_at_the_first_marker(rt: HostRuntime) -> Result<(), Fail> {
 }
 
 #[test]
-fn the_law_is_called() {
+fn the_laws_are_called() {
     reports_are_read_back();
+    replay_inputs_are_at_hand();
 }

@@ -9,7 +9,9 @@ ghost use Rattle.pct_model.specs.Report.{header_line, entry_line, end_line, sche
 use pct_io::{Failed, Sink, Word, write_line};
 use pct_model::{Alt, Config, Entry, Keyword};
 
-/// Writes the schedule: the numbers under which the run goes, its entries, and how many there are.
+/// Writes the schedule: the numbers under which the run goes, its entries, and how many there are. There are fewer than
+/// 4,294,967,296 entries, since their number is a number of 32 bits. At `Failed` a front of the text was written, and the
+/// sink's count of faults rose. It takes no memory.
 pub fn write_schedule<K: Sink>(
     config: Config,
     entries: &[Entry],

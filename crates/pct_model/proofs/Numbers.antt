@@ -1,11 +1,15 @@
 -- A number's digits, and what they are read as.
-use Rattle.std.proofs.Common.{◌≡◌, ℕ, ◌+◌, ◌-◌, ◌*◌, ◌/◌, ◌%◌, ◌≤◌, ◌<◌, Bool, true, false, not, ◌&&◌, cond, List, [], ◌∷◌, ◌++◌, Option, Some, None, length, refl, sym, ap, ◌∙◌, arith, nat_eq, nat_le, le-leb, lt-ltb, bytes_eq, decimal, true≢false, zero, suc}
+use Rattle.std.proofs.Common.{◌≡◌, ℕ, ◌+◌, ◌-◌, ◌*◌, ◌/◌, ◌%◌, ◌≤◌, ◌<◌, Bool, true, false, not, ◌&&◌, cond, List, [], ◌∷◌, ◌++◌, Option, Some, None, length, refl, sym, ap, ◌∙◌, arith, nat_eq, nat_le, le-leb, leb-true, lt-ltb, bytes_eq, decimal, true≢false, zero, suc}
+use Rattle.std.specs.Prelude.{IfSome}
 use Rattle.std.specs.Fmt.{digit_glyph, digits_onto, digits}
 use Rattle.std.specs.List.{list_all}
-use Rattle.std.proofs.lemmas.Bool.{and_parts, and_from, false_from_ne_true, not-true}
-use Rattle.std.proofs.lemmas.Fmt.{decimal_by_steps}
+use Rattle.std.specs.Str.Parse.{digits_value}
+use Rattle.std.proofs.lemmas.Bool.{and_parts, and_from, cond_both, false_from_ne_true, not-true}
+use Rattle.std.proofs.lemmas.Fmt.{decimal_by_steps, decimal_is_IsNumeral}
+use Rattle.std.proofs.lemmas.Option.{cond_some}
 use Rattle.pct_model.specs.Static.{is_digit, is_name_byte, is_name}
-use Rattle.pct_model.specs.Lines.{◌>>=◌, cut, with_digit, value_from, number_of}
+use Rattle.pct_model.specs.Lines.{◌>>=◌, cut, number_of}
+use Rattle.pct_model.specs.Reading.{with_digit, value_from, number_in}
 use Rattle.pct_model.proofs.Cuts.{lacks_other}
 use Rattle.pct_model.proofs.Bytes.{same_bytes, bytes_eq-refl}
 
@@ -49,11 +53,83 @@ worth_more n ds le more fits =
     ∙ digit_again (n / 10) (n % 10) (omega arith) (omega arith) ∙ ap (λ (k : ℕ). Some k) e
 
 -- a number of 32 bits is read from its digits
+in_again : (n : ℕ) → n ≤ 4294967295 → number_in (decimal n) ≡ Some n
+unfolding number_in
+in_again n fits =
+    let value : value_from 0 (decimal n) ≡ Some n = decimal_by_steps IsWorth worth_one worth_more n (omega arith) fits in
+    ap (λ (o : Option ℕ). o >>= λ k. cond (bytes_eq (decimal k) (decimal n)) (Some k) None) value ∙ ap (λ (b : Bool). cond b (Some n) None) (bytes_eq-refl (decimal n))
+
+-- what is read has 32 bits
+abbrev Fits : Option ℕ → Type 0
+Fits o = IfSome o (λ n. n ≤ 4294967295)
+
+fits_digit : (n digit : ℕ) → Fits (with_digit n digit)
+unfolding with_digit
+fits_digit n digit =
+    let m = n * 10 + (digit - 48) in
+    cond_both (is_digit digit && nat_le m 4294967295) (Some m) None Fits (λ e. leb-true m 4294967295 (and_parts (is_digit digit) (nat_le m 4294967295) e).1) (λ _. tt)
+
+fits_bind : (o : Option ℕ) (f : ℕ → Option ℕ) → Fits o → ((n : ℕ) → n ≤ 4294967295 → Fits (f n)) → Fits (o >>= f)
+fits_bind None f fits each = tt
+fits_bind (Some n) f fits each = each n fits
+
+fits_value : (n : ℕ) (ds : List ℕ) → n ≤ 4294967295 → Fits (value_from n ds)
+unfolding value_from
+fits_value n [] fits = fits
+fits_value n (d ∷ ds) fits = fits_bind (with_digit n d) (λ m. value_from m ds) (fits_digit n d) (λ m fit. fits_value m ds fit)
+
+-- a number's digits have its value
+value_again : (n : ℕ) → n ≤ 4294967295 → digits_value 10 (decimal n) ≡ n
+value_again n fits = (decimal_is_IsNumeral n (omega arith)).1
+
+-- whether a word is the text of this number of 32 bits
+abbrev is_text : ℕ → List ℕ → Bool
+is_text n word = bytes_eq (decimal n) word && nat_le n 4294967295
+
+again_is_text : (n : ℕ) → n ≤ 4294967295 → is_text n (decimal n) ≡ true
+again_is_text n fits = and_from (bytes_eq (decimal n) (decimal n)) (nat_le n 4294967295) (bytes_eq-refl (decimal n)) (le-leb n 4294967295 fits)
+
+-- and is the number of that word
 pub number_again : (n : ℕ) → n ≤ 4294967295 → number_of (decimal n) ≡ Some n
 unfolding number_of
 number_again n fits =
-    let value : value_from 0 (decimal n) ≡ Some n = decimal_by_steps IsWorth worth_one worth_more n (omega arith) fits in
-    ap (λ (o : Option ℕ). o >>= λ k. cond (bytes_eq (decimal k) (decimal n)) (Some k) None) value ∙ ap (λ (b : Bool). cond b (Some n) None) (bytes_eq-refl (decimal n))
+    ap (λ (k : ℕ). cond (is_text k (decimal n)) (Some k) None) (value_again n fits) ∙ ap (λ (b : Bool). cond b (Some n) None) (again_is_text n fits)
+
+-- a word has the value of the number whose text it is
+text_of_value : (word : List ℕ) (n : ℕ) → n ≤ 4294967295 → bytes_eq (decimal n) word ≡ true → is_text (digits_value 10 word) word ≡ true
+text_of_value word n fits is =
+    let value : digits_value 10 word ≡ n = ap (digits_value 10) (sym (same_bytes (decimal n) word is)) ∙ value_again n fits in
+    ap (λ (k : ℕ). is_text k word) value ∙ and_from (bytes_eq (decimal n) word) (nat_le n 4294967295) is (le-leb n 4294967295 fits)
+
+none_read : (word : List ℕ) (o : Option ℕ) → Fits o → is_text (digits_value 10 word) word ≡ false → (o >>= λ n. cond (bytes_eq (decimal n) word) (Some n) None) ≡ None
+none_read word None fits e = refl
+none_read word (Some n) fits e =
+    let other = false_from_ne_true (bytes_eq (decimal n) word) (λ (is : bytes_eq (decimal n) word ≡ true). true≢false (sym (text_of_value word n fits is) ∙ e)) in
+    ap (λ (b : Bool). cond b (Some n) None) other
+
+not_read : (word : List ℕ) → is_text (digits_value 10 word) word ≡ false → number_in word ≡ None
+unfolding number_in
+not_read word e = none_read word (value_from 0 word) (fits_value 0 word (omega arith)) e
+
+by_value : (word : List ℕ) (is : Bool) → is_text (digits_value 10 word) word ≡ is → number_in word ≡ cond is (Some (digits_value 10 word)) None
+by_value word true e =
+    let n = digits_value 10 word in
+    let parts = and_parts (bytes_eq (decimal n) word) (nat_le n 4294967295) e in
+    ap number_in (sym (same_bytes (decimal n) word parts.0)) ∙ in_again n (leb-true n 4294967295 parts.1)
+by_value word false e = not_read word e
+
+-- reading a digit after the other gives a word's number
+pub number_as_read : (word : List ℕ) → number_in word ≡ number_of word
+unfolding number_of
+number_as_read word = by_value word (is_text (digits_value 10 word) word) refl
+
+-- a word that has a number is its text
+pub number_takes : (word : List ℕ) (n : ℕ) → number_of word ≡ Some n → word ≡ decimal n
+unfolding number_of
+number_takes word n h =
+    let value = digits_value 10 word in
+    let found = cond_some (is_text value word) value n h in
+    sym (same_bytes (decimal value) word (and_parts (bytes_eq (decimal value) word) (nat_le value 4294967295) found.0).0) ∙ ap decimal found.1
 
 glyph_is_digit : (d : ℕ) → d < 10 → is_digit (digit_glyph false d) ≡ true
 glyph_is_digit d lt = rw (lt-ltb d 10 lt) (is_digit-glyph d lt)
@@ -78,18 +154,9 @@ digits_of_decimal n = digits_in_front 64 n [] refl
 pub decimal_lacks : (c n : ℕ) → is_digit c ≡ false → cut c (decimal n) ≡ None
 decimal_lacks c n other = lacks_other is_digit c (decimal n) other (digits_of_decimal n)
 
-printed : (t : Bool) (n m : ℕ) → cond t (Some n) None ≡ Some m → t ≡ true
-printed true n m h = refl
-printed false n m h = absurd cc
-
-printed_lacks : (c : ℕ) (o : Option ℕ) (w : List ℕ) (n : ℕ) → is_digit c ≡ false → (o >>= λ k. cond (bytes_eq (decimal k) w) (Some k) None) ≡ Some n → cut c w ≡ None
-printed_lacks c None w n other h = absurd cc
-printed_lacks c (Some k) w n other h = sym (ap (cut c) (same_bytes (decimal k) w (printed (bytes_eq (decimal k) w) k n h))) ∙ decimal_lacks c k other
-
 -- nor has a word that is read as a number
 pub number_lacks : (c : ℕ) (w : List ℕ) (n : ℕ) → is_digit c ≡ false → number_of w ≡ Some n → cut c w ≡ None
-unfolding number_of
-number_lacks c w n other h = printed_lacks c (value_from 0 w) w n other h
+number_lacks c w n other h = ap (cut c) (number_takes w n h) ∙ decimal_lacks c n other
 
 no_name_of_digits : (w : List ℕ) → is_name w ≡ true → list_all is_digit w ≡ true → true ≡ false
 unfolding is_name

@@ -27,7 +27,7 @@ use Rattle.pct_model.specs.Canon.{name_at, operand_text, statement_words, functi
 use Rattle.pct_model.specs.World.{Thread, Process, World, first_process, statement_at, value_of, new_frame, new_thread, opening}
 use Rattle.pct_model.specs.Alternatives.{stops, emits, pushes, pops, exits, returns_by, ends_process, running_at}
 use Rattle.pct_model.specs.Step.{process_ends, step, is_legal}
-use Rattle.pct_model.specs.Run.{run_step, run_from, illegal_from, first_illegal, run, verdict_of}
+use Rattle.pct_model.specs.Run.{run_step, run_from, illegal_in, first_illegal, run, verdict_of}
 use Rattle.pct_model.specs.Report.{stop_words, event_words, thread_text, event_line, alt_words, entry_line, header_line, end_line, schedule_lines, verdict_words, verdict_line, title_line, report_lines, report}
 use Rattle.pct_model.specs.Lines.{lines_of, without_return}
 use Rattle.pct_model.specs.Schedule.{marker_in, replay_parts}
@@ -133,7 +133,7 @@ smallest_past_budget = refl
 -- which entry is the first that is not legal in its place, counted from 1: a third step, another thread, another process,
 -- another choice; any worker of at most 16 may make a step
 smallest_illegal : (first_illegal smallest default_config (replicate 2 first_goes) ≡ None) × (first_illegal smallest default_config (replicate 4 first_goes) ≡ Some 3) × (first_illegal smallest default_config (record { worker = 1; pid = 1; tid = 2; alt = alt.Go } ∷ []) ≡ Some 1) × (first_illegal smallest default_config (first_goes ∷ record { worker = 1; pid = 2; tid = 1; alt = alt.Go } ∷ first_goes ∷ []) ≡ Some 2) × (first_illegal smallest default_config (record { worker = 1; pid = 1; tid = 1; alt = alt.Act 0 } ∷ first_goes ∷ []) ≡ Some 1) × (first_illegal smallest default_config (record { worker = 16; pid = 1; tid = 1; alt = alt.Go } ∷ record { worker = 0; pid = 1; tid = 1; alt = alt.Go } ∷ []) ≡ None) × (first_illegal smallest default_config (record { worker = 17; pid = 1; tid = 1; alt = alt.Go } ∷ []) ≡ Some 1)
-unfolding main_of keyword_text statement_at value_of opening stops emits pushes pops exits returns_by ends_process running_at step run_step illegal_from
+unfolding main_of keyword_text statement_at value_of opening stops emits pushes pops exits returns_by ends_process running_at step run_step illegal_in
 smallest_illegal = (refl, refl, refl, refl, refl, refl, refl)
 
 -- ---- a handler that a pop calls

@@ -8,6 +8,7 @@ pub mod Run
 pub mod Report
 pub mod Outcome
 pub mod Lines
+pub mod Reading
 pub mod Schedule
 pub mod Points
 pub mod Cancelability

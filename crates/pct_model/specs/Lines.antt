@@ -1,8 +1,9 @@
 -- The lines of a text, and the words of a line, as they are read.
-use Rattle.std.specs.Prelude.{ℕ, ◌+◌, ◌*◌, ◌-◌, ◌==◌, Bool, true, false, ◌&&◌, if◌then◌else◌, List, [], ◌∷◌, Option, Some, None, nat_eq, nat_le, bytes_eq, decimal, option_map, option_and_then}
+use Rattle.std.specs.Prelude.{ℕ, ◌==◌, ◌&&◌, if◌then◌else◌, List, [], ◌∷◌, Option, Some, None, nat_eq, nat_le, bytes_eq, decimal, option_map, option_and_then}
 use Rattle.std.specs.List.{slice_split}
-use Rattle.pct_model.specs.Static.{is_digit}
+use Rattle.std.specs.Str.Parse.{digits_value}
 
+-- what a value gives, where there is one
 infixl 10 ◌>>=◌
 abbrev pub ◌>>=◌ : {A B : Type 0} → Option A → (A → Option B) → Option B
 o >>= f = option_and_then f o
@@ -24,7 +25,7 @@ without_return [] = []
 without_return (b ∷ []) = if b == 13 then [] else b ∷ []
 without_return (b ∷ next ∷ bytes) = b ∷ without_return (next ∷ bytes)
 
--- the words of a line that parts them by one space
+-- the pieces between the spaces of a line; between two spaces in a row one is empty
 abbrev pub words_of : List ℕ → List (List ℕ)
 words_of line = slice_split (λ b. b == 32) line
 
@@ -35,17 +36,9 @@ cut c (b ∷ bytes) = if nat_eq b c then Some ([], bytes) else option_map (λ pa
 
 -- ---- numbers
 
--- a number of 32 bits with one more digit
-unfoldable pub with_digit : ℕ → ℕ → Option ℕ
-with_digit n digit = if is_digit digit && nat_le (n * 10 + (digit - 48)) 4294967295 then Some (n * 10 + (digit - 48)) else None
-
--- the number with these further digits, where it stays within 32 bits
-unfoldable pub value_from : ℕ → List ℕ → Option ℕ
-value_from n [] = Some n
-value_from n (digit ∷ digits) = with_digit n digit >>= λ m. value_from m digits
-
--- the number of 32 bits that is printed as this word: it has no leading zeros
+-- the number of 32 bits whose decimal text this word is: so it has no leading zeros
 unfoldable pub number_of : List ℕ → Option ℕ
-number_of word = do
-  n ← value_from 0 word
-  if bytes_eq (decimal n) word then Some n else None
+number_of word =
+    if bytes_eq (decimal (digits_value 10 word)) word && nat_le (digits_value 10 word) 4294967295
+    then Some (digits_value 10 word)
+    else None

@@ -1,5 +1,5 @@
 -- What the program answers to its words and its input: a status, by its code, and the bytes that it writes.
-use Rattle.std.specs.Prelude.{◌≡◌, ◌⊎◌, ℕ, ◌<◌, ◌≤◌, Bool, true, false, ◌||◌, if◌then◌else◌, List, [], ◌∷◌, length, take, drop, replicate, Some, Ok, Err, bytes_eq, decimal}
+use Rattle.std.specs.Prelude.{◌≡◌, ℕ, ◌<◌, ◌≤◌, Bool, true, false, ◌||◌, if◌then◌else◌, List, [], ◌∷◌, length, take, drop, replicate, Some, Ok, Err, bytes_eq, decimal}
 use Rattle.pct_model.specs.declared.refusal.ParseWhy.{ParseWhy}
 use Rattle.pct_model.specs.declared.refusal.ParseWhy.TheVariants as fault
 use Rattle.pct_model.specs.declared.refusal.ScheduleWhy.{ScheduleWhy}
@@ -20,7 +20,7 @@ use Rattle.pct_model.specs.Report.{report}
 
 -- ---- words
 
--- the words are this one alone
+-- whether the words are this one alone
 unfoldable pub is_asked : Keyword → List (List ℕ) → Bool
 is_asked keyword [] = false
 is_asked keyword (w ∷ []) = bytes_eq w (keyword_text keyword)
@@ -30,11 +30,12 @@ is_asked keyword (w ∷ next ∷ words) = false
 abbrev pub is_accepted : List (List ℕ) → Bool
 is_accepted words = is_asked word.Run words || is_asked word.Replay words
 
--- the script's part of the input: all of it for `run`, and for `replay` what stands before the first line `%%`
+-- the script's part of the input: all of it for `run`, and for `replay` what stands before the first line `%%`, or all of
+-- it where there is no such line
 unfoldable pub script_part : List (List ℕ) → List ℕ → List ℕ
 script_part words input = if is_asked word.Replay words then take (replay_parts input).0 input else input
 
--- the schedule's part of the input of `replay`: what stands behind that line
+-- the schedule's part of the input of `replay`: what stands behind that line, and nothing where there is none
 unfoldable pub schedule_part : List ℕ → List ℕ
 schedule_part input = drop (replay_parts input).1 input
 
@@ -93,7 +94,7 @@ refused_entry place = keyword_text word.Refused ∷ keyword_text word.Entry ∷ 
 
 -- ---- the outcome
 
--- the code of the status that tells how a run ended
+-- the code of the status that tells how a run stands
 unfoldable pub code_of_verdict : Verdict → ℕ
 code_of_verdict verdict.Complete = 0
 code_of_verdict verdict.Deadlock = 1
@@ -175,7 +176,13 @@ pub record Runs (words : List (List ℕ)) (input : List ℕ) (schedule : List En
   pub code_is : code ≡ code_of_verdict (verdict_of script default_config after.world (length schedule))
   pub text_is : report script default_config schedule ≡ Some text
 
--- what the program answers and writes for these words and this input, under this schedule
-abbrev pub Outcome : List (List ℕ) → List ℕ → List Entry → ℕ → List ℕ → Type 0
-Outcome words input schedule code text =
-    RefusesWords words code text ⊎ RefusesInput words input code text ⊎ RefusesScript words input code text ⊎ RefusesSchedule words input code text ⊎ RefusesEntry words input code text ⊎ Replays words input code text ⊎ Runs words input schedule code text
+-- what the program answers and writes for these words and this input, under this schedule. The cases exclude each other,
+-- and stand in the order in which they are decided; `run` alone looks at the schedule.
+pub data Outcome (words : List (List ℕ)) (input : List ℕ) (schedule : List Entry) (code : ℕ) (text : List ℕ) : Type 0 where
+  WordsRefused : RefusesWords words code text → Outcome words input schedule code text
+  InputRefused : RefusesInput words input code text → Outcome words input schedule code text
+  ScriptRefused : RefusesScript words input code text → Outcome words input schedule code text
+  ScheduleRefused : RefusesSchedule words input code text → Outcome words input schedule code text
+  EntryRefused : RefusesEntry words input code text → Outcome words input schedule code text
+  Replayed : Replays words input code text → Outcome words input schedule code text
+  Ran : Runs words input schedule code text → Outcome words input schedule code text

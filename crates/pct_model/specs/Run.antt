@@ -1,6 +1,7 @@
 -- Runs: the steps of a schedule from the opening world, and how a run stands.
 use Rattle.std.specs.Prelude.{ℕ, suc, Bool, true, false, ◌&&◌, ◌||◌, if◌then◌else◌, List, [], ◌∷◌, ◌++◌, length, map, reverse, Option, Some, None, is_some, nat_eq, nat_le, option_map, option_and_then}
 use Rattle.std.specs.List.{list_all}
+use Rattle.std.specs.Option.{option_map_or}
 use Rattle.pct_model.specs.declared.script.Script.{Script}
 use Rattle.pct_model.specs.declared.schedule.Config.{Config}
 use Rattle.pct_model.specs.declared.schedule.Entry.{Entry}
@@ -30,15 +31,14 @@ unfoldable pub run_from : Script → Config → Run → List Entry → Option Ru
 run_from script config r [] = Some r
 run_from script config r (e ∷ entries) = option_and_then (λ next. run_from script config next entries) (run_step script config r e)
 
--- the place of the first entry that is not legal in its place, where n entries were read so far
-unfoldable pub illegal_from : Script → Config → ℕ → Option Run → List Entry → Option ℕ
-illegal_from script config n None entries = Some n
-illegal_from script config n (Some r) [] = None
-illegal_from script config n (Some r) (e ∷ entries) = illegal_from script config (suc n) (run_step script config r e) entries
+-- which of these entries is the first that is not legal in its place, counted from 1
+unfoldable pub illegal_in : Script → Config → Run → List Entry → Option ℕ
+illegal_in script config r [] = None
+illegal_in script config r (e ∷ entries) = option_map_or (λ next. option_map suc (illegal_in script config next entries)) (run_step script config r e) (Some 1)
 
--- the place of the first entry of a schedule that is not legal in its place, counted from 1
+-- the first entry of a schedule that is not legal in its place; `run` asks for the budget too
 abbrev pub first_illegal : Script → Config → List Entry → Option ℕ
-first_illegal script config entries = illegal_from script config 0 (Some (record { world = opening script; events = [] })) entries
+first_illegal script config entries = illegal_in script config (record { world = opening script; events = [] }) entries
 
 -- the numbers under which a run may go
 abbrev pub is_config : Config → Bool

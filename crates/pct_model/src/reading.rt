@@ -3,7 +3,8 @@
 ghost use Rattle.std.specs.Prelude.{◌≡◌, ◌==◌, position};
 ghost use Rattle.std.specs.Option.{option_map};
 ghost use Rattle.pct_model.specs.Static.{is_digit};
-ghost use Rattle.pct_model.specs.Lines.{cut, with_digit, value_from, number_of};
+ghost use Rattle.pct_model.specs.Lines.{cut, number_of};
+ghost use Rattle.pct_model.specs.Reading.{with_digit, value_from, number_in};
 
 use itoa::Buffer;
 
@@ -30,7 +31,7 @@ pub fn cut(bytes: &[u8], at: u8) -> Option<(&[u8], &[u8])>
     Some((front, behind))
 }
 
-#[tactic(auto, unfolding(crate::specs::Lines::with_digit))]
+#[tactic(auto, unfolding(crate::specs::Reading::with_digit))]
 fn with_digit(value: u32, digit: u8) -> Option<u32>
     ensures { result ≡ with_digit value digit }
 {
@@ -45,7 +46,7 @@ fn with_digit(value: u32, digit: u8) -> Option<u32>
     }
 }
 
-#[tactic(auto, unfolding(crate::specs::Lines::value_from))]
+#[tactic(auto, unfolding(crate::specs::Reading::value_from))]
 fn value_of(word: &[u8]) -> Option<u32>
     ensures { result ≡ value_from 0 word.now }
 {
@@ -56,10 +57,9 @@ fn value_of(word: &[u8]) -> Option<u32>
     Some(value)
 }
 
-/// The number of 32 bits that is printed as this word, if there is one.
-#[tactic(auto, unfolding(crate::specs::Lines::number_of))]
-pub fn number_of(word: &[u8]) -> Option<u32>
-    ensures { result ≡ number_of word.now }
+#[tactic(auto, unfolding(crate::specs::Reading::number_in))]
+fn number_in(word: &[u8]) -> Option<u32>
+    ensures { result ≡ number_in word.now }
 {
     let value = value_of(word)?;
     let mut buffer = Buffer::new();
@@ -68,4 +68,12 @@ pub fn number_of(word: &[u8]) -> Option<u32>
     } else {
         None
     }
+}
+
+/// The number of 32 bits that is printed as this word, if there is one.
+#[tactic(auto, using(crate::proofs::Numbers::number_as_read))]
+pub fn number_of(word: &[u8]) -> Option<u32>
+    ensures { result ≡ number_of word.now }
+{
+    number_in(word)
 }

@@ -1,5 +1,5 @@
 -- What is read is spelled so.
-use Rattle.std.proofs.Common.{◌≡◌, ℕ, zero, suc, ◌<◌, Bool, ◌&&◌, cond, List, [], ◌∷◌, ◌++◌, Some, None, length, get_or, refl, sym, ap, ◌∙◌, subst, append_assoc, nat_lt, ltb-true, bytes_eq, decimal, map, flat_map, position, option_map}
+use Rattle.std.proofs.Common.{◌≡◌, ℕ, zero, suc, ◌<◌, Bool, ◌&&◌, cond, List, [], ◌∷◌, ◌++◌, Some, None, length, get_or, refl, sym, ap, ◌∙◌, subst, append_assoc, nat_lt, ltb-true, bytes_eq, map, flat_map, position, option_map}
 use Rattle.std.specs.List.{join_with_byte, position_or_len}
 use Rattle.std.proofs.lemmas.Bool.{and_parts}
 use Rattle.std.proofs.lemmas.List.Concat.{flat_map-cons}
@@ -15,18 +15,12 @@ use Rattle.pct_model.specs.declared.word.Keyword.TheVariants as word
 use Rattle.pct_model.specs.Static.{is_name, is_closing}
 use Rattle.pct_model.specs.Words.{keyword_text, line_text, text_of}
 use Rattle.pct_model.specs.Canon.{name_at, operand_text, statement_words, function_lines}
-use Rattle.pct_model.specs.Lines.{◌>>=◌, cut, value_from, number_of}
+use Rattle.pct_model.specs.Lines.{◌>>=◌, cut, number_of}
 use Rattle.pct_script.specs.Reading.{place_of, operand_of, push_of, with_operand, with_words, statement_of, head_of, head_at, statement_at, body_at, function_at, functions_at}
 use Rattle.pct_model.proofs.Cuts.{cut_parts}
 use Rattle.pct_model.proofs.Bytes.{same_bytes}
+use Rattle.pct_model.proofs.Numbers.{number_takes}
 use Rattle.pct_script.proofs.Steps.{bind_some, map_some, cond_cases, map_or_cases}
-
-number_takes : (w : List ℕ) (n : ℕ) → number_of w ≡ Some n → w ≡ decimal n
-unfolding number_of
-number_takes w n h =
-    let m = bind_some (value_from 0 w) (λ k. cond (bytes_eq (decimal k) w) (Some k) None) n h in
-    let g = cond_some (bytes_eq (decimal m.0) w) m.0 n m.2 in
-    sym (same_bytes (decimal m.0) w g.0) ∙ ap decimal g.1
 
 place_takes : (names : List (List ℕ)) (w : List ℕ) (i : ℕ) → place_of names w ≡ Some i → w ≡ name_at names i
 unfolding place_of name_at

@@ -23,14 +23,14 @@ pub loop-verdict-preserved : goal.loop-verdict-preserved
 loop-verdict-preserved c =
     let so_far = c.loop-verdict.invariant in
     let goes = so_far.goes c.in-Open.is in
-    let stepped = leads-on c.args.script.now c.args.config c.loop-verdict.process c.go.new.process (reverse c.loop-verdict.events.items) (reverse c.go.new.events.items) first_goes refl goes.running goes.lives c.go.ensures.leads in
+    let stepped = leads-on c.args.script.now c.args.config c.loop-verdict.process c.go.new.process (reverse c.loop-verdict.events.items) (reverse c.go.new.events.items) first_goes refl goes.goes.running goes.goes.lives c.go.ensures.leads in
     let entry = c.record_entry.ensures in
     record {
       is_run = goes_on c.args.script.now c.args.config c.loop-verdict.history.items c.record_entry.new.history.items _ _ so_far.is_run stepped entry.last;
       alone = alone-more _ _ _ _ so_far.alone entry.last entry.len;
       verdict_is = rw (← c.len.ensures) c.verdict_after-verdict-in-Open.ensures.value;
       goes = rw (← c.len.ensures) c.verdict_after-verdict-in-Open.ensures.open;
-      within = omega (arith, so_far.within, goes.below, entry.len);
+      within = omega (arith, so_far.within, goes.left, entry.len);
       events = omega (arith, so_far.events, c.go.ensures.len, entry.len);
       events_room = omega (arith, so_far.events_room, c.go.ensures.capacity);
       history_room = omega (arith, so_far.history_room, entry.capacity);

@@ -15,7 +15,7 @@ pub loop-entry-preserved : goal.loop-entry-preserved
 loop-entry-preserved c =
     let so_far = c.loop-entry.invariant in
     let taken = c.if-not-is_legal.ensures.legal refl in
-    let stepped = leads-on c.args.script.now c.args.config c.loop-entry.process c.go.new.process (reverse c.loop-entry.events.items) (reverse c.go.new.events.items) _ taken.first taken.running taken.lives c.go.ensures.leads in
+    let stepped = leads-on c.args.script.now c.args.config c.loop-entry.process c.go.new.process (reverse c.loop-entry.events.items) (reverse c.go.new.events.items) _ taken.first taken.goes.running taken.goes.lives c.go.ensures.leads in
     record {
       place = omega (arith, so_far.place);
       within = omega arith;

@@ -1,3 +1,4 @@
+use Rattle.pct_io.proofs.Kept.{KeepsInners-refl}
 use Rattle.pct_command.proofs.Outcomes.{schedule-answer}
 use Rattle.pct_command.proofs.Told.{tells, tells_part}
 use Rattle.pct_command.proofs.replay_command.answer_schedule_fault.Goals as goal
@@ -9,3 +10,6 @@ returns-in-Ok-clause-answers g c = λ words input asked fits spelled first.
 pub returns-in-Err-clause-answers : goal.returns-in-Err-clause-answers
 returns-in-Err-clause-answers g c = λ words input asked fits spelled first.
     tells_part words input 7 _ (schedule-answer words input c.args.script.now c.in-Refused.line c.in-Refused.why asked fits spelled (rw c.in-Refused.is at first)) c.in-Err.ensures.err c.in-Err.ensures.cause
+
+pub returns-in-NoMemory-clause-inners : goal.returns-in-NoMemory-clause-inners
+returns-in-NoMemory-clause-inners g c = KeepsInners-refl _

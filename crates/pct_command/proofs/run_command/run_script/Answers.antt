@@ -1,5 +1,6 @@
 use Rattle.std.proofs.Common.{length, ap, arith, subst, ◌≤◌}
 use Rattle.pct_model.specs.declared.schedule.Config.{Config}
+use Rattle.pct_io.proofs.Kept.{KeepsInners-refl}
 use Rattle.pct_command.specs.Ran.{IsRan}
 use Rattle.pct_command.proofs.Outcomes.{run-answer}
 use Rattle.pct_command.proofs.Told.{tells_run, tells_part}
@@ -23,3 +24,6 @@ returns-clause-answers g c = λ words input asked fits spelled.
     let answer = run-answer words input c.args.script.now c.in-Ok.ran.events.items c.in-Ok.ran.history.items c.in-Ok.ran.verdict asked fits spelled ran c.in-Ok.ensures.alone c.in-Ok.ensures.closed few in
     let wrote = rw (c.requires, c.as_slice.ensures.value, c.as_slice-in-Ok.ensures.value) at (c.in-Err-written.ensures.err) in
     tells_part words input _ _ answer wrote c.in-Err-written.ensures.cause
+
+pub returns-in-Err-clause-inners : goal.returns-in-Err-clause-inners
+returns-in-Err-clause-inners g c = KeepsInners-refl _

@@ -1,4 +1,5 @@
 use Rattle.std.proofs.Common.{refl}
+use Rattle.pct_io.proofs.Kept.{KeepsInners-refl}
 use Rattle.pct_command.proofs.Asked.{asks_is_accepted}
 use Rattle.pct_command.proofs.Outcomes.{input-answer}
 use Rattle.pct_command.proofs.Told.{tells, tells_part, read-answers}
@@ -23,3 +24,9 @@ returns-in-Err-clause-answers g c = λ words asks.
 
 pub answer_text-requires-clause-defaults : goal.answer_text-requires-clause-defaults
 answer_text-requires-clause-defaults g c = c.requires
+
+pub returns-in-Err-Failed-clause-inners : goal.returns-in-Err-Failed-clause-inners
+returns-in-Err-Failed-clause-inners g c = KeepsInners-refl _
+
+pub returns-in-Err-NoMemory-clause-inners : goal.returns-in-Err-NoMemory-clause-inners
+returns-in-Err-NoMemory-clause-inners g c = KeepsInners-refl _

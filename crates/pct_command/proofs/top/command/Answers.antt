@@ -3,6 +3,7 @@ use Rattle.std.specs.Prelude.{string_bytes}
 use Rattle.std.proofs.lemmas.Bool.{false≢true}
 use Rattle.std.proofs.KnownBytes.{Consumes-nil}
 use Rattle.pct_model.specs.Outcome.{is_accepted}
+use Rattle.pct_command.specs.declared.status.Status.TheVariants as status
 use Rattle.pct_command.proofs.Outcomes.{words-answer}
 use Rattle.pct_command.proofs.Told.{tells, tells_part}
 use Rattle.pct_command.proofs.Complete.{complete}
@@ -30,3 +31,6 @@ returns-in-Ok-clause-answers g c = c.answer_input.ensures.answers (map string_by
 
 pub returns-in-Ok-clause-complete : goal.returns-in-Ok-clause-complete
 returns-in-Ok-clause-complete g c = complete _ _ _ c.answer_input.result (returns-in-Ok-clause-answers g c)
+
+pub returns-in-Ok-refuse_words-clause-complete : goal.returns-in-Ok-refuse_words-clause-complete
+returns-in-Ok-refuse_words-clause-complete g c = complete _ _ _ status.Usage (returns-in-Ok-refuse_words-clause-answers g c)

@@ -1,12 +1,11 @@
-use Rattle.std.proofs.Common.{refl, sym, arith}
-use Rattle.pct_model.specs.Schedule.{sched_of}
+use Rattle.std.proofs.Common.{sym, arith}
+use Rattle.pct_history.proofs.ByLines.{by_lines}
 use Rattle.pct_history.proofs.FirstLines.{shorter_behind}
 use Rattle.pct_history.proofs.Loops.{header_found, header_later, no_header}
 use Rattle.pct_history.proofs.reading.find_header.Goals as goal
 
 pub loop-line-init : goal.loop-line-init
-unfolding sched_of
-loop-line-init c = (refl, omega arith)
+loop-line-init c = (by_lines c.args.text.now, omega arith)
 
 pub returns-then-begins_with-clause-found : goal.returns-then-begins_with-clause-found
 returns-then-begins_with-clause-found c =

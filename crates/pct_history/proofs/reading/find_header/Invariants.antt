@@ -1,6 +1,7 @@
 use Rattle.std.proofs.Common.{◌≡◌, ◌+◌, ◌≤◌, length}
 use Rattle.pct_model.specs.Lines.{lines_of}
-use Rattle.pct_model.specs.Schedule.{schedule_in, sched_of}
+use Rattle.pct_model.specs.Schedule.{sched_of}
+use Rattle.pct_history.specs.Reading.{schedule_in}
 use Rattle.pct_history.proofs.reading.find_header.Given as goal
 
 abbrev pub invariant-loop-line : goal.invariant-loop-line

@@ -1,6 +1,6 @@
 use Rattle.std.proofs.Common.{◌≡◌, ◌+◌, ◌≤◌, [], length}
 use Rattle.pct_model.specs.Lines.{lines_of}
-use Rattle.pct_model.specs.Schedule.{entries_in}
+use Rattle.pct_history.specs.Reading.{entries_in}
 use Rattle.pct_history.proofs.reading.read_entries.Given as goal
 
 abbrev pub invariant-loop-line : goal.invariant-loop-line

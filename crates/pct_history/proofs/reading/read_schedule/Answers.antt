@@ -2,8 +2,8 @@ use Rattle.std.proofs.Common.{◌≡◌, ℕ, List, Option, Some, None, sym, ap,
 use Rattle.std.proofs.lemmas.Result.{err_from_is_err_and}
 use Rattle.pct_model.specs.declared.schedule.Config.{Config}
 use Rattle.pct_model.specs.Lines.{lines_of}
-use Rattle.pct_model.specs.Schedule.{Schedule, header_of, with_header}
-use Rattle.pct_history.specs.Reading.{header_in}
+use Rattle.pct_model.specs.Schedule.{Schedule, header_of}
+use Rattle.pct_history.specs.Reading.{header_in, with_header}
 use Rattle.pct_history.proofs.ByCuts.{header_same}
 use Rattle.pct_history.proofs.Within.{sched_within}
 use Rattle.pct_history.proofs.reading.read_schedule.Goals as goal

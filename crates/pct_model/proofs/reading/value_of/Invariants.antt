@@ -1,5 +1,5 @@
 use Rattle.std.proofs.Common.{◌≡◌, drop}
-use Rattle.pct_model.specs.Lines.{value_from}
+use Rattle.pct_model.specs.Reading.{value_from}
 use Rattle.pct_model.proofs.reading.value_of.Given as goal
 
 abbrev pub invariant-loop-digit : goal.invariant-loop-digit
