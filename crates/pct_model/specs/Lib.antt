@@ -12,3 +12,6 @@ pub mod Reading
 pub mod Schedule
 pub mod Points
 pub mod Cancelability
+pub mod Forms
+pub mod Saying
+pub mod Spelling

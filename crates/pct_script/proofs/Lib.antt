@@ -1,3 +1,5 @@
+pub mod Faults
+pub mod Fitting
 pub mod FunctionsAgain
 pub mod Heads
 pub mod Laws
@@ -6,4 +8,6 @@ pub mod Loops
 pub mod Names
 pub mod OneScript
 pub mod Spelled
+pub mod SpelledLines
 pub mod Steps
+pub mod WordsIn

@@ -1,3 +1,5 @@
 pub mod Fault
+pub mod Fitting
 pub mod Nesting
 pub mod Reading
+pub mod SpelledLines

@@ -8,11 +8,18 @@ mod fault;
 mod naming;
 mod nesting;
 mod parsing;
+mod placed;
 mod reader;
+mod spelled_lines;
+mod spelling;
 mod statements;
+mod words;
 
 pub use fault::ParseFault;
 pub use parsing::parse;
+pub use spelled_lines::first_misspelled;
 
+#[cfg(test)]
+mod spelling_tests;
 #[cfg(test)]
 mod tests;

@@ -1,0 +1,18 @@
+use Rattle.std.proofs.Common.{sym, ◌∙◌, arith}
+use Rattle.pct_script.proofs.SpelledLines.{none_spelled, spelled_first, spelled_later}
+use Rattle.pct_script.proofs.spelled_lines.SpelledLines.next.Goals as goal
+
+pub returns-then-is_said : goal.returns-then-is_said
+returns-then-is_said c =
+    let left = c.loop-line.self-inside in
+    c.loop-line.invariant.0 ∙ spelled_first left.number left.rest.now c.in-Some.line.now c.in-Some.behind.now c.in-Some.ensures.line (sym c.if-is_said.ensures)
+
+pub loop-line-preserved : goal.loop-line-preserved
+loop-line-preserved c =
+    let left = c.loop-line.self-inside in (
+      c.loop-line.invariant.0 ∙ spelled_later left.number left.rest.now c.in-Some.line.now c.in-Some.behind.now c.in-Some.ensures.line (sym c.if-is_said.ensures),
+      omega (arith, c.in-Some.ensures.shorter),
+    )
+
+pub returns : goal.returns
+returns c = c.loop-line.invariant.0 ∙ none_spelled c.loop-line.self-inside.number c.loop-line.self-inside.rest.now c.in_default.ensures.line

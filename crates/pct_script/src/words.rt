@@ -1,0 +1,82 @@
+//! The bytes and the words of one line of a script's text.
+
+ghost use Rattle.std.specs.Prelude.{◌≡◌, ◌<◌, [], ◌∷◌, not, length, position, IfSome};
+ghost use Rattle.std.specs.List.{list_all};
+ghost use Rattle.std.specs.Option.{option_map_or};
+ghost use Rattle.pct_model.specs.Saying.{is_blank, is_allowed, words_in, begins_comment, are_said};
+
+fn is_blank(byte: u8) -> bool
+    ensures { result ≡ is_blank byte }
+{
+    byte == b'\t' || byte == b'\r' || byte == b' '
+}
+
+fn is_allowed(byte: u8) -> bool
+    ensures { result ≡ is_allowed byte }
+{
+    is_blank(byte) || 33 <= byte && byte <= 126
+}
+
+/// Whether each of the bytes is a blank, or a printable character of ASCII.
+pub fn are_allowed(bytes: &[u8]) -> bool
+    ensures { result ≡ list_all is_allowed bytes.now }
+{
+    bytes.iter().all(|byte| is_allowed(*byte))
+}
+
+// The place of the first byte that is no blank.
+fn word_start(bytes: &[u8]) -> Option<usize>
+    ensures { result ≡ position (λ byte. not (is_blank byte)) bytes.now }
+{
+    bytes.iter().position(|byte| !is_blank(*byte))
+}
+
+// The place of the first blank.
+fn word_end(bytes: &[u8]) -> Option<usize>
+    ensures { result ≡ position (λ byte. is_blank byte) bytes.now }
+{
+    bytes.iter().position(|byte| is_blank(*byte))
+}
+
+/// The first word of the bytes, and the bytes behind it; nothing where they have no word.
+pub fn next_word(bytes: &[u8]) -> Option<(&[u8], &[u8])>
+    ensures words { words_in bytes.now
+        ≡ option_map_or (λ parts. parts.0.now ∷ words_in parts.1.now) result [] }
+    ensures shorter { IfSome result (λ parts. length parts.1.now < length bytes.now) }
+{
+    let start = word_start(bytes)?;
+    let (_, rest) = bytes.split_at(start);
+    Some(rest.split_at(word_end(rest).unwrap_or(rest.len())))
+}
+
+/// How many words the bytes have.
+pub fn count_words(bytes: &[u8]) -> usize
+    ensures { result ≡ length (words_in bytes.now) }
+{
+    let mut count = 0;
+    let mut rest = bytes;
+    while let Some((_, behind)) = next_word(rest) {
+        count += 1;
+        rest = behind;
+    }
+    count
+}
+
+fn begins_comment(word: &[u8]) -> bool
+    ensures { result ≡ begins_comment word.now }
+{
+    match word {
+        [] => false,
+        [first, ..] => *first == b'#',
+    }
+}
+
+/// Whether a line of these bytes spells something: it has a word, and its first doesn't begin with `#`.
+pub fn is_said(line: &[u8]) -> bool
+    ensures { result ≡ are_said (words_in line.now) }
+{
+    match next_word(line) {
+        Some((word, _)) => !begins_comment(word),
+        None => false,
+    }
+}
