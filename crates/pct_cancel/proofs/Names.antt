@@ -10,8 +10,8 @@ use Rattle.pct_model.proofs.Bytes.{same_bytes}
 use Rattle.pct_model.specs.declared.point.Point.{Point}
 use Rattle.pct_model.specs.declared.point.PointKind.{PointKind}
 use Rattle.pct_model.specs.declared.point.PointKind.TheVariants.{Required, Optional}
-use Rattle.pct_model.specs.declared.point.PointWait.{PointWait}
-use Rattle.pct_model.specs.declared.point.PointWait.TheVariants.{NoWait, Outside, Never, Inside}
+use Rattle.pct_model.specs.declared.point.PointWait.TheVariants.{NoWait}
+use Rattle.pct_model.specs.Forms.{is_foreign}
 use Rattle.pct_model.specs.Points.{Row, points, point_at, point_of, point_name}
 
 -- ---- how many
@@ -20,20 +20,13 @@ abbrev is_required : PointKind → Bool
 is_required Required = true
 is_required Optional = false
 
--- what a thread waits for is nothing of the script: something outside, or a signal
-abbrev is_lone : PointWait → Bool
-is_lone NoWait = false
-is_lone Outside = true
-is_lone Never = true
-is_lone Inside = false
-
 -- 58 points: first 47 that the standard requires, and then 11 that it allows
 kinds : (length points ≡ 58) × (list_all (λ row. is_required row.kind) (take 47 points) ≡ true) × (list_all (λ row. not (is_required row.kind)) (drop 47 points) ≡ true)
 unfolding points
 kinds = (refl, refl, refl)
 
 -- at 38 of the required points a thread waits for nothing of the script
-waits : count_by (λ row. is_required row.kind && is_lone row.wait) points ≡ 38
+waits : count_by (λ row. is_required row.kind && is_foreign row.wait) points ≡ 38
 unfolding points
 waits = refl
 

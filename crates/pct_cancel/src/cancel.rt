@@ -69,7 +69,7 @@ impl Cancel {
         self.state == State::Enable && self.mode == Mode::Asynchronous
     }
 
-    /// The thread begins to end: the state is DISABLE and the type DEFERRED from here on. A request that is pending
+    /// The thread begins to end: the state is DISABLE and the type DEFERRED now. A request that is pending
     /// stays so (XSH 2.9.5.3, pthread_exit).
     pub fn begin_end(&mut self)
         ensures { self.new ≡ record self.old { state = ending_state; mode = ending_mode } }

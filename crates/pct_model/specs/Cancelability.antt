@@ -1,4 +1,4 @@
--- Cancelability: when a thread acts on a request that is pending, and what it has while it ends (XSH 2.9.5).
+-- Cancelability: when a thread acts on a request that is pending, and what it gets as it begins to end (XSH 2.9.5).
 -- They speak of a thread's state and type, and of whether a request is pending, wherever the three stand.
 use Rattle.std.specs.Prelude.{Bool, true, false}
 use Rattle.pct_model.specs.declared.state.State.{State}
@@ -18,8 +18,9 @@ is_asynchronous Enable Asynchronous = true
 is_asynchronous Enable Deferred = false
 is_asynchronous Disable mode = false
 
--- the state and the type that a thread gets as it begins to end, by a request or by pthread_exit, and keeps until it has
--- terminated (XSH 2.9.5.3, pthread_exit); a pending request stays pending, which is this host's choice
+-- the state and the type that a thread gets as it begins to end, by a request or by pthread_exit. The state stays disabled
+-- until the thread has terminated; a handler may set the type (XSH 2.9.5.3, pthread_exit). A pending request stays pending,
+-- which is this host's choice.
 abbrev pub ending_state : State
 ending_state = Disable
 

@@ -1,22 +1,21 @@
 -- The forms of a script's lines: for each its first word, what stands at the places behind it, and what the line is to
 -- the lines around it. This is the one table of forms: what a line says, its canonical text and all checks go by it.
 use Rattle.std.specs.Prelude.{ℕ, ◌-◌, min, Bool, true, false, if◌then◌else◌, List, [], ◌∷◌, replicate, Option, Some, None, codes, bytes_eq, find, option_map, option_and_then}
-use Rattle.std.specs.Option.{option_or, option_map_or}
+use Rattle.std.specs.Option.{option_or}
 use Rattle.pct_model.specs.declared.role.Block.TheVariants as block
 use Rattle.pct_model.specs.declared.form.Form.{Form}
 use Rattle.pct_model.specs.declared.form.Form.TheVariants as form
 use Rattle.pct_model.specs.declared.form.Kind.{Kind}
 use Rattle.pct_model.specs.declared.form.Kind.TheVariants as kind
 use Rattle.pct_model.specs.declared.form.Place.{Place}
-use Rattle.pct_model.specs.declared.form.Place.TheVariants.{Declared, Count, Operand, Variable, Dest, Item, OptionalFunction, PlainFunction, OptionalPlainFunction, State, Mode, Detached}
+use Rattle.pct_model.specs.declared.form.Place.TheVariants.{Declared, Local, Count, Operand, Variable, Dest, Item, OptionalFunction, PlainFunction, OptionalPlainFunction, State, Mode, Detached}
 use Rattle.pct_model.specs.declared.role.Role.{Role}
 use Rattle.pct_model.specs.declared.role.Role.TheVariants as role
-use Rattle.pct_model.specs.declared.form.TheConstants.{FORMS}
 use Rattle.pct_model.specs.declared.point.PointKind.{PointKind}
 use Rattle.pct_model.specs.declared.point.PointKind.TheVariants.{Required, Optional}
 use Rattle.pct_model.specs.declared.point.PointWait.{PointWait}
 use Rattle.pct_model.specs.declared.point.PointWait.TheVariants.{NoWait, Outside, Never, Inside}
-use Rattle.pct_model.specs.Points.{point_at, point_of, point_name}
+use Rattle.pct_model.specs.Points.{point_of, point_name}
 
 -- the shape of a line: its first word, the places behind it where n words stand there, and what it is to other lines
 pub record Shape : Type 0 where
@@ -44,7 +43,7 @@ semaphore = Item kind.Sem
 
 -- behind `fn`: a name, a parameter, and as many further locals as there are words
 abbrev pub fn_places : ℕ → List Place
-fn_places n = Declared ∷ Declared ∷ replicate (n - 2) Declared
+fn_places n = Declared ∷ Local ∷ replicate (n - 2) Local
 
 -- behind `pthread_create`: four places, and a fifth where there is a fifth word
 abbrev pub create_places : ℕ → List Place
@@ -119,27 +118,33 @@ is_no_point _ = true
 
 -- ---- the form that a word begins
 
--- what a thread waits for is done by no script
-abbrev pub is_outside : PointWait → Bool
-is_outside NoWait = false
-is_outside Outside = true
-is_outside Never = true
-is_outside Inside = false
+-- the forms that have a word of their own: all but the points
+unfoldable pub forms : List Form
+forms =
+    form.Declares kind.Global ∷ form.Declares kind.Mutex ∷ form.Declares kind.Cond ∷ form.Declares kind.Sem ∷
+    form.Declares kind.Function ∷ form.Emit ∷ form.Set ∷ form.Add ∷ form.Nop ∷ form.If ∷ form.Else ∷ form.While ∷
+    form.End ∷ form.Do ∷ form.Return ∷ form.Create ∷ form.Join ∷ form.Detach ∷ form.CancelThread ∷ form.SelfId ∷
+    form.ThreadExit ∷ form.TestCancel ∷ form.SetState ∷ form.SetMode ∷ form.Push ∷ form.Pop ∷ form.KeyCreate ∷
+    form.KeyDelete ∷ form.SetSpecific ∷ form.GetSpecific ∷ form.Lock ∷ form.Unlock ∷ form.CondWait ∷ form.Signal ∷
+    form.Broadcast ∷ form.SemWait ∷ form.SemPost ∷ form.AtFork ∷ form.Fork ∷ form.WaitPid ∷ form.AtExit ∷
+    form.ProcExit ∷ form.ProcExitNow ∷ []
 
--- a cancellation point of this kind, at which a thread waits for this, is a statement by its name alone: each optional
--- one, and each required one at which a thread waits for what no script does
-abbrev pub names_statement : PointKind → PointWait → Bool
-names_statement Required wait = is_outside wait
-names_statement Optional wait = true
+-- a wait for something that no thread of a script does: something outside, or a signal
+abbrev pub is_foreign : PointWait → Bool
+is_foreign NoWait = false
+is_foreign Outside = true
+is_foreign Never = true
+is_foreign Inside = false
 
--- the index is that of such a point
-unfoldable pub is_point_statement : ℕ → Bool
-is_point_statement index = option_map_or (λ p. names_statement p.kind p.wait) (point_at index) false
+-- a generic point is a statement by its name alone: each optional one, and each required one with such a wait
+abbrev pub is_generic : PointKind → PointWait → Bool
+is_generic Required wait = is_foreign wait
+is_generic Optional wait = true
 
--- the index of such a point with this name
+-- the index of the generic point with this name
 unfoldable pub point_statement : List ℕ → Option ℕ
-point_statement w = option_and_then (λ p. if names_statement p.kind p.wait then Some p.index else None) (point_of w)
+point_statement w = option_and_then (λ p. if is_generic p.kind p.wait then Some p.index else None) (point_of w)
 
 -- the form of a line that begins with this word
 unfoldable pub form_of : List ℕ → Option Form
-form_of w = option_or (find (λ f. bytes_eq (shape f).word w) FORMS) (option_map (λ index. form.Point index) (point_statement w))
+form_of w = option_or (find (λ f. bytes_eq (shape f).word w) forms) (option_map (λ index. form.Point index) (point_statement w))

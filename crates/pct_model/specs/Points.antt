@@ -1,5 +1,6 @@
--- The cancellation points (XSH 2.9.5.2, Cancellation Points): the functions that shall be points, and some of those that
--- may be. That exactly these names stand here, their order, and what a thread at a point waits for are this host's choice.
+-- The cancellation points (XSH 2.9.5.2, Cancellation Points): functions that shall be points, and some that may be. Which
+-- names stand here, of which kind, in which order, and what a thread at a point waits for are this host's choice; the kinds
+-- are drawn from the standard's two lists.
 use Rattle.std.specs.Prelude.{ℕ, List, [], ◌∷◌, Option, codes, bytes_eq, position, slice_get, option_map, option_and_then}
 use Rattle.std.specs.Option.{option_map_or}
 use Rattle.pct_model.specs.declared.point.Point.{Point}

@@ -34,9 +34,9 @@ begins_comment [] = false
 begins_comment (b ∷ bytes) = nat_eq b 35
 
 -- a line with these words spells something: it has a word, and its first doesn't begin with `#`
-abbrev pub are_said : List (List ℕ) → Bool
-are_said [] = false
-are_said (w ∷ words) = not (begins_comment w)
+abbrev pub spell_something : List (List ℕ) → Bool
+spell_something [] = false
+spell_something (w ∷ words) = not (begins_comment w)
 
 -- a line, and its number
 abbrev pub Numbered : Type 0 → Type 0
@@ -44,7 +44,7 @@ Numbered A = ℕ × A
 
 -- the lines of a text that spell something; the text's lines are numbered from 1
 unfoldable pub spelled_lines : List ℕ → List (Numbered (List ℕ))
-spelled_lines text = filter (λ l. are_said (words_in l.1)) (enumerate_from 1 (lines_of text))
+spelled_lines text = filter (λ l. spell_something (words_in l.1)) (enumerate_from 1 (lines_of text))
 
 -- ---- what a word says
 
@@ -56,6 +56,7 @@ is_numeral w = not (is_empty w) && list_all is_digit w && nat_le (length w) 10 &
 unfoldable pub numeral : List ℕ → Option ℕ
 numeral w = if is_numeral w then Some (digits_value 10 w) else None
 
+-- what a number says
 abbrev pub number : List ℕ → Option Word
 number w = option_map (λ n. word.Number n) (numeral w)
 
@@ -63,20 +64,22 @@ number w = option_map (λ n. word.Number n) (numeral w)
 abbrev pub name : List ℕ → Option Word
 name w = if is_name w then Some (word.Name w) else None
 
+-- what the word `-` says
 abbrev pub hyphen : List ℕ → Option Word
 hyphen w = if bytes_eq w (codes "-") then Some word.Nothing else None
 
--- the one word, or the other
+-- what a fixed word says, where the word is that one
 abbrev pub flag : List ℕ → Bool → List ℕ → Option Word
 flag this says w = if bytes_eq w this then Some (word.Flag says) else None
 
--- the first count of a semaphore
+-- the initial count of a semaphore
 abbrev pub count : List ℕ → Option Word
 count w = numeral w >>= λ n. if nat_le n 32767 then Some (word.Number n) else None
 
 -- what a word says at a place, if it may stand there
 unfoldable pub word_at : Place → List ℕ → Option Word
 word_at place.Declared w = name w
+word_at place.Local w = name w
 word_at place.Count w = count w
 word_at place.Operand w = option_or (number w) (name w)
 word_at place.Variable w = name w
@@ -100,7 +103,7 @@ words_at (p ∷ places) (w ∷ words) = do
 
 -- ---- what a line says
 
--- a blank, or a printable character of ASCII
+-- a blank, or a byte from 33 to 126
 abbrev pub is_allowed : ℕ → Bool
 is_allowed b = is_blank b || nat_le 33 b && nat_le b 126
 

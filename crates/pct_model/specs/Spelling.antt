@@ -32,6 +32,7 @@ not_a_number w = if begins_with_digit w then BadNumber else BadName
 -- the reason that a word may not stand at a place
 unfoldable pub why_not : Place → List ℕ → ParseWhy
 why_not place.Declared w = BadName
+why_not place.Local w = BadName
 why_not place.Count w = not_a_number w
 why_not place.Operand w = not_a_number w
 why_not place.Variable w = BadName
@@ -52,19 +53,20 @@ faulty_word (p ∷ places) (w ∷ words) = if is_some (word_at p w) then faulty_
 
 -- ---- a line
 
--- words at the places of their line: as many as there are places, and each may stand at its place
+-- the fault of the words behind the first: another number than there are places, or else the first that may not stand at its
+-- place
 unfoldable pub fault_at : List Place → List (List ℕ) → Option ParseWhy
 fault_at places words = if nat_eq (length words) (length places) then faulty_word places words else Some WordCount
 
--- the words of a line: the first is that of a form
+-- the fault of a line's words: the first is that of no form, or a fault of the others
 unfoldable pub fault_of_words : List (List ℕ) → Option ParseWhy
 fault_of_words [] = None
 fault_of_words (w ∷ words) = option_map_or (λ f. fault_at ((shape f).places (length words)) words) (form_of w) (Some UnknownWord)
 
--- the bytes of a line: each is one that a line may have
+-- why a line that spells something is misspelled, if it is: a byte that it may not have comes before every fault of its words
 unfoldable pub misspelled : List ℕ → Option ParseWhy
 misspelled bytes = if list_all is_allowed bytes then fault_of_words (words_in bytes) else Some NotAscii
 
--- the first line that is misspelled
+-- the check: the number of the first line that is misspelled, and the reason
 unfoldable pub spelling : List (Numbered (List ℕ)) → Option Fault
 spelling lines = first_of (map (λ l. option_map (λ why. (l.0, why)) (misspelled l.1)) lines)

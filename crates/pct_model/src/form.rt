@@ -13,9 +13,11 @@ pub enum Kind {
 /// What stands at a place of a line.
 #[derive(Clone, Copy)]
 pub enum Place {
-    /// A name that the line declares.
+    /// A name that the line declares in the script.
     Declared,
-    /// The first count of a semaphore.
+    /// The name of a local of the function that the line declares; the first is its parameter.
+    Local,
+    /// The initial count of a semaphore.
     Count,
     /// A value: a number, or the name of a variable.
     Operand,
@@ -109,7 +111,7 @@ pub enum Form {
     ProcExit,
     /// _exit
     ProcExitNow,
-    /// A cancellation point that has no other form, by its index in the table of points.
+    /// A generic cancellation point: a statement by its name alone, by its index in the table of points.
     Point(u32),
 }
 

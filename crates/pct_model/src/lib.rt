@@ -26,8 +26,8 @@ pub use event::{Caller, Event, What};
 pub use form::{FORMS, Form, Kind, Place};
 pub use frame::Frame;
 pub use limits::{
-    MAX_BUDGET, MAX_FRAMES, MAX_FUNCTIONS, MAX_HANDLERS, MAX_INPUT, MAX_LOCALS, MAX_PASSES,
-    MAX_SLOTS, MAX_STATEMENTS, MAX_WORKER, MIN_PASSES,
+    MAX_BUDGET, MAX_COUNT, MAX_FRAMES, MAX_FUNCTIONS, MAX_HANDLERS, MAX_INPUT, MAX_LOCALS,
+    MAX_PASSES, MAX_SLOTS, MAX_STATEMENTS, MAX_WORKER, MIN_PASSES,
 };
 pub use name::{MAX_NAME, Name};
 pub use point::{Point, PointKind, PointWait};

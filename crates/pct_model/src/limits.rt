@@ -12,6 +12,8 @@ pub const MAX_LOCALS: usize = 8;
 pub const MAX_FRAMES: usize = 16;
 /// The cleanup handlers that a thread has pushed.
 pub const MAX_HANDLERS: usize = 32;
+/// The initial count of a semaphore.
+pub const MAX_COUNT: u32 = 32_767;
 /// The number of a worker.
 pub const MAX_WORKER: u32 = 16;
 /// The steps of a run.

@@ -111,8 +111,10 @@ impl Kind {
 fn fn_place(words: usize, at: usize) -> Option<Place>
     ensures { result ≡ slice_get (fn_places words) at }
 {
-    if at < 2 || at < words {
+    if at == 0 {
         Some(Place::Declared)
+    } else if at < 2 || at < words {
+        Some(Place::Local)
     } else {
         None
     }

@@ -2,7 +2,7 @@
 
 ghost use Rattle.std.specs.Prelude.{◌≡◌, true, find, bytes_eq, IsTrue};
 ghost use Rattle.std.specs.List.{list_all};
-ghost use Rattle.pct_model.specs.Forms.{shape, shape_of_declaration, is_no_point};
+ghost use Rattle.pct_model.specs.Forms.{shape, shape_of_declaration, is_no_point, forms};
 
 use crate::form::{FORMS, Form, Kind};
 use crate::role::{Block, Role};
@@ -94,17 +94,18 @@ impl Kind {
 }
 
 /// The form of the lines that begin with this word, if they are no points.
+#[tactic(auto, unfolding(crate::specs::Forms::forms))]
 pub fn form_with(word: &[u8]) -> Option<Form>
-    ensures { result ≡ find (λ f. bytes_eq (shape f).word word.now) FORMS }
+    ensures { result ≡ find (λ f. bytes_eq (shape f).word word.now) forms }
 {
     form_among(&FORMS, word)
 }
 
-fn form_among(forms: &[Form], word: &[u8]) -> Option<Form>
-    requires named { IsTrue (list_all is_no_point forms.now) }
-    ensures { result ≡ find (λ f. bytes_eq (shape f).word word.now) forms.now }
+fn form_among(among: &[Form], word: &[u8]) -> Option<Form>
+    requires named { IsTrue (list_all is_no_point among.now) }
+    ensures { result ≡ find (λ f. bytes_eq (shape f).word word.now) among.now }
 {
-    let mut rest = forms;
+    let mut rest = among;
     while let Some((form, behind)) = rest.split_first() {
         if form.word() == word {
             return Some(*form);

@@ -105,6 +105,7 @@ count_by_value f (Some n) = sym (some_if (nat_le n 32767) (f n))
 pub fits_is : (p : Place) (w : List ℕ) → fits p w ≡ is_some (word_at p w)
 unfolding fits word_at
 fits_is place.Declared w = sym (some_if (is_name w) _)
+fits_is place.Local w = sym (some_if (is_name w) _)
 fits_is place.Count w = count_by_value _ (numeral w)
 fits_is place.Operand w = number_or _ (numeral w) (is_name w) _
 fits_is place.Variable w = sym (some_if (is_name w) _)

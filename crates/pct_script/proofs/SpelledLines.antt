@@ -4,7 +4,7 @@ use Rattle.std.specs.List.{enumerate_from}
 use Rattle.std.specs.Option.{option_or}
 use Rattle.pct_model.specs.declared.refusal.ParseWhy.{ParseWhy}
 use Rattle.pct_model.specs.Lines.{cut, lines_of}
-use Rattle.pct_model.specs.Saying.{Numbered, words_in, are_said, spelled_lines}
+use Rattle.pct_model.specs.Saying.{Numbered, words_in, spell_something, spelled_lines}
 use Rattle.pct_model.specs.Spelling.{Fault, misspelled, spelling}
 use Rattle.pct_model.proofs.Cuts.{cut_parts}
 use Rattle.pct_model.proofs.Lines.{lines_of-cut, lines_of-last, lines_of-nil}
@@ -33,18 +33,18 @@ from_first_line text = refl
 
 pub none_spelled : (n : ℕ) (text : List ℕ) → lines_of text ≡ [] → spelled_from n text ≡ []
 unfolding spelled_from
-none_spelled n text e = ap (λ (lines : List (List ℕ)). filter {X = Numbered (List ℕ)} (λ l. are_said (words_in l.1)) (enumerate_from n lines)) e
+none_spelled n text e = ap (λ (lines : List (List ℕ)). filter {X = Numbered (List ℕ)} (λ l. spell_something (words_in l.1)) (enumerate_from n lines)) e
 
 one_line : (n : ℕ) (text line behind : List ℕ) → lines_of text ≡ line ∷ lines_of behind
-    → spelled_from n text ≡ cond (are_said (words_in line)) ((n, line) ∷ spelled_from (n + 1) behind) (spelled_from (n + 1) behind)
+    → spelled_from n text ≡ cond (spell_something (words_in line)) ((n, line) ∷ spelled_from (n + 1) behind) (spelled_from (n + 1) behind)
 unfolding spelled_from
-one_line n text line behind e = ap (λ (lines : List (List ℕ)). filter {X = Numbered (List ℕ)} (λ l. are_said (words_in l.1)) (enumerate_from n lines)) e
+one_line n text line behind e = ap (λ (lines : List (List ℕ)). filter {X = Numbered (List ℕ)} (λ l. spell_something (words_in l.1)) (enumerate_from n lines)) e
 
-pub spelled_first : (n : ℕ) (text line behind : List ℕ) → lines_of text ≡ line ∷ lines_of behind → are_said (words_in line) ≡ true → spelled_from n text ≡ (n, line) ∷ spelled_from (n + 1) behind
+pub spelled_first : (n : ℕ) (text line behind : List ℕ) → lines_of text ≡ line ∷ lines_of behind → spell_something (words_in line) ≡ true → spelled_from n text ≡ (n, line) ∷ spelled_from (n + 1) behind
 spelled_first n text line behind e is =
     one_line n text line behind e ∙ ap (λ (t : Bool). cond t ((n, line) ∷ spelled_from (n + 1) behind) (spelled_from (n + 1) behind)) is
 
-pub spelled_later : (n : ℕ) (text line behind : List ℕ) → lines_of text ≡ line ∷ lines_of behind → are_said (words_in line) ≡ false → spelled_from n text ≡ spelled_from (n + 1) behind
+pub spelled_later : (n : ℕ) (text line behind : List ℕ) → lines_of text ≡ line ∷ lines_of behind → spell_something (words_in line) ≡ false → spelled_from n text ≡ spelled_from (n + 1) behind
 spelled_later n text line behind e is =
     one_line n text line behind e ∙ ap (λ (t : Bool). cond t ((n, line) ∷ spelled_from (n + 1) behind) (spelled_from (n + 1) behind)) is
 

@@ -1,4 +1,4 @@
--- The words that may stand at a place, as they are tested.
+-- The words that may stand at a place, as they are tested. No public clause cites this file.
 use Rattle.std.specs.Prelude.{ℕ, Bool, false, not, ◌&&◌, ◌||◌, List, length, is_some, nat_le, codes, bytes_eq}
 use Rattle.std.specs.List.{list_all}
 use Rattle.std.specs.Option.{option_map_or}
@@ -11,7 +11,7 @@ use Rattle.pct_model.specs.Saying.{is_empty, numeral}
 unfoldable pub is_short : List ℕ → Bool
 is_short w = not (is_empty w) && nat_le (length w) 10 && list_all is_digit w
 
--- the first count of a semaphore
+-- the initial count of a semaphore
 abbrev pub is_count : List ℕ → Bool
 is_count w = option_map_or (λ n. nat_le n 32767) (numeral w) false
 
@@ -26,6 +26,7 @@ is_either this other w = bytes_eq w this || bytes_eq w other
 -- a word that may stand at this place
 unfoldable pub fits : Place → List ℕ → Bool
 fits place.Declared w = is_name w
+fits place.Local w = is_name w
 fits place.Count w = is_count w
 fits place.Operand w = is_some (numeral w) || is_name w
 fits place.Variable w = is_name w

@@ -9,12 +9,10 @@ ghost use Rattle.pct_model.specs.Spelling.{begins_with_digit, not_a_number, why_
 ghost use Rattle.pct_script.specs.Fitting.{is_short, is_count, is_optional, fits};
 
 use crate::naming::is_name;
-use pct_model::{ParseWhy, Place, is_digit};
+use pct_model::{MAX_COUNT, ParseWhy, Place, is_digit};
 
 /// The most digits of a number.
 const MAX_DIGITS: usize = 10;
-/// The largest first count of a semaphore.
-const MAX_COUNT: u32 = 32_767;
 
 fn are_digits(word: &[u8]) -> bool
     ensures { result ≡ list_all is_digit word.now }
@@ -78,7 +76,8 @@ fn fits(place: Place, word: &[u8]) -> bool
     ensures { result ≡ fits place word.now }
 {
     match place {
-        Place::Declared | Place::Variable | Place::Item(_) | Place::PlainFunction => is_name(word),
+        Place::Declared | Place::Local | Place::Variable | Place::Item(_) | Place::PlainFunction =>
+            is_name(word),
         Place::Count => is_count(word),
         Place::Operand => numeral(word).is_some() || is_name(word),
         Place::Dest | Place::OptionalFunction | Place::OptionalPlainFunction => is_optional(word),

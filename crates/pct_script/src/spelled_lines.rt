@@ -6,7 +6,7 @@ ghost use Rattle.pct_model.specs.Saying.{spelled_lines};
 ghost use Rattle.pct_model.specs.Spelling.{spelling};
 
 use crate::spelling::misspelled;
-use crate::words::is_said;
+use crate::words::spells_something;
 use pct_model::{ParseWhy, cut};
 use std::marker::Model;
 
@@ -69,7 +69,7 @@ impl<'a> SpelledLines<'a> {
             let number = self.number;
             self.number = number + 1;
             self.rest = behind;
-            if is_said(line) {
+            if spells_something(line) {
                 return Some((number, line));
             }
         }

@@ -3,7 +3,7 @@
 ghost use Rattle.std.specs.Prelude.{◌≡◌, length};
 ghost use Rattle.std.specs.Option.{option_map};
 ghost use Rattle.pct_model.specs.declared.form.Form.TheVariants.{Point};
-ghost use Rattle.pct_model.specs.Forms.{names_statement, point_statement, form_of, shape};
+ghost use Rattle.pct_model.specs.Forms.{is_generic, point_statement, form_of, shape};
 ghost use Rattle.pct_model.specs.Saying.{words_in};
 ghost use Rattle.pct_model.specs.Spelling.{faulty_word, fault_at, fault_of_words, misspelled};
 
@@ -12,8 +12,8 @@ use crate::words::{are_allowed, count_words, next_word};
 use pct_cancel::point_of;
 use pct_model::{Form, ParseWhy, PointKind, PointWait, form_with};
 
-fn names_statement(kind: PointKind, wait: PointWait) -> bool
-    ensures { result ≡ names_statement kind wait }
+fn is_generic(kind: PointKind, wait: PointWait) -> bool
+    ensures { result ≡ is_generic kind wait }
 {
     match kind {
         PointKind::Required => match wait {
@@ -30,7 +30,7 @@ fn point_form(word: &[u8]) -> Option<Form>
     ensures { result ≡ option_map (λ index. Point index) (point_statement word.now) }
 {
     let point = point_of(word)?;
-    if names_statement(point.kind, point.wait) {
+    if is_generic(point.kind, point.wait) {
         Some(Form::Point(point.index))
     } else {
         None

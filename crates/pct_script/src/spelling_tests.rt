@@ -2,7 +2,7 @@
 //! form, the order of its faults, and the limits of numbers, counts and names.
 
 use crate::spelling::misspelled;
-use crate::words::is_said;
+use crate::words::spells_something;
 use pct_model::ParseWhy;
 use std::test::Fail;
 
@@ -58,7 +58,7 @@ static FORMS: [&[u8]; 48] = [
     b"_exit 1",
 ];
 
-// The points that are statements: the required ones at which a thread waits for nothing of the script, and the optional.
+// The generic points: the required ones that wait for something outside or for a signal, and the optional ones.
 static POINTS: [&[u8]; 49] = [
     b"accept",
     b"aio_suspend",
@@ -268,7 +268,7 @@ fn spelled_lines_have_no_fault(rt: HostRuntime) -> Result<(), Fail> {
     let tables: [&[&[u8]]; 3] = [&FORMS, &POINTS, &LIMITS];
     for lines in tables {
         for line in lines {
-            assert!(rt; is_said(line));
+            assert!(rt; spells_something(line));
             assert_eq!(rt; misspelled(line), None);
         }
     }
@@ -286,7 +286,7 @@ fn other_lines_have_their_first_fault(rt: HostRuntime) -> Result<(), Fail> {
     ];
     for (lines, why) in tables {
         for line in lines {
-            assert!(rt; is_said(line));
+            assert!(rt; spells_something(line));
             assert_eq!(rt; misspelled(line), Some(why));
         }
     }
@@ -305,7 +305,7 @@ fn comments_and_lines_without_a_word_spell_nothing(rt: HostRuntime) -> Result<()
         b"#\x00\xff",
     ];
     for line in lines {
-        assert!(rt; !is_said(line));
+        assert!(rt; !spells_something(line));
     }
     Ok(())
 }

@@ -3,7 +3,7 @@
 ghost use Rattle.std.specs.Prelude.{◌≡◌, ◌<◌, [], ◌∷◌, not, length, position, IfSome};
 ghost use Rattle.std.specs.List.{list_all};
 ghost use Rattle.std.specs.Option.{option_map_or};
-ghost use Rattle.pct_model.specs.Saying.{is_blank, is_allowed, words_in, begins_comment, are_said};
+ghost use Rattle.pct_model.specs.Saying.{is_blank, is_allowed, words_in, begins_comment, spell_something};
 
 fn is_blank(byte: u8) -> bool
     ensures { result ≡ is_blank byte }
@@ -72,8 +72,8 @@ fn begins_comment(word: &[u8]) -> bool
 }
 
 /// Whether a line of these bytes spells something: it has a word, and its first doesn't begin with `#`.
-pub fn is_said(line: &[u8]) -> bool
-    ensures { result ≡ are_said (words_in line.now) }
+pub fn spells_something(line: &[u8]) -> bool
+    ensures { result ≡ spell_something (words_in line.now) }
 {
     match next_word(line) {
         Some((word, _)) => !begins_comment(word),

@@ -6,7 +6,7 @@ use Rattle.pct_model.proofs.table.form_among.Given as goal
 
 abbrev pub invariant-loop-form : goal.invariant-loop-form
 invariant-loop-form l = record {
-  found : find (λ f. bytes_eq (shape f).word l.word) l.rest ≡ find (λ f. bytes_eq (shape f).word l.word) l.forms;
+  found : find (λ f. bytes_eq (shape f).word l.word) l.rest ≡ find (λ f. bytes_eq (shape f).word l.word) l.among;
   named : IsTrue (list_all is_no_point l.rest);
 }
 

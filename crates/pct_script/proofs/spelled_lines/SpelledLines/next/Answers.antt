@@ -2,15 +2,15 @@ use Rattle.std.proofs.Common.{sym, ◌∙◌, arith}
 use Rattle.pct_script.proofs.SpelledLines.{none_spelled, spelled_first, spelled_later}
 use Rattle.pct_script.proofs.spelled_lines.SpelledLines.next.Goals as goal
 
-pub returns-then-is_said : goal.returns-then-is_said
-returns-then-is_said c =
+pub returns-then-spells_something : goal.returns-then-spells_something
+returns-then-spells_something c =
     let left = c.loop-line.self-inside in
-    c.loop-line.invariant.0 ∙ spelled_first left.number left.rest.now c.in-Some.line.now c.in-Some.behind.now c.in-Some.ensures.line (sym c.if-is_said.ensures)
+    c.loop-line.invariant.0 ∙ spelled_first left.number left.rest.now c.in-Some.line.now c.in-Some.behind.now c.in-Some.ensures.line (sym c.if-spells_something.ensures)
 
 pub loop-line-preserved : goal.loop-line-preserved
 loop-line-preserved c =
     let left = c.loop-line.self-inside in (
-      c.loop-line.invariant.0 ∙ spelled_later left.number left.rest.now c.in-Some.line.now c.in-Some.behind.now c.in-Some.ensures.line (sym c.if-is_said.ensures),
+      c.loop-line.invariant.0 ∙ spelled_later left.number left.rest.now c.in-Some.line.now c.in-Some.behind.now c.in-Some.ensures.line (sym c.if-spells_something.ensures),
       omega (arith, c.in-Some.ensures.shorter),
     )
 
