@@ -19,6 +19,7 @@ use Rattle.pct_command.specs.declared.status.Status.{Status}
 use Rattle.pct_command.specs.declared.status.Status.TheVariants as status
 use Rattle.pct_command.specs.Status.{code_of}
 use Rattle.pct_command.specs.Command.{Outside, Tells, Decides, Answers, HasLegalSchedule, IsValid, IsComplete}
+use Rattle.pct_command.proofs.Readings.{same_given, given_or_fault}
 
 -- ---- which codes are refusals
 
@@ -30,21 +31,10 @@ verdict_code verdict.Budget = omega arith
 verdict_code (verdict.Undefined why) = omega arith
 verdict_code verdict.Open = omega arith
 
--- the two schedules of an input are the same
-no_fault : (input : List ℕ) (config : Config) (entries : List Entry) (line : ℕ) (why : ScheduleWhy) → sched_of (schedule_part input) ≡ Ok (config, entries) → sched_of (schedule_part input) ≡ Err (line, why) → ⊥
-no_fault input config entries line why good bad = absurd cc
-
-given_by : Schedule → Config × List Entry → Config × List Entry
-given_by (Ok given) other = given
-given_by (Err e) other = other
-
-same_schedule : (input : List ℕ) (one other : Config × List Entry) → sched_of (schedule_part input) ≡ Ok one → sched_of (schedule_part input) ≡ Ok other → one ≡ other
-unfolding given_by
-same_schedule input one other reads also = ap (λ (s : Schedule). given_by s one) (sym reads ∙ also)
-
+-- an entry that is legal is not the first that is not
 not_illegal : (input : List ℕ) (script other : Script) (config : Config) (entries : List Entry) (place : ℕ) (valid : HasLegalSchedule script input) → other ≡ script → sched_of (schedule_part input) ≡ Ok (config, entries) → first_illegal other config entries ≡ Some place → ⊥
 not_illegal input script other config entries place valid same read illegal =
-    let schedules : (config, entries) ≡ (valid.config, valid.entries) = same_schedule input (config, entries) (valid.config, valid.entries) read valid.read in
+    let schedules : (config, entries) ≡ (valid.config, valid.entries) = same_given (sched_of (schedule_part input)) (config, entries) (valid.config, valid.entries) read valid.read in
     none-some place
     (sym valid.legal
     ∙ ap (λ (s : Config × List Entry). first_illegal script s.0 s.1) (sym schedules)
@@ -58,7 +48,7 @@ not_refused words input schedule code text accepted valid (outcome.InputRefused 
 not_refused words input schedule code text accepted valid (outcome.ScriptRefused refuses) = absurd (refuses.first.0 valid.script valid.spelled)
 not_refused words input schedule code text accepted valid (outcome.ScheduleRefused refuses) =
     let legal = valid.schedule refuses.accepted in
-    absurd (no_fault input legal.config legal.entries refuses.line refuses.why legal.read refuses.first)
+    absurd (given_or_fault (sched_of (schedule_part input)) (legal.config, legal.entries) (refuses.line, refuses.why) legal.read refuses.first)
 not_refused words input schedule code text accepted valid (outcome.EntryRefused refuses) =
     absurd (not_illegal input valid.script refuses.script refuses.config refuses.entries refuses.place (valid.schedule refuses.accepted) (spells_one_script _ refuses.script valid.script refuses.spelled valid.spelled) refuses.read refuses.illegal)
 not_refused words input schedule code text accepted valid (outcome.Replayed replays) = rw replays.code_is (verdict_code _)

@@ -2,6 +2,7 @@ pub mod Asked
 pub mod Choices
 pub mod NotLegal
 pub mod Steps
+pub mod Readings
 pub mod Replays
 pub mod Texts
 pub mod Outcomes

@@ -3,6 +3,7 @@ use Rattle.std.proofs.Common.{◌≡◌, ℕ, suc, Bool, true, false, ◌&&◌, 
 use Rattle.std.specs.Prelude.{nat_le, option_and_then, option_map}
 use Rattle.std.specs.Option.{option_map_or}
 use Rattle.std.proofs.lemmas.Bool.{true≢false}
+use Rattle.std.proofs.lemmas.Option.{none-some, same_Some}
 use Rattle.pct_model.specs.declared.script.Script.{Script}
 use Rattle.pct_model.specs.declared.schedule.Config.{Config}
 use Rattle.pct_model.specs.declared.schedule.Entry.{Entry}
@@ -16,6 +17,7 @@ use Rattle.pct_model.specs.Report.{report}
 use Rattle.pct_model.specs.Outcome.{schedule_part, default_config, refused_script, refused_schedule, refused_entry, code_of_verdict, Outcome, RefusesScript, RefusesSchedule, RefusesEntry, Replays, Runs}
 use Rattle.pct_model.specs.Outcome as outcome
 use Rattle.pct_script.proofs.OneScript.{spells_one_script}
+use Rattle.pct_command.proofs.Readings.{same_given, same_fault, given_or_fault}
 use Rattle.pct_command.proofs.Asked.{asks_run_alone, run_is_accepted, replay_is_accepted, part_of_run}
 
 abbrev Same : ℕ → ℕ → List ℕ → List ℕ → Type 0
@@ -41,36 +43,6 @@ run_is_legal : (script : Script) (config : Config) (after : Run) (entries : List
 unfolding run
 run_is_legal script config after entries ran = legal_run script config (record { world = opening script; events = [] }) after entries (from_cond (is_config config && nat_le (length entries) config.budget) _ after ran)
 
-given_by : Schedule → Config × List Entry → Config × List Entry
-given_by (Ok given) other = given
-given_by (Err e) other = other
-
-fault_by : Schedule → ℕ × ScheduleWhy → ℕ × ScheduleWhy
-fault_by (Ok given) other = other
-fault_by (Err e) other = e
-
-same_given : (s : Schedule) (one other : Config × List Entry) → s ≡ Ok one → s ≡ Ok other → one ≡ other
-unfolding given_by
-same_given s one other reads also = ap (λ (x : Schedule). given_by x one) (sym reads ∙ also)
-
-same_fault : (s : Schedule) (one other : ℕ × ScheduleWhy) → s ≡ Err one → s ≡ Err other → one ≡ other
-unfolding fault_by
-same_fault s one other reads also = ap (λ (x : Schedule). fault_by x one) (sym reads ∙ also)
-
-not_both : (s : Schedule) (given : Config × List Entry) (fault : ℕ × ScheduleWhy) → s ≡ Ok given → s ≡ Err fault → ⊥
-not_both s given fault good bad = absurd cc
-
-some_by : {A : Type 0} → Option A → A → A
-some_by None d = d
-some_by (Some a) d = a
-
-same_some : {A : Type 0} (o : Option A) (a b : A) → o ≡ Some a → o ≡ Some b → a ≡ b
-unfolding some_by
-same_some o a b one other = ap (λ (x : Option _). some_by x a) (sym one ∙ other)
-
-none_and_some : {A : Type 0} (o : Option A) (a : A) → o ≡ None → o ≡ Some a → ⊥
-none_and_some o a none some = absurd cc
-
 two_faults : (words : List (List ℕ)) (input : List ℕ) (code other : ℕ) (text told : List ℕ) → RefusesScript words input code text → RefusesScript words input other told → Same code other text told
 two_faults words input code other text told a b =
     (a.code_is ∙ sym b.code_is, a.text_is ∙ ap (λ (n : ℕ). line_text (refused_script n a.why)) (a.first.1 ∙ sym b.first.1) ∙ ap (λ (w : ParseWhy). line_text (refused_script b.line w)) (a.first.2 ∙ sym b.first.2) ∙ sym b.text_is)
@@ -84,32 +56,32 @@ two_entries words input code other text told a b =
     let given = same_given (sched_of (schedule_part input)) (a.config, a.entries) (b.config, b.entries) a.read b.read in
     let script = spells_one_script _ a.script b.script a.spelled b.spelled in
     let moved = ap (λ (g : Config × List Entry). first_illegal b.script g.0 g.1) (sym given) ∙ ap (λ (s : Script). first_illegal s a.config a.entries) (sym script) ∙ a.illegal in
-    (a.code_is ∙ sym b.code_is, a.text_is ∙ ap (λ (n : ℕ). line_text (refused_entry n)) (same_some (first_illegal b.script b.config b.entries) a.place b.place moved b.illegal) ∙ sym b.text_is)
+    (a.code_is ∙ sym b.code_is, a.text_is ∙ ap (λ (n : ℕ). line_text (refused_entry n)) (same_Some a.place b.place (sym moved ∙ b.illegal)) ∙ sym b.text_is)
 
 entry_and_replay : (words : List (List ℕ)) (input : List ℕ) (code other : ℕ) (text told : List ℕ) → RefusesEntry words input code text → Replays words input other told → ⊥
 entry_and_replay words input code other text told a b =
     let given = same_given (sched_of (schedule_part input)) (a.config, a.entries) (b.config, b.entries) a.read b.read in
     let script = spells_one_script _ a.script b.script a.spelled b.spelled in
     let moved = ap (λ (g : Config × List Entry). first_illegal b.script g.0 g.1) (sym given) ∙ ap (λ (s : Script). first_illegal s a.config a.entries) (sym script) ∙ a.illegal in
-    none_and_some (first_illegal b.script b.config b.entries) a.place (run_is_legal b.script b.config b.after b.entries b.is_run) moved
+    none-some a.place (sym (run_is_legal b.script b.config b.after b.entries b.is_run) ∙ moved)
 
 two_replays : (words : List (List ℕ)) (input : List ℕ) (code other : ℕ) (text told : List ℕ) → Replays words input code text → Replays words input other told → Same code other text told
 two_replays words input code other text told a b =
     let given = same_given (sched_of (schedule_part input)) (a.config, a.entries) (b.config, b.entries) a.read b.read in
     let script = spells_one_script _ a.script b.script a.spelled b.spelled in
     let moved = ap (λ (g : Config × List Entry). run b.script g.0 g.1) (sym given) ∙ ap (λ (s : Script). run s a.config a.entries) (sym script) ∙ a.is_run in
-    let after = same_some (run b.script b.config b.entries) a.after b.after moved b.is_run in
+    let after = same_Some a.after b.after (sym moved ∙ b.is_run) in
     let reported = ap (λ (g : Config × List Entry). report b.script g.0 g.1) (sym given) ∙ ap (λ (s : Script). report s a.config a.entries) (sym script) ∙ a.text_is in (
       a.code_is ∙ ap (λ (s : Script). code_of_verdict (verdict_of s a.config a.after.world (length a.entries))) script ∙ ap (λ (g : Config × List Entry). code_of_verdict (verdict_of b.script g.0 a.after.world (length g.1))) given ∙ ap (λ (r : Run). code_of_verdict (verdict_of b.script b.config r.world (length b.entries))) after ∙ sym b.code_is,
-      same_some (report b.script b.config b.entries) text told reported b.text_is,
+      same_Some text told (sym reported ∙ b.text_is),
     )
 
 two_runs : (words : List (List ℕ)) (input : List ℕ) (schedule : List Entry) (code other : ℕ) (text told : List ℕ) → Runs words input schedule code text → Runs words input schedule other told → Same code other text told
 two_runs words input schedule code other text told a b =
     let script = spells_one_script _ a.script b.script a.spelled b.spelled in
-    let after = same_some (run b.script default_config schedule) a.after b.after (ap (λ (s : Script). run s default_config schedule) (sym script) ∙ a.is_run) b.is_run in (
+    let after = same_Some a.after b.after (sym a.is_run ∙ ap (λ (s : Script). run s default_config schedule) script ∙ b.is_run) in (
       a.code_is ∙ ap (λ (s : Script). code_of_verdict (verdict_of s default_config a.after.world (length schedule))) script ∙ ap (λ (r : Run). code_of_verdict (verdict_of b.script default_config r.world (length schedule))) after ∙ sym b.code_is,
-      same_some (report b.script default_config schedule) text told (ap (λ (s : Script). report s default_config schedule) (sym script) ∙ a.text_is) b.text_is,
+      same_Some text told (sym a.text_is ∙ ap (λ (s : Script). report s default_config schedule) script ∙ b.text_is),
     )
 
 pub outcome_is_one : (words : List (List ℕ)) (input : List ℕ) (schedule : List Entry) (code other : ℕ) (text told : List ℕ) → Outcome words input schedule code text → Outcome words input schedule other told → Same code other text told
@@ -138,20 +110,20 @@ outcome_is_one words input schedule code other text told (outcome.ScheduleRefuse
 outcome_is_one words input schedule code other text told (outcome.ScheduleRefused a) (outcome.InputRefused b) = absurd (omega (arith, b.too_long, a.fits))
 outcome_is_one words input schedule code other text told (outcome.ScheduleRefused a) (outcome.ScriptRefused b) = absurd (b.first.0 a.script a.spelled)
 outcome_is_one words input schedule code other text told (outcome.ScheduleRefused a) (outcome.ScheduleRefused b) = two_schedule_faults words input code other text told a b
-outcome_is_one words input schedule code other text told (outcome.ScheduleRefused a) (outcome.EntryRefused b) = absurd (not_both (sched_of (schedule_part input)) (b.config, b.entries) (a.line, a.why) b.read a.first)
-outcome_is_one words input schedule code other text told (outcome.ScheduleRefused a) (outcome.Replayed b) = absurd (not_both (sched_of (schedule_part input)) (b.config, b.entries) (a.line, a.why) b.read a.first)
+outcome_is_one words input schedule code other text told (outcome.ScheduleRefused a) (outcome.EntryRefused b) = absurd (given_or_fault (sched_of (schedule_part input)) (b.config, b.entries) (a.line, a.why) b.read a.first)
+outcome_is_one words input schedule code other text told (outcome.ScheduleRefused a) (outcome.Replayed b) = absurd (given_or_fault (sched_of (schedule_part input)) (b.config, b.entries) (a.line, a.why) b.read a.first)
 outcome_is_one words input schedule code other text told (outcome.ScheduleRefused a) (outcome.Ran b) = absurd (true≢false (sym a.accepted ∙ asks_run_alone words b.accepted))
 outcome_is_one words input schedule code other text told (outcome.EntryRefused a) (outcome.WordsRefused b) = absurd (true≢false (sym (replay_is_accepted words a.accepted) ∙ b.refused))
 outcome_is_one words input schedule code other text told (outcome.EntryRefused a) (outcome.InputRefused b) = absurd (omega (arith, b.too_long, a.fits))
 outcome_is_one words input schedule code other text told (outcome.EntryRefused a) (outcome.ScriptRefused b) = absurd (b.first.0 a.script a.spelled)
-outcome_is_one words input schedule code other text told (outcome.EntryRefused a) (outcome.ScheduleRefused b) = absurd (not_both (sched_of (schedule_part input)) (a.config, a.entries) (b.line, b.why) a.read b.first)
+outcome_is_one words input schedule code other text told (outcome.EntryRefused a) (outcome.ScheduleRefused b) = absurd (given_or_fault (sched_of (schedule_part input)) (a.config, a.entries) (b.line, b.why) a.read b.first)
 outcome_is_one words input schedule code other text told (outcome.EntryRefused a) (outcome.EntryRefused b) = two_entries words input code other text told a b
 outcome_is_one words input schedule code other text told (outcome.EntryRefused a) (outcome.Replayed b) = absurd (entry_and_replay words input code other text told a b)
 outcome_is_one words input schedule code other text told (outcome.EntryRefused a) (outcome.Ran b) = absurd (true≢false (sym a.accepted ∙ asks_run_alone words b.accepted))
 outcome_is_one words input schedule code other text told (outcome.Replayed a) (outcome.WordsRefused b) = absurd (true≢false (sym (replay_is_accepted words a.accepted) ∙ b.refused))
 outcome_is_one words input schedule code other text told (outcome.Replayed a) (outcome.InputRefused b) = absurd (omega (arith, b.too_long, a.fits))
 outcome_is_one words input schedule code other text told (outcome.Replayed a) (outcome.ScriptRefused b) = absurd (b.first.0 a.script a.spelled)
-outcome_is_one words input schedule code other text told (outcome.Replayed a) (outcome.ScheduleRefused b) = absurd (not_both (sched_of (schedule_part input)) (a.config, a.entries) (b.line, b.why) a.read b.first)
+outcome_is_one words input schedule code other text told (outcome.Replayed a) (outcome.ScheduleRefused b) = absurd (given_or_fault (sched_of (schedule_part input)) (a.config, a.entries) (b.line, b.why) a.read b.first)
 outcome_is_one words input schedule code other text told (outcome.Replayed a) (outcome.EntryRefused b) = absurd (entry_and_replay words input other code told text b a)
 outcome_is_one words input schedule code other text told (outcome.Replayed a) (outcome.Replayed b) = two_replays words input code other text told a b
 outcome_is_one words input schedule code other text told (outcome.Replayed a) (outcome.Ran b) = absurd (true≢false (sym a.accepted ∙ asks_run_alone words b.accepted))

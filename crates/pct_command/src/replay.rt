@@ -1,9 +1,8 @@
 //! A run that is made again, under a schedule that is given.
 
 ghost use Rattle.std.specs.Prelude.{◌≡◌, ◌+◌, ◌≤◌, false, length, reverse, true, vec_len, vec_capacity, Some, None, IfErr, IfNone, IfOk, IfSome, IsTrue};
-ghost use Rattle.pct_model.specs.Step.{step, same_choice};
+ghost use Rattle.pct_model.specs.Step.{step};
 ghost use Rattle.pct_model.specs.Run.{illegal_in, is_config, run_from};
-ghost use Rattle.pct_model.specs.declared.schedule.Alt.TheVariants.{Go as GoOn};
 ghost use Rattle.pct_command.specs.OneThread.{world_of};
 ghost use Rattle.pct_command.specs.Ran.{IsRan, IsTaken, StopsReplay, lets_first_go as first_goes_by, run_at};
 
