@@ -1,5 +1,5 @@
 -- Each alternative of the first thread is `go`, so that an entry that chooses anything else is not legal.
-use Rattle.std.proofs.Common.{◌≡◌, ℕ, Bool, true, false, cond, List, [], ◌∷◌, Option, Some, None, refl, ap, ◌∙◌, nat_lt, nat_eq, length, suc}
+use Rattle.std.proofs.Common.{◌≡◌, ℕ, ◌+◌, ◌%◌, Bool, true, false, cond, List, [], ◌∷◌, Option, Some, None, refl, ap, ◌∙◌, nat_lt, nat_eq, length, suc}
 use Rattle.std.specs.Prelude.{find, is_some}
 use Rattle.pct_model.specs.declared.script.Script.{Script}
 use Rattle.pct_model.specs.declared.schedule.Alt.{Alt}
@@ -12,12 +12,15 @@ use Rattle.pct_model.specs.declared.state.FrameKind.{FrameKind}
 use Rattle.pct_model.specs.declared.state.FrameKind.TheVariants as kind
 use Rattle.pct_model.specs.declared.state.Status.{Status}
 use Rattle.pct_model.specs.declared.state.Status.TheVariants.{Running, Exiting}
+use Rattle.pct_model.specs.declared.statement.Dest.{Dest}
+use Rattle.pct_model.specs.declared.statement.Dest.TheVariants as destination
 use Rattle.pct_model.specs.declared.statement.Stmt.{Stmt}
 use Rattle.pct_model.specs.declared.statement.Stmt.TheVariants as statement
 use Rattle.pct_model.specs.declared.stop.Why.{Why}
-use Rattle.pct_model.specs.declared.stop.Why.TheVariants.{ExitTwice, StackFull, CleanupFull}
-use Rattle.pct_model.specs.World.{Thread, Process, World, statement_at, value_of}
-use Rattle.pct_model.specs.Alternatives.{Effect, Alternative, goes, moved_on, called, stops, emits, pushes, pops, exits, returns_by, ends_process, running_at, running, by_status, alternatives}
+use Rattle.pct_model.specs.declared.stop.Why.TheVariants.{Unbuilt, ExitTwice, StackFull, CleanupFull}
+use Rattle.pct_model.specs.Jumps.{open_of}
+use Rattle.pct_model.specs.World.{Thread, Process, World, body_of, statement_at, value_of}
+use Rattle.pct_model.specs.Alternatives.{Effect, Alternative, goes, moved_on, called, stops, passes, emits, held_in, sets, adds, calls, branches, skips, closes_block, pushes, pops, exits, returns_by, ends_at, ends_process, running_at, running, by_status, alternatives}
 use Rattle.pct_model.specs.Step.{same_choice}
 
 -- each of these is `go`
@@ -36,9 +39,35 @@ stops-go : (t : Thread) (why : Why) → AllGo (stops t why)
 unfolding stops
 stops-go t why = (refl, tt)
 
+passes-go : (t : Thread) (frame : Frame) (below : List Frame) → AllGo (passes t frame below)
+unfolding passes
+passes-go t frame below = (refl, tt)
+
 emits-go : (t : Thread) (frame : Frame) (below : List Frame) (v : ℕ) → AllGo (emits t frame below v)
 unfolding emits
 emits-go t frame below v = (refl, tt)
+
+sets-go : (t : Thread) (frame : Frame) (below : List Frame) (d : Dest) (v : ℕ) → AllGo (sets t frame below d v)
+unfolding sets
+sets-go t frame below destination.Drop v = (refl, tt)
+sets-go t frame below (destination.Local i) v = (refl, tt)
+sets-go t frame below (destination.Global i) v = (refl, tt)
+
+adds-go : (globals : List ℕ) (t : Thread) (frame : Frame) (below : List Frame) (d : Dest) (v : ℕ) → AllGo (adds globals t frame below d v)
+unfolding adds
+adds-go globals t frame below d v = sets-go t frame below d ((held_in globals frame d + v) % 4294967296)
+
+calls-go : (t : Thread) (frame : Frame) (below : List Frame) (f v : ℕ) → AllGo (calls t frame below f v)
+unfolding calls
+calls-go t frame below f v = either-go (nat_lt (suc (length below)) 16) _ _ (goes-go (called t frame below f v kind.Call) [] []) (stops-go t StackFull)
+
+branches-go : (body : List Stmt) (t : Thread) (frame : Frame) (below : List Frame) (v : ℕ) → AllGo (branches body t frame below v)
+unfolding branches
+branches-go body t frame below v = (refl, tt)
+
+skips-go : (body : List Stmt) (t : Thread) (frame : Frame) (below : List Frame) → AllGo (skips body t frame below)
+unfolding skips
+skips-go body t frame below = (refl, tt)
 
 pushes-go : (t : Thread) (frame : Frame) (below : List Frame) (f v : ℕ) → AllGo (pushes t frame below f v)
 unfolding pushes
@@ -66,6 +95,11 @@ returns_by-go kind.Destructor p t below v = tt
 returns_by-go kind.ForkFn p t below v = tt
 returns_by-go kind.ExitFn p t below v = tt
 
+ends_at-go : (body : List Stmt) (p : Process) (t : Thread) (frame : Frame) (below : List Frame) (place : Option ℕ) → AllGo (ends_at body p t frame below place)
+unfolding ends_at closes_block
+ends_at-go body p t frame below None = returns_by-go frame.kind p t below 0
+ends_at-go body p t frame below (Some place) = (refl, tt)
+
 ends_process-go : (t : Thread) (functions : List ℕ) (exit : Option ℕ) → AllGo (ends_process t functions exit)
 unfolding ends_process
 ends_process-go t [] (Some v) = (refl, tt)
@@ -76,11 +110,18 @@ running_at-go : (script : Script) (config : Config) (w : World) (p : Process) (t
 unfolding running_at
 running_at-go script config w p t frame below None = tt
 running_at-go script config w p t frame below (Some (statement.Emit v)) = emits-go t frame below (value_of p.globals frame v)
+running_at-go script config w p t frame below (Some (statement.Set d v)) = sets-go t frame below d (value_of p.globals frame v)
+running_at-go script config w p t frame below (Some (statement.Add d v)) = adds-go p.globals t frame below d (value_of p.globals frame v)
+running_at-go script config w p t frame below (Some statement.Nop) = passes-go t frame below
+running_at-go script config w p t frame below (Some (statement.If v)) = branches-go (body_of script frame.func) t frame below (value_of p.globals frame v)
+running_at-go script config w p t frame below (Some statement.Else) = skips-go (body_of script frame.func) t frame below
+running_at-go script config w p t frame below (Some (statement.While v)) = branches-go (body_of script frame.func) t frame below (value_of p.globals frame v)
+running_at-go script config w p t frame below (Some statement.End) = ends_at-go (body_of script frame.func) p t frame below (open_of (body_of script frame.func) frame.place)
+running_at-go script config w p t frame below (Some (statement.Do f v)) = calls-go t frame below f (value_of p.globals frame v)
+running_at-go script config w p t frame below (Some (statement.Return v)) = returns_by-go frame.kind p t below (value_of p.globals frame v)
 running_at-go script config w p t frame below (Some (statement.Push f v)) = pushes-go t frame below f (value_of p.globals frame v)
 running_at-go script config w p t frame below (Some (statement.Pop v)) = pops-go t frame below (value_of p.globals frame v) t.handlers
-running_at-go script config w p t frame below (Some (statement.Return v)) = returns_by-go frame.kind p t below (value_of p.globals frame v)
-running_at-go script config w p t frame below (Some statement.End) = returns_by-go frame.kind p t below 0
-running_at-go script config w p t frame below (Some _) = tt
+running_at-go script config w p t frame below (Some _) = stops-go t Unbuilt
 
 running-go : (script : Script) (config : Config) (w : World) (p : Process) (t : Thread) (frames : List Frame) → AllGo (running script config w p t frames)
 running-go script config w p t [] = tt

@@ -1,5 +1,5 @@
 -- An input that is not refused is told whole, where no fault was counted and there was memory.
-use Rattle.std.proofs.Common.{◌≡◌, ◌≢◌, ◌⊎◌, inl, inr, ℕ, ◌<◌, ◌≤◌, true, List, ◌++◌, length, Option, Some, None, Ok, Err, refl, sym, ap, ◌∙◌, subst, arith}
+use Rattle.std.proofs.Common.{◌≡◌, ◌≢◌, ◌⊎◌, inl, inr, ℕ, ◌<◌, ◌≤◌, true, List, ◌++◌, length, Option, Some, None, Ok, refl, sym, ap, ◌∙◌, subst, arith}
 use Rattle.std.proofs.lemmas.Bool.{true≢false}
 use Rattle.std.proofs.lemmas.List.{append-nil, length-append}
 use Rattle.std.proofs.lemmas.Option.{none-some}
@@ -7,14 +7,14 @@ use Rattle.std.specs.Io.KnownBytes.{Consumes, IsAtEnd}
 use Rattle.pct_model.specs.declared.script.Script.{Script}
 use Rattle.pct_model.specs.declared.schedule.Config.{Config}
 use Rattle.pct_model.specs.declared.schedule.Entry.{Entry}
-use Rattle.pct_model.specs.declared.refusal.ScheduleWhy.{ScheduleWhy}
 use Rattle.pct_model.specs.declared.stop.Verdict.{Verdict}
 use Rattle.pct_model.specs.declared.stop.Verdict.TheVariants as verdict
-use Rattle.pct_model.specs.Schedule.{Schedule, sched_of}
+use Rattle.pct_model.specs.Schedule.{sched_of}
 use Rattle.pct_model.specs.Run.{first_illegal, verdict_of}
 use Rattle.pct_model.specs.Outcome.{is_accepted, schedule_part, default_config, code_of_verdict, Outcome}
 use Rattle.pct_model.specs.Outcome as outcome
-use Rattle.pct_script.proofs.OneScript.{spells_one_script}
+use Rattle.pct_script.proofs.Scripts.{spells_one_script}
+use Rattle.pct_command.proofs.Scripts.{spelled_or_fault}
 use Rattle.pct_command.specs.declared.status.Status.{Status}
 use Rattle.pct_command.specs.declared.status.Status.TheVariants as status
 use Rattle.pct_command.specs.Status.{code_of}
@@ -45,7 +45,7 @@ not_illegal input script other config entries place valid same read illegal =
 not_refused : (words : List (List ℕ)) (input : List ℕ) (schedule : List Entry) (code : ℕ) (text : List ℕ) → is_accepted words ≡ true → IsValid words input → Outcome words input schedule code text → code < 5
 not_refused words input schedule code text accepted valid (outcome.WordsRefused refuses) = absurd (true≢false (sym accepted ∙ refuses.refused))
 not_refused words input schedule code text accepted valid (outcome.InputRefused refuses) = absurd (omega (arith, valid.fits, refuses.too_long))
-not_refused words input schedule code text accepted valid (outcome.ScriptRefused refuses) = absurd (refuses.first.0 valid.script valid.spelled)
+not_refused words input schedule code text accepted valid (outcome.ScriptRefused refuses) = absurd (spelled_or_fault _ valid.script refuses.line refuses.why valid.spelled refuses.first)
 not_refused words input schedule code text accepted valid (outcome.ScheduleRefused refuses) =
     let legal = valid.schedule refuses.accepted in
     absurd (given_or_fault (sched_of (schedule_part input)) (legal.config, legal.entries) (refuses.line, refuses.why) legal.read refuses.first)
@@ -53,6 +53,7 @@ not_refused words input schedule code text accepted valid (outcome.EntryRefused 
     absurd (not_illegal input valid.script refuses.script refuses.config refuses.entries refuses.place (valid.schedule refuses.accepted) (spells_one_script _ refuses.script valid.script refuses.spelled valid.spelled) refuses.read refuses.illegal)
 not_refused words input schedule code text accepted valid (outcome.Replayed replays) = rw replays.code_is (verdict_code _)
 not_refused words input schedule code text accepted valid (outcome.Ran runs) = rw runs.code_is (verdict_code _)
+not_refused words input schedule code text accepted valid (outcome.Checked checks) = omega (arith, checks.code_is)
 
 -- ---- refusals that don't look at the whole input
 
@@ -65,6 +66,7 @@ any_input words input given schedule text (outcome.ScheduleRefused refuses) = ab
 any_input words input given schedule text (outcome.EntryRefused refuses) = absurd (omega (arith, refuses.code_is))
 any_input words input given schedule text (outcome.Replayed replays) = absurd (omega (arith, replays.code_is, verdict_code (verdict_of replays.script replays.config replays.after.world (length replays.entries))))
 any_input words input given schedule text (outcome.Ran runs) = absurd (omega (arith, runs.code_is, verdict_code (verdict_of runs.script default_config runs.after.world (length schedule))))
+any_input words input given schedule text (outcome.Checked checks) = absurd (omega (arith, checks.code_is))
 
 -- where a front of it is too long, the input is
 longer_input : (words : List (List ℕ)) (input given : List ℕ) (schedule : List Entry) (text : List ℕ) → length given ≤ length input → Outcome words given schedule 8 text → Outcome words input schedule 8 text
@@ -75,6 +77,7 @@ longer_input words input given schedule text longer (outcome.ScheduleRefused ref
 longer_input words input given schedule text longer (outcome.EntryRefused refuses) = absurd (omega (arith, refuses.code_is))
 longer_input words input given schedule text longer (outcome.Replayed replays) = absurd (omega (arith, replays.code_is, verdict_code (verdict_of replays.script replays.config replays.after.world (length replays.entries))))
 longer_input words input given schedule text longer (outcome.Ran runs) = absurd (omega (arith, runs.code_is, verdict_code (verdict_of runs.script default_config runs.after.world (length schedule))))
+longer_input words input given schedule text longer (outcome.Checked checks) = absurd (omega (arith, checks.code_is))
 
 -- ---- what was read
 
@@ -118,7 +121,7 @@ refused_for words given input code before after tells above is_outcome = record 
     is_outcome = is_outcome;
     run = λ yes below. absurd (omega (arith, above, below));
     replay = λ yes below. absurd (omega (arith, above, below));
-    replayed = λ below. absurd (omega (arith, above, below));
+    replayed = λ other below. absurd (omega (arith, above, below));
   };
   wrote = tells.wrote;
 }

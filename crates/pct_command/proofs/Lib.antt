@@ -1,8 +1,10 @@
 pub mod Asked
+pub mod Scripts
 pub mod Choices
 pub mod NotLegal
 pub mod Steps
 pub mod Readings
+pub mod Openings
 pub mod Replays
 pub mod Texts
 pub mod Outcomes

@@ -1,5 +1,5 @@
 -- Words, an input and a schedule have one outcome at the most.
-use Rattle.std.proofs.Common.{◌≡◌, ℕ, suc, Bool, true, false, ◌&&◌, cond, List, [], ◌∷◌, length, Option, Some, None, Ok, Err, refl, sym, ap, ◌∙◌, arith}
+use Rattle.std.proofs.Common.{◌≡◌, ℕ, suc, Bool, true, false, ◌&&◌, cond, List, [], ◌∷◌, length, Option, Some, None, refl, sym, ap, ◌∙◌, arith}
 use Rattle.std.specs.Prelude.{nat_le, option_and_then, option_map}
 use Rattle.std.specs.Option.{option_map_or}
 use Rattle.std.proofs.lemmas.Bool.{true≢false}
@@ -7,18 +7,20 @@ use Rattle.std.proofs.lemmas.Option.{none-some, same_Some}
 use Rattle.pct_model.specs.declared.script.Script.{Script}
 use Rattle.pct_model.specs.declared.schedule.Config.{Config}
 use Rattle.pct_model.specs.declared.schedule.Entry.{Entry}
-use Rattle.pct_model.specs.declared.refusal.ParseWhy.{ParseWhy}
 use Rattle.pct_model.specs.declared.refusal.ScheduleWhy.{ScheduleWhy}
 use Rattle.pct_model.specs.Words.{line_text}
 use Rattle.pct_model.specs.World.{opening}
-use Rattle.pct_model.specs.Schedule.{Schedule, sched_of}
+use Rattle.pct_model.specs.Schedule.{sched_of}
 use Rattle.pct_model.specs.Run.{Run, run_step, run_from, illegal_in, first_illegal, is_config, run, verdict_of}
 use Rattle.pct_model.specs.Report.{report}
-use Rattle.pct_model.specs.Outcome.{schedule_part, default_config, refused_script, refused_schedule, refused_entry, code_of_verdict, Outcome, RefusesScript, RefusesSchedule, RefusesEntry, Replays, Runs}
+use Rattle.pct_model.specs.Spelling.{Fault}
+use Rattle.pct_model.specs.Canon.{canon}
+use Rattle.pct_model.specs.Outcome.{schedule_part, default_config, refused_script, refused_schedule, refused_entry, code_of_verdict, Outcome, RefusesScript, RefusesSchedule, RefusesEntry, Replays, Runs, Checks}
 use Rattle.pct_model.specs.Outcome as outcome
-use Rattle.pct_script.proofs.OneScript.{spells_one_script}
+use Rattle.pct_script.proofs.Scripts.{spells_one_script}
+use Rattle.pct_command.proofs.Scripts.{spelled_or_fault, spells_part}
 use Rattle.pct_command.proofs.Readings.{same_given, same_fault, given_or_fault}
-use Rattle.pct_command.proofs.Asked.{asks_run_alone, run_is_accepted, replay_is_accepted, part_of_run}
+use Rattle.pct_command.proofs.Asked.{asks_run_alone, run_asks_no_check, replay_asks_no_check, check_asks_no_replay, check_asks_no_run, run_is_accepted, replay_is_accepted, check_is_accepted, part_of_run, part_of_check}
 
 abbrev Same : ℕ → ℕ → List ℕ → List ℕ → Type 0
 Same code other text told = (code ≡ other) × (text ≡ told)
@@ -45,7 +47,7 @@ run_is_legal script config after entries ran = legal_run script config (record {
 
 two_faults : (words : List (List ℕ)) (input : List ℕ) (code other : ℕ) (text told : List ℕ) → RefusesScript words input code text → RefusesScript words input other told → Same code other text told
 two_faults words input code other text told a b =
-    (a.code_is ∙ sym b.code_is, a.text_is ∙ ap (λ (n : ℕ). line_text (refused_script n a.why)) (a.first.1 ∙ sym b.first.1) ∙ ap (λ (w : ParseWhy). line_text (refused_script b.line w)) (a.first.2 ∙ sym b.first.2) ∙ sym b.text_is)
+    (a.code_is ∙ sym b.code_is, a.text_is ∙ ap (λ (f : Fault). line_text (refused_script f.0 f.1)) (same_Some (a.line, a.why) (b.line, b.why) (sym a.first ∙ b.first)) ∙ sym b.text_is)
 
 two_schedule_faults : (words : List (List ℕ)) (input : List ℕ) (code other : ℕ) (text told : List ℕ) → RefusesSchedule words input code text → RefusesSchedule words input other told → Same code other text told
 two_schedule_faults words input code other text told a b =
@@ -84,6 +86,10 @@ two_runs words input schedule code other text told a b =
       same_Some text told (sym a.text_is ∙ ap (λ (s : Script). report s default_config schedule) script ∙ b.text_is),
     )
 
+two_checks : (words : List (List ℕ)) (input : List ℕ) (code other : ℕ) (text told : List ℕ) → Checks words input code text → Checks words input other told → Same code other text told
+two_checks words input code other text told a b =
+    (a.code_is ∙ sym b.code_is, a.text_is ∙ ap (λ (s : Script). canon s) (spells_one_script _ a.script b.script a.spelled b.spelled) ∙ sym b.text_is)
+
 pub outcome_is_one : (words : List (List ℕ)) (input : List ℕ) (schedule : List Entry) (code other : ℕ) (text told : List ℕ) → Outcome words input schedule code text → Outcome words input schedule other told → Same code other text told
 outcome_is_one words input schedule code other text told (outcome.WordsRefused a) (outcome.WordsRefused b) = (a.code_is ∙ sym b.code_is, a.text_is ∙ sym b.text_is)
 outcome_is_one words input schedule code other text told (outcome.WordsRefused a) (outcome.InputRefused b) = absurd (true≢false (sym (b.accepted) ∙ a.refused))
@@ -92,6 +98,7 @@ outcome_is_one words input schedule code other text told (outcome.WordsRefused a
 outcome_is_one words input schedule code other text told (outcome.WordsRefused a) (outcome.EntryRefused b) = absurd (true≢false (sym (replay_is_accepted words b.accepted) ∙ a.refused))
 outcome_is_one words input schedule code other text told (outcome.WordsRefused a) (outcome.Replayed b) = absurd (true≢false (sym (replay_is_accepted words b.accepted) ∙ a.refused))
 outcome_is_one words input schedule code other text told (outcome.WordsRefused a) (outcome.Ran b) = absurd (true≢false (sym (run_is_accepted words b.accepted) ∙ a.refused))
+outcome_is_one words input schedule code other text told (outcome.WordsRefused a) (outcome.Checked b) = absurd (true≢false (sym (check_is_accepted words b.accepted) ∙ a.refused))
 outcome_is_one words input schedule code other text told (outcome.InputRefused a) (outcome.WordsRefused b) = absurd (true≢false (sym (a.accepted) ∙ b.refused))
 outcome_is_one words input schedule code other text told (outcome.InputRefused a) (outcome.InputRefused b) = (a.code_is ∙ sym b.code_is, a.text_is ∙ sym b.text_is)
 outcome_is_one words input schedule code other text told (outcome.InputRefused a) (outcome.ScriptRefused b) = absurd (omega (arith, a.too_long, b.fits))
@@ -99,38 +106,52 @@ outcome_is_one words input schedule code other text told (outcome.InputRefused a
 outcome_is_one words input schedule code other text told (outcome.InputRefused a) (outcome.EntryRefused b) = absurd (omega (arith, a.too_long, b.fits))
 outcome_is_one words input schedule code other text told (outcome.InputRefused a) (outcome.Replayed b) = absurd (omega (arith, a.too_long, b.fits))
 outcome_is_one words input schedule code other text told (outcome.InputRefused a) (outcome.Ran b) = absurd (omega (arith, a.too_long, b.fits))
+outcome_is_one words input schedule code other text told (outcome.InputRefused a) (outcome.Checked b) = absurd (omega (arith, a.too_long, b.fits))
 outcome_is_one words input schedule code other text told (outcome.ScriptRefused a) (outcome.WordsRefused b) = absurd (true≢false (sym (a.accepted) ∙ b.refused))
 outcome_is_one words input schedule code other text told (outcome.ScriptRefused a) (outcome.InputRefused b) = absurd (omega (arith, b.too_long, a.fits))
 outcome_is_one words input schedule code other text told (outcome.ScriptRefused a) (outcome.ScriptRefused b) = two_faults words input code other text told a b
-outcome_is_one words input schedule code other text told (outcome.ScriptRefused a) (outcome.ScheduleRefused b) = absurd (a.first.0 b.script b.spelled)
-outcome_is_one words input schedule code other text told (outcome.ScriptRefused a) (outcome.EntryRefused b) = absurd (a.first.0 b.script b.spelled)
-outcome_is_one words input schedule code other text told (outcome.ScriptRefused a) (outcome.Replayed b) = absurd (a.first.0 b.script b.spelled)
-outcome_is_one words input schedule code other text told (outcome.ScriptRefused a) (outcome.Ran b) = absurd (a.first.0 b.script (part_of_run words input b.accepted ∙ b.spelled))
+outcome_is_one words input schedule code other text told (outcome.ScriptRefused a) (outcome.ScheduleRefused b) = absurd (spelled_or_fault _ b.script a.line a.why b.spelled a.first)
+outcome_is_one words input schedule code other text told (outcome.ScriptRefused a) (outcome.EntryRefused b) = absurd (spelled_or_fault _ b.script a.line a.why b.spelled a.first)
+outcome_is_one words input schedule code other text told (outcome.ScriptRefused a) (outcome.Replayed b) = absurd (spelled_or_fault _ b.script a.line a.why b.spelled a.first)
+outcome_is_one words input schedule code other text told (outcome.ScriptRefused a) (outcome.Ran b) = absurd (spelled_or_fault _ b.script a.line a.why (spells_part input _ b.script (sym (part_of_run words input b.accepted)) b.spelled) a.first)
+outcome_is_one words input schedule code other text told (outcome.ScriptRefused a) (outcome.Checked b) = absurd (spelled_or_fault _ b.script a.line a.why (spells_part input _ b.script (sym (part_of_check words input b.accepted)) b.spelled) a.first)
 outcome_is_one words input schedule code other text told (outcome.ScheduleRefused a) (outcome.WordsRefused b) = absurd (true≢false (sym (replay_is_accepted words a.accepted) ∙ b.refused))
 outcome_is_one words input schedule code other text told (outcome.ScheduleRefused a) (outcome.InputRefused b) = absurd (omega (arith, b.too_long, a.fits))
-outcome_is_one words input schedule code other text told (outcome.ScheduleRefused a) (outcome.ScriptRefused b) = absurd (b.first.0 a.script a.spelled)
+outcome_is_one words input schedule code other text told (outcome.ScheduleRefused a) (outcome.ScriptRefused b) = absurd (spelled_or_fault _ a.script b.line b.why a.spelled b.first)
 outcome_is_one words input schedule code other text told (outcome.ScheduleRefused a) (outcome.ScheduleRefused b) = two_schedule_faults words input code other text told a b
 outcome_is_one words input schedule code other text told (outcome.ScheduleRefused a) (outcome.EntryRefused b) = absurd (given_or_fault (sched_of (schedule_part input)) (b.config, b.entries) (a.line, a.why) b.read a.first)
 outcome_is_one words input schedule code other text told (outcome.ScheduleRefused a) (outcome.Replayed b) = absurd (given_or_fault (sched_of (schedule_part input)) (b.config, b.entries) (a.line, a.why) b.read a.first)
 outcome_is_one words input schedule code other text told (outcome.ScheduleRefused a) (outcome.Ran b) = absurd (true≢false (sym a.accepted ∙ asks_run_alone words b.accepted))
+outcome_is_one words input schedule code other text told (outcome.ScheduleRefused a) (outcome.Checked b) = absurd (true≢false (sym b.accepted ∙ replay_asks_no_check words a.accepted))
 outcome_is_one words input schedule code other text told (outcome.EntryRefused a) (outcome.WordsRefused b) = absurd (true≢false (sym (replay_is_accepted words a.accepted) ∙ b.refused))
 outcome_is_one words input schedule code other text told (outcome.EntryRefused a) (outcome.InputRefused b) = absurd (omega (arith, b.too_long, a.fits))
-outcome_is_one words input schedule code other text told (outcome.EntryRefused a) (outcome.ScriptRefused b) = absurd (b.first.0 a.script a.spelled)
+outcome_is_one words input schedule code other text told (outcome.EntryRefused a) (outcome.ScriptRefused b) = absurd (spelled_or_fault _ a.script b.line b.why a.spelled b.first)
 outcome_is_one words input schedule code other text told (outcome.EntryRefused a) (outcome.ScheduleRefused b) = absurd (given_or_fault (sched_of (schedule_part input)) (a.config, a.entries) (b.line, b.why) a.read b.first)
 outcome_is_one words input schedule code other text told (outcome.EntryRefused a) (outcome.EntryRefused b) = two_entries words input code other text told a b
 outcome_is_one words input schedule code other text told (outcome.EntryRefused a) (outcome.Replayed b) = absurd (entry_and_replay words input code other text told a b)
 outcome_is_one words input schedule code other text told (outcome.EntryRefused a) (outcome.Ran b) = absurd (true≢false (sym a.accepted ∙ asks_run_alone words b.accepted))
+outcome_is_one words input schedule code other text told (outcome.EntryRefused a) (outcome.Checked b) = absurd (true≢false (sym b.accepted ∙ replay_asks_no_check words a.accepted))
 outcome_is_one words input schedule code other text told (outcome.Replayed a) (outcome.WordsRefused b) = absurd (true≢false (sym (replay_is_accepted words a.accepted) ∙ b.refused))
 outcome_is_one words input schedule code other text told (outcome.Replayed a) (outcome.InputRefused b) = absurd (omega (arith, b.too_long, a.fits))
-outcome_is_one words input schedule code other text told (outcome.Replayed a) (outcome.ScriptRefused b) = absurd (b.first.0 a.script a.spelled)
+outcome_is_one words input schedule code other text told (outcome.Replayed a) (outcome.ScriptRefused b) = absurd (spelled_or_fault _ a.script b.line b.why a.spelled b.first)
 outcome_is_one words input schedule code other text told (outcome.Replayed a) (outcome.ScheduleRefused b) = absurd (given_or_fault (sched_of (schedule_part input)) (a.config, a.entries) (b.line, b.why) a.read b.first)
 outcome_is_one words input schedule code other text told (outcome.Replayed a) (outcome.EntryRefused b) = absurd (entry_and_replay words input other code told text b a)
 outcome_is_one words input schedule code other text told (outcome.Replayed a) (outcome.Replayed b) = two_replays words input code other text told a b
 outcome_is_one words input schedule code other text told (outcome.Replayed a) (outcome.Ran b) = absurd (true≢false (sym a.accepted ∙ asks_run_alone words b.accepted))
+outcome_is_one words input schedule code other text told (outcome.Replayed a) (outcome.Checked b) = absurd (true≢false (sym b.accepted ∙ replay_asks_no_check words a.accepted))
 outcome_is_one words input schedule code other text told (outcome.Ran a) (outcome.WordsRefused b) = absurd (true≢false (sym (run_is_accepted words a.accepted) ∙ b.refused))
 outcome_is_one words input schedule code other text told (outcome.Ran a) (outcome.InputRefused b) = absurd (omega (arith, b.too_long, a.fits))
-outcome_is_one words input schedule code other text told (outcome.Ran a) (outcome.ScriptRefused b) = absurd (b.first.0 a.script (part_of_run words input a.accepted ∙ a.spelled))
+outcome_is_one words input schedule code other text told (outcome.Ran a) (outcome.ScriptRefused b) = absurd (spelled_or_fault _ a.script b.line b.why (spells_part input _ a.script (sym (part_of_run words input a.accepted)) a.spelled) b.first)
 outcome_is_one words input schedule code other text told (outcome.Ran a) (outcome.ScheduleRefused b) = absurd (true≢false (sym b.accepted ∙ asks_run_alone words a.accepted))
 outcome_is_one words input schedule code other text told (outcome.Ran a) (outcome.EntryRefused b) = absurd (true≢false (sym b.accepted ∙ asks_run_alone words a.accepted))
 outcome_is_one words input schedule code other text told (outcome.Ran a) (outcome.Replayed b) = absurd (true≢false (sym b.accepted ∙ asks_run_alone words a.accepted))
 outcome_is_one words input schedule code other text told (outcome.Ran a) (outcome.Ran b) = two_runs words input schedule code other text told a b
+outcome_is_one words input schedule code other text told (outcome.Ran a) (outcome.Checked b) = absurd (true≢false (sym b.accepted ∙ run_asks_no_check words a.accepted))
+outcome_is_one words input schedule code other text told (outcome.Checked a) (outcome.WordsRefused b) = absurd (true≢false (sym (check_is_accepted words a.accepted) ∙ b.refused))
+outcome_is_one words input schedule code other text told (outcome.Checked a) (outcome.InputRefused b) = absurd (omega (arith, b.too_long, a.fits))
+outcome_is_one words input schedule code other text told (outcome.Checked a) (outcome.ScriptRefused b) = absurd (spelled_or_fault _ a.script b.line b.why (spells_part input _ a.script (sym (part_of_check words input a.accepted)) a.spelled) b.first)
+outcome_is_one words input schedule code other text told (outcome.Checked a) (outcome.ScheduleRefused b) = absurd (true≢false (sym b.accepted ∙ check_asks_no_replay words a.accepted))
+outcome_is_one words input schedule code other text told (outcome.Checked a) (outcome.EntryRefused b) = absurd (true≢false (sym b.accepted ∙ check_asks_no_replay words a.accepted))
+outcome_is_one words input schedule code other text told (outcome.Checked a) (outcome.Replayed b) = absurd (true≢false (sym b.accepted ∙ check_asks_no_replay words a.accepted))
+outcome_is_one words input schedule code other text told (outcome.Checked a) (outcome.Ran b) = absurd (true≢false (sym b.accepted ∙ check_asks_no_run words a.accepted))
+outcome_is_one words input schedule code other text told (outcome.Checked a) (outcome.Checked b) = two_checks words input code other text told a b

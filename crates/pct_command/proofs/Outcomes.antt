@@ -1,5 +1,5 @@
 -- What is answered is an outcome.
-use Rattle.std.proofs.Common.{◌≡◌, ◌≢◌, ℕ, zero, suc, ◌<◌, ◌≤◌, true, false, List, [], ◌∷◌, length, replicate, reverse, Some, Ok, Err, refl, sym, ap, ◌∙◌, arith}
+use Rattle.std.proofs.Common.{◌≡◌, ◌≢◌, ℕ, zero, suc, ◌<◌, ◌≤◌, true, false, List, [], ◌∷◌, length, replicate, reverse, Some, Ok, Err, refl, sym, ap, ◌∙◌, subst, arith}
 use Rattle.std.specs.Prelude.{option_map}
 use Rattle.std.specs.List.{list_all}
 use Rattle.std.proofs.lemmas.List.{reverse-reverse}
@@ -14,7 +14,9 @@ use Rattle.pct_model.specs.declared.stop.Verdict.{Verdict}
 use Rattle.pct_model.specs.declared.stop.Verdict.TheVariants as verdict
 use Rattle.pct_model.specs.declared.word.Keyword.TheVariants as word
 use Rattle.pct_model.specs.Words.{keyword_text, line_text, text_of}
-use Rattle.pct_model.specs.Canon.{Spells, FirstFault}
+use Rattle.pct_model.specs.Checks.{FirstFault}
+use Rattle.pct_model.specs.Spells.{Spells}
+use Rattle.pct_model.specs.Canon.{canon}
 use Rattle.pct_model.specs.Schedule.{sched_of}
 use Rattle.pct_model.specs.Run.{first_illegal, verdict_of}
 use Rattle.pct_model.specs.Report.{report_lines, report_of, report}
@@ -25,7 +27,9 @@ use Rattle.pct_history.proofs.ReadBack.{report_again}
 use Rattle.pct_history.proofs.Within.{sched_within}
 use Rattle.pct_command.specs.Ran.{IsRan}
 use Rattle.pct_command.specs.Command.{IsReplayed, Answer}
-use Rattle.pct_command.proofs.Asked.{asks_run_alone, part_of_run, replay_asks_replay}
+use Rattle.pct_command.proofs.Asked.{asks_run_alone, check_asks_no_run, check_asks_no_replay, part_of_run, replay_asks_replay}
+use Rattle.pct_script.proofs.Scripts.{spells_one_script}
+use Rattle.pct_command.proofs.Scripts.{spells_part}
 
 -- ---- the schedule of a report
 
@@ -89,7 +93,8 @@ is-replayed : (words : List (List ℕ)) (input : List ℕ) (script : Script) (co
     → Spells (script_part words input) script → sched_of (told script config events v entries) ≡ Ok (config, entries) → IsRan script config events entries v
     → IsReplayed words input (code_of_verdict v) (told script config events v entries)
 is-replayed words input script config events entries v spelled is_told ran = λ other again same_part part same fits.
-    replay-outcome (keyword_text word.Replay ∷ []) again [] script config events entries v replay_asks_replay fits (part ∙ sym same_part ∙ spelled) (same ∙ is_told) ran
+    replay-outcome (keyword_text word.Replay ∷ []) again [] script config events entries v replay_asks_replay fits
+    (subst (λ (s : Script). Spells (script_part (keyword_text word.Replay ∷ []) again) s) (spells_one_script _ other script same_part spelled) part) (same ∙ is_told) ran
 
 -- ---- answers
 
@@ -109,10 +114,10 @@ run-answer words input script events entries v asked fits spelled ran alone clos
     let is_told = report_again script default_config events v entries (alone-is_schedule entries alone few) in
     record {
       schedule = entries;
-      is_outcome = run-outcome words input script events entries v asked fits (sym (part_of_run words input asked) ∙ spelled) ran;
+      is_outcome = run-outcome words input script events entries v asked fits (spells_part (script_part words input) input script (part_of_run words input asked) spelled) ran;
       run = λ yes below. record { told = is_told; alone = alone; closed = closed_code v closed };
       replay = λ yes below. absurd (true≢false (sym yes ∙ asks_run_alone words asked));
-      replayed = λ below. is-replayed words input script default_config events entries v spelled is_told ran;
+      replayed = λ other below. is-replayed words input script default_config events entries v spelled is_told ran;
     }
 
 pub replay-answer : (words : List (List ℕ)) (input : List ℕ) (script : Script) (config : Config) (events : List Event) (entries : List Entry) (v : Verdict)
@@ -125,14 +130,24 @@ replay-answer words input script config events entries v asked fits spelled read
       is_outcome = replay-outcome words input [] script config events entries v asked fits spelled read ran;
       run = λ yes below. absurd (true≢false (sym asked ∙ asks_run_alone words yes));
       replay = λ yes below. is_told ∙ sym read;
-      replayed = λ below. is-replayed words input script config events entries v spelled is_told ran;
+      replayed = λ other below. is-replayed words input script config events entries v spelled is_told ran;
     }
+
+-- the canonical text is the outcome of `check`
+pub check-answer : (words : List (List ℕ)) (input : List ℕ) (script : Script) → is_asked word.Check words ≡ true → length input ≤ 16777216 → Spells input script → Answer words input 0 (canon script)
+check-answer words input script asked fits spelled = record {
+  schedule = [];
+  is_outcome = outcome.Checked (record { accepted = asked; fits = fits; script = script; spelled = spelled; code_is = refl; text_is = refl });
+  run = λ yes below. absurd (true≢false (sym yes ∙ check_asks_no_run words asked));
+  replay = λ yes below. absurd (true≢false (sym yes ∙ check_asks_no_replay words asked));
+  replayed = λ other below. absurd (true≢false (sym asked ∙ other));
+}
 
 -- ---- refusals
 
 -- a refusal tells no run
 refusal : (words : List (List ℕ)) (input : List ℕ) (code : ℕ) (text : List ℕ) → 4 < code → Outcome words input [] code text → Answer words input code text
-refusal words input code text above is_outcome = record { schedule = []; is_outcome = is_outcome; run = λ yes below. absurd (omega (arith, above, below)); replay = λ yes below. absurd (omega (arith, above, below)); replayed = λ below. absurd (omega (arith, above, below)) }
+refusal words input code text above is_outcome = record { schedule = []; is_outcome = is_outcome; run = λ yes below. absurd (omega (arith, above, below)); replay = λ yes below. absurd (omega (arith, above, below)); replayed = λ other below. absurd (omega (arith, above, below)) }
 
 pub words-answer : (words : List (List ℕ)) (input : List ℕ) → is_accepted words ≡ false → Answer words input 5 (line_text refused_words)
 words-answer words input refused = refusal words input 5 _ (omega arith) (outcome.WordsRefused (record { refused = refused; code_is = refl; text_is = refl }))

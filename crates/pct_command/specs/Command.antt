@@ -1,5 +1,5 @@
 -- What `command` promises, by its answer.
-use Rattle.std.specs.Prelude.{◌≡◌, ◌≢◌, ◌⊎◌, ℕ, ◌<◌, ◌≤◌, true, List, [], ◌∷◌, length, Option, Some, None, Ok}
+use Rattle.std.specs.Prelude.{◌≡◌, ◌≢◌, ◌⊎◌, ℕ, ◌<◌, ◌≤◌, true, false, List, [], ◌∷◌, length, Option, Some, None, Ok}
 use Rattle.std.specs.Io.KnownBytes.{Appends, Consumes, IsAtEnd, Keeps}
 use Rattle.pct_io.specs.Faults.{Rose}
 use Rattle.pct_io.specs.Sinks.{AppendsPart}
@@ -8,7 +8,7 @@ use Rattle.pct_model.specs.declared.schedule.Config.{Config}
 use Rattle.pct_model.specs.declared.schedule.Entry.{Entry}
 use Rattle.pct_model.specs.declared.word.Keyword.TheVariants as word
 use Rattle.pct_model.specs.Words.{keyword_text}
-use Rattle.pct_model.specs.Canon.{Spells}
+use Rattle.pct_model.specs.Spells.{Spells}
 use Rattle.pct_model.specs.Schedule.{sched_of}
 use Rattle.pct_model.specs.Run.{first_illegal}
 use Rattle.pct_model.specs.Outcome.{is_asked, is_accepted, script_part, schedule_part, default_config, FirstGoesAlone, Outcome}
@@ -46,7 +46,7 @@ pub record Answer (words : List (List ℕ)) (input : List ℕ) (code : ℕ) (tex
   pub is_outcome : Outcome words input schedule code text
   pub run : is_asked word.Run words ≡ true → code < 5 → IsClosedRun schedule code text
   pub replay : is_asked word.Replay words ≡ true → code < 5 → sched_of text ≡ sched_of (schedule_part input)
-  pub replayed : code < 5 → IsReplayed words input code text
+  pub replayed : is_asked word.Check words ≡ false → code < 5 → IsReplayed words input code text
 
 -- the whole text was written
 pub record Tells (words : List (List ℕ)) (input : List ℕ) (before after : Option (List ℕ)) (code : ℕ) : Type 0 where

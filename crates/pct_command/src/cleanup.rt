@@ -44,7 +44,7 @@ pub(crate) fn emit(
 )
     requires room { vec_len events.old < vec_capacity events.old }
     requires frames { length process.old.thread.frames < 16 }
-    requires place { frame.place < 2 ^ 64 - 1 }
+    requires place { frame.place < 2000 }
     ensures leads { Leads script.now (with_top frame process.old) process.new (reverse events.old.items) (reverse events.new.items)
         (emits (thread_of (with_top frame process.old).thread) frame process.old.thread.frames value) }
     ensures len { vec_len events.new ≤ vec_len events.old + 1 }
@@ -67,7 +67,7 @@ pub(crate) fn push(
 )
     requires room { vec_len events.old < vec_capacity events.old }
     requires frames { length process.old.thread.frames < 16 }
-    requires place { frame.place < 2 ^ 64 - 1 }
+    requires place { frame.place < 2000 }
     ensures leads { Leads script.now (with_top frame process.old) process.new (reverse events.old.items) (reverse events.new.items)
         (pushes (thread_of (with_top frame process.old).thread) frame process.old.thread.frames func value) }
     ensures len { vec_len events.new ≤ vec_len events.old + 1 }
@@ -94,7 +94,7 @@ pub(crate) fn pop(
     requires can { is_stuck (pops (thread_of (with_top frame process.old).thread) frame process.old.thread.frames value process.old.thread.handlers) ≡ false }
     requires room { vec_len events.old < vec_capacity events.old }
     requires frames { length process.old.thread.frames < 16 }
-    requires place { frame.place < 2 ^ 64 - 1 }
+    requires place { frame.place < 2000 }
     ensures leads { Leads script.now (with_top frame process.old) process.new (reverse events.old.items) (reverse events.new.items)
         (pops (thread_of (with_top frame process.old).thread) frame process.old.thread.frames value process.old.thread.handlers) }
     ensures len { vec_len events.new ≤ vec_len events.old + 1 }

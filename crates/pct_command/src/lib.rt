@@ -1,10 +1,14 @@
-//! The top call: `command` reads words and an input, runs the script or replays a schedule of it, and writes the report.
+//! The top call: `command` reads words and an input, and runs the script, replays a schedule of it or writes it in its
+//! canonical form.
 #![tactic(auto)]
 
 mod answers;
+mod calls;
+mod check_command;
 mod cleanup;
 mod events;
 mod go;
+mod jumping;
 mod law;
 mod machine;
 mod process;
@@ -16,6 +20,7 @@ mod run_command;
 mod stack;
 mod status;
 mod top;
+mod variables;
 mod words;
 
 pub use law::outcomes_are_one;

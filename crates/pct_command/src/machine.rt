@@ -3,6 +3,7 @@
 ghost use Rattle.std.specs.Prelude.{◌≡◌, ◌≢◌, ◌≤◌, length, IfOk, IsTrue};
 ghost use Rattle.pct_model.specs.World.{opening};
 ghost use Rattle.pct_model.specs.Run.{is_config, verdict_of};
+ghost use Rattle.pct_script.specs.Jumping.{jumps_of};
 ghost use Rattle.pct_command.specs.OneThread.{world_of};
 ghost use Rattle.pct_command.specs.Ran.{IsRan, MayGo};
 ghost use Rattle.pct_model.specs.Outcome.{FirstGoesAlone};
@@ -13,6 +14,7 @@ use crate::go::{can_go, go};
 use crate::process::{Frames, Handlers, OneProcess, OneThread, new_frame};
 use pct_io::NoMemory;
 use pct_model::{Config, Entry, Event, FrameKind, Mode, Script, State, Status, Verdict, main_of};
+use pct_script::Jumps;
 use std::alloc::Global;
 
 /// A run that is over: its events and its entries in order, and how it stands.
@@ -35,11 +37,12 @@ pub(crate) fn run_alone(alloc: Global, script: &Script, config: Config) -> Resul
     let mut events = Vec::with_capacity(alloc, budget)?;
     let mut history = Vec::with_capacity(alloc, budget)?;
     let mut process = opening_of(alloc, script)?;
-    let mut verdict = verdict_after(script, config, &process, 0);
+    let jumps = Jumps::new(alloc, script)?;
+    let mut verdict = verdict_after(script, &jumps, config, &process, 0);
     while let Verdict::Open = verdict {
-        go(script, config, &mut process, &mut events);
+        go(script, &jumps, config, &mut process, &mut events);
         record_entry(&mut history);
-        verdict = verdict_after(script, config, &process, history.len());
+        verdict = verdict_after(script, &jumps, config, &process, history.len());
     }
     Ok(Ran {
         events,
@@ -75,10 +78,12 @@ pub(crate) fn opening_of(alloc: Global, script: &Script) -> Result<OneProcess, N
 #[tactic(auto, unfolding(pct_model::specs::Run::verdict_of))]
 pub(crate) fn verdict_after(
     script: &Script,
+    jumps: &Jumps,
     config: Config,
     process: &OneProcess,
     count: usize,
 ) -> Verdict
+    requires { jumps.now ≡ jumps_of script.now.funcs }
     ensures value { result ≡ verdict_of script.now config (world_of script.now process.now) count }
     ensures open { result ≡ verdict.Open → MayGo script.now config process.now count }
 {
@@ -86,7 +91,7 @@ pub(crate) fn verdict_after(
         Verdict::Undefined(why)
     } else if process.ended.is_some() {
         Verdict::Complete
-    } else if !can_go(script, config, process) {
+    } else if !can_go(script, jumps, config, process) {
         Verdict::Deadlock
     } else if count == config.budget as usize {
         Verdict::Budget

@@ -1,7 +1,8 @@
 //! A process of one thread: the parts of it that a script of one thread can change.
 
-ghost use Rattle.std.specs.Prelude.{◌≡◌, ◌<◌, ◌-◌, ◌^◌, IfSome};
+ghost use Rattle.std.specs.Prelude.{◌≡◌, ◌<◌, length, IfSome};
 ghost use Rattle.pct_model.specs.World.{new_frame as frame_at_start, value_of as value_in, statement_at as statement_in};
+ghost use Rattle.pct_command.specs.OneThread.{with_top};
 
 use crate::stack::Stack;
 use pct_model::{
@@ -46,11 +47,20 @@ pub(crate) fn new_frame(func: u32, arg: u32, kind: FrameKind) -> Frame
     }
 }
 
+/// Puts a frame back, at a place.
+pub(crate) fn move_to(process: &mut OneProcess, mut frame: Frame, place: usize)
+    requires { length process.old.thread.frames < 16 }
+    ensures { process.new ≡ with_top (record frame { place = place }) process.old }
+{
+    frame.place = place;
+    process.thread.frames.push(frame);
+}
+
 /// The statement at which a frame stands.
 #[tactic(auto, unfolding(pct_model::specs::World::statement_at))]
 pub(crate) fn statement_at(script: &Script, frame: &Frame) -> Option<Stmt>
     ensures value { result ≡ statement_in script.now frame.now }
-    ensures place { IfSome result (λ _. frame.now.place < 2 ^ 64 - 1) }
+    ensures place { IfSome result (λ _. frame.now.place < 2000) }
 {
     let func = script.funcs.as_slice().get(frame.func as usize)?;
     let body = func.body.as_slice();

@@ -3,6 +3,7 @@
 ghost use Rattle.std.specs.Prelude.{◌≡◌, ◌+◌, ◌≤◌, false, length, reverse, true, vec_len, vec_capacity, Some, None, IfErr, IfNone, IfOk, IfSome, IsTrue};
 ghost use Rattle.pct_model.specs.Step.{step};
 ghost use Rattle.pct_model.specs.Run.{illegal_in, is_config, run_from};
+ghost use Rattle.pct_script.specs.Jumping.{jumps_of};
 ghost use Rattle.pct_command.specs.OneThread.{world_of};
 ghost use Rattle.pct_command.specs.Ran.{IsRan, IsTaken, StopsReplay, lets_first_go as first_goes_by, run_at};
 
@@ -10,6 +11,7 @@ use crate::go::{can_go, go};
 use crate::machine::{opening_of, verdict_after};
 use crate::process::OneProcess;
 use pct_model::{Alt, Config, Entry, Event, MAX_WORKER, Script, Verdict};
+use pct_script::Jumps;
 use std::alloc::Global;
 
 /// A run that was made again: its events in order, and how it stands.
@@ -46,10 +48,13 @@ pub(crate) fn replay(
     let Ok(mut process) = opening_of(alloc, script) else {
         return Err(ReplayFault::NoMemory);
     };
-    match make_steps(script, config, &mut process, &mut events, entries) {
+    let Ok(jumps) = Jumps::new(alloc, script) else {
+        return Err(ReplayFault::NoMemory);
+    };
+    match make_steps(script, &jumps, config, &mut process, &mut events, entries) {
         Some(place) => Err(ReplayFault::NotLegal { place }),
         None => {
-            let verdict = verdict_after(script, config, &process, entries.len());
+            let verdict = verdict_after(script, &jumps, config, &process, entries.len());
             Ok(Replayed { events, verdict })
         }
     }
@@ -58,11 +63,13 @@ pub(crate) fn replay(
 // Makes the steps of the entries up to the first that is not legal, and answers the place of that one, counted from 1.
 fn make_steps(
     script: &Script,
+    jumps: &Jumps,
     config: Config,
     process: &mut OneProcess,
     events: &mut Vec<Event>,
     entries: &[Entry],
 ) -> Option<u32>
+    requires made { jumps.now ≡ jumps_of script.now.funcs }
     requires few { length entries.now ≤ 200000 }
     requires room { vec_len events.old + length entries.now ≤ vec_capacity events.old }
     ensures all { IfNone result (run_from script.now config (run_at script.now process.old (reverse events.old.items)) entries.now ≡ Some (run_at script.now process.new (reverse events.new.items))) }
@@ -71,21 +78,28 @@ fn make_steps(
     let mut place = 0;
     for entry in entries {
         place += 1;
-        if !is_legal(script, config, process, *entry) {
+        if !is_legal(script, jumps, config, process, *entry) {
             return Some(place);
         }
-        go(script, config, process, events);
+        go(script, jumps, config, process, events);
     }
     None
 }
 
 // Whether an entry is legal.
-fn is_legal(script: &Script, config: Config, process: &OneProcess, entry: Entry) -> bool
+fn is_legal(
+    script: &Script,
+    jumps: &Jumps,
+    config: Config,
+    process: &OneProcess,
+    entry: Entry,
+) -> bool
+    requires { jumps.now ≡ jumps_of script.now.funcs }
     ensures legal { result ≡ true → IsTaken script.now config process.now entry }
     ensures illegal { result ≡ false → step script.now config (world_of script.now process.now) entry ≡ None }
 {
     match (process.stop, process.ended) {
-        (None, None) => lets_first_go(entry) && can_go(script, config, process),
+        (None, None) => lets_first_go(entry) && can_go(script, jumps, config, process),
         _ => false,
     }
 }

@@ -1,7 +1,7 @@
 //! The word `replay`: a script is run under the schedule that stands behind it, and the report is written.
 
 ghost use Rattle.std.specs.Prelude.{◌≡◌, ◌≤◌, ℕ, List, length, true, Ok as IsRead, IsTrue};
-ghost use Rattle.pct_model.specs.Canon.{Spells};
+ghost use Rattle.pct_model.specs.Spells.{Spells};
 ghost use Rattle.pct_model.specs.Schedule.{sched_of};
 ghost use Rattle.pct_model.specs.Run.{is_config};
 ghost use Rattle.pct_model.specs.Outcome.{is_asked, script_part, schedule_part};

@@ -4,8 +4,8 @@ ghost use Rattle.std.specs.Prelude.{◌≡◌, ◌++◌, ◌<◌, ◌^◌, lengt
 ghost use Rattle.std.specs.List.{flat_map};
 ghost use Rattle.pct_io.specs.Writes.{Writes};
 ghost use Rattle.pct_model.specs.Words.{line_text, text_of};
-ghost use Rattle.pct_model.specs.Static.{names_of};
-ghost use Rattle.pct_model.specs.Canon.{name_at};
+ghost use Rattle.pct_model.specs.Names.{names_of};
+ghost use Rattle.pct_model.specs.Names.{name_at};
 ghost use Rattle.pct_model.specs.Report.{event_line, verdict_line, report_lines, schedule_lines, title_line};
 
 use pct_history::write_schedule;
@@ -145,7 +145,7 @@ fn write_event<K: Sink>(sink: &mut K, script: &Script, event: Event) -> Result<(
 }
 
 // The name of a function.
-#[tactic(auto, unfolding(pct_model::specs::Canon::name_at))]
+#[tactic(auto, unfolding(pct_model::specs::Names::name_at))]
 fn name_of(script: &Script, func: u32) -> &[u8]
     ensures { result.now ≡ name_at (names_of script.now.funcs) func }
 {

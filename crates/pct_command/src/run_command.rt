@@ -1,7 +1,7 @@
 //! The words `run` alone: the script of a text is run, and its report is written.
 
 ghost use Rattle.std.specs.Prelude.{◌≡◌, ◌≤◌, ℕ, List, length, true};
-ghost use Rattle.pct_model.specs.Canon.{Spells};
+ghost use Rattle.pct_model.specs.Spells.{Spells};
 ghost use Rattle.pct_model.specs.Outcome.{is_accepted, is_asked, default_config, script_part};
 ghost use Rattle.pct_model.specs.declared.word.Keyword.TheVariants as word;
 ghost use Rattle.pct_script.specs.Fault.{IsFaultOf};

@@ -56,51 +56,210 @@ fn call<R: Threads + Sync>(
     })
 }
 
+// The report of a run of the default numbers: its events, how it stands, and this many steps of the first thread.
+fn report(
+    alloc: Global,
+    events: &[u8],
+    verdict: &[u8],
+    steps: usize,
+) -> Result<Vec<u8>, AllocError> {
+    let mut text = Vec::from_slice(alloc, b"report 1\n")?;
+    text.extend_from_slice(events)?;
+    text.extend_from_slice(b"verdict ")?;
+    text.extend_from_slice(verdict)?;
+    text.extend_from_slice(b"\nschedule 1 10000 4 64\n")?;
+    for _ in 0..steps {
+        text.extend_from_slice(b"1 1 1 go\n")?;
+    }
+    text.extend_from_slice(format!(in alloc; "end {steps}\n")?.as_bytes())?;
+    Ok(text)
+}
+
 #[test]
 fn reports(rt: HostRuntime) -> Result<(), Fail> {
-    let rows: [(&str, &[u8], Status, &[u8]); 6] = [
+    let rows: [(&[u8], Status, &[u8], &[u8], usize); 14] = [
+        // smallest
         (
-            "smallest",
             SMALLEST,
             Status::Complete,
-            b"report 1\n1.1 exit 0\n1.1 process_end 0\nverdict complete\nschedule 1 10000 4 64\n1 1 1 go\n1 1 1 go\nend 2\n",
+            b"1.1 exit 0\n1.1 process_end 0\n",
+            b"complete",
+            2,
         ),
+        // first_path
         (
-            "first_path",
             b"fn h x\nemit x\nend\nfn main x\npthread_cleanup_push h 1\nemit 5\npthread_cleanup_pop 1\nreturn 0\nend\n",
             Status::Complete,
-            b"report 1\n1.1 push h 1\n1.1 emit 5\n1.1 pop h 1 run\n1.1 emit 1\n1.1 exit 0\n1.1 process_end 0\nverdict complete\nschedule 1 10000 4 64\n1 1 1 go\n1 1 1 go\n1 1 1 go\n1 1 1 go\n1 1 1 go\n1 1 1 go\n1 1 1 go\nend 7\n",
+            b"1.1 push h 1\n1.1 emit 5\n1.1 pop h 1 run\n1.1 emit 1\n1.1 exit 0\n1.1 process_end 0\n",
+            b"complete",
+            7,
         ),
+        // Handlers are popped last in, first out.
         (
-            "handlers are popped last in first out",
             b"fn a y\nemit y\nend\nfn b y\nend\nfn main x\npthread_cleanup_push a 1\npthread_cleanup_push b 2\npthread_cleanup_pop 0\npthread_cleanup_pop x\nend\n",
             Status::Complete,
-            b"report 1\n1.1 push a 1\n1.1 push b 2\n1.1 pop b 2 drop\n1.1 pop a 1 drop\n1.1 exit 0\n1.1 process_end 0\nverdict complete\nschedule 1 10000 4 64\n1 1 1 go\n1 1 1 go\n1 1 1 go\n1 1 1 go\n1 1 1 go\n1 1 1 go\nend 6\n",
+            b"1.1 push a 1\n1.1 push b 2\n1.1 pop b 2 drop\n1.1 pop a 1 drop\n1.1 exit 0\n1.1 process_end 0\n",
+            b"complete",
+            6,
         ),
+        // The exit status is the value modulo 256.
         (
-            "the exit status is the value modulo 256",
             b"fn main x\nreturn 4294967295\nend\n",
             Status::Complete,
-            b"report 1\n1.1 exit 4294967295\n1.1 process_end 255\nverdict complete\nschedule 1 10000 4 64\n1 1 1 go\n1 1 1 go\nend 2\n",
+            b"1.1 exit 4294967295\n1.1 process_end 255\n",
+            b"complete",
+            2,
         ),
+        // A loop that counts a global down: the test, the emit, the sum and the end of each turn, then the last test.
         (
-            "a text that is not canonical",
-            b"fn main  x\nreturn 0\nend\n",
-            Status::ScriptRefused,
-            b"refused script 1 unknown_word\n",
+            b"global n\nfn main x\nset n 2\nwhile n\nemit n\nadd n 4294967295\nend\nend\n",
+            Status::Complete,
+            b"1.1 emit 2\n1.1 emit 1\n1.1 exit 0\n1.1 process_end 0\n",
+            b"complete",
+            12,
         ),
+        // Both ways through an `if`.
         (
-            "no text",
+            b"fn main x y\nif x\nemit 1\nelse\nemit 2\nend\nset y 7\nif y\nemit 3\nelse\nemit 4\nend\nend\n",
+            Status::Complete,
+            b"1.1 emit 2\n1.1 emit 3\n1.1 exit 0\n1.1 process_end 0\n",
+            b"complete",
+            9,
+        ),
+        // An `if` without an `else`, and a loop that is not entered.
+        (
+            b"fn main x\nif x\nemit 1\nend\nwhile x\nemit 2\nend\nnop\nemit 3\nend\n",
+            Status::Complete,
+            b"1.1 emit 3\n1.1 exit 0\n1.1 process_end 0\n",
+            b"complete",
+            6,
+        ),
+        // A call with an argument; what it returns is dropped, and the caller goes on.
+        (
+            b"fn f a b\nset b a\nadd b 1\nemit b\nreturn 9\nend\nfn main x\ndo f 4294967295\nemit x\nend\n",
+            Status::Complete,
+            b"1.1 emit 0\n1.1 emit 0\n1.1 exit 0\n1.1 process_end 0\n",
+            b"complete",
+            8,
+        ),
+        // A call of `main` is a call as any other.
+        (
+            b"global again\nfn main x\nif again\nreturn 5\nend\nset again 1\ndo main 0\nreturn 3\nend\n",
+            Status::Complete,
+            b"1.1 exit 3\n1.1 process_end 3\n",
+            b"complete",
+            7,
+        ),
+        // A handler that pushes and pops itself.
+        (
+            b"fn k x\nemit x\nend\nfn h x\npthread_cleanup_push k 2\npthread_cleanup_pop x\nend\nfn main x\npthread_cleanup_push h 1\npthread_cleanup_pop 1\nend\n",
+            Status::Complete,
+            b"1.1 push h 1\n1.1 pop h 1 run\n1.1 push k 2\n1.1 pop k 2 run\n1.1 emit 2\n1.1 exit 0\n1.1 process_end 0\n",
+            b"complete",
+            9,
+        ),
+        // stops_on_one_thread: too many frames
+        (
+            b"fn main x\ndo main 0\nend\n",
+            Status::Undefined,
+            b"1.1 profile stack_full\n",
+            b"profile stack_full",
+            16,
+        ),
+        // A loop without an end comes to the budget.
+        (
+            b"fn main x\nwhile 1\nend\nend\n",
+            Status::Budget,
             b"",
-            Status::ScriptRefused,
-            b"refused script 1 unknown_word\n",
+            b"budget",
+            10_000,
+        ),
+        // A statement that is not built stops the run.
+        (
+            b"fn main x\nemit 1\npthread_testcancel\nend\n",
+            Status::Undefined,
+            b"1.1 emit 1\n1.1 profile unbuilt\n",
+            b"profile unbuilt",
+            2,
+        ),
+        (
+            b"fn main x\nread\nend\n",
+            Status::Undefined,
+            b"1.1 profile unbuilt\n",
+            b"profile unbuilt",
+            1,
         ),
     ];
-    for (name, script, status, text) in rows {
+    for (script, status, events, verdict, steps) in rows {
         let told = call(&rt, rt.alloc(), &["run"], script, &QUIET)?;
-        assert_eq!(rt; told.status, status, "{name}");
-        assert_eq!(rt; told.text.as_slice(), text, "{name}");
-        assert_eq!(rt; told.left, 0, "{name}");
+        let text = report(rt.alloc(), events, verdict, steps)?;
+        assert_eq!(rt; told.status, status);
+        assert_eq!(rt; told.text.as_slice(), text.as_slice());
+        assert_eq!(rt; told.left, 0);
+    }
+    assert_eq!(rt; Status::Undefined.code(), 3);
+    Ok(())
+}
+
+// Three pushes at a time, in one function after the other, come to the 33rd push.
+#[test]
+fn stops_on_one_thread(rt: HostRuntime) -> Result<(), Fail> {
+    let mut script = Vec::from_slice(rt.alloc(), b"fn main x\n")?;
+    for _ in 0..3 {
+        script.extend_from_slice(b"pthread_cleanup_push main 0\n")?;
+    }
+    script.extend_from_slice(b"do main 0\n")?;
+    for _ in 0..3 {
+        script.extend_from_slice(b"pthread_cleanup_pop 0\n")?;
+    }
+    script.extend_from_slice(b"end\n")?;
+    let mut events = Vec::new(rt.alloc());
+    for _ in 0..32 {
+        events.extend_from_slice(b"1.1 push main 0\n")?;
+    }
+    events.extend_from_slice(b"1.1 profile cleanup_full\n")?;
+    let told = call(&rt, rt.alloc(), &["run"], &script, &QUIET)?;
+    let text = report(rt.alloc(), &events, b"profile cleanup_full", 43)?;
+    assert_eq!(rt; told.status, Status::Undefined);
+    assert_eq!(rt; told.text.as_slice(), text.as_slice());
+    Ok(())
+}
+
+#[test]
+fn checks(rt: HostRuntime) -> Result<(), Fail> {
+    let rows: [(&[u8], Status, &[u8]); 5] = [
+        // check: comments, blanks of each kind, leading zeros, and no last line end
+        (
+            b"# pool\r\nfn main  x\r\n\temit 007\r\nreturn 0\r\nend\r\nmutex m",
+            Status::Complete,
+            b"mutex m\nfn main x\nemit 7\nreturn 0\nend\n",
+        ),
+        (SMALLEST, Status::Complete, SMALLEST),
+        // A name that is declared and not used stays, and the kinds come in their order.
+        (
+            b"sem s 00\ncond c\nfn main x\nend\nmutex m\nglobal g\n",
+            Status::Complete,
+            b"global g\nmutex m\ncond c\nsem s 0\nfn main x\nend\n",
+        ),
+        // empty
+        (b"", Status::ScriptRefused, b"refused script 1 no_main\n"),
+        // return_between_push_and_pop
+        (
+            b"fn h x\nend\nfn main x\npthread_cleanup_push h 1\nreturn 0\npthread_cleanup_pop 0\nend\n",
+            Status::ScriptRefused,
+            b"refused script 5 return_in_push\n",
+        ),
+    ];
+    for (script, status, text) in rows {
+        let told = call(&rt, rt.alloc(), &["check"], script, &QUIET)?;
+        assert_eq!(rt; told.status, status);
+        assert_eq!(rt; told.text.as_slice(), text);
+        assert_eq!(rt; told.left, 0);
+        if status == Status::ScriptRefused {
+            let told = call(&rt, rt.alloc(), &["run"], script, &QUIET)?;
+            assert_eq!(rt; told.status, status);
+            assert_eq!(rt; told.text.as_slice(), text);
+        }
     }
     Ok(())
 }
@@ -225,15 +384,11 @@ fn the_parts_of_a_replay(rt: HostRuntime) -> Result<(), Fail> {
         ),
         // The script is refused before the schedule is looked at.
         (
-            b"fn main  x\nreturn 0\nend\n%%\nschedule 1 100 3 64\n",
+            b"fn f x\nend\n%%\nschedule 1 100 3 64\n",
             Status::ScriptRefused,
-            b"refused script 1 unknown_word\n",
+            b"refused script 1 no_main\n",
         ),
-        (
-            b"",
-            Status::ScriptRefused,
-            b"refused script 1 unknown_word\n",
-        ),
+        (b"", Status::ScriptRefused, b"refused script 1 no_main\n"),
         // The first line `%%` parts the input, and may end in a byte 13.
         (
             b"fn main x\nreturn 0\nend\n%%\r\n%%\nschedule 1 100 4 64\nend 1\n",
@@ -261,8 +416,10 @@ fn the_parts_of_a_replay(rt: HostRuntime) -> Result<(), Fail> {
 
 #[test]
 fn words(rt: HostRuntime) -> Result<(), Fail> {
-    let rows: [&[&str]; 10] = [
+    let rows: [&[&str]; 12] = [
         &["replay", "x"],
+        &["check", "x"],
+        &["check", "check"],
         &["run", "replay"],
         &["run", "--budget", "0"],
         &["run", "--seed", "1", "--seed", "2"],
@@ -336,7 +493,7 @@ fn the_length_of_the_input(rt: HostRuntime) -> Result<(), Fail> {
     assert_eq!(rt; told.status.code(), 6);
     assert_eq!(rt;
         told.text.as_slice(),
-        b"refused script 1 unknown_word\n".as_slice()
+        b"refused script 1 no_main\n".as_slice()
     );
     Ok(())
 }

@@ -8,6 +8,7 @@ ghost use Rattle.pct_command.specs.Texts.{TextAnswers};
 ghost use Rattle.pct_command.specs.Words.{Asks, HasDefaults};
 
 use crate::answers::{refuse_input, refuse_words};
+use crate::check_command::check_text;
 use crate::replay_command::replay_text;
 use crate::run_command::run_text;
 use crate::status::Status;
@@ -19,15 +20,17 @@ use std::thread::Threads;
 
 /// Does what the words ask for, with the source's bytes as the input, and writes the answer to the sink.
 ///
-/// So far the words are `run` alone or `replay` alone. `run` reads a script and runs it. `replay` reads a script, a line
-/// `%%` and a schedule, in whose place a whole report may stand, and runs the script under that schedule. What is written
-/// is the report, or one line that says what is refused. `rt` and `gate` are not used so far.
+/// So far the words are `run` alone, `replay` alone or `check` alone. `run` reads a script and runs it. `replay` reads a
+/// script, a line `%%` and a schedule, in whose place a whole report may stand, and runs the script under that schedule.
+/// What they write is the report. `check` reads a script and writes its canonical text. What is refused is answered by one
+/// line that says why. `rt` and `gate` are not used so far.
 ///
 /// The answer is the first of these that holds, unless `ReadFault`, `WriteFault` or `NoMemory` comes in its place:
 ///
 /// - `Usage`: the words are not accepted; nothing is read.
 /// - `TooLong`: more than 16,777,216 bytes were read.
-/// - `ScriptRefused`: the script's part of the input spells no script.
+/// - `ScriptRefused`: the script's part of the input has a fault.
+/// - `Complete`, from `check`: the canonical text was written.
 /// - `ScheduleRefused`, from `replay` alone: the schedule's part cannot be read, or an entry is not legal in its place.
 /// - `Complete`, `Deadlock`, `Budget`, `Undefined` or `Open`: the verdict of the run whose report was written. `run` never
 ///   gives `Open`.
@@ -109,5 +112,6 @@ fn answer_text<K: Sink>(alloc: Global, job: Job, text: &[u8], sink: &mut K) -> S
     match job {
         Job::Run(options) => run_text(alloc, options, text, sink),
         Job::Replay => replay_text(alloc, text, sink),
+        Job::Check => check_text(alloc, text, sink),
     }
 }

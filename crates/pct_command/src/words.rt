@@ -39,9 +39,12 @@ pub enum Job {
     Run(RunOptions),
     /// Run the script of the input under the schedule that stands behind it, and write its report.
     Replay,
+    /// Read the script of the input, and write its canonical text.
+    Check,
 }
 
-/// What the words ask for. So far `run` alone and `replay` alone are accepted, and `Usage` comes with all other words.
+/// What the words ask for. So far `run` alone, `replay` alone and `check` alone are accepted, and `Usage` comes with all
+/// other words.
 /// It takes no memory.
 #[tactic(auto, unfolding(pct_model::specs::Outcome::is_asked))]
 pub fn read_words(words: &[String]) -> Result<Job, Usage>
@@ -51,6 +54,7 @@ pub fn read_words(words: &[String]) -> Result<Job, Usage>
     match words {
         [word] if word.as_bytes() == Keyword::Run.text() => Ok(Job::Run(RunOptions::DEFAULT)),
         [word] if word.as_bytes() == Keyword::Replay.text() => Ok(Job::Replay),
+        [word] if word.as_bytes() == Keyword::Check.text() => Ok(Job::Check),
         _ => Err(Usage),
     }
 }

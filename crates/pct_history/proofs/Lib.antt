@@ -1,12 +1,14 @@
 pub mod ByCuts
 pub mod ByLines
-pub mod Checked
+pub mod CanonSize
 pub mod FirstLines
+pub mod FirstWords
 pub mod Loops
 pub mod Marked
 pub mod Plain
 pub mod ReadBack
 pub mod ReplayInput
+pub mod ScriptLines
 pub mod Sizes
 pub mod Texts
 pub mod Within

@@ -17,8 +17,8 @@ use Rattle.pct_model.specs.declared.stop.Verdict.TheVariants as verdict
 use Rattle.pct_model.specs.declared.word.Keyword.{Keyword}
 use Rattle.pct_model.specs.declared.word.Keyword.TheVariants as word
 use Rattle.pct_model.specs.Words.{keyword_text}
-use Rattle.pct_model.specs.Static.{is_digit, is_name_byte, is_name, names_of}
-use Rattle.pct_model.specs.Canon.{name_at}
+use Rattle.pct_model.specs.Names.{is_digit, is_name_byte, is_name, names_of, name_at}
+use Rattle.pct_model.specs.Spells.{contents_of}
 use Rattle.pct_model.specs.Report.{class_of_stop, name_of_stop, stop_words, run_or_drop, event_words, thread_text, event_line, alt_words, entry_line, header_line, end_line, verdict_words, verdict_line, title_line}
 use Rattle.pct_model.proofs.Numbers.{digits_of_decimal}
 use Rattle.pct_model.proofs.StaticFacts.{names_are_names}
@@ -79,7 +79,7 @@ name_at_plain (name ∷ names) (suc f) all = name_at_plain names f (and_parts (i
 
 function_plain : (script : Script) (f : ℕ) → is_plain (name_at (names_of script.funcs) f) ≡ true
 function_plain script f =
-    name_at_plain (names_of script.funcs) f (names_are_names script.globals script.mutexes script.conds script.sems script.funcs script.passes_checks)
+    name_at_plain (names_of script.funcs) f (names_are_names (contents_of script) script.passes_checks)
 
 pub thread_plain : (pid tid : ℕ) → is_plain (thread_text pid tid) ≡ true
 unfolding thread_text
@@ -87,14 +87,11 @@ thread_plain pid tid = list_all-append is_plain_byte (decimal pid) (46 ∷ decim
 
 pub keyword_plain : (k : Keyword) → is_plain (keyword_text k) ≡ true
 unfolding keyword_text
-keyword_plain word.Fn = refl
 keyword_plain word.Main = refl
 keyword_plain word.Emit = refl
-keyword_plain word.CleanupPush = refl
-keyword_plain word.CleanupPop = refl
-keyword_plain word.Return = refl
 keyword_plain word.End = refl
 keyword_plain word.Replay = refl
+keyword_plain word.Check = refl
 keyword_plain word.Push = refl
 keyword_plain word.Pop = refl
 keyword_plain word.Run = refl

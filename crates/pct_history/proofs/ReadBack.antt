@@ -17,7 +17,7 @@ use Rattle.pct_model.specs.declared.stop.Verdict.{Verdict}
 use Rattle.pct_model.specs.declared.refusal.ScheduleWhy.TheVariants as why
 use Rattle.pct_model.specs.declared.word.Keyword.TheVariants as word
 use Rattle.pct_model.specs.Words.{keyword_text, line_text, text_of}
-use Rattle.pct_model.specs.Static.{is_digit}
+use Rattle.pct_model.specs.Names.{is_digit}
 use Rattle.pct_model.specs.Report.{thread_text, event_words, event_line, alt_words, entry_line, header_line, end_line, schedule_lines, verdict_words, verdict_line, title_line, report_lines, report_of, report}
 use Rattle.pct_model.specs.Lines.{cut, lines_of, without_return}
 use Rattle.pct_model.specs.Run.{Run, is_config, run, verdict_of}

@@ -1,5 +1,5 @@
 -- An input of `replay` that is made of a script and a schedule.
-use Rattle.std.proofs.Common.{◌≡◌, ℕ, ◌+◌, ◌≤◌, Bool, cond, List, [], ◌∷◌, ◌++◌, Some, Ok, length, take, drop, ap, ◌∙◌, arith, le-leb, length-append, flat_map}
+use Rattle.std.proofs.Common.{◌≡◌, ℕ, ◌+◌, ◌≤◌, Bool, cond, List, [], ◌∷◌, ◌++◌, Some, Ok, length, take, drop, ap, ◌∙◌, arith, le-leb, length-append}
 use Rattle.std.specs.Prelude.{codes}
 use Rattle.std.proofs.Math.Seq.{take-append_seam, drop-append-add}
 use Rattle.pct_model.specs.declared.script.Script.{Script}
@@ -7,8 +7,8 @@ use Rattle.pct_model.specs.declared.schedule.Config.{Config}
 use Rattle.pct_model.specs.declared.schedule.Entry.{Entry}
 use Rattle.pct_model.specs.declared.word.Keyword.TheVariants as word
 use Rattle.pct_model.specs.Words.{keyword_text, text_of}
-use Rattle.pct_model.specs.Static.{names_of}
-use Rattle.pct_model.specs.Canon.{function_lines, functions_text, canon}
+use Rattle.pct_model.specs.Spells.{contents_of}
+use Rattle.pct_model.specs.Canon.{script_lines, canon}
 use Rattle.pct_model.specs.Report.{schedule_lines}
 use Rattle.pct_model.specs.Lines.{lines_of}
 use Rattle.pct_model.specs.Schedule.{marker_in, parts_at, replay_parts, sched_of}
@@ -16,19 +16,17 @@ use Rattle.pct_model.specs.Outcome.{is_asked, script_part, schedule_part}
 use Rattle.pct_history.specs.ReadBack.{IsSchedule}
 use Rattle.pct_history.specs.ReplayInput.{replay_input, IsParted, IsReplayInput}
 use Rattle.pct_history.proofs.ByLines.{by_lines}
-use Rattle.pct_history.proofs.Checked.{script_is_checked}
-use Rattle.pct_history.proofs.Marked.{marker_behind, functions_are_lines}
+use Rattle.pct_history.proofs.Marked.{marker_behind}
+use Rattle.pct_history.proofs.ScriptLines.{script_is_lines}
 use Rattle.pct_history.proofs.ReadBack.{schedule_again}
-use Rattle.pct_history.proofs.Sizes.{schedule_size, canon_size}
+use Rattle.pct_history.proofs.Sizes.{schedule_size}
+use Rattle.pct_history.proofs.CanonSize.{canon_size}
 use Rattle.pct_history.proofs.Within.{sched_within}
 
 -- the marker stands behind the canonical text
 marker_at : (script : Script) (text : List ℕ) → marker_in 0 (lines_of (replay_input script text)) ≡ Some (length (canon script), length (canon script) + 3)
-unfolding replay_input functions_text
-marker_at script text =
-    let names = names_of script.funcs in
-    let checked = script_is_checked script in
-    marker_behind (flat_map (function_lines names) script.funcs) text 0 (length (canon script)) (functions_are_lines names script.funcs checked.names checked.each) (omega arith)
+unfolding replay_input
+marker_at script text = marker_behind (script_lines (contents_of script)) text 0 (length (canon script)) (script_is_lines script) (omega arith)
 
 input_size : (script : Script) (text : List ℕ) → length (replay_input script text) ≡ length (canon script) + 3 + length text
 unfolding replay_input

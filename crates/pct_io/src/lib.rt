@@ -18,7 +18,7 @@ pub use edge::{StdSink, StdSource};
 pub use failed::{Failed, NoMemory, ReadEnd};
 pub use gate::{Gate, NoGate};
 pub use gatherer::{Gatherer, write_gathered};
-pub use line::{Word, write_line};
+pub use line::{Word, write_line, write_spaced_word};
 pub use memory::{MemSink, MemSource};
 pub use sink::Sink;
 pub use source::Source;

@@ -111,7 +111,9 @@ fn write_spaced<K: Sink>(sink: &mut K, words: &[Word]) -> Result<(), Failed>
     Ok(())
 }
 
-fn write_spaced_word<K: Sink>(sink: &mut K, word: &Word) -> Result<(), Failed>
+/// Writes a space, and the word behind it. At `Failed` a front of them was written, and the sink's count of faults rose.
+/// It takes no memory.
+pub fn write_spaced_word<K: Sink>(sink: &mut K, word: &Word) -> Result<(), Failed>
     ensures { Writes K.written K.faults K.inners sink.old sink.new (32 ∷ word_text word.now) result }
 {
     write_all(sink, b" ")?;

@@ -5,6 +5,10 @@ pub mod Numbers
 pub mod FnPlaces
 pub mod Runs
 pub mod StaticFacts
-mod Rows
 mod ScheduleRows
 mod SpellingRows
+mod GrammarRows
+mod ScriptRows
+mod StaticRows
+mod Rows
+mod MachineRows

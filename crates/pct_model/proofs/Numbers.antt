@@ -7,7 +7,7 @@ use Rattle.std.specs.Str.Parse.{digits_value}
 use Rattle.std.proofs.lemmas.Bool.{and_parts, and_from, cond_both, false_from_ne_true, not-true}
 use Rattle.std.proofs.lemmas.Fmt.{decimal_by_steps, decimal_is_IsNumeral}
 use Rattle.std.proofs.lemmas.Option.{cond_some}
-use Rattle.pct_model.specs.Static.{is_digit, is_name_byte, is_name}
+use Rattle.pct_model.specs.Names.{is_digit, is_name_byte, is_name}
 use Rattle.pct_model.specs.Lines.{◌>>=◌, cut, number_of}
 use Rattle.pct_model.specs.Reading.{with_digit, value_from, number_in}
 use Rattle.pct_model.proofs.Cuts.{lacks_other}

@@ -1,4 +1,4 @@
--- What the definitions say of small scripts: which pass the checks, their texts, and their runs.
+-- What the definitions say of small scripts: their texts, their runs, and what the program answers.
 use Rattle.std.proofs.Common.{◌≡◌, ℕ, Bool, true, false, List, [], ◌∷◌, ◌++◌, length, map, reverse, replicate, Option, Some, None, refl}
 use Rattle.std.specs.Prelude.{IsTrue, IsFalse, codes, flat_map, option_map}
 use Rattle.std.specs.Fmt.{digits}
@@ -22,21 +22,33 @@ use Rattle.pct_model.specs.declared.stop.Verdict.{Verdict}
 use Rattle.pct_model.specs.declared.stop.Verdict.TheVariants as verdict
 use Rattle.pct_model.specs.declared.stop.Why.TheVariants as why
 use Rattle.pct_model.specs.Words.{keyword_text, line_text}
-use Rattle.pct_model.specs.Static.{is_static, is_name, all_different, main_of, is_operand, is_handler, open_after, open_in_handler, is_body, is_parameter, is_function}
-use Rattle.pct_model.specs.Canon.{name_at, operand_text, statement_words, function_lines, functions_text, canon}
+use Rattle.pct_model.specs.Names.{is_name, all_different, name_at, main_of}
+use Rattle.pct_model.specs.Lines.{lines_of, without_return}
+use Rattle.pct_model.specs.Points.{points, point_of, point_name}
+use Rattle.pct_model.specs.Forms.{shape_of_declaration, shape, point_statement}
+use Rattle.pct_model.specs.Statements.{said_as}
+use Rattle.pct_model.specs.Nesting.{outside, inside, standing, open_after, are_nested}
+use Rattle.pct_model.specs.Checks.{none_wrong}
+use Rattle.pct_model.specs.Static.{has_word, have_words, has_first_word, has_line, has_lines, has_text, keeps_limits, has_each_name_once, names_plain, is_static}
+use Rattle.pct_model.specs.Jumps.{close_of, open_of}
+use Rattle.pct_model.specs.Canon.{argument_text, argument_texts, statement_words, function_lines, script_lines, canon}
 use Rattle.pct_model.specs.World.{Thread, Process, World, first_process, statement_at, value_of, new_frame, new_thread, opening}
-use Rattle.pct_model.specs.Alternatives.{stops, emits, pushes, pops, exits, returns_by, ends_process, running_at}
+use Rattle.pct_model.specs.Alternatives.{stops, emits, pushes, pops, exits, returns_by, ends_at, ends_process, running_at}
 use Rattle.pct_model.specs.Step.{process_ends, step, is_legal}
 use Rattle.pct_model.specs.Run.{run_step, run_from, illegal_in, first_illegal, run, verdict_of}
 use Rattle.pct_model.specs.Report.{stop_words, event_words, thread_text, event_line, alt_words, entry_line, header_line, end_line, schedule_lines, verdict_words, verdict_line, title_line, report_lines, report}
-use Rattle.pct_model.specs.Lines.{lines_of, without_return}
 use Rattle.pct_model.specs.Schedule.{marker_in, replay_parts}
 use Rattle.pct_model.specs.Outcome.{is_asked, is_accepted, script_part, schedule_part, default_config, first_goes, refused_words, refused_input, refused_script, refused_schedule, refused_entry, code_of_verdict}
 
 -- ---- forms
 
-abbrev passes : List Func → Bool
-passes funcs = is_static [] [] [] [] funcs
+-- functions alone make a static script
+abbrev are_static : List Func → Bool
+are_static funcs = is_static (record { globals = []; mutexes = []; conds = []; sems = []; funcs = funcs })
+
+-- they keep the limits
+abbrev keeps : List Func → Bool
+keeps funcs = keeps_limits (record { globals = []; mutexes = []; conds = []; sems = []; funcs = funcs })
 
 abbrev function : List ℕ → List Stmt → Func
 function name body = record { name = name; locals = codes "x" ∷ []; body = body }
@@ -78,8 +90,8 @@ abbrev smallest_funcs : List Func
 smallest_funcs = main_alone (returns_0 ∷ [])
 
 -- `main` returns at once
-smallest_passes : IsTrue (passes smallest_funcs)
-unfolding is_static is_name all_different main_of is_operand is_handler open_after open_in_handler is_body is_parameter is_function keyword_text
+smallest_passes : IsTrue (are_static smallest_funcs)
+unfolding keyword_text is_name all_different name_at points point_of point_name shape_of_declaration shape point_statement said_as outside inside standing open_after are_nested none_wrong has_word have_words has_first_word has_line has_lines has_text keeps_limits has_each_name_once names_plain is_static
 smallest_passes = refl
 
 abbrev smallest : Script
@@ -87,53 +99,53 @@ smallest = record { globals = []; mutexes = []; conds = []; sems = []; funcs = s
 
 -- its canonical text
 smallest_text : canon smallest ≡ codes "fn main x\nreturn 0\nend\n"
-unfolding digits name_at operand_text statement_words function_lines functions_text keyword_text
+unfolding digits name_at shape_of_declaration shape said_as argument_text argument_texts statement_words function_lines script_lines
 smallest_text = refl
 
 -- its bytes
 smallest_text_length : length (canon smallest) ≡ 23
-unfolding digits name_at operand_text statement_words function_lines functions_text keyword_text
+unfolding digits name_at shape_of_declaration shape said_as argument_text argument_texts statement_words function_lines script_lines
 smallest_text_length = refl
 
 -- the whole report of its run
 smallest_report : report smallest default_config (replicate 2 first_goes) ≡ Some (codes "report 1\n1.1 exit 0\n1.1 process_end 0\nverdict complete\nschedule 1 10000 4 64\n1 1 1 go\n1 1 1 go\nend 2\n")
-unfolding main_of keyword_text statement_at value_of opening stops emits pushes pops exits returns_by ends_process running_at step run_step run_from run verdict_of digits name_at stop_words event_words thread_text event_line alt_words entry_line header_line end_line schedule_lines verdict_words verdict_line title_line report_lines report
+unfolding main_of keyword_text statement_at value_of opening stops emits pushes pops exits returns_by ends_at ends_process running_at close_of open_of step run_step run_from run verdict_of digits name_at stop_words event_words thread_text event_line alt_words entry_line header_line end_line schedule_lines verdict_words verdict_line title_line report_lines report
 smallest_report = refl
 
 -- its bytes
 smallest_report_length : option_map length (report smallest default_config (replicate 2 first_goes)) ≡ Some 101
-unfolding main_of keyword_text statement_at value_of opening stops emits pushes pops exits returns_by ends_process running_at step run_step run_from run verdict_of digits name_at stop_words event_words thread_text event_line alt_words entry_line header_line end_line schedule_lines verdict_words verdict_line title_line report_lines report
+unfolding main_of keyword_text statement_at value_of opening stops emits pushes pops exits returns_by ends_at ends_process running_at close_of open_of step run_step run_from run verdict_of digits name_at stop_words event_words thread_text event_line alt_words entry_line header_line end_line schedule_lines verdict_words verdict_line title_line report_lines report
 smallest_report_length = refl
 
 -- before its first entry and after it the run can go on
 smallest_open : (stands smallest default_config 0 ≡ Some verdict.Open) × (stands smallest default_config 1 ≡ Some verdict.Open)
-unfolding main_of keyword_text statement_at value_of opening stops emits pushes pops exits returns_by ends_process running_at step run_step run_from run verdict_of
+unfolding main_of keyword_text statement_at value_of opening stops emits pushes pops exits returns_by ends_at ends_process running_at close_of open_of step run_step run_from run verdict_of
 smallest_open = (refl, refl)
 
 -- a run that completes with its last allowed entry is complete
 smallest_at_budget : stands smallest (with_budget 2) 2 ≡ Some verdict.Complete
-unfolding main_of keyword_text statement_at value_of opening stops emits pushes pops exits returns_by ends_process running_at step run_step run_from run verdict_of
+unfolding main_of keyword_text statement_at value_of opening stops emits pushes pops exits returns_by ends_at ends_process running_at close_of open_of step run_step run_from run verdict_of
 smallest_at_budget = refl
 
 -- after one entry of one it is at the budget
 smallest_cut : stands smallest (with_budget 1) 1 ≡ Some verdict.Budget
-unfolding main_of keyword_text statement_at value_of opening stops emits pushes pops exits returns_by ends_process running_at step run_step run_from run verdict_of
+unfolding main_of keyword_text statement_at value_of opening stops emits pushes pops exits returns_by ends_at ends_process running_at close_of open_of step run_step run_from run verdict_of
 smallest_cut = refl
 
 -- nothing is legal after the process ended
 smallest_ends : run smallest default_config (replicate 3 first_goes) ≡ None
-unfolding main_of keyword_text statement_at value_of opening stops emits pushes pops exits returns_by ends_process running_at step run_step run_from run verdict_of
+unfolding main_of keyword_text statement_at value_of opening stops emits pushes pops exits returns_by ends_at ends_process running_at close_of open_of step run_step run_from run verdict_of
 smallest_ends = refl
 
 -- there is no run past the budget
 smallest_past_budget : run smallest (with_budget 1) (replicate 2 first_goes) ≡ None
-unfolding main_of keyword_text statement_at value_of opening stops emits pushes pops exits returns_by ends_process running_at step run_step run_from run verdict_of
+unfolding main_of keyword_text statement_at value_of opening stops emits pushes pops exits returns_by ends_at ends_process running_at close_of open_of step run_step run_from run verdict_of
 smallest_past_budget = refl
 
 -- which entry is the first that is not legal in its place, counted from 1: a third step, another thread, another process,
 -- another choice; any worker of at most 16 may make a step
 smallest_illegal : (first_illegal smallest default_config (replicate 2 first_goes) ≡ None) × (first_illegal smallest default_config (replicate 4 first_goes) ≡ Some 3) × (first_illegal smallest default_config (record { worker = 1; pid = 1; tid = 2; alt = alt.Go } ∷ []) ≡ Some 1) × (first_illegal smallest default_config (first_goes ∷ record { worker = 1; pid = 2; tid = 1; alt = alt.Go } ∷ first_goes ∷ []) ≡ Some 2) × (first_illegal smallest default_config (record { worker = 1; pid = 1; tid = 1; alt = alt.Act 0 } ∷ first_goes ∷ []) ≡ Some 1) × (first_illegal smallest default_config (record { worker = 16; pid = 1; tid = 1; alt = alt.Go } ∷ record { worker = 0; pid = 1; tid = 1; alt = alt.Go } ∷ []) ≡ None) × (first_illegal smallest default_config (record { worker = 17; pid = 1; tid = 1; alt = alt.Go } ∷ []) ≡ Some 1)
-unfolding main_of keyword_text statement_at value_of opening stops emits pushes pops exits returns_by ends_process running_at step run_step illegal_in
+unfolding main_of keyword_text statement_at value_of opening stops emits pushes pops exits returns_by ends_at ends_process running_at close_of open_of step run_step illegal_in
 smallest_illegal = (refl, refl, refl, refl, refl, refl, refl)
 
 -- ---- a handler that a pop calls
@@ -142,8 +154,8 @@ abbrev first_path_funcs : List Func
 first_path_funcs = main_with_h (push_h 1 ∷ statement.Emit (operand.Num 5) ∷ pop 1 ∷ returns_0 ∷ [])
 
 -- a push, its pop, and a statement between them
-first_path_passes : IsTrue (passes first_path_funcs)
-unfolding is_static is_name all_different main_of is_operand is_handler open_after open_in_handler is_body is_parameter is_function keyword_text
+first_path_passes : IsTrue (are_static first_path_funcs)
+unfolding keyword_text is_name all_different name_at points point_of point_name shape_of_declaration shape point_statement said_as outside inside standing open_after are_nested none_wrong has_word have_words has_first_word has_line has_lines has_text keeps_limits has_each_name_once names_plain is_static
 first_path_passes = refl
 
 abbrev first_path : Script
@@ -151,42 +163,42 @@ first_path = record { globals = []; mutexes = []; conds = []; sems = []; funcs =
 
 -- its canonical text
 first_path_text : canon first_path ≡ codes "fn h x\nemit x\nend\nfn main x\npthread_cleanup_push h 1\nemit 5\npthread_cleanup_pop 1\nreturn 0\nend\n"
-unfolding digits name_at operand_text statement_words function_lines functions_text keyword_text
+unfolding digits name_at shape_of_declaration shape said_as argument_text argument_texts statement_words function_lines script_lines
 first_path_text = refl
 
 -- its bytes
 first_path_text_length : length (canon first_path) ≡ 95
-unfolding digits name_at operand_text statement_words function_lines functions_text keyword_text
+unfolding digits name_at shape_of_declaration shape said_as argument_text argument_texts statement_words function_lines script_lines
 first_path_text_length = refl
 
 -- the events of its run
 first_path_events : events_of first_path default_config 7 ≡ Some (map event (what.Pushed 0 1 ∷ what.Emit 5 ∷ what.Popped 0 1 true ∷ what.Emit 1 ∷ what.ExitBegun 0 ∷ what.ProcessEnded 0 ∷ []))
-unfolding main_of keyword_text statement_at value_of opening stops emits pushes pops exits returns_by ends_process running_at step run_step run_from run verdict_of
+unfolding main_of keyword_text statement_at value_of opening stops emits pushes pops exits returns_by ends_at ends_process running_at close_of open_of step run_step run_from run verdict_of
 first_path_events = refl
 
 -- the return of the handler is no event
 first_path_silent : events_of first_path default_config 5 ≡ events_of first_path default_config 4
-unfolding main_of keyword_text statement_at value_of opening stops emits pushes pops exits returns_by ends_process running_at step run_step run_from run verdict_of
+unfolding main_of keyword_text statement_at value_of opening stops emits pushes pops exits returns_by ends_at ends_process running_at close_of open_of step run_step run_from run verdict_of
 first_path_silent = refl
 
 -- its run is complete
 first_path_complete : stands first_path default_config 7 ≡ Some verdict.Complete
-unfolding main_of keyword_text statement_at value_of opening stops emits pushes pops exits returns_by ends_process running_at step run_step run_from run verdict_of
+unfolding main_of keyword_text statement_at value_of opening stops emits pushes pops exits returns_by ends_at ends_process running_at close_of open_of step run_step run_from run verdict_of
 first_path_complete = refl
 
 -- the whole report of its run
 first_path_report : report first_path default_config (replicate 7 first_goes) ≡ Some (codes "report 1\n1.1 push h 1\n1.1 emit 5\n1.1 pop h 1 run\n1.1 emit 1\n1.1 exit 0\n1.1 process_end 0\nverdict complete\nschedule 1 10000 4 64\n1 1 1 go\n1 1 1 go\n1 1 1 go\n1 1 1 go\n1 1 1 go\n1 1 1 go\n1 1 1 go\nend 7\n")
-unfolding main_of keyword_text statement_at value_of opening stops emits pushes pops exits returns_by ends_process running_at step run_step run_from run verdict_of digits name_at stop_words event_words thread_text event_line alt_words entry_line header_line end_line schedule_lines verdict_words verdict_line title_line report_lines report
+unfolding main_of keyword_text statement_at value_of opening stops emits pushes pops exits returns_by ends_at ends_process running_at close_of open_of step run_step run_from run verdict_of digits name_at stop_words event_words thread_text event_line alt_words entry_line header_line end_line schedule_lines verdict_words verdict_line title_line report_lines report
 first_path_report = refl
 
 -- at a smaller budget the run is at the budget
 first_path_cut : stands first_path (with_budget 3) 3 ≡ Some verdict.Budget
-unfolding main_of keyword_text statement_at value_of opening stops emits pushes pops exits returns_by ends_process running_at step run_step run_from run verdict_of
+unfolding main_of keyword_text statement_at value_of opening stops emits pushes pops exits returns_by ends_at ends_process running_at close_of open_of step run_step run_from run verdict_of
 first_path_cut = refl
 
 -- the report of that run
 first_path_cut_report : report first_path (with_budget 3) (replicate 3 first_goes) ≡ Some (codes "report 1\n1.1 push h 1\n1.1 emit 5\n1.1 pop h 1 run\nverdict budget\nschedule 1 3 4 64\n1 1 1 go\n1 1 1 go\n1 1 1 go\nend 3\n")
-unfolding main_of keyword_text statement_at value_of opening stops emits pushes pops exits returns_by ends_process running_at step run_step run_from run verdict_of digits name_at stop_words event_words thread_text event_line alt_words entry_line header_line end_line schedule_lines verdict_words verdict_line title_line report_lines report
+unfolding main_of keyword_text statement_at value_of opening stops emits pushes pops exits returns_by ends_at ends_process running_at close_of open_of step run_step run_from run verdict_of digits name_at stop_words event_words thread_text event_line alt_words entry_line header_line end_line schedule_lines verdict_words verdict_line title_line report_lines report
 first_path_cut_report = refl
 
 -- ---- other runs
@@ -195,8 +207,8 @@ abbrev dropped_funcs : List Func
 dropped_funcs = main_with_h (push_h 1 ∷ pop 0 ∷ [])
 
 -- a pop with 0
-dropped_passes : IsTrue (passes dropped_funcs)
-unfolding is_static is_name all_different main_of is_operand is_handler open_after open_in_handler is_body is_parameter is_function keyword_text
+dropped_passes : IsTrue (are_static dropped_funcs)
+unfolding keyword_text is_name all_different name_at points point_of point_name shape_of_declaration shape point_statement said_as outside inside standing open_after are_nested none_wrong has_word have_words has_first_word has_line has_lines has_text keeps_limits has_each_name_once names_plain is_static
 dropped_passes = refl
 
 abbrev dropped : Script
@@ -204,15 +216,15 @@ dropped = record { globals = []; mutexes = []; conds = []; sems = []; funcs = dr
 
 -- its handler is dropped, and the closing `end` of `main` returns 0
 dropped_report : report dropped default_config (replicate 4 first_goes) ≡ Some (codes "report 1\n1.1 push h 1\n1.1 pop h 1 drop\n1.1 exit 0\n1.1 process_end 0\nverdict complete\nschedule 1 10000 4 64\n1 1 1 go\n1 1 1 go\n1 1 1 go\n1 1 1 go\nend 4\n")
-unfolding main_of keyword_text statement_at value_of opening stops emits pushes pops exits returns_by ends_process running_at step run_step run_from run verdict_of digits name_at stop_words event_words thread_text event_line alt_words entry_line header_line end_line schedule_lines verdict_words verdict_line title_line report_lines report
+unfolding main_of keyword_text statement_at value_of opening stops emits pushes pops exits returns_by ends_at ends_process running_at close_of open_of step run_step run_from run verdict_of digits name_at stop_words event_words thread_text event_line alt_words entry_line header_line end_line schedule_lines verdict_words verdict_line title_line report_lines report
 dropped_report = refl
 
 abbrev last_first_funcs : List Func
 last_first_funcs = main_with_h (push_h 1 ∷ push_h 2 ∷ pop 1 ∷ pop 0 ∷ [])
 
 -- two handlers
-last_first_passes : IsTrue (passes last_first_funcs)
-unfolding is_static is_name all_different main_of is_operand is_handler open_after open_in_handler is_body is_parameter is_function keyword_text
+last_first_passes : IsTrue (are_static last_first_funcs)
+unfolding keyword_text is_name all_different name_at points point_of point_name shape_of_declaration shape point_statement said_as outside inside standing open_after are_nested none_wrong has_word have_words has_first_word has_line has_lines has_text keeps_limits has_each_name_once names_plain is_static
 last_first_passes = refl
 
 abbrev last_first : Script
@@ -220,15 +232,15 @@ last_first = record { globals = []; mutexes = []; conds = []; sems = []; funcs =
 
 -- a pop takes the handler that was pushed last
 last_first_events : events_of last_first default_config 8 ≡ Some (map event (what.Pushed 0 1 ∷ what.Pushed 0 2 ∷ what.Popped 0 2 true ∷ what.Emit 2 ∷ what.Popped 0 1 false ∷ what.ExitBegun 0 ∷ what.ProcessEnded 0 ∷ []))
-unfolding main_of keyword_text statement_at value_of opening stops emits pushes pops exits returns_by ends_process running_at step run_step run_from run verdict_of
+unfolding main_of keyword_text statement_at value_of opening stops emits pushes pops exits returns_by ends_at ends_process running_at close_of open_of step run_step run_from run verdict_of
 last_first_events = refl
 
 abbrev large_value_funcs : List Func
 large_value_funcs = main_alone (statement.Emit (operand.Local 0) ∷ statement.Return (operand.Num 300) ∷ statement.Emit (operand.Num 7) ∷ [])
 
 -- `main` emits its parameter and returns 300; what stands after its return is not reached
-large_value_passes : IsTrue (passes large_value_funcs)
-unfolding is_static is_name all_different main_of is_operand is_handler open_after open_in_handler is_body is_parameter is_function keyword_text
+large_value_passes : IsTrue (are_static large_value_funcs)
+unfolding keyword_text is_name all_different name_at points point_of point_name shape_of_declaration shape point_statement said_as outside inside standing open_after are_nested none_wrong has_word have_words has_first_word has_line has_lines has_text keeps_limits has_each_name_once names_plain is_static
 large_value_passes = refl
 
 abbrev large_value : Script
@@ -236,7 +248,7 @@ large_value = record { globals = []; mutexes = []; conds = []; sems = []; funcs 
 
 -- the parameter of `main` is 0, and the status of a process is its exit value modulo 256
 large_value_events : events_of large_value default_config 3 ≡ Some (map event (what.Emit 0 ∷ what.ExitBegun 300 ∷ what.ProcessEnded 44 ∷ []))
-unfolding main_of keyword_text statement_at value_of opening stops emits pushes pops exits returns_by ends_process running_at step run_step run_from run verdict_of
+unfolding main_of keyword_text statement_at value_of opening stops emits pushes pops exits returns_by ends_at ends_process running_at close_of open_of step run_step run_from run verdict_of
 large_value_events = refl
 
 -- ---- stops and ends
@@ -340,77 +352,7 @@ nothing_but_go : (IsFalse (legal_at_start (record first_goes { alt = alt.Act 0 }
 unfolding main_of keyword_text statement_at value_of opening stops exits returns_by running_at step
 nothing_but_go = (refl, refl, refl, refl)
 
--- ---- which scripts pass
-
--- a script has a `main`
-without_main : (IsFalse (passes [])) × (IsFalse (passes (function (codes "h") (statement.End ∷ []) ∷ [])))
-unfolding is_static is_name all_different main_of is_operand is_handler open_after open_in_handler is_body is_parameter is_function keyword_text
-without_main = (refl, refl)
-
--- functions have different names
-double_name : IsFalse (passes (function (codes "h") (statement.End ∷ []) ∷ main_with_h (returns_0 ∷ [])))
-unfolding is_static is_name all_different main_of is_operand is_handler open_after open_in_handler is_body is_parameter is_function keyword_text
-double_name = refl
-
--- so there is one `main`
-two_mains : IsFalse (passes (main_alone [] ++ main_alone []))
-unfolding is_static is_name all_different main_of is_operand is_handler open_after open_in_handler is_body is_parameter is_function keyword_text
-two_mains = refl
-
--- pushes nest up to 32 deep
-nested_pushes : (IsTrue (passes (main_with_h (replicate 32 (push_h 1) ++ replicate 32 (pop 0))))) × (IsFalse (passes (main_with_h (replicate 33 (push_h 1) ++ replicate 33 (pop 0)))))
-unfolding is_static is_name all_different main_of is_operand is_handler open_after open_in_handler is_body is_parameter is_function keyword_text
-nested_pushes = (refl, refl)
-
--- and there may be more of them one after another
-many_pushes : IsTrue (passes (main_with_h (flat_map (λ n. push_h n ∷ pop n ∷ []) (replicate 40 1))))
-unfolding is_static is_name all_different main_of is_operand is_handler open_after open_in_handler is_body is_parameter is_function keyword_text
-many_pushes = refl
-
--- no return stands between a push and its pop
-return_in_push : IsFalse (passes (main_with_h (push_h 1 ∷ returns_0 ∷ pop 0 ∷ [])))
-unfolding is_static is_name all_different main_of is_operand is_handler open_after open_in_handler is_body is_parameter is_function keyword_text
-return_in_push = refl
-
--- a push names a function other than `main`
-push_of_main : (IsFalse (passes (main_with_h (statement.Push 1 (operand.Num 1) ∷ pop 0 ∷ [])))) × (IsFalse (passes (main_with_h (statement.Push 2 (operand.Num 1) ∷ pop 0 ∷ []))))
-unfolding is_static is_name all_different main_of is_operand is_handler open_after open_in_handler is_body is_parameter is_function keyword_text
-push_of_main = (refl, refl)
-
--- a function has one local
-two_locals : IsFalse (passes (record { name = codes "main"; locals = codes "x" ∷ codes "y" ∷ []; body = returns_0 ∷ statement.End ∷ [] } ∷ []))
-unfolding is_static is_name all_different main_of is_operand is_handler open_after open_in_handler is_body is_parameter is_function keyword_text
-two_locals = refl
-
--- each push has its pop, and each pop its push
-unpaired : (IsFalse (passes (main_with_h (push_h 1 ∷ [])))) × (IsFalse (passes (main_with_h (pop 0 ∷ [])))) × (IsFalse (passes (main_with_h (pop 0 ∷ push_h 1 ∷ []))))
-unfolding is_static is_name all_different main_of is_operand is_handler open_after open_in_handler is_body is_parameter is_function keyword_text
-unpaired = (refl, refl, refl)
-
--- a number has 32 bits
-numbers : (IsTrue (passes (main_alone (statement.Emit (operand.Num 4294967295) ∷ [])))) × (IsFalse (passes (main_alone (statement.Emit (operand.Num 4294967296) ∷ []))))
-unfolding is_static is_name all_different main_of is_operand is_handler open_after open_in_handler is_body is_parameter is_function keyword_text
-numbers = (refl, refl)
-
--- an operand is a number or the parameter
-operands : (IsFalse (passes (main_alone (statement.Emit (operand.Local 1) ∷ [])))) × (IsFalse (passes (main_alone (statement.Emit (operand.Global 0) ∷ []))))
-unfolding is_static is_name all_different main_of is_operand is_handler open_after open_in_handler is_body is_parameter is_function keyword_text
-operands = (refl, refl)
-
--- a body ends with its one `end`
-bodies : (IsFalse (passes (function (codes "main") [] ∷ []))) × (IsFalse (passes (function (codes "main") (returns_0 ∷ []) ∷ []))) × (IsFalse (passes (main_alone (statement.End ∷ []))))
-unfolding is_static is_name all_different main_of is_operand is_handler open_after open_in_handler is_body is_parameter is_function keyword_text
-bodies = (refl, refl, refl)
-
--- a function that is not `main` emits alone
-handlers_emit : (IsFalse (passes (function (codes "h") (returns_0 ∷ statement.End ∷ []) ∷ main_alone []))) × (IsFalse (passes (main_alone (statement.Nop ∷ []))))
-unfolding is_static is_name all_different main_of is_operand is_handler open_after open_in_handler is_body is_parameter is_function keyword_text
-handlers_emit = (refl, refl)
-
--- a script declares functions alone
-other_declarations : (IsFalse (is_static (codes "g" ∷ []) [] [] [] (main_alone []))) × (IsFalse (is_static [] (codes "m" ∷ []) [] [] (main_alone []))) × (IsFalse (is_static [] [] (codes "c" ∷ []) [] (main_alone []))) × (IsFalse (is_static [] [] [] (record { name = codes "s"; count = 0 } ∷ []) (main_alone [])))
-unfolding is_static is_name all_different main_of is_operand is_handler open_after open_in_handler is_body is_parameter is_function keyword_text
-other_declarations = (refl, refl, refl, refl)
+-- ---- names, and the limit of all statement lines
 
 -- names are 1 to 31 letters, digits and `_`
 names : (IsTrue (is_name (codes "A"))) × (IsTrue (is_name (codes "Z"))) × (IsTrue (is_name (codes "a"))) × (IsTrue (is_name (codes "z"))) × (IsTrue (is_name (codes "_"))) × (IsTrue (is_name (codes "_9"))) × (IsTrue (is_name (codes "end"))) × (IsTrue (is_name (codes "fn"))) × (IsTrue (is_name (codes "abcdefghijklmnopqrstuvwxyz_0189")))
@@ -423,8 +365,8 @@ unfolding is_name
 no_names = (refl, refl, refl, refl, refl, refl, refl, refl, refl, refl, refl)
 
 -- a script has at most 2,000 statement lines
-statement_lines_of_all : (IsTrue (passes (main_alone (replicate 1999 returns_0)))) × (IsFalse (passes (main_alone (replicate 2000 returns_0))))
-unfolding is_static is_name all_different main_of is_operand is_handler open_after open_in_handler is_body is_parameter is_function keyword_text
+statement_lines_of_all : (IsTrue (keeps (main_alone (replicate 1999 returns_0)))) × (IsFalse (keeps (main_alone (replicate 2000 returns_0))))
+unfolding keeps_limits
 statement_lines_of_all = (refl, refl)
 
 -- ---- words and refusals

@@ -5,7 +5,7 @@ use Rattle.std.specs.List.{position_or_len}
 use Rattle.pct_model.specs.declared.refusal.ParseWhy.{ParseWhy}
 use Rattle.pct_model.specs.declared.refusal.ParseWhy.TheVariants as fault
 use Rattle.pct_model.specs.Words.{keyword_text}
-use Rattle.pct_model.specs.Static.{is_name}
+use Rattle.pct_model.specs.Names.{is_name}
 use Rattle.pct_model.specs.Lines.{lines_of}
 use Rattle.pct_model.specs.Points.{points, point_of, point_name}
 use Rattle.pct_model.specs.Forms.{shape_of_declaration, shape, point_statement, forms, form_of}

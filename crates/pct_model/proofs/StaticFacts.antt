@@ -1,43 +1,154 @@
 -- What the checks of a script say, one by one.
-use Rattle.std.proofs.Common.{◌≡◌, ℕ, ◌≤◌, true, List, [], ◌∷◌, length, refl}
-use Rattle.std.specs.Prelude.{◌&&◌, nat_eq, nat_le, nat_lt}
+use Rattle.std.proofs.Common.{◌≡◌, ℕ, ◌≤◌, true, List, [], ◌∷◌, length, map, refl, subst}
+use Rattle.std.specs.Prelude.{false, ◌&&◌, not, nat_le}
 use Rattle.std.specs.List.{list_all}
-use Rattle.std.proofs.lemmas.Bool.{and_parts, and_from, leb-true}
+use Rattle.std.proofs.lemmas.Bool.{and_parts, and_from, leb-true, not-true}
+use Rattle.std.proofs.lemmas.List.{length-map}
+use Rattle.pct_model.specs.declared.form.Kind.{Kind}
+use Rattle.pct_model.specs.declared.form.Kind.TheVariants as kind
 use Rattle.pct_model.specs.declared.script.Func.{Func}
 use Rattle.pct_model.specs.declared.script.SemDecl.{SemDecl}
-use Rattle.pct_model.specs.Static.{names_of, main_of, all_different, statement_lines, is_name, is_parameter, is_function, are_functions, is_static}
+use Rattle.pct_model.specs.Names.{is_name, names_of}
+use Rattle.pct_model.specs.Saying.{is_empty}
+use Rattle.pct_model.specs.Contents.{Contents, names_of_kind}
+use Rattle.pct_model.specs.Checks.{most}
+use Rattle.pct_model.specs.Static.{has_line, has_lines, has_text, nests, is_within, statement_lines, keeps_limits, has_each_name_once, returns_outside_pushes, names_plain_functions, has_main, is_static}
+
+-- the checks of a script that passes all of them
+pub record PassesAll (c : Contents) : Type 0 where
+  pub text : has_text c ≡ true
+  pub nested : list_all nests c.funcs ≡ true
+  pub limits : keeps_limits c ≡ true
+  pub once : has_each_name_once c ≡ true
+  pub returns : list_all returns_outside_pushes c.funcs ≡ true
+  pub plain : list_all (λ f. list_all (names_plain_functions c) f.body) c.funcs ≡ true
+  pub main : has_main c ≡ true
+
+pub passes_all : (c : Contents) → is_static c ≡ true → PassesAll c
+unfolding is_static
+passes_all c static =
+    let plain = list_all (λ (f : Func). list_all (names_plain_functions c) f.body) c.funcs in
+    let returns = list_all returns_outside_pushes c.funcs in
+    let nested = list_all nests c.funcs in
+    let a = and_parts (has_text c && nested && keeps_limits c && has_each_name_once c && returns && plain) (has_main c) static in
+    let b = and_parts (has_text c && nested && keeps_limits c && has_each_name_once c && returns) plain a.0 in
+    let d = and_parts (has_text c && nested && keeps_limits c && has_each_name_once c) returns b.0 in
+    let e = and_parts (has_text c && nested && keeps_limits c) (has_each_name_once c) d.0 in
+    let f = and_parts (has_text c && nested) (keeps_limits c) e.0 in
+    let g = and_parts (has_text c) nested f.0 in
+    record { text = g.0; nested = g.1; limits = f.1; once = e.1; returns = d.1; plain = b.1; main = a.1 }
+
+pub static_from : (c : Contents) → PassesAll c → is_static c ≡ true
+unfolding is_static
+static_from c p =
+    let plain = list_all (λ (f : Func). list_all (names_plain_functions c) f.body) c.funcs in
+    let returns = list_all returns_outside_pushes c.funcs in
+    let nested = list_all nests c.funcs in
+    and_from (has_text c && nested && keeps_limits c && has_each_name_once c && returns && plain) (has_main c)
+    (and_from (has_text c && nested && keeps_limits c && has_each_name_once c && returns) plain
+    (and_from (has_text c && nested && keeps_limits c && has_each_name_once c) returns
+    (and_from (has_text c && nested && keeps_limits c) (has_each_name_once c)
+    (and_from (has_text c && nested) (keeps_limits c) (and_from (has_text c) nested p.text p.nested) p.limits) p.once) p.returns) p.plain) p.main
+
+-- ---- limits
+
+-- the limits of a script, one by one
+pub record KeepsLimits (c : Contents) : Type 0 where
+  pub kinds : (k : Kind) → length (names_of_kind c k) ≤ most k
+  pub statements : statement_lines c.funcs ≤ 2000
+  pub locals : list_all (λ f. nat_le (length f.locals) 8) c.funcs ≡ true
+
+within_kinds : (c : Contents) (k : Kind) → is_within c kind.Global ≡ true → is_within c kind.Mutex ≡ true → is_within c kind.Cond ≡ true → is_within c kind.Sem ≡ true → is_within c kind.Function ≡ true
+    → length (names_of_kind c k) ≤ most k
+within_kinds c kind.Global globals mutexes conds sems functions = leb-true _ _ globals
+within_kinds c kind.Mutex globals mutexes conds sems functions = leb-true _ _ mutexes
+within_kinds c kind.Cond globals mutexes conds sems functions = leb-true _ _ conds
+within_kinds c kind.Sem globals mutexes conds sems functions = leb-true _ _ sems
+within_kinds c kind.Function globals mutexes conds sems functions = leb-true _ _ functions
+
+pub limits_kept : (c : Contents) → is_static c ≡ true → KeepsLimits c
+unfolding keeps_limits
+limits_kept c static =
+    let globals = is_within c kind.Global in
+    let mutexes = is_within c kind.Mutex in
+    let conds = is_within c kind.Cond in
+    let sems = is_within c kind.Sem in
+    let functions = is_within c kind.Function in
+    let short = nat_le (statement_lines c.funcs) 2000 in
+    let locals = list_all (λ (f : Func). nat_le (length f.locals) 8) c.funcs in
+    let a = and_parts (globals && mutexes && conds && sems && functions && short) locals (passes_all c static).limits in
+    let b = and_parts (globals && mutexes && conds && sems && functions) short a.0 in
+    let d = and_parts (globals && mutexes && conds && sems) functions b.0 in
+    let e = and_parts (globals && mutexes && conds) sems d.0 in
+    let f = and_parts (globals && mutexes) conds e.0 in
+    let g = and_parts globals mutexes f.0 in
+    record { kinds = λ k. within_kinds c k g.0 g.1 f.1 e.1 d.1; statements = leb-true (statement_lines c.funcs) 2000 b.1; locals = a.1 }
 
 -- there are at most 64 functions
-pub few_functions : (globals mutexes conds : List (List ℕ)) (sems : List SemDecl) (funcs : List Func) → is_static globals mutexes conds sems funcs ≡ true → length funcs ≤ 64
-unfolding is_static
-few_functions globals mutexes conds sems funcs static =
-    let these = (and_parts (nat_eq (length globals) 0 && nat_eq (length mutexes) 0 && nat_eq (length conds) 0 && nat_eq (length sems) 0) (are_functions funcs) static).1 in
-    let few = nat_le (length funcs) 64 in
-    let short = nat_le (statement_lines funcs) 2000 in
-    let apart = all_different (names_of funcs) in
-    let main = nat_lt (main_of (names_of funcs)) (length funcs) in
-    let each = list_all (is_function (names_of funcs)) funcs in
-    let a = (and_parts (few && short && apart && main) each these).0 in
-    let b = (and_parts (few && short && apart) main a).0 in
-    let c = (and_parts (few && short) apart b).0 in
-    leb-true (length funcs) 64 (and_parts few short c).0
+pub few_functions : (c : Contents) → is_static c ≡ true → length c.funcs ≤ 64
+few_functions c static = subst (λ (n : ℕ). n ≤ 64) (length-map c.funcs (λ (f : Func). f.name)) ((limits_kept c static).kinds kind.Function)
 
--- a function that passes its checks has a name
-name_of_function : (names : List (List ℕ)) (f : Func) → is_function names f ≡ true → is_name f.name ≡ true
-unfolding is_function
-name_of_function names f h = (and_parts (is_name f.name) (is_parameter f.locals) (and_parts (is_name f.name && is_parameter f.locals) _ h).0).0
+-- ---- names
 
--- and so has each of several
-pub names_of_functions : (names : List (List ℕ)) (fs : List Func) → list_all (is_function names) fs ≡ true → list_all is_name (names_of fs) ≡ true
-names_of_functions names [] h = refl
-names_of_functions names (f ∷ fs) h =
-    let parts = and_parts (is_function names f) (list_all (is_function names) fs) h in
-    and_from (is_name f.name) (list_all is_name (names_of fs)) (name_of_function names f parts.0) (names_of_functions names fs parts.1)
+-- what is said of a function that some lines say
+pub record HasLines (c : Contents) (f : Func) : Type 0 where
+  pub name : is_name f.name ≡ true
+  pub some : is_empty f.locals ≡ false
+  pub locals : list_all is_name f.locals ≡ true
+  pub body : list_all (has_line c f.locals) f.body ≡ true
+
+pub lines_of_function : (c : Contents) (f : Func) → has_lines c f ≡ true → HasLines c f
+unfolding has_lines
+lines_of_function c f h =
+    let name = is_name f.name in
+    let some = not (is_empty f.locals) in
+    let locals = list_all is_name f.locals in
+    let a = and_parts (name && some && locals) (list_all (has_line c f.locals) f.body) h in
+    let b = and_parts (name && some) locals a.0 in
+    let d = and_parts name some b.0 in
+    record { name = d.0; some = not-true (is_empty f.locals) d.1; locals = b.1; body = a.1 }
+
+names_of_lines : (c : Contents) (fs : List Func) → list_all (has_lines c) fs ≡ true → list_all is_name (names_of fs) ≡ true
+names_of_lines c [] h = refl
+names_of_lines c (f ∷ fs) h =
+    let parts = and_parts (has_lines c f) (list_all (has_lines c) fs) h in
+    and_from (is_name f.name) (list_all is_name (names_of fs)) (lines_of_function c f parts.0).name (names_of_lines c fs parts.1)
+
+names_of_sems : (sems : List SemDecl) → list_all (λ s. is_name s.name && nat_le s.count 32767) sems ≡ true → list_all is_name (map (λ s. s.name) sems) ≡ true
+names_of_sems [] h = refl
+names_of_sems (s ∷ sems) h =
+    let parts = and_parts (is_name s.name && nat_le s.count 32767) (list_all (λ (x : SemDecl). is_name x.name && nat_le x.count 32767) sems) h in
+    and_from (is_name s.name) (list_all is_name (map (λ (x : SemDecl). x.name) sems)) (and_parts (is_name s.name) (nat_le s.count 32767) parts.0).0 (names_of_sems sems parts.1)
+
+-- what is said of the parts of a script that some text spells
+pub record HasText (c : Contents) : Type 0 where
+  pub globals : list_all is_name c.globals ≡ true
+  pub mutexes : list_all is_name c.mutexes ≡ true
+  pub conds : list_all is_name c.conds ≡ true
+  pub sems : list_all (λ s. is_name s.name && nat_le s.count 32767) c.sems ≡ true
+  pub funcs : list_all (has_lines c) c.funcs ≡ true
+
+pub text_parts : (c : Contents) → has_text c ≡ true → HasText c
+unfolding has_text
+text_parts c h =
+    let globals = list_all is_name c.globals in
+    let mutexes = list_all is_name c.mutexes in
+    let conds = list_all is_name c.conds in
+    let sems = list_all (λ (s : SemDecl). is_name s.name && nat_le s.count 32767) c.sems in
+    let a = and_parts (globals && mutexes && conds && sems) (list_all (has_lines c) c.funcs) h in
+    let b = and_parts (globals && mutexes && conds) sems a.0 in
+    let d = and_parts (globals && mutexes) conds b.0 in
+    let e = and_parts globals mutexes d.0 in
+    record { globals = e.0; mutexes = e.1; conds = d.1; sems = b.1; funcs = a.1 }
+
+-- the declared names of each kind are names
+pub kinds_are_names : (c : Contents) (k : Kind) → HasText c → list_all is_name (names_of_kind c k) ≡ true
+kinds_are_names c kind.Global t = t.globals
+kinds_are_names c kind.Mutex t = t.mutexes
+kinds_are_names c kind.Cond t = t.conds
+kinds_are_names c kind.Sem t = names_of_sems c.sems t.sems
+kinds_are_names c kind.Function t = names_of_lines c c.funcs t.funcs
 
 -- the names of a script's functions are names
-pub names_are_names : (globals mutexes conds : List (List ℕ)) (sems : List SemDecl) (funcs : List Func) → is_static globals mutexes conds sems funcs ≡ true → list_all is_name (names_of funcs) ≡ true
-unfolding is_static
-names_are_names globals mutexes conds sems funcs static =
-    let these = (and_parts (nat_eq (length globals) 0 && nat_eq (length mutexes) 0 && nat_eq (length conds) 0 && nat_eq (length sems) 0) (are_functions funcs) static).1 in
-    let others = nat_le (length funcs) 64 && nat_le (statement_lines funcs) 2000 && all_different (names_of funcs) && nat_lt (main_of (names_of funcs)) (length funcs) in
-    names_of_functions (names_of funcs) funcs (and_parts others (list_all (is_function (names_of funcs)) funcs) these).1
+pub names_are_names : (c : Contents) → is_static c ≡ true → list_all is_name (names_of c.funcs) ≡ true
+names_are_names c static = kinds_are_names c kind.Function (text_parts c (passes_all c static).text)

@@ -1,10 +1,13 @@
 -- What a thread may do next: its alternatives, each with what it does. One list serves what is legal, what a step does
 -- and what is left to choose: `go` first, and then by rising slot or place.
 --
--- So far a thread emits, pushes and pops cleanup handlers, returns, and exits. A thread that stands anywhere else has
--- no alternative: the last line of each table below goes with the last statement that is built.
-use Rattle.std.specs.Prelude.{ℕ, suc, ◌%◌, true, false, if◌then◌else◌, List, [], ◌∷◌, length, Option, Some, None, is_some, nat_eq, nat_lt}
+-- So far a thread makes the script's own statements, pushes and pops cleanup handlers, returns, and exits. At any other
+-- statement it has `go` alone, which stops the run; in any other status, and in a frame of any other kind that returns, it
+-- has no alternative. The last line of each table below goes with the last case that is built.
+use Rattle.std.specs.Prelude.{ℕ, suc, ◌+◌, ◌%◌, true, false, if◌then◌else◌, List, [], ◌∷◌, length, Option, Some, None, is_some, unwrap_or, nat_eq, nat_lt, slice_index, slice_set}
 use Rattle.pct_model.specs.declared.script.Script.{Script}
+use Rattle.pct_model.specs.declared.statement.Dest.{Dest}
+use Rattle.pct_model.specs.declared.statement.Dest.TheVariants as destination
 use Rattle.pct_model.specs.declared.statement.Stmt.{Stmt}
 use Rattle.pct_model.specs.declared.statement.Stmt.TheVariants as statement
 use Rattle.pct_model.specs.declared.schedule.Alt.{Alt}
@@ -20,11 +23,13 @@ use Rattle.pct_model.specs.declared.state.Mode.TheVariants.{Deferred}
 use Rattle.pct_model.specs.declared.state.Status.{Status}
 use Rattle.pct_model.specs.declared.state.Status.TheVariants.{Running, Exiting}
 use Rattle.pct_model.specs.declared.stop.Why.{Why}
-use Rattle.pct_model.specs.declared.stop.Why.TheVariants.{ExitTwice, StackFull, CleanupFull}
-use Rattle.pct_model.specs.World.{Thread, Process, World, statement_at, value_of, new_frame}
+use Rattle.pct_model.specs.declared.stop.Why.TheVariants.{Unbuilt, ExitTwice, StackFull, CleanupFull}
+use Rattle.pct_model.specs.World.{Thread, Process, World, body_of, statement_at, value_of, new_frame}
+use Rattle.pct_model.specs.Jumps.{holds, is_while, close_of, open_of}
 
 -- what a step changes outside its own thread
 pub data Effect : Type 0 where
+  SetsGlobal : (index value : ℕ) → Effect
   ExitBegins : (value : ℕ) → Effect
   ProcessEnds : (status : ℕ) → Effect
   Stops : (why : Why) → Effect
@@ -46,9 +51,13 @@ stops t why = goes t (Stops why ∷ []) (Stopped why ∷ [])
 
 -- ---- frames
 
+-- the thread with its top frame at a place
+abbrev pub moved_to : Thread → Frame → List Frame → ℕ → Thread
+moved_to t frame below place = record t { frames = record frame { place = place } ∷ below }
+
 -- the thread with its top frame at the next statement
 abbrev pub moved_on : Thread → Frame → List Frame → Thread
-moved_on t frame below = record t { frames = record frame { place = suc frame.place } ∷ below }
+moved_on t frame below = moved_to t frame below (suc frame.place)
 
 -- the thread inside a function that it calls with this argument; its caller stands at its next statement
 abbrev pub called : Thread → Frame → List Frame → ℕ → ℕ → FrameKind → Thread
@@ -56,9 +65,54 @@ called t frame below func arg kind = record t { frames = new_frame func arg kind
 
 -- ---- the script's own statements
 
+-- `nop`
+unfoldable pub passes : Thread → Frame → List Frame → List Alternative
+passes t frame below = goes (moved_on t frame below) [] []
+
 -- `emit`
 unfoldable pub emits : Thread → Frame → List Frame → ℕ → List Alternative
 emits t frame below v = goes (moved_on t frame below) [] (Emit v ∷ [])
+
+-- the value of a variable; `-` has none
+unfoldable pub held_in : List ℕ → Frame → Dest → ℕ
+held_in globals frame destination.Drop = 0
+held_in globals frame (destination.Local i) = slice_index frame.locals i
+held_in globals frame (destination.Global i) = slice_index globals i
+
+-- `set`: a variable becomes a value; `-` drops it
+unfoldable pub sets : Thread → Frame → List Frame → Dest → ℕ → List Alternative
+sets t frame below destination.Drop v = goes (moved_on t frame below) [] []
+sets t frame below (destination.Local i) v = goes (moved_on t (record frame { locals = slice_set frame.locals i v }) below) [] []
+sets t frame below (destination.Global i) v = goes (moved_on t frame below) (SetsGlobal i v ∷ []) []
+
+-- `add`: a variable becomes its sum with a value, which wraps
+unfoldable pub adds : List ℕ → Thread → Frame → List Frame → Dest → ℕ → List Alternative
+adds globals t frame below d v = sets t frame below d ((held_in globals frame d + v) % 4294967296)
+
+-- `do`: a call of a function; at 16 frames that is a stop of this host's own
+unfoldable pub calls : Thread → Frame → List Frame → ℕ → ℕ → List Alternative
+calls t frame below f v =
+    if nat_lt (suc (length below)) 16
+    then goes (called t frame below f v kind.Call) [] []
+    else stops t StackFull
+
+-- ---- jumps
+
+-- the place behind what closes the block that a place opens: behind the `else` of an `if` that has one, else behind its `end`
+abbrev pub behind_block : List Stmt → ℕ → ℕ
+behind_block body place = suc (unwrap_or (close_of body place) place)
+
+-- `if` and `while`: where the value is 0, to the place behind the block
+unfoldable pub branches : List Stmt → Thread → Frame → List Frame → ℕ → List Alternative
+branches body t frame below v = goes (moved_to t frame below (if nat_eq v 0 then behind_block body frame.place else suc frame.place)) [] []
+
+-- `else`, reached from the statements of its `if`: to the place behind its `end`
+unfoldable pub skips : List Stmt → Thread → Frame → List Frame → List Alternative
+skips body t frame below = goes (moved_to t frame below (behind_block body frame.place)) [] []
+
+-- an `end` that closes the block opened at a place: a `while` goes round again
+unfoldable pub closes_block : List Stmt → Thread → Frame → List Frame → ℕ → List Alternative
+closes_block body t frame below place = goes (moved_to t frame below (if holds body is_while place then place else suc frame.place)) [] []
 
 -- ---- cleanup handlers (XSH pthread_cleanup_push)
 
@@ -98,6 +152,11 @@ returns_by kind.Destructor p t below v = []
 returns_by kind.ForkFn p t below v = []
 returns_by kind.ExitFn p t below v = []
 
+-- `end`: the function's own returns 0
+unfoldable pub ends_at : List Stmt → Process → Thread → Frame → List Frame → Option ℕ → List Alternative
+ends_at body p t frame below None = returns_by frame.kind p t below 0
+ends_at body p t frame below (Some place) = closes_block body t frame below place
+
 -- a thread in exit: once no exit function is left, the process ends with the value modulo 256
 unfoldable pub ends_process : Thread → List ℕ → Option ℕ → List Alternative
 ends_process t [] (Some v) = goes t (ProcessEnds (v % 256) ∷ []) (ProcessEnded (v % 256) ∷ [])
@@ -110,11 +169,18 @@ ends_process t (f ∷ fs) exit = []
 unfoldable pub running_at : Script → Config → World → Process → Thread → Frame → List Frame → Option Stmt → List Alternative
 running_at script config w p t frame below None = []
 running_at script config w p t frame below (Some (statement.Emit v)) = emits t frame below (value_of p.globals frame v)
+running_at script config w p t frame below (Some (statement.Set d v)) = sets t frame below d (value_of p.globals frame v)
+running_at script config w p t frame below (Some (statement.Add d v)) = adds p.globals t frame below d (value_of p.globals frame v)
+running_at script config w p t frame below (Some statement.Nop) = passes t frame below
+running_at script config w p t frame below (Some (statement.If v)) = branches (body_of script frame.func) t frame below (value_of p.globals frame v)
+running_at script config w p t frame below (Some statement.Else) = skips (body_of script frame.func) t frame below
+running_at script config w p t frame below (Some (statement.While v)) = branches (body_of script frame.func) t frame below (value_of p.globals frame v)
+running_at script config w p t frame below (Some statement.End) = ends_at (body_of script frame.func) p t frame below (open_of (body_of script frame.func) frame.place)
+running_at script config w p t frame below (Some (statement.Do f v)) = calls t frame below f (value_of p.globals frame v)
+running_at script config w p t frame below (Some (statement.Return v)) = returns_by frame.kind p t below (value_of p.globals frame v)
 running_at script config w p t frame below (Some (statement.Push f v)) = pushes t frame below f (value_of p.globals frame v)
 running_at script config w p t frame below (Some (statement.Pop v)) = pops t frame below (value_of p.globals frame v) t.handlers
-running_at script config w p t frame below (Some (statement.Return v)) = returns_by frame.kind p t below (value_of p.globals frame v)
-running_at script config w p t frame below (Some statement.End) = returns_by frame.kind p t below 0
-running_at script config w p t frame below (Some _) = []
+running_at script config w p t frame below (Some _) = stops t Unbuilt
 
 -- a running thread: what comes before its statement (a restricted process, a thread that may be canceled at any time)
 -- goes here, in front of the table above

@@ -1,53 +1,76 @@
--- The canonical text of a script: each declaration and statement on a line of its own, words parted by one space,
--- numbers in decimal without leading zeros.
-use Rattle.std.specs.Prelude.{◌≡◌, ℕ, List, [], ◌∷◌, map, flat_map, decimal, slice_get, unwrap_or}
+-- The canonical text of a script: globals, mutexes, condition variables, semaphores, functions, each in the order in which
+-- they are declared, a line each, words parted by one space, numbers in decimal without leading zeros.
+use Rattle.std.specs.Prelude.{ℕ, Bool, true, false, List, [], ◌∷◌, ◌++◌, map, flat_map, codes, decimal}
+use Rattle.pct_model.specs.declared.form.Kind.{Kind}
+use Rattle.pct_model.specs.declared.form.Kind.TheVariants as kind
+use Rattle.pct_model.specs.declared.form.Place.{Place}
+use Rattle.pct_model.specs.declared.form.Place.TheVariants as place
+use Rattle.pct_model.specs.declared.said.Argument.{Argument}
+use Rattle.pct_model.specs.declared.said.Argument.TheVariants as argument
 use Rattle.pct_model.specs.declared.script.Func.{Func}
 use Rattle.pct_model.specs.declared.script.Script.{Script}
-use Rattle.pct_model.specs.declared.refusal.ParseWhy.{ParseWhy}
-use Rattle.pct_model.specs.declared.refusal.ParseWhy.TheVariants.{UnknownWord}
 use Rattle.pct_model.specs.declared.statement.Stmt.{Stmt}
-use Rattle.pct_model.specs.declared.statement.Stmt.TheVariants as statement
-use Rattle.pct_model.specs.declared.statement.Operand.{Operand}
-use Rattle.pct_model.specs.declared.statement.Operand.TheVariants as operand
-use Rattle.pct_model.specs.declared.word.Keyword.TheVariants as word
-use Rattle.pct_model.specs.Words.{keyword_text, text_of}
-use Rattle.pct_model.specs.Static.{names_of}
+use Rattle.pct_model.specs.Words.{text_of}
+use Rattle.pct_model.specs.Forms.{shape, shape_of_declaration}
+use Rattle.pct_model.specs.Statements.{form_of_statement, arguments_of, places_of}
+use Rattle.pct_model.specs.Names.{name_at}
+use Rattle.pct_model.specs.Contents.{Contents, names_of_kind}
+use Rattle.pct_model.specs.Spells.{contents_of}
 
--- the name at a position
-unfoldable pub name_at : List (List ℕ) → ℕ → List ℕ
-name_at names i = unwrap_or (slice_get names i) []
+-- ---- words
 
--- an operand, in a function with these locals
-unfoldable pub operand_text : List (List ℕ) → Operand → List ℕ
-operand_text locals (operand.Num n) = decimal n
-operand_text locals (operand.Local i) = name_at locals i
-operand_text locals (operand.Global i) = []
+-- of which kind a name at a place is
+abbrev pub kind_at : Place → Kind
+kind_at (place.Item k) = k
+kind_at _ = kind.Function
 
--- the words of a statement, in a function with these locals of a script whose functions have these names
-unfoldable pub statement_words : List (List ℕ) → List (List ℕ) → Stmt → List (List ℕ)
-statement_words names locals (statement.Emit v) = keyword_text word.Emit ∷ operand_text locals v ∷ []
-statement_words names locals (statement.Push f v) = keyword_text word.CleanupPush ∷ name_at names f ∷ operand_text locals v ∷ []
-statement_words names locals (statement.Pop v) = keyword_text word.CleanupPop ∷ operand_text locals v ∷ []
-statement_words names locals (statement.Return v) = keyword_text word.Return ∷ operand_text locals v ∷ []
-statement_words names locals statement.End = keyword_text word.End ∷ []
-statement_words names locals _ = []
+-- the one of two words that may stand at a place
+abbrev pub flag_text : Place → Bool → List ℕ
+flag_text place.State true = codes "enable"
+flag_text place.State false = codes "disable"
+flag_text place.Mode true = codes "asynchronous"
+flag_text place.Mode false = codes "deferred"
+flag_text _ says = codes "detached"
 
--- the lines of a function: `fn`, its name and its locals, then its statements
-unfoldable pub function_lines : List (List ℕ) → Func → List (List (List ℕ))
-function_lines names f = (keyword_text word.Fn ∷ f.name ∷ f.locals) ∷ map (statement_words names f.locals) f.body
+-- the word at a place, in a function with these locals
+unfoldable pub argument_text : Contents → List (List ℕ) → Place → Argument → List ℕ
+argument_text c locals p (argument.Number n) = decimal n
+argument_text c locals p (argument.Local i) = name_at locals i
+argument_text c locals p (argument.Global i) = name_at c.globals i
+argument_text c locals p (argument.Item i) = name_at (names_of_kind c (kind_at p)) i
+argument_text c locals p argument.Nothing = codes "-"
+argument_text c locals p (argument.Flag says) = flag_text p says
 
--- the canonical text of functions
-unfoldable pub functions_text : List Func → List ℕ
-functions_text funcs = text_of (flat_map (function_lines (names_of funcs)) funcs)
+-- the words at places
+unfoldable pub argument_texts : Contents → List (List ℕ) → List Place → List Argument → List (List ℕ)
+argument_texts c locals [] arguments = []
+argument_texts c locals (p ∷ places) [] = []
+argument_texts c locals (p ∷ places) (a ∷ arguments) = argument_text c locals p a ∷ argument_texts c locals places arguments
+
+-- ---- lines
+
+-- the words of a statement, in a function with these locals
+unfoldable pub statement_words : Contents → List (List ℕ) → Stmt → List (List ℕ)
+statement_words c locals s =
+    (shape (form_of_statement s)).word ∷ argument_texts c locals (places_of s) (arguments_of s)
+
+-- a declaration's line: its first word, and these behind it
+abbrev pub declaration_line : Kind → List (List ℕ) → List (List ℕ)
+declaration_line k words = (shape_of_declaration k).word ∷ words
+
+-- the lines of a function
+unfoldable pub function_lines : Contents → Func → List (List (List ℕ))
+function_lines c f = declaration_line kind.Function (f.name ∷ f.locals) ∷ map (statement_words c f.locals) f.body
+
+-- the lines of a script
+unfoldable pub script_lines : Contents → List (List (List ℕ))
+script_lines c =
+    map (λ name. declaration_line kind.Global (name ∷ [])) c.globals
+    ++ map (λ name. declaration_line kind.Mutex (name ∷ [])) c.mutexes
+    ++ map (λ name. declaration_line kind.Cond (name ∷ [])) c.conds
+    ++ map (λ s. declaration_line kind.Sem (s.name ∷ decimal s.count ∷ [])) c.sems
+    ++ flat_map (function_lines c) c.funcs
 
 -- the canonical text of a script
 abbrev pub canon : Script → List ℕ
-canon script = functions_text script.funcs
-
--- a text spells a script where it is the canonical text of one that passes all checks, which each value of the type does
-abbrev pub Spells : List ℕ → Script → Type 0
-Spells text script = text ≡ canon script
-
--- the first fault of a text and its line, where the text spells no script; so far each such text is refused as a whole
-abbrev pub FirstFault : List ℕ → ℕ → ParseWhy → Type 0
-FirstFault text line why = ((script : Script) → ¬ Spells text script) × (line ≡ 1) × (why ≡ UnknownWord)
+canon script = text_of (script_lines (contents_of script))

@@ -13,9 +13,11 @@ use Rattle.pct_model.specs.declared.stop.Verdict.TheVariants as verdict
 use Rattle.pct_model.specs.declared.word.Keyword.{Keyword}
 use Rattle.pct_model.specs.declared.word.Keyword.TheVariants as word
 use Rattle.pct_model.specs.Words.{keyword_text, line_text}
-use Rattle.pct_model.specs.Canon.{Spells, FirstFault}
+use Rattle.pct_model.specs.Checks.{FirstFault}
+use Rattle.pct_model.specs.Spells.{Spells}
 use Rattle.pct_model.specs.Schedule.{sched_of, replay_parts}
 use Rattle.pct_model.specs.Run.{Run, run, first_illegal, verdict_of}
+use Rattle.pct_model.specs.Canon.{canon}
 use Rattle.pct_model.specs.Report.{report}
 
 -- ---- words
@@ -26,11 +28,11 @@ is_asked keyword [] = false
 is_asked keyword (w ∷ []) = bytes_eq w (keyword_text keyword)
 is_asked keyword (w ∷ next ∷ words) = false
 
--- the words that are accepted: `run` alone, or `replay` alone
+-- the words that are accepted: `run` alone, `replay` alone, or `check` alone
 abbrev pub is_accepted : List (List ℕ) → Bool
-is_accepted words = is_asked word.Run words || is_asked word.Replay words
+is_accepted words = is_asked word.Run words || is_asked word.Replay words || is_asked word.Check words
 
--- the script's part of the input: all of it for `run`, and for `replay` what stands before the first line `%%`, or all of
+-- the script's part of the input: all of it for `run` and `check`, and for `replay` what stands before the first line `%%`, or all of
 -- it where there is no such line
 unfoldable pub script_part : List (List ℕ) → List ℕ → List ℕ
 script_part words input = if is_asked word.Replay words then take (replay_parts input).0 input else input
@@ -115,7 +117,7 @@ pub record RefusesInput (words : List (List ℕ)) (input : List ℕ) (code : ℕ
   pub code_is : code ≡ 8
   pub text_is : text ≡ line_text refused_input
 
--- a text that spells no script is refused, with its first fault
+-- a script's text that has a fault is refused, with the first one
 pub record RefusesScript (words : List (List ℕ)) (input : List ℕ) (code : ℕ) (text : List ℕ) : Type 0 where
   pub accepted : is_accepted words ≡ true
   pub fits : length input ≤ 16777216
@@ -176,6 +178,15 @@ pub record Runs (words : List (List ℕ)) (input : List ℕ) (schedule : List En
   pub code_is : code ≡ code_of_verdict (verdict_of script default_config after.world (length schedule))
   pub text_is : report script default_config schedule ≡ Some text
 
+-- a script's text is written again in its canonical form
+pub record Checks (words : List (List ℕ)) (input : List ℕ) (code : ℕ) (text : List ℕ) : Type 0 where
+  pub accepted : is_asked word.Check words ≡ true
+  pub fits : length input ≤ 16777216
+  pub script : Script
+  pub spelled : Spells input script
+  pub code_is : code ≡ 0
+  pub text_is : text ≡ canon script
+
 -- what the program answers and writes for these words and this input, under this schedule. The cases exclude each other,
 -- and stand in the order in which they are decided; `run` alone looks at the schedule.
 pub data Outcome (words : List (List ℕ)) (input : List ℕ) (schedule : List Entry) (code : ℕ) (text : List ℕ) : Type 0 where
@@ -186,3 +197,4 @@ pub data Outcome (words : List (List ℕ)) (input : List ℕ) (schedule : List E
   EntryRefused : RefusesEntry words input code text → Outcome words input schedule code text
   Replayed : Replays words input code text → Outcome words input schedule code text
   Ran : Runs words input schedule code text → Outcome words input schedule code text
+  Checked : Checks words input code text → Outcome words input schedule code text

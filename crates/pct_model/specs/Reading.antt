@@ -1,6 +1,6 @@
 -- Reading a number as the code does it: a digit after the other.
 use Rattle.std.specs.Prelude.{ℕ, ◌+◌, ◌*◌, ◌-◌, ◌&&◌, if◌then◌else◌, List, [], ◌∷◌, Option, Some, None, nat_le, bytes_eq, decimal}
-use Rattle.pct_model.specs.Static.{is_digit}
+use Rattle.pct_model.specs.Names.{is_digit}
 use Rattle.pct_model.specs.Lines.{◌>>=◌}
 
 -- a number of 32 bits with one more digit

@@ -15,8 +15,8 @@ use Rattle.pct_model.specs.declared.stop.Verdict.TheVariants as verdict
 use Rattle.pct_model.specs.declared.word.Keyword.{Keyword}
 use Rattle.pct_model.specs.declared.word.Keyword.TheVariants as word
 use Rattle.pct_model.specs.Words.{keyword_text, text_of}
-use Rattle.pct_model.specs.Static.{names_of}
-use Rattle.pct_model.specs.Canon.{name_at}
+use Rattle.pct_model.specs.Names.{names_of}
+use Rattle.pct_model.specs.Names.{name_at}
 use Rattle.pct_model.specs.Run.{Run, run, verdict_of}
 
 -- ---- stops

@@ -9,7 +9,7 @@ use Rattle.pct_model.specs.declared.form.Place.TheVariants as place
 use Rattle.pct_model.specs.declared.said.Said.{Said}
 use Rattle.pct_model.specs.declared.said.Word.{Word}
 use Rattle.pct_model.specs.declared.said.Word.TheVariants as word
-use Rattle.pct_model.specs.Static.{is_digit, is_name}
+use Rattle.pct_model.specs.Names.{is_digit, is_name}
 use Rattle.pct_model.specs.Lines.{◌>>=◌, lines_of}
 use Rattle.pct_model.specs.Forms.{shape, form_of}
 

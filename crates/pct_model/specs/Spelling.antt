@@ -6,7 +6,7 @@ use Rattle.pct_model.specs.declared.form.Place.{Place}
 use Rattle.pct_model.specs.declared.form.Place.TheVariants as place
 use Rattle.pct_model.specs.declared.refusal.ParseWhy.{ParseWhy}
 use Rattle.pct_model.specs.declared.refusal.ParseWhy.TheVariants.{NotAscii, UnknownWord, WordCount, BadNumber, BadName}
-use Rattle.pct_model.specs.Static.{is_digit}
+use Rattle.pct_model.specs.Names.{is_digit}
 use Rattle.pct_model.specs.Forms.{shape, form_of}
 use Rattle.pct_model.specs.Saying.{Numbered, is_allowed, words_in, word_at}
 

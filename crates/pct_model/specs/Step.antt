@@ -1,5 +1,5 @@
 -- Which entries of a schedule are legal, and what a legal one does.
-use Rattle.std.specs.Prelude.{ℕ, Bool, true, false, ◌&&◌, if◌then◌else◌, List, [], ◌∷◌, map, Option, Some, None, is_some, is_none, nat_eq, nat_le, option_map, option_and_then, find}
+use Rattle.std.specs.Prelude.{ℕ, Bool, true, false, ◌&&◌, if◌then◌else◌, List, [], ◌∷◌, map, Option, Some, None, is_some, is_none, nat_eq, nat_le, option_map, option_and_then, find, slice_set}
 use Rattle.pct_model.specs.declared.script.Script.{Script}
 use Rattle.pct_model.specs.declared.schedule.Alt.{Alt}
 use Rattle.pct_model.specs.declared.schedule.Alt.TheVariants as alt
@@ -7,12 +7,15 @@ use Rattle.pct_model.specs.declared.schedule.Config.{Config}
 use Rattle.pct_model.specs.declared.schedule.Entry.{Entry}
 use Rattle.pct_model.specs.declared.event.What.{What}
 use Rattle.pct_model.specs.World.{Thread, Process, World, with_id, with_pid}
-use Rattle.pct_model.specs.Alternatives.{Effect, ExitBegins, ProcessEnds, Stops, Alternative, alternatives}
+use Rattle.pct_model.specs.Alternatives.{Effect, SetsGlobal, ExitBegins, ProcessEnds, Stops, Alternative, alternatives}
 
 -- ---- what a step changes
 
 abbrev pub with_thread : Thread → Thread → Thread
 with_thread new t = if nat_eq t.id new.id then new else t
+
+abbrev pub sets_global : ℕ → ℕ → ℕ → Process → Process
+sets_global pid i v p = if nat_eq p.pid pid then record p { globals = slice_set p.globals i v } else p
 
 abbrev pub exit_begins : ℕ → ℕ → Process → Process
 exit_begins pid v p = if nat_eq p.pid pid then record p { exit_value = Some v } else p
@@ -35,6 +38,7 @@ on_processes f w = record w { processes = map f w.processes }
 
 -- one effect of a step of a thread of this process
 abbrev pub after_effect : ℕ → World → Effect → World
+after_effect pid w (SetsGlobal i v) = on_processes (sets_global pid i v) w
 after_effect pid w (ExitBegins v) = on_processes (exit_begins pid v) w
 after_effect pid w (ProcessEnds n) = on_processes (process_ends pid n) w
 after_effect pid w (Stops why) = record w { stop = Some why }

@@ -6,14 +6,11 @@ use Rattle.pct_model.specs.declared.word.Keyword.TheVariants as word
 
 -- the bytes of a fixed word
 unfoldable pub keyword_text : Keyword → List ℕ
-keyword_text word.Fn = codes "fn"
 keyword_text word.Main = codes "main"
 keyword_text word.Emit = codes "emit"
-keyword_text word.CleanupPush = codes "pthread_cleanup_push"
-keyword_text word.CleanupPop = codes "pthread_cleanup_pop"
-keyword_text word.Return = codes "return"
 keyword_text word.End = codes "end"
 keyword_text word.Replay = codes "replay"
+keyword_text word.Check = codes "check"
 keyword_text word.Push = codes "push"
 keyword_text word.Pop = codes "pop"
 keyword_text word.Run = codes "run"

@@ -2,6 +2,7 @@
 -- Frames, cleanup handlers and exit functions are listed newest first; processes, threads, keys and fork handlers in
 -- the order in which they were made or registered. What ended stays in the lists.
 use Rattle.std.specs.Prelude.{ℕ, Bool, false, List, [], ◌∷◌, length, map, replicate, Option, None, slice_get, slice_index, option_and_then, find, nat_eq}
+use Rattle.std.specs.Option.{option_map_or}
 use Rattle.pct_model.specs.declared.script.Script.{Script}
 use Rattle.pct_model.specs.declared.statement.Stmt.{Stmt}
 use Rattle.pct_model.specs.declared.statement.Operand.{Operand}
@@ -19,7 +20,7 @@ use Rattle.pct_model.specs.declared.state.Status.{Status}
 use Rattle.pct_model.specs.declared.state.Status.TheVariants.{Running}
 use Rattle.pct_model.specs.declared.state.ForkAt.{ForkAt}
 use Rattle.pct_model.specs.declared.stop.Why.{Why}
-use Rattle.pct_model.specs.Static.{names_of, main_of}
+use Rattle.pct_model.specs.Names.{names_of, main_of}
 
 pub record Thread : Type 0 where
   pub id : ℕ
@@ -91,6 +92,10 @@ with_id id threads = find (λ t. nat_eq t.id id) threads
 
 abbrev pub with_pid : ℕ → List Process → Option Process
 with_pid pid processes = find (λ p. nat_eq p.pid pid) processes
+
+-- the body of the function at a position
+abbrev pub body_of : Script → ℕ → List Stmt
+body_of script func = option_map_or (λ f. f.body) (slice_get script.funcs func) []
 
 -- the statement at which a frame stands
 unfoldable pub statement_at : Script → Frame → Option Stmt

@@ -2,7 +2,7 @@
 
 ghost use Rattle.std.specs.Prelude.{◌≡◌, ◌==◌, position};
 ghost use Rattle.std.specs.Option.{option_map};
-ghost use Rattle.pct_model.specs.Static.{is_digit};
+ghost use Rattle.pct_model.specs.Names.{is_digit};
 ghost use Rattle.pct_model.specs.Lines.{cut, number_of};
 ghost use Rattle.pct_model.specs.Reading.{with_digit, value_from, number_in};
 

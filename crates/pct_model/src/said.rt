@@ -26,7 +26,7 @@ pub struct Said {
 }
 
 /// What a word of a statement stands for, with each name replaced by a position.
-#[derive(Clone, Copy)]
+#[derive(Clone, Copy, Default)]
 pub enum Argument {
     Number(u32),
     /// A local of the function around it, by position.
@@ -36,6 +36,7 @@ pub enum Argument {
     /// A function, mutex, condition variable or semaphore, by position among those of its kind.
     Item(u32),
     /// `-`
+    #[default]
     Nothing,
     Flag(bool),
 }

@@ -1,7 +1,8 @@
 //! A script: what its text declares.
 
 ghost use Rattle.std.specs.Prelude.{◌≡◌, ◌≤◌, length, IsTrue};
-ghost use Rattle.pct_model.specs.Static.{is_static, main_of, names_of};
+ghost use Rattle.pct_model.specs.Names.{main_of, names_of};
+ghost use Rattle.pct_model.specs.Static.{is_static};
 
 use crate::name::Name;
 use crate::sequence::{Funcs, Names, SemDecls, Stmts};
@@ -30,11 +31,11 @@ pub struct Script {
     pub conds: Names,
     pub sems: SemDecls,
     pub funcs: Funcs,
-    ghost passes_checks: { IsTrue (is_static globals mutexes conds sems funcs) },
+    ghost passes_checks: { IsTrue (is_static (record { globals = globals; mutexes = mutexes; conds = conds; sems = sems; funcs = funcs })) },
 }
 
 /// The position of the first function called `main`, or how many functions there are where none is.
-#[tactic(auto, unfolding(crate::specs::Static::main_of))]
+#[tactic(auto, unfolding(crate::specs::Names::main_of))]
 pub fn main_of(funcs: &[Func]) -> usize
     ensures value { result ≡ main_of (names_of funcs.now) }
     ensures bound { result ≤ length funcs.now }

@@ -6,20 +6,16 @@ ghost use Rattle.pct_model.specs.Words.{keyword_text};
 /// A fixed word of a script, a report, a schedule or a refusal.
 #[derive(Clone, Copy, Debug, PartialEq, Eq)]
 pub enum Keyword {
-    // the words of a script
-    Fn,
+    // the name of the function that a script begins in
     Main,
-    Emit,
-    CleanupPush,
-    CleanupPop,
-    Return,
-    End,
-    // the other words that the program takes
+    // the words that the program takes
+    Run,
     Replay,
+    Check,
     // the words of an event
+    Emit,
     Push,
     Pop,
-    Run,
     Drop,
     Exit,
     ProcessEnd,
@@ -31,6 +27,7 @@ pub enum Keyword {
     Budget,
     Open,
     Schedule,
+    End,
     Go,
     Act,
     New,
@@ -91,14 +88,11 @@ impl Keyword {
         ensures { result.now ≡ keyword_text self }
     {
         match self {
-            Keyword::Fn => b"fn",
             Keyword::Main => b"main",
             Keyword::Emit => b"emit",
-            Keyword::CleanupPush => b"pthread_cleanup_push",
-            Keyword::CleanupPop => b"pthread_cleanup_pop",
-            Keyword::Return => b"return",
             Keyword::End => b"end",
             Keyword::Replay => b"replay",
+            Keyword::Check => b"check",
             Keyword::Push => b"push",
             Keyword::Pop => b"pop",
             Keyword::Run => b"run",

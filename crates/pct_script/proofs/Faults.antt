@@ -14,7 +14,8 @@ unfolding faulty_word
 faulty_word-nil [] = refl
 faulty_word-nil (p ∷ places) = refl
 
-place_in_front : (places : List Place) (at : ℕ) (p : Place) → slice_get places at ≡ Some p → drop at places ≡ p ∷ drop (suc at) places
+-- the place that is found stands in front of those behind it
+pub place_in_front : (places : List Place) (at : ℕ) (p : Place) → slice_get places at ≡ Some p → drop at places ≡ p ∷ drop (suc at) places
 place_in_front places at p here =
     drop-cons places at p (slice_get_within places at p here) ∙ ap (λ q. q ∷ drop (suc at) places) (get_or_from_slice_get places at p p here)
 
@@ -34,10 +35,14 @@ unfolding faulty_word
 fault_here places at p w words here fit =
     ap (λ ps. faulty_word ps (w ∷ words)) (place_in_front places at p here) ∙ ap (λ t. cond t (faulty_word (drop (suc at) places) words) (Some (why_not p w))) fit
 
-past : (places : List Place) (at : ℕ) → slice_get places at ≡ None
+pub past : (places : List Place) (at : ℕ) → slice_get places at ≡ None
     → ((p : Place) × (at < length places) × (slice_get places at ≡ Some p) × (get_or places at p ≡ p)) ⊎ ((length places ≤ at) × (slice_get places at ≡ None)) → drop at places ≡ []
 past places at none (inl h) = absurd (cc)
 past places at none (inr h) = drop_all at places h.0
+
+-- where there is no place, none is behind it
+pub past_places : (places : List Place) (at : ℕ) → slice_get places at ≡ None → drop at places ≡ []
+past_places places at none = past places at none (slice_get_cases places at).1
 
 faulty_word-none : (words : List (List ℕ)) → faulty_word [] words ≡ None
 unfolding faulty_word
@@ -45,4 +50,4 @@ faulty_word-none words = refl
 
 -- a word where there is no place
 pub no_place : (places : List Place) (at : ℕ) (words : List (List ℕ)) → slice_get places at ≡ None → faulty_word (drop at places) words ≡ None
-no_place places at words none = ap (λ ps. faulty_word ps words) (past places at none (slice_get_cases places at).1) ∙ faulty_word-none words
+no_place places at words none = ap (λ ps. faulty_word ps words) (past_places places at none) ∙ faulty_word-none words

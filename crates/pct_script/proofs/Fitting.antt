@@ -11,7 +11,7 @@ use Rattle.std.proofs.lemmas.Str.Parse.{IsNumeralModel, numerals_by_value, digit
 use Rattle.std.proofs.lemmas.Int.Digits.{digits_value_more}
 use Rattle.pct_model.specs.declared.form.Place.{Place}
 use Rattle.pct_model.specs.declared.form.Place.TheVariants as place
-use Rattle.pct_model.specs.Static.{is_digit, is_name}
+use Rattle.pct_model.specs.Names.{is_digit, is_name}
 use Rattle.pct_model.specs.Lines.{◌>>=◌}
 use Rattle.pct_model.specs.Saying.{is_empty, numeral, word_at}
 use Rattle.pct_script.specs.Fitting.{is_short, fits}

@@ -4,7 +4,7 @@ use Rattle.std.specs.List.{list_all}
 use Rattle.std.specs.Option.{option_map_or}
 use Rattle.pct_model.specs.declared.form.Place.{Place}
 use Rattle.pct_model.specs.declared.form.Place.TheVariants as place
-use Rattle.pct_model.specs.Static.{is_digit, is_name}
+use Rattle.pct_model.specs.Names.{is_digit, is_name}
 use Rattle.pct_model.specs.Saying.{is_empty, numeral}
 
 -- 1 to 10 digits

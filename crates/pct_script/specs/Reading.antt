@@ -1,128 +1,153 @@
--- Reading the canonical text of a script, from left to right: what each function of the reader gives. Reading asks for
--- the spelling alone; whether the functions that were read pass all checks is decided afterwards.
-use Rattle.std.specs.Prelude.{◌≡◌, ℕ, zero, suc, ◌&&◌, if◌then◌else◌, List, [], ◌∷◌, ◌++◌, Option, Some, None, Result, Ok, Err, nat_lt, bytes_eq, position}
-use Rattle.std.specs.Option.{option_map, option_map_or}
-use Rattle.pct_model.specs.declared.refusal.ParseWhy.TheVariants.{UnknownWord}
+-- What the lines of a text declare and tell, as it is read: the parts of the script that the text spells, if each name is
+-- declared.
+use Rattle.std.specs.Prelude.{ℕ, Bool, false, List, [], ◌∷◌, filter_map, Option, Some, None, slice_index_or, option_map}
+use Rattle.pct_model.specs.declared.form.Form.{Form}
+use Rattle.pct_model.specs.declared.form.Form.TheVariants as form
+use Rattle.pct_model.specs.declared.form.Kind.{Kind}
+use Rattle.pct_model.specs.declared.form.Kind.TheVariants as kind
+use Rattle.pct_model.specs.declared.said.Argument.{Argument}
+use Rattle.pct_model.specs.declared.said.Argument.TheVariants as argument
+use Rattle.pct_model.specs.declared.said.Said.{Said}
+use Rattle.pct_model.specs.declared.said.Word.{Word}
+use Rattle.pct_model.specs.declared.said.Word.TheVariants as word
 use Rattle.pct_model.specs.declared.script.Func.{Func}
+use Rattle.pct_model.specs.declared.script.SemDecl.{SemDecl}
+use Rattle.pct_model.specs.declared.statement.Dest.{Dest}
+use Rattle.pct_model.specs.declared.statement.Dest.TheVariants as destination
 use Rattle.pct_model.specs.declared.statement.Operand.{Operand}
 use Rattle.pct_model.specs.declared.statement.Operand.TheVariants as operand
 use Rattle.pct_model.specs.declared.statement.Stmt.{Stmt}
 use Rattle.pct_model.specs.declared.statement.Stmt.TheVariants as statement
-use Rattle.pct_model.specs.declared.word.Keyword.TheVariants as word
-use Rattle.pct_model.specs.Static.{is_name, is_closing}
-use Rattle.pct_model.specs.Words.{keyword_text}
-use Rattle.pct_model.specs.Lines.{◌>>=◌, cut, number_of}
-use Rattle.pct_script.specs.declared.fault.ParseFault.{ParseFault}
-use Rattle.pct_script.specs.declared.fault.ParseFault.TheVariants as fault
+use Rattle.pct_model.specs.Lines.{◌>>=◌}
+use Rattle.pct_model.specs.Contents.{Contents, all_replaced}
+use Rattle.pct_model.specs.Parts.{Line, Part, places_in, declaring, locals_of, names_declared, functions_in}
 
--- a refusal says that nothing is read, and always the same
-abbrev pub Fails : {Y : Type 0} → ParseFault → Option Y → Type 0
-Fails fault.NoMemory read = Unit {0}
-Fails (fault.Refused line why) read = (read ≡ None) × (line ≡ 1) × (why ≡ UnknownWord)
+-- ---- arguments
 
--- what a function returned, seen by view, is what is read, unless memory ran out
-abbrev pub Gives : {X Y : Type 0} → (X → Y) → Result X ParseFault → Option Y → Type 0
-Gives view (Ok x) read = read ≡ Some (view x)
-Gives view (Err e) read = Fails e read
+-- the value that an argument stands for
+unfoldable pub value_in : Argument → Operand
+value_in (argument.Number n) = operand.Num n
+value_in (argument.Local i) = operand.Local i
+value_in (argument.Global i) = operand.Global i
+value_in (argument.Item i) = operand.Num 0
+value_in argument.Nothing = operand.Num 0
+value_in (argument.Flag says) = operand.Num 0
 
--- ---- words
+-- where a value goes that is given for the argument
+unfoldable pub dest_in : Argument → Dest
+dest_in (argument.Number n) = destination.Drop
+dest_in (argument.Local i) = destination.Local i
+dest_in (argument.Global i) = destination.Global i
+dest_in (argument.Item i) = destination.Drop
+dest_in argument.Nothing = destination.Drop
+dest_in (argument.Flag says) = destination.Drop
 
--- the place of a name, among the first 64
-unfoldable pub place_of : List (List ℕ) → List ℕ → Option ℕ
-place_of names w = do
-  i ← position (λ name. bytes_eq name w) names
-  if nat_lt i 64 then Some i else None
+-- the position that an argument stands for
+unfoldable pub item_in : Argument → ℕ
+item_in (argument.Item i) = i
+item_in _ = 0
+
+-- the position that an argument stands for, if it stands for one
+unfoldable pub optional_in : Argument → Option ℕ
+optional_in (argument.Item i) = Some i
+optional_in _ = None
+
+-- whether an argument says yes
+unfoldable pub flag_in : Argument → Bool
+flag_in (argument.Flag says) = says
+flag_in _ = false
+
+-- the argument at a place, or nothing
+abbrev pub at : List Argument → ℕ → Argument
+at arguments i = slice_index_or arguments i argument.Nothing
 
 -- ---- statements
 
--- the parameter of this name, or a number
-unfoldable pub operand_of : List ℕ → List ℕ → Option Operand
-operand_of parameter w =
-    if bytes_eq w parameter then Some (operand.Local 0) else option_map (λ n. operand.Num n) (number_of w)
+-- the statement of a form that is no declaration, with these arguments
+unfoldable pub statement_of : Form → List Argument → Stmt
+statement_of (form.Declares k) arguments = statement.Nop
+statement_of form.Emit arguments = statement.Emit (value_in (at arguments 0))
+statement_of form.Set arguments = statement.Set (dest_in (at arguments 0)) (value_in (at arguments 1))
+statement_of form.Add arguments = statement.Add (dest_in (at arguments 0)) (value_in (at arguments 1))
+statement_of form.Nop arguments = statement.Nop
+statement_of form.If arguments = statement.If (value_in (at arguments 0))
+statement_of form.Else arguments = statement.Else
+statement_of form.While arguments = statement.While (value_in (at arguments 0))
+statement_of form.End arguments = statement.End
+statement_of form.Do arguments = statement.Do (item_in (at arguments 0)) (value_in (at arguments 1))
+statement_of form.Return arguments = statement.Return (value_in (at arguments 0))
+statement_of form.Create arguments = statement.Create (dest_in (at arguments 0)) (dest_in (at arguments 1)) (item_in (at arguments 2)) (value_in (at arguments 3)) (flag_in (at arguments 4))
+statement_of form.Join arguments = statement.Join (value_in (at arguments 0)) (dest_in (at arguments 1))
+statement_of form.Detach arguments = statement.Detach (value_in (at arguments 0))
+statement_of form.CancelThread arguments = statement.CancelThread (value_in (at arguments 0))
+statement_of form.SelfId arguments = statement.SelfId (dest_in (at arguments 0))
+statement_of form.ThreadExit arguments = statement.ThreadExit (value_in (at arguments 0))
+statement_of form.TestCancel arguments = statement.TestCancel
+statement_of form.SetState arguments = statement.SetState (flag_in (at arguments 0)) (dest_in (at arguments 1))
+statement_of form.SetMode arguments = statement.SetMode (flag_in (at arguments 0)) (dest_in (at arguments 1))
+statement_of form.Push arguments = statement.Push (item_in (at arguments 0)) (value_in (at arguments 1))
+statement_of form.Pop arguments = statement.Pop (value_in (at arguments 0))
+statement_of form.KeyCreate arguments = statement.KeyCreate (dest_in (at arguments 0)) (dest_in (at arguments 1)) (optional_in (at arguments 2))
+statement_of form.KeyDelete arguments = statement.KeyDelete (value_in (at arguments 0))
+statement_of form.SetSpecific arguments = statement.SetSpecific (value_in (at arguments 0)) (value_in (at arguments 1))
+statement_of form.GetSpecific arguments = statement.GetSpecific (dest_in (at arguments 0)) (value_in (at arguments 1))
+statement_of form.Lock arguments = statement.Lock (item_in (at arguments 0))
+statement_of form.Unlock arguments = statement.Unlock (item_in (at arguments 0))
+statement_of form.CondWait arguments = statement.CondWait (item_in (at arguments 0)) (item_in (at arguments 1))
+statement_of form.Signal arguments = statement.Signal (item_in (at arguments 0))
+statement_of form.Broadcast arguments = statement.Broadcast (item_in (at arguments 0))
+statement_of form.SemWait arguments = statement.SemWait (item_in (at arguments 0))
+statement_of form.SemPost arguments = statement.SemPost (item_in (at arguments 0))
+statement_of form.AtFork arguments = statement.AtFork (dest_in (at arguments 0)) (optional_in (at arguments 1)) (optional_in (at arguments 2)) (optional_in (at arguments 3))
+statement_of form.Fork arguments = statement.Fork (dest_in (at arguments 0)) (dest_in (at arguments 1))
+statement_of form.WaitPid arguments = statement.WaitPid (dest_in (at arguments 0)) (value_in (at arguments 1)) (dest_in (at arguments 2))
+statement_of form.AtExit arguments = statement.AtExit (dest_in (at arguments 0)) (item_in (at arguments 1))
+statement_of form.ProcExit arguments = statement.ProcExit (value_in (at arguments 0))
+statement_of form.ProcExitNow arguments = statement.ProcExitNow (value_in (at arguments 0))
+statement_of (form.Point index) arguments = statement.PointCall index
 
--- the words behind `pthread_cleanup_push`
-unfoldable pub push_of : List (List ℕ) → List ℕ → List ℕ → Option Stmt
-push_of names parameter words = do
-  parts ← cut 32 words
-  f ← place_of names parts.0
-  v ← operand_of parameter parts.1
-  Some (statement.Push f v)
+-- ---- lines
 
--- a statement that has an operand alone, by its first word
-unfoldable pub with_operand : List ℕ → Operand → Option Stmt
-with_operand head v =
-    if bytes_eq head (keyword_text word.Emit) then Some (statement.Emit v)
-    else (if bytes_eq head (keyword_text word.CleanupPop) then Some (statement.Pop v)
-    else (if bytes_eq head (keyword_text word.Return) then Some (statement.Return v)
-    else None))
+-- the statement that a line tells in a function with these locals, where these names of each kind are declared
+unfoldable pub statement_read : (Kind → List (List ℕ)) → List (List ℕ) → Said → Option Stmt
+statement_read names locals line = option_map (statement_of line.form) (all_replaced names locals (places_in line) line.words)
 
--- a statement of several words, by its first word and those behind it
-unfoldable pub with_words : List (List ℕ) → List ℕ → List ℕ → List ℕ → Option Stmt
-with_words names parameter head words =
-    if bytes_eq head (keyword_text word.CleanupPush) then push_of names parameter words
-    else (operand_of parameter words >>= with_operand head)
+-- the statements that lines tell
+unfoldable pub body_read : (Kind → List (List ℕ)) → List (List ℕ) → List Line → Option (List Stmt)
+body_read names locals [] = Some []
+body_read names locals (l ∷ lines) = do
+  first ← statement_read names locals l.1
+  option_map (λ others. first ∷ others) (body_read names locals lines)
 
--- a statement, in a function with this parameter of a script whose functions have these names
-unfoldable pub statement_of : List (List ℕ) → List ℕ → List ℕ → Option Stmt
-statement_of names parameter line =
-    option_map_or (λ parts. with_words names parameter parts.0 parts.1) (cut 32 line)
-    (if bytes_eq line (keyword_text word.End) then Some statement.End else None)
+-- ---- declarations
 
--- ---- functions
+-- the first name among words
+abbrev pub first_name : List Word → List ℕ
+first_name (word.Name name ∷ words) = name
+first_name _ = []
 
--- a function's name and parameter, in its first line
-unfoldable pub head_of : List ℕ → Option (List ℕ × List ℕ)
-head_of line = do
-  parts ← cut 32 line
-  head ← cut 32 parts.1
-  if bytes_eq parts.0 (keyword_text word.Fn) && is_name head.0 && is_name head.1 then Some (head.0, head.1) else None
+-- the function of a line `fn` and the lines behind it
+unfoldable pub function_read : (Kind → List (List ℕ)) → Part → Option Func
+function_read names part =
+    option_map (λ body. record { name = first_name part.head.1.words; locals = locals_of part.head.1; body = body }) (body_read names (locals_of part.head.1) part.body)
 
--- the name that a line gives to a function, if it is a function's first
-unfoldable pub name_in : List ℕ → List (List ℕ)
-name_in line = option_map_or (λ head. head.0 ∷ []) (head_of line) []
+-- the functions of several
+unfoldable pub functions_read : (Kind → List (List ℕ)) → List Part → Option (List Func)
+functions_read names [] = Some []
+functions_read names (part ∷ parts) = do
+  first ← function_read names part
+  option_map (λ others. first ∷ others) (functions_read names parts)
 
--- the names that the first n lines give to functions
-unfoldable pub names_in : ℕ → List ℕ → List (List ℕ)
-names_in zero text = []
-names_in (suc n) text = option_map_or (λ parts. name_in parts.0 ++ names_in n parts.1) (cut 10 text) []
+-- the semaphore that the words behind `sem` declare
+abbrev pub sem_in : List Word → Option SemDecl
+sem_in (word.Name name ∷ word.Number n ∷ words) = Some (record { name = name; count = n })
+sem_in _ = None
 
--- the first line as a function's first, and the text behind it
-unfoldable pub head_at : List ℕ → Option ((List ℕ × List ℕ) × List ℕ)
-head_at text = do
-  parts ← cut 10 text
-  head ← head_of parts.0
-  Some (head, parts.1)
+unfoldable pub sems_in : List Line → List SemDecl
+sems_in lines = filter_map (λ l. sem_in l.1.words) (declaring kind.Sem lines)
 
--- the first line as a statement, and the text behind it
-unfoldable pub statement_at : List (List ℕ) → List ℕ → List ℕ → Option (Stmt × List ℕ)
-statement_at names parameter text = do
-  parts ← cut 10 text
-  s ← statement_of names parameter parts.0
-  Some (s, parts.1)
-
--- the statements of at most n lines down to the first closing `end`, and the text behind it
-unfoldable pub body_at : List (List ℕ) → List ℕ → ℕ → List ℕ → Option (List Stmt × List ℕ)
-body_at names parameter zero text = None
-body_at names parameter (suc n) text = do
-  first ← statement_at names parameter text
-  if is_closing first.0 then Some (first.0 ∷ [], first.1)
-      else option_map (λ others. (first.0 ∷ others.0, others.1)) (body_at names parameter n first.1)
-
--- a function, and the text behind it
-unfoldable pub function_at : List (List ℕ) → List ℕ → Option (Func × List ℕ)
-function_at names text = do
-  head ← head_at text
-  body ← body_at names head.0.1 2000 head.1
-  Some (record { name = head.0.0; locals = head.0.1 ∷ []; body = body.0 }, body.1)
-
--- at most n functions, to the end of the text
-unfoldable pub functions_at : List (List ℕ) → ℕ → List ℕ → Option (List Func)
-functions_at names n [] = Some []
-functions_at names zero (b ∷ bs) = None
-functions_at names (suc n) (b ∷ bs) = do
-  first ← function_at names (b ∷ bs)
-  option_map (λ others. first.0 ∷ others) (functions_at names n first.1)
-
--- the functions of a text: at most 64, with the names that its first 2064 lines give
-unfoldable pub read : List ℕ → Option (List Func)
-read text = functions_at (names_in 2064 text) 64 text
+-- the parts of the script
+unfoldable pub contents_read : List Line → Option Contents
+contents_read lines =
+    option_map (λ funcs. record { globals = names_declared lines kind.Global; mutexes = names_declared lines kind.Mutex; conds = names_declared lines kind.Cond; sems = sems_in lines; funcs = funcs })
+    (functions_read (names_declared lines) (functions_in lines))

@@ -1,96 +1,71 @@
-//! Whether functions make a script that passes all checks.
+//! The checks of a text, one after the other.
 
-ghost use Rattle.std.specs.Prelude.{◌≡◌, nat_le, bytes_eq};
-ghost use Rattle.std.specs.List.{list_any, list_all};
-ghost use Rattle.pct_model.specs.Static.{all_different, names_of, statement_lines, is_parameter, is_function, are_functions};
+ghost use Rattle.std.specs.Prelude.{◌≡◌, ◌≤◌, true, length};
+ghost use Rattle.std.specs.List.{list_all};
+ghost use Rattle.pct_model.specs.Saying.{spelled_lines};
+ghost use Rattle.pct_model.specs.Spelling.{spelling};
+ghost use Rattle.pct_model.specs.Parts.{said_lines, are_in_functions};
+ghost use Rattle.pct_script.specs.Fault.{Passes, Reads};
+ghost use Rattle.pct_script.specs.Order.{early_fault, late_fault, last_fault};
+ghost use Rattle.pct_script.specs.PartSteps.{is_ready};
+ghost use Rattle.pct_script.specs.ReadContents.{contents_kept};
+ghost use Rattle.pct_script.specs.Reading.{contents_read};
 
-use crate::naming::is_name;
-use crate::nesting::is_body;
-use pct_model::{Func, Keyword, MAX_FUNCTIONS, MAX_STATEMENTS, Name, main_of};
+use crate::contents::{ScriptContents, contents_read};
+use crate::fault::ParseFault;
+use crate::limits::check_limits;
+use crate::lines::Line;
+use crate::main_function::no_main;
+use crate::nested::check_nesting;
+use crate::plain_functions::not_plain;
+use crate::returned::return_in_push;
+use crate::spelled_lines::first_misspelled;
+use crate::twice::name_twice;
+use pct_model::ParseWhy;
+use std::alloc::Global;
 
-fn is_named(functions: &[Func], word: &[u8]) -> bool
-    ensures { result ≡ list_any (bytes_eq word.now) (names_of functions.now) }
+// Refuses what a check found, if it found anything.
+fn refuse(found: Option<(u32, ParseWhy)>) -> Result<(), ParseFault>
+    ensures { Passes result found }
 {
-    let mut rest = functions;
-    while let Some((function, behind)) = rest.split_first() {
-        if word == function.name.as_bytes() {
-            return true;
-        }
-        rest = behind;
-    }
-    false
-}
-
-#[tactic(auto, unfolding(pct_model::specs::Static::all_different))]
-fn are_different(functions: &[Func]) -> bool
-    ensures { result ≡ all_different (names_of functions.now) }
-{
-    let mut rest = functions;
-    while let Some((function, behind)) = rest.split_first() {
-        if is_named(behind, function.name.as_bytes()) {
-            return false;
-        }
-        rest = behind;
-    }
-    true
-}
-
-fn has_few_lines(functions: &[Func]) -> bool
-    ensures { result ≡ nat_le (statement_lines functions.now) 2000 }
-{
-    let mut left = MAX_STATEMENTS;
-    let mut rest = functions;
-    while let Some((function, behind)) = rest.split_first() {
-        let lines = function.body.as_slice().len();
-        if left < lines {
-            return false;
-        }
-        left -= lines;
-        rest = behind;
-    }
-    true
-}
-
-#[tactic(auto, unfolding(pct_model::specs::Static::is_parameter))]
-fn is_parameter(locals: &[Name]) -> bool
-    ensures { result ≡ is_parameter locals.now }
-{
-    match locals {
-        [name] => is_name(name.as_bytes()),
-        _ => false,
+    match found {
+        Some((line, why)) => Err(ParseFault::Refused { line, why }),
+        None => Ok(()),
     }
 }
 
-#[tactic(auto, unfolding(pct_model::specs::Static::is_function))]
-fn is_function(functions: &[Func], function: &Func) -> bool
-    ensures { result ≡ is_function (names_of functions.now) function.now }
+/// The checks that go over the text: of the spelling, of the nesting, and of the limits.
+#[tactic(auto, unfolding(crate::specs::Order::early_fault))]
+pub(crate) fn check_text(alloc: Global, text: &[u8]) -> Result<(), ParseFault>
+    requires { length text.now ≤ 16777216 }
+    ensures { Passes result (early_fault text.now) }
 {
-    let in_main = function.name.as_bytes() == Keyword::Main.text();
-    is_name(function.name.as_bytes())
-        && is_parameter(function.locals.as_slice())
-        && is_body(functions, in_main, function.body.as_slice())
+    refuse(first_misspelled(text))?;
+    check_nesting(alloc, text)?;
+    refuse(check_limits(text))
 }
 
-fn is_each_function(functions: &[Func]) -> bool
-    ensures { result ≡ list_all (is_function (names_of functions.now)) functions.now }
+// The checks behind that of the names that are used.
+#[tactic(auto, unfolding(crate::specs::Order::last_fault))]
+fn check_functions(lines: &[Line]) -> Result<(), ParseFault>
+    requires { are_in_functions lines.now ≡ true }
+    ensures { Passes result (last_fault lines.now) }
 {
-    let mut rest = functions;
-    while let Some((function, behind)) = rest.split_first() {
-        if !is_function(functions, function) {
-            return false;
-        }
-        rest = behind;
-    }
-    true
+    refuse(return_in_push(lines))?;
+    refuse(not_plain(lines))?;
+    refuse(no_main(lines))
 }
 
-/// Whether the functions are those of a script that passes all checks.
-pub fn are_functions(functions: &[Func]) -> bool
-    ensures { result ≡ are_functions functions.now }
+/// The parts of the script that the lines tell, where the checks that go over lines find no fault.
+#[tactic(auto, unfolding(crate::specs::Order::late_fault))]
+pub(crate) fn read_lines(alloc: Global, lines: &[Line]) -> Result<ScriptContents, ParseFault>
+    requires few { length lines.now ≤ 16777216 }
+    requires in_functions { are_in_functions lines.now ≡ true }
+    requires ready { list_all is_ready lines.now ≡ true }
+    ensures { Reads contents_kept result (late_fault lines.now) (contents_read lines.now) }
 {
-    functions.len() <= MAX_FUNCTIONS
-        && has_few_lines(functions)
-        && are_different(functions)
-        && main_of(functions) < functions.len()
-        && is_each_function(functions)
+    refuse(name_twice(lines))?;
+    let contents = contents_read(alloc, lines)?;
+    check_functions(lines)?;
+    Ok(contents)
 }

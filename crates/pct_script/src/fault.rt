@@ -1,8 +1,7 @@
 //! Why a text gave no script.
 
 ghost use Rattle.std.specs.Prelude.{◌≡◌};
-ghost use Rattle.pct_model.specs.declared.refusal.ParseWhy.TheVariants.{UnknownWord};
-ghost use Rattle.pct_script.specs.declared.fault.ParseFault.TheVariants.{NoMemory, Refused};
+ghost use Rattle.pct_script.specs.declared.fault.ParseFault.TheVariants.{NoMemory};
 
 use pct_model::ParseWhy;
 use std::alloc::{AllocError, AllocFailed};
@@ -32,17 +31,5 @@ impl<T: Drop> From<AllocFailed<T>> for ParseFault {
 
     fn from(_failed: AllocFailed<T>) -> ParseFault {
         ParseFault::NoMemory
-    }
-}
-
-impl ParseFault {
-    /// The answer to each text that spells no script.
-    pub(crate) fn unread() -> ParseFault
-        ensures { result ≡ Refused 1 UnknownWord }
-    {
-        ParseFault::Refused {
-            line: 1,
-            why: ParseWhy::UnknownWord,
-        }
     }
 }

@@ -1,55 +1,65 @@
 //! A script from its text.
 
-ghost use Rattle.std.specs.Prelude.{◌≡◌, ◌≤◌, length, IfOk, IfErr};
+ghost use Rattle.std.specs.Prelude.{◌≡◌, ◌≤◌, length, None, IfOk, IfErr};
 ghost use Rattle.pct_model.specs.declared.script.Script.{Script};
-ghost use Rattle.pct_model.specs.Static.{is_static};
-ghost use Rattle.pct_model.specs.Canon.{Spells};
-ghost use Rattle.pct_script.specs.Fault.{IsFaultOf};
-ghost use Rattle.pct_script.specs.Reading.{Gives, read};
+ghost use Rattle.pct_model.specs.Checks.{first_fault};
+ghost use Rattle.pct_model.specs.Parts.{said_lines};
+ghost use Rattle.pct_model.specs.Spells.{Spells};
+ghost use Rattle.pct_script.specs.Fault.{IsFaultOf, Reads};
+ghost use Rattle.pct_script.specs.Order.{fault_in_order};
+ghost use Rattle.pct_script.specs.ReadContents.{contents_kept};
+ghost use Rattle.pct_script.specs.Reading.{contents_read};
 
-use crate::checking::are_functions;
+use crate::checking::{check_text, read_lines};
+use crate::contents::ScriptContents;
 use crate::fault::ParseFault;
-use crate::reader::{functions_of, names_of};
-use pct_model::{Func, Script, Sequence};
+use crate::lines::said_lines;
+use pct_model::Script;
 use std::alloc::Global;
 
-#[tactic(auto, unfolding(crate::specs::Reading::read))]
-fn read(alloc: Global, text: &[u8]) -> Result<Vec<Func>, ParseFault>
-    ensures { Gives (λ functions. functions.items) result (read text.now) }
+// The parts of the script that a text spells, or its first fault.
+#[tactic(auto, unfolding(crate::specs::Order::fault_in_order))]
+fn read(alloc: Global, text: &[u8]) -> Result<ScriptContents, ParseFault>
+    requires { length text.now ≤ 16777216 }
+    ensures { Reads contents_kept result (fault_in_order text.now) (contents_read (said_lines text.now)) }
 {
-    let names = names_of(alloc, text)?;
-    functions_of(alloc, &names, text)
+    check_text(alloc, text)?;
+    let lines = said_lines(alloc, text)?;
+    read_lines(alloc, &lines)
 }
 
-/// The script whose canonical text this is.
+/// The script that this text spells.
 ///
-/// The text has at most 16,777,216 bytes. A script has at most 64 functions, 2,000 statement lines and 32 pushes that
-/// are open at once; a name has 1 to 31 bytes, and a number is at most 4,294,967,295.
+/// The text has at most 16,777,216 bytes. `Refused` comes exactly where the text has a fault, and names the line, counted
+/// from 1, and the reason. There may be several faults: the checks go over the text one after the other, and the first
+/// line at which the first of them fails is the one that is told. They are, in this order: the spelling of the lines
+/// (`NotAscii`, `UnknownWord`, `WordCount`, `BadNumber`, `BadName`), how lines nest (`Misplaced`, `StrayEnd`,
+/// `PopUnmatched`, `Unclosed`), the limits (`TooMany`: 64 functions, 2,000 statement lines, 32 of each other kind, 8
+/// locals), names that are declared twice (`NameTwice`) or not at all (`UnknownName`), a `return` between a push and its
+/// pop (`ReturnInPush`; XSH pthread_cleanup_push), functions that are not plain where plain ones are asked for (`NotPlain`),
+/// and no function that is called `main` (`NoMain`, at line 1).
 ///
-/// Each text that is no script's canonical text is refused, so far as a whole: with `UnknownWord` at line 1. `NoMemory`
-/// comes where memory runs out while the script is made, and says nothing of the text.
-#[tactic(auto, unfolding(pct_model::specs::Static::is_static))]
+/// `NoMemory` comes where memory runs out while the script is made, and says nothing of the text. Comments and empty
+/// lines take no memory; open blocks take some, and so do the lines of a text within the limits.
 pub fn parse(alloc: Global, text: &[u8]) -> Result<Script, ParseFault>
     requires { length text.now ≤ 16777216 }
 
-    // The text is the canonical text of the script.
+    // The text spells the script, and has no fault.
     ensures spelled { IfOk result (λ script. Spells text.now script) }
+    ensures faultless { IfOk result (λ script. first_fault text.now ≡ None) }
 
-    // A refusal names the first fault of the text, and such a text spells no script.
+    // A refusal names the first fault of the text.
     ensures refused { IfErr result (λ fault. IsFaultOf text.now fault) }
 
-    // No other script has this text.
+    // The text spells no other script.
     ensures one { IfOk result (λ script. (other : Script) → Spells text.now other → other ≡ script) }
 {
-    let functions = read(alloc, text)?;
-    if !are_functions(&functions) {
-        return Err(ParseFault::unread());
-    }
+    let contents = read(alloc, text)?;
     Ok(Script {
-        globals: Sequence::of(Vec::new(alloc)),
-        mutexes: Sequence::of(Vec::new(alloc)),
-        conds: Sequence::of(Vec::new(alloc)),
-        sems: Sequence::of(Vec::new(alloc)),
-        funcs: Sequence::of(functions),
+        globals: contents.globals,
+        mutexes: contents.mutexes,
+        conds: contents.conds,
+        sems: contents.sems,
+        funcs: contents.funcs,
     })
 }

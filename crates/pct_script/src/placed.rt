@@ -3,7 +3,7 @@
 ghost use Rattle.std.specs.Prelude.{◌≡◌, true, is_some};
 ghost use Rattle.std.specs.List.{list_all};
 ghost use Rattle.std.specs.Str.Parse.{digits_value};
-ghost use Rattle.pct_model.specs.Static.{is_digit};
+ghost use Rattle.pct_model.specs.Names.{is_digit};
 ghost use Rattle.pct_model.specs.Saying.{numeral, word_at};
 ghost use Rattle.pct_model.specs.Spelling.{begins_with_digit, not_a_number, why_not};
 ghost use Rattle.pct_script.specs.Fitting.{is_short, is_count, is_optional, fits};

@@ -1,26 +1,124 @@
+//! Texts and what is answered to them. The expected answers are worked by hand from the rules of script texts.
+
 use super::*;
-use pct_model::{Operand, ParseWhy, Stmt};
+use pct_io::MemSink;
+use pct_model::{Dest, Operand, ParseWhy, Stmt};
 use std::alloc::{AllocError, Global};
 use std::test::*;
 
-/// Whether the text is read; an error where the answer is neither a script nor the one refusal.
-fn is_read(alloc: Global, text: &[u8]) -> Result<bool, Fail> {
+// What a text answers: its first fault, if it has one.
+fn fault_of(alloc: Global, text: &[u8]) -> Result<Option<(u32, ParseWhy)>, Fail> {
     if text.len() > 16_777_216 {
         return Err("longer than an input".into());
     }
     match parse(alloc, text) {
-        Ok(_) => Ok(true),
-        Err(
-            ParseFault::Refused {
-                line: 1,
-                why: ParseWhy::UnknownWord,
-            },
-        ) => Ok(false),
-        Err(_) => Err("another fault".into()),
+        Ok(_) => Ok(None),
+        Err(ParseFault::Refused { line, why }) => Ok(Some((line, why))),
+        Err(ParseFault::NoMemory) => Err("memory ran out".into()),
     }
 }
 
-/// A text with a piece in its middle, this many times.
+#[test]
+fn finds_the_first_fault(rt: HostRuntime) -> Result<(), Fail> {
+    let rows: [(&[u8], u32, ParseWhy); 33] = [
+        (b"", 1, ParseWhy::NoMain),
+        (b"# nothing\n\n", 1, ParseWhy::NoMain),
+        (b"fn f x\nend\n", 1, ParseWhy::NoMain),
+        // A fault of an earlier check goes before one of a later check at an earlier line.
+        (b"end\nwhat\n", 2, ParseWhy::UnknownWord),
+        (b"end\n", 1, ParseWhy::StrayEnd),
+        (b"emit 1\n", 1, ParseWhy::Misplaced),
+        (b"fn main x\nglobal g\nend\n", 2, ParseWhy::Misplaced),
+        (b"fn main x\nfn f x\nend\n", 2, ParseWhy::Misplaced),
+        (b"\nfn main x\nif x\n", 3, ParseWhy::Unclosed),
+        (
+            b"fn main x\npthread_cleanup_pop 1\nend\n",
+            2,
+            ParseWhy::PopUnmatched,
+        ),
+        (b"pthread_cleanup_pop 1\n", 1, ParseWhy::PopUnmatched),
+        (
+            b"fn main x\npthread_cleanup_push h 1\nend\nend\n",
+            3,
+            ParseWhy::Unclosed,
+        ),
+        (
+            b"fn main x\npthread_cleanup_push h 1\nelse\n",
+            3,
+            ParseWhy::Unclosed,
+        ),
+        (
+            b"fn main x\nif x\nelse\nelse\nend\nend\n",
+            4,
+            ParseWhy::StrayEnd,
+        ),
+        (
+            b"fn main x\nwhile x\nelse\nend\nend\n",
+            3,
+            ParseWhy::StrayEnd,
+        ),
+        (b"fn main a b c d e f g h i\nend\n", 1, ParseWhy::TooMany),
+        (
+            b"global g\nmutex g\nfn main x\nend\n",
+            2,
+            ParseWhy::NameTwice,
+        ),
+        (b"global g\nfn main x x\nend\n", 2, ParseWhy::NameTwice),
+        (b"global main\nfn main x\nend\n", 2, ParseWhy::NameTwice),
+        (b"fn main x\nemit y\nend\n", 2, ParseWhy::UnknownName),
+        (
+            b"fn main x\nend\nfn f y\nemit x\nend\n",
+            4,
+            ParseWhy::UnknownName,
+        ),
+        (
+            b"mutex m\nfn main x\nemit m\nend\n",
+            3,
+            ParseWhy::UnknownName,
+        ),
+        (
+            b"mutex m\nfn main x\nsem_wait m\nend\n",
+            3,
+            ParseWhy::UnknownName,
+        ),
+        (b"fn main x\ndo x 1\nend\n", 2, ParseWhy::UnknownName),
+        (
+            b"fn h x\nend\nfn main x\npthread_cleanup_push h 1\nreturn 1\npthread_cleanup_pop 1\nend\n",
+            5,
+            ParseWhy::ReturnInPush,
+        ),
+        (
+            b"fn main x\npthread_cleanup_push main 1\nif x\nreturn 1\nend\npthread_cleanup_pop 1\nend\n",
+            4,
+            ParseWhy::ReturnInPush,
+        ),
+        (
+            b"fn h x\nnop\nend\nfn main x\natexit - h\nend\n",
+            5,
+            ParseWhy::NotPlain,
+        ),
+        (
+            b"fn h x\nend\nfn main x\nend\nfn q x\npthread_atfork - h - main\natexit - q\nend\n",
+            7,
+            ParseWhy::NotPlain,
+        ),
+        (
+            b"fn h x\nwhile 0\nend\nend\nfn f x\natexit - h\nend\n",
+            6,
+            ParseWhy::NotPlain,
+        ),
+        (b"fn h x\nend\nfn mainly x\nend\n", 1, ParseWhy::NoMain),
+        (b"fn main x\nset - 1\nend\n", 2, ParseWhy::BadName),
+        (b"fn main x\nemit 4294967296\nend\n", 2, ParseWhy::BadNumber),
+        (b"fn main x\nemit \x80\nwhat\n", 2, ParseWhy::NotAscii),
+    ];
+    for (text, line, why) in rows {
+        assert_eq!(rt; fault_of(rt.alloc(), text)?, Some((line, why)));
+    }
+    Ok(())
+}
+
+// Some bytes, these so many times, and some more.
 fn repeated(
     alloc: Global,
     front: &[u8],
@@ -36,160 +134,90 @@ fn repeated(
     Ok(text)
 }
 
-/// The smallest script behind this many other functions, of which no two have one name.
-fn with_functions(alloc: Global, count: usize) -> Result<Vec<u8>, AllocError> {
+// Declarations of so many names, each after these words.
+fn declared(alloc: Global, word: &[u8], count: u8, back: &[u8]) -> Result<Vec<u8>, AllocError> {
     let mut text = Vec::new(alloc);
     for place in 0..count {
-        let name = [102, 48 + (place / 10 % 10) as u8, 48 + (place % 10) as u8];
-        text.extend_from_slice(b"fn ")?;
-        text.extend_from_slice(&name)?;
-        text.extend_from_slice(b" x\nend\n")?;
+        text.extend_from_slice(word)?;
+        text.extend_from_slice(&[b' ', b'a', b'0' + place / 10, b'0' + place % 10])?;
+        text.extend_from_slice(back)?;
     }
-    text.extend_from_slice(b"fn main x\nreturn 0\nend\n")?;
+    text.extend_from_slice(b"fn main x\nend\n")?;
     Ok(text)
-}
-
-/// A `main` with this many pushes around one another.
-fn with_pushes(alloc: Global, count: usize) -> Result<Vec<u8>, AllocError> {
-    let mut text = Vec::from_slice(alloc, b"fn h x\nend\nfn main x\n")?;
-    for _ in 0..count {
-        text.extend_from_slice(b"pthread_cleanup_push h 1\n")?;
-    }
-    for _ in 0..count {
-        text.extend_from_slice(b"pthread_cleanup_pop 0\n")?;
-    }
-    text.extend_from_slice(b"end\n")?;
-    Ok(text)
-}
-
-#[test]
-fn reads_the_smallest_script(rt: HostRuntime) -> Result<(), Fail> {
-    let script = parse(rt.alloc(), b"fn main x\nreturn 0\nend\n")?;
-    assert_eq!(rt; script.globals.as_slice().len(), 0);
-    let [main] = script.funcs.as_slice() else {
-        return Err("one function".into());
-    };
-    assert_eq!(rt; main.name.as_bytes(), b"main".as_slice());
-    assert_eq!(rt; main.locals.as_slice().len(), 1);
-    assert_eq!(rt;
-        main.body.as_slice(),
-        [Stmt::Return(Operand::Num(0)), Stmt::End].as_slice()
-    );
-    Ok(())
-}
-
-#[test]
-fn reads_a_handler(rt: HostRuntime) -> Result<(), Fail> {
-    let script = parse(
-        rt.alloc(),
-        b"fn h x\nemit x\nend\nfn main y\npthread_cleanup_push h 1\nemit 5\npthread_cleanup_pop y\nreturn 0\nend\n",
-    )?;
-    let [handler, main] = script.funcs.as_slice() else {
-        return Err("two functions".into());
-    };
-    assert_eq!(rt;
-        handler.body.as_slice(),
-        [Stmt::Emit(Operand::Local(0)), Stmt::End].as_slice()
-    );
-    assert_eq!(rt;
-        main.body.as_slice(),
-        [
-            Stmt::Push(0, Operand::Num(1)),
-            Stmt::Emit(Operand::Num(5)),
-            Stmt::Pop(Operand::Local(0)),
-            Stmt::Return(Operand::Num(0)),
-            Stmt::End,
-        ]
-        .as_slice()
-    );
-    for local in main.locals.as_slice() {
-        assert_eq!(rt; local.as_bytes(), b"y".as_slice());
-    }
-    Ok(())
-}
-
-#[test]
-fn reads_these_texts(rt: HostRuntime) -> Result<(), Fail> {
-    let texts: [&[u8]; 6] = [
-        b"fn main x\nend\n",
-        b"fn main main\nemit main\nend\n",
-        b"fn main x\nemit 4294967295\nend\n",
-        b"fn main x\npthread_cleanup_push later x\npthread_cleanup_pop 0\nend\nfn later x\nend\n",
-        b"fn abcdefghijklmnopqrstuvwxyz_1234 x\nend\nfn main x\nend\n",
-        b"fn main fn\nreturn fn\nreturn 1\nend\n",
-    ];
-    for text in texts {
-        assert!(rt; is_read(rt.alloc(), text)?);
-    }
-    Ok(())
-}
-
-#[test]
-fn refuses_these_texts(rt: HostRuntime) -> Result<(), Fail> {
-    let texts: [&[u8]; 30] = [
-        b"",
-        b"\n",
-        b"fn main x\nreturn 0\nend",
-        b"fn main x\nreturn 0\nend \n",
-        b"fn main x\nreturn 0 \nend\n",
-        b"fn main x \nreturn 0\nend\n",
-        b"fn main  x\nreturn 0\nend\n",
-        b"fn main x\nreturn  0\nend\n",
-        b" fn main x\nreturn 0\nend\n",
-        b"fn main x\r\nreturn 0\nend\n",
-        b"fn main x\nreturn 0\nend\n\n",
-        b"fn main x\nreturn 00\nend\n",
-        b"fn main x\nreturn 01\nend\n",
-        b"fn main x\nreturn +1\nend\n",
-        b"fn main x\nreturn \nend\n",
-        b"fn main x\nemit 4294967296\nend\n",
-        b"fn main x\nemit 18446744073709551617\nend\n",
-        b"fn main x\nemit z\nend\n",
-        b"fn abcdefghijklmnopqrstuvwxyz_12345 x\nend\nfn main x\nend\n",
-        b"fn 1h x\nend\nfn main x\nend\n",
-        b"fn h x\nend\n",
-        b"fn h x\nend\nfn h x\nend\nfn main x\nend\n",
-        b"fn main x\nend\nfn main x\nend\n",
-        b"fn main x\npthread_cleanup_push main 1\npthread_cleanup_pop 1\nend\n",
-        b"fn h x\nend\nfn main x\npthread_cleanup_push h 1\nreturn 0\npthread_cleanup_pop 1\nend\n",
-        b"fn h x\nend\nfn main x\npthread_cleanup_push h 1\nend\n",
-        b"fn main x\npthread_cleanup_pop 1\nend\n",
-        b"fn main x y\nend\n",
-        b"fn main\nend\n",
-        b"fn h x\nreturn 0\nend\nfn main x\nend\n",
-    ];
-    for text in texts {
-        assert!(rt; !is_read(rt.alloc(), text)?);
-    }
-    Ok(())
 }
 
 #[test]
 fn keeps_the_limits(rt: HostRuntime) -> Result<(), Fail> {
     let alloc = rt.alloc();
-    assert!(rt; is_read(alloc, &with_functions(alloc, 63)?)?);
-    assert!(rt; !is_read(alloc, &with_functions(alloc, 64)?)?);
+    let kinds: [(&[u8], u8, &[u8], u32); 5] = [
+        (b"global", 32, b"\n", 33),
+        (b"mutex", 32, b"\n", 33),
+        (b"cond", 32, b"\n", 33),
+        (b"sem", 32, b" 1\n", 33),
+        (b"fn", 63, b" x\nend\n", 129),
+    ];
+    for (word, count, back, line) in kinds {
+        assert_eq!(rt;
+            fault_of(alloc, &declared(alloc, word, count, back)?)?,
+            None
+        );
+        assert_eq!(rt;
+            fault_of(alloc, &declared(alloc, word, count + 1, back)?)?,
+            Some((line, ParseWhy::TooMany))
+        );
+    }
     let lines = repeated(alloc, b"fn main x\n", b"emit 1\n", 1_999, b"end\n")?;
-    assert!(rt; is_read(alloc, &lines)?);
+    assert_eq!(rt; fault_of(alloc, &lines)?, None);
     let lines = repeated(alloc, b"fn main x\n", b"emit 1\n", 2_000, b"end\n")?;
-    assert!(rt; !is_read(alloc, &lines)?);
-    let lines = repeated(
-        alloc,
-        b"fn h x\nend\nfn main x\n",
-        b"emit 1\n",
-        1_998,
-        b"end\n",
+    assert_eq!(rt; fault_of(alloc, &lines)?, Some((2_002, ParseWhy::TooMany)));
+    assert_eq!(rt; fault_of(alloc, b"fn main a b c d e f g h\nend\n")?, None);
+    // Blocks may stand in one another as deep as there are lines.
+    let deep = repeated(alloc, b"fn main x\n", b"if x\n", 999, b"")?;
+    let deep = repeated(alloc, &deep, b"end\n", 1_000, b"")?;
+    assert_eq!(rt; fault_of(alloc, &deep)?, None);
+    Ok(())
+}
+
+#[test]
+fn reads_what_a_text_says(rt: HostRuntime) -> Result<(), Fail> {
+    let script = parse(
+        rt.alloc(),
+        b"# two functions\nfn f a g\n\tset g 007\n add a g \r\nend\nglobal g\nglobal h\nfn main x\ndo f h\nend",
     )?;
-    assert!(rt; is_read(alloc, &lines)?);
-    let lines = repeated(
-        alloc,
-        b"fn h x\nend\nfn main x\n",
-        b"emit 1\n",
-        1_999,
-        b"end\n",
-    )?;
-    assert!(rt; !is_read(alloc, &lines)?);
-    assert!(rt; is_read(alloc, &with_pushes(alloc, 32)?)?);
-    assert!(rt; !is_read(alloc, &with_pushes(alloc, 33)?)?);
+    let [f, main] = script.funcs.as_slice() else {
+        return Err("two functions".into());
+    };
+    // A local hides the global of its name.
+    assert_eq!(rt;
+        f.body.as_slice(),
+        [
+            Stmt::Set(Dest::Local(1), Operand::Num(7)),
+            Stmt::Add(Dest::Local(0), Operand::Local(1)),
+            Stmt::End,
+        ]
+        .as_slice()
+    );
+    assert_eq!(rt;
+        main.body.as_slice(),
+        [Stmt::Do(0, Operand::Global(1)), Stmt::End].as_slice()
+    );
+    assert_eq!(rt; f.locals.as_slice().len(), 2);
+    assert_eq!(rt; script.globals.as_slice().len(), 2);
+
+    let jumps = Jumps::new(rt.alloc(), &script).map_err(|_| AllocError)?;
+    assert_eq!(rt; jumps.open_of(0, 2), None);
+    Ok(())
+}
+
+// Each form of a line, as the canonical text has it.
+const CANONICAL: &[u8] =
+    b"global g\nmutex m\ncond c\nsem s 3\nfn p a\nif a\nreturn a\nend\nend\nfn main x y\nemit 1\nset y 2\nadd g y\nnop\nif x\nelse\nend\nwhile 0\nend\ndo p y\npthread_create - y p 4\npthread_create g - p x detached\npthread_join y -\npthread_detach 1\npthread_cancel y\npthread_self y\npthread_exit 1\npthread_testcancel\npthread_setcancelstate enable -\npthread_setcancelstate disable y\npthread_setcanceltype asynchronous -\npthread_setcanceltype deferred y\npthread_cleanup_push p 1\npthread_cleanup_pop 0\npthread_key_create - y p\npthread_key_create y - -\npthread_key_delete y\npthread_setspecific y 1\npthread_getspecific - y\npthread_mutex_lock m\npthread_mutex_unlock m\npthread_cond_wait c m\npthread_cond_signal c\npthread_cond_broadcast c\nsem_wait s\nsem_post s\npthread_atfork y p - p\nfork y -\nwaitpid y x -\natexit y p\nexit 1\n_exit 4294967295\naccept\nreaddir\nreturn 0\nend\n";
+
+#[test]
+fn prints_what_it_reads(rt: HostRuntime) -> Result<(), Fail> {
+    let script = parse(rt.alloc(), CANONICAL)?;
+    let mut sink = MemSink::new(rt.alloc(), 10_000, 7, &[]).map_err(|_| AllocError)?;
+    print(&script, &mut sink).map_err(|_| AllocError)?;
+    assert_eq!(rt; sink.written(), CANONICAL);
     Ok(())
 }

@@ -5,5 +5,5 @@ use Rattle.pct_command.proofs.machine.opening_of.Goals as goal
 pub overflow_cast-main : goal.overflow_cast-main
 overflow_cast-main c =
     let s = c.args.script.now in
-    let few = few_functions s.globals s.mutexes s.conds s.sems s.funcs s.passes_checks in
+    let few = few_functions (record { globals = s.globals; mutexes = s.mutexes; conds = s.conds; sems = s.sems; funcs = s.funcs }) s.passes_checks in
     omega (arith, few, c.main_of-main.ensures.bound, ap length c.as_slice.ensures)

@@ -1,13 +1,14 @@
-use Rattle.std.proofs.Common.{sym, subst, ◌∙◌}
+use Rattle.std.proofs.Common.{sym, subst, take}
 use Rattle.pct_script.specs.Fault.{IsFaultOf}
 use Rattle.pct_command.proofs.Asked.{replay_is_accepted, part_of_replay, schedule_of_replay}
+use Rattle.pct_command.proofs.Scripts.{spells_part}
 use Rattle.pct_command.proofs.replay_command.replay_text.Goals as goal
 
 pub returns-in-Ok-clause-answers : goal.returns-in-Ok-clause-answers
 returns-in-Ok-clause-answers g c = λ words asked.
     let parts = c.split_replay-end.ensures.parts in
     c.replay_script.ensures.answers words c.args.text.now asked c.requires
-    (part_of_replay words c.args.text.now c.split_replay-end.result asked parts ∙ c.in-Ok.ensures.spelled)
+    (spells_part (take c.split_replay-end.result.0 c.args.text.now) _ c.in-Ok.script (sym (part_of_replay words c.args.text.now c.split_replay-end.result asked parts)) c.in-Ok.ensures.spelled)
     (schedule_of_replay c.args.text.now c.split_replay-end.result parts)
 
 pub returns-in-Err-clause-answers : goal.returns-in-Err-clause-answers

@@ -1,11 +1,12 @@
-use Rattle.std.proofs.Common.{subst, sym, ◌∙◌}
+use Rattle.std.proofs.Common.{subst, sym}
 use Rattle.pct_script.specs.Fault.{IsFaultOf}
 use Rattle.pct_command.proofs.Asked.{run_is_accepted, part_of_run}
+use Rattle.pct_command.proofs.Scripts.{spells_part}
 use Rattle.pct_command.proofs.run_command.run_text.Goals as goal
 
 pub returns-in-Ok-clause-answers : goal.returns-in-Ok-clause-answers
 returns-in-Ok-clause-answers g c = λ words asks.
-    c.run_script.ensures.answers words c.args.text.now asks.0 c.requires.fits (part_of_run words c.args.text.now asks.0 ∙ c.in-Ok.ensures.spelled)
+    c.run_script.ensures.answers words c.args.text.now asks.0 c.requires.fits (spells_part c.args.text.now _ c.in-Ok.script (sym (part_of_run words c.args.text.now asks.0)) c.in-Ok.ensures.spelled)
 
 pub returns-in-Err-clause-answers : goal.returns-in-Err-clause-answers
 returns-in-Err-clause-answers g c = λ words asks.

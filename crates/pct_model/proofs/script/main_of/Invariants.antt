@@ -3,7 +3,7 @@ use Rattle.std.specs.Prelude.{bytes_eq}
 use Rattle.std.specs.List.{position_or_len}
 use Rattle.pct_model.specs.declared.word.Keyword.TheVariants as word
 use Rattle.pct_model.specs.Words.{keyword_text}
-use Rattle.pct_model.specs.Static.{names_of}
+use Rattle.pct_model.specs.Names.{names_of}
 use Rattle.pct_model.proofs.script.main_of.Given as goal
 
 abbrev pub invariant-loop-func : goal.invariant-loop-func

@@ -1,0 +1,54 @@
+-- What is known of values that may be there, and of lists that are read from such.
+use Rattle.std.proofs.Common.{◌≡◌, not, ◌&&◌, List, ◌∷◌, Option, Some, None, is_some, is_none, refl, option_map}
+use Rattle.std.specs.Option.{option_or}
+use Rattle.pct_model.specs.Lines.{◌>>=◌}
+
+-- there is a value where a function is done to it
+pub mapped_some : {A B : Type 0} (f : A → B) (o : Option A) → is_some (option_map f o) ≡ is_some o
+mapped_some f None = refl
+mapped_some f (Some a) = refl
+
+-- there is none where a function is done to it
+pub mapped_none : {A B : Type 0} (f : A → B) (o : Option A) → is_none (option_map f o) ≡ is_none o
+mapped_none f None = refl
+mapped_none f (Some a) = refl
+
+-- neither of two is there
+pub or_none : {A : Type 0} (o p : Option A) → is_none (option_or o p) ≡ (is_none o && is_none p)
+or_none None p = refl
+or_none (Some a) p = refl
+
+-- both of two are there
+pub and_some : {A B C : Type 0} (f : A → B → C) (o : Option A) (p : Option B) → is_some (o >>= λ a. option_map (f a) p) ≡ (is_some o && is_some p)
+and_some f None p = refl
+and_some f (Some a) p = mapped_some (f a) p
+
+-- what is not missing is there
+pub some_not_none : {A : Type 0} (o : Option A) → not (is_none o) ≡ is_some o
+some_not_none None = refl
+some_not_none (Some a) = refl
+
+-- the value that a function's value came from
+pub record MappedFrom {A B : Type 0} (f : A → B) (o : Option A) (b : B) : Type 0 where
+  pub value : A
+  pub from : o ≡ Some value
+  pub is : b ≡ f value
+
+-- what a function gave came from a value
+pub mapped_from : {A B : Type 0} (f : A → B) (o : Option A) (b : B) → option_map f o ≡ Some b → MappedFrom f o b
+mapped_from f None b h = absurd cc
+mapped_from f (Some a) b h = record { value = a; from = refl; is = cc }
+
+-- the first of a list, and the others, each from a value that is there
+pub record BothFrom {A : Type 0} (o : Option A) (p : Option (List A)) (xs : List A) : Type 0 where
+  pub first : A
+  pub others : List A
+  pub one : o ≡ Some first
+  pub rest : p ≡ Some others
+  pub whole : xs ≡ first ∷ others
+
+-- a list that is there came from its first and the others
+pub both_from : {A : Type 0} (o : Option A) (p : Option (List A)) (xs : List A) → (o >>= λ a. option_map (λ (others : List A). a ∷ others) p) ≡ Some xs → BothFrom o p xs
+both_from None p xs h = absurd cc
+both_from (Some a) None xs h = absurd cc
+both_from (Some a) (Some others) xs h = record { first = a; others = others; one = refl; rest = refl; whole = cc }

@@ -1,0 +1,175 @@
+//! What the lines of a script's text declare: names of each kind, semaphores, and the names of a function.
+
+ghost use Rattle.std.specs.Prelude.{◌≡◌, ◌<◌, ◌≤◌, ◌++◌, true, [], ◌∷◌, drop, length, IfOk, IfSome, MatchOption, OnOk};
+ghost use Rattle.pct_model.specs.Parts.{is_same, declares_by, declares, names_in, locals_of, names_declared};
+ghost use Rattle.pct_script.specs.Reading.{first_name, sem_in, sems_in};
+ghost use Rattle.pct_script.specs.PartSteps.{begins_with_name};
+
+use crate::lines::Line;
+use crate::name_tables::NameTable;
+use pct_model::{Kind, Name, Role, Said, SemDecl, SemDecls, Sequence, Word};
+use std::alloc::{AllocError, Global};
+
+fn is_same(kind: Kind, other: Kind) -> bool
+    ensures { result ≡ is_same kind other }
+{
+    match kind {
+        Kind::Global => matches!(other, Kind::Global),
+        Kind::Mutex => matches!(other, Kind::Mutex),
+        Kind::Cond => matches!(other, Kind::Cond),
+        Kind::Sem => matches!(other, Kind::Sem),
+        Kind::Function => matches!(other, Kind::Function),
+    }
+}
+
+fn declares_by(kind: Kind, role: Role) -> bool
+    ensures { result ≡ declares_by kind role }
+{
+    match role {
+        Role::Declares(other) => is_same(kind, other),
+        _ => false,
+    }
+}
+
+/// Whether the line declares something of this kind.
+pub(crate) fn declares(kind: Kind, line: &Said) -> bool
+    ensures { result ≡ declares kind line.now }
+{
+    declares_by(kind, line.form.role())
+}
+
+fn copied(name: &Name) -> Name
+    ensures { result ≡ name.now }
+{
+    Name::of(name.as_bytes())
+}
+
+// The first name among words, and the words behind it.
+fn next_name(words: &[Word]) -> Option<(&Name, &[Word])>
+    ensures name { MatchOption result (names_in words.now ≡ [])
+        (λ first. names_in words.now ≡ first.0.now ∷ names_in first.1.now) }
+    ensures shorter { IfSome result (λ first. length first.1.now < length words.now) }
+{
+    let mut rest = words;
+    while let Some((word, behind)) = rest.split_first() {
+        if let Word::Name(name) = word {
+            return Some((name, behind));
+        }
+        rest = behind;
+    }
+    None
+}
+
+// One more name, where the line declares one of this kind.
+fn keep_name(names: &mut Vec<Name>, kind: Kind, line: &Line) -> Result<(), AllocError>
+    ensures { OnOk result (names.new.items ≡ names.old.items ++ names_declared (line.now ∷ []) kind) }
+{
+    if !declares(kind, &line.1) {
+        return Ok(());
+    }
+    if let Some((name, _)) = next_name(line.1.words.as_slice()) {
+        names.push(copied(name))?;
+    }
+    Ok(())
+}
+
+/// The names that lines declare of a kind, in order.
+pub(crate) fn names_declared(
+    alloc: Global,
+    lines: &[Line],
+    kind: Kind,
+) -> Result<NameTable, AllocError>
+    requires { length lines.now ≤ 16777216 }
+    ensures { IfOk result (λ names. names ≡ names_declared lines.now kind) }
+{
+    let mut names = Vec::new(alloc);
+    let mut rest = lines;
+    while let Some((line, behind)) = rest.split_first() {
+        keep_name(&mut names, kind, line)?;
+        rest = behind;
+    }
+    Ok(NameTable::of(names))
+}
+
+// The semaphore that the words behind `sem` declare.
+fn sem_in(words: &[Word]) -> Option<SemDecl>
+    ensures { result ≡ sem_in words.now }
+{
+    match words {
+        [Word::Name(name), Word::Number(count), ..] => Some(SemDecl {
+            name: copied(name),
+            count: *count,
+        }),
+        _ => None,
+    }
+}
+
+// One more semaphore, where the line declares one.
+#[tactic(auto, unfolding(crate::specs::Reading::sems_in))]
+fn keep_sem(sems: &mut Vec<SemDecl>, line: &Line) -> Result<(), AllocError>
+    ensures { OnOk result (sems.new.items ≡ sems.old.items ++ sems_in (line.now ∷ [])) }
+{
+    if !declares(Kind::Sem, &line.1) {
+        return Ok(());
+    }
+    if let Some(sem) = sem_in(line.1.words.as_slice()) {
+        sems.push(sem)?;
+    }
+    Ok(())
+}
+
+/// The semaphores that lines declare, in order.
+pub(crate) fn sems_in(alloc: Global, lines: &[Line]) -> Result<SemDecls, AllocError>
+    ensures { IfOk result (λ sems. sems ≡ sems_in lines.now) }
+{
+    let mut sems = Vec::new(alloc);
+    let mut rest = lines;
+    while let Some((line, behind)) = rest.split_first() {
+        keep_sem(&mut sems, line)?;
+        rest = behind;
+    }
+    Ok(Sequence::of(sems))
+}
+
+// The words behind the first name.
+fn behind_name(words: &[Word]) -> &[Word]
+    ensures { names_in result.now ≡ drop 1 (names_in words.now) }
+{
+    match next_name(words) {
+        Some((_, behind)) => behind,
+        None => words,
+    }
+}
+
+// The names among words, in order.
+fn names_in(alloc: Global, words: &[Word]) -> Result<Vec<Name>, AllocError>
+    ensures { IfOk result (λ names. names.items ≡ names_in words.now) }
+{
+    let mut names = Vec::new(alloc);
+    let mut rest = words;
+    while let Some((name, behind)) = next_name(rest) {
+        names.push(copied(name))?;
+        rest = behind;
+    }
+    Ok(names)
+}
+
+/// The locals of the function that a line `fn` begins.
+pub(crate) fn locals_of(alloc: Global, line: &Said) -> Result<NameTable, AllocError>
+    requires { length (locals_of line.now) ≤ 8 }
+    ensures { IfOk result (λ names. names ≡ locals_of line.now) }
+{
+    let names = names_in(alloc, behind_name(line.words.as_slice()))?;
+    Ok(NameTable::of(names))
+}
+
+/// The name of the function that a line `fn` begins.
+pub(crate) fn first_name(words: &[Word]) -> Name
+    requires { begins_with_name words.now ≡ true }
+    ensures { result ≡ first_name words.now }
+{
+    match words {
+        [Word::Name(name), ..] => copied(name),
+        _ => unreachable!(),
+    }
+}
