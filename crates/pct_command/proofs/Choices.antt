@@ -20,7 +20,7 @@ use Rattle.pct_model.specs.declared.stop.Why.{Why}
 use Rattle.pct_model.specs.declared.stop.Why.TheVariants.{Unbuilt, ExitTwice, StackFull, CleanupFull}
 use Rattle.pct_model.specs.Jumps.{open_of}
 use Rattle.pct_model.specs.World.{Thread, Process, World, body_of, statement_at, value_of}
-use Rattle.pct_model.specs.Alternatives.{Effect, Alternative, goes, moved_on, called, stops, passes, emits, held_in, sets, adds, calls, branches, skips, closes_block, pushes, pops, exits, returns_by, ends_at, ends_process, running_at, running, by_status, alternatives}
+use Rattle.pct_model.specs.Alternatives.{Effect, Alternative, goes, moved_on, called, stops, idles, emits, held_in, sets, adds, calls, branches, skips, closes_block, pushes, pops, exits, returns_by, ends_at, ends_process, running_at, running, by_status, alternatives}
 use Rattle.pct_model.specs.Step.{same_choice}
 
 -- each of these is `go`
@@ -39,9 +39,9 @@ stops-go : (t : Thread) (why : Why) → AllGo (stops t why)
 unfolding stops
 stops-go t why = (refl, tt)
 
-passes-go : (t : Thread) (frame : Frame) (below : List Frame) → AllGo (passes t frame below)
-unfolding passes
-passes-go t frame below = (refl, tt)
+idles-go : (t : Thread) (frame : Frame) (below : List Frame) → AllGo (idles t frame below)
+unfolding idles
+idles-go t frame below = (refl, tt)
 
 emits-go : (t : Thread) (frame : Frame) (below : List Frame) (v : ℕ) → AllGo (emits t frame below v)
 unfolding emits
@@ -112,7 +112,7 @@ running_at-go script config w p t frame below None = tt
 running_at-go script config w p t frame below (Some (statement.Emit v)) = emits-go t frame below (value_of p.globals frame v)
 running_at-go script config w p t frame below (Some (statement.Set d v)) = sets-go t frame below d (value_of p.globals frame v)
 running_at-go script config w p t frame below (Some (statement.Add d v)) = adds-go p.globals t frame below d (value_of p.globals frame v)
-running_at-go script config w p t frame below (Some statement.Nop) = passes-go t frame below
+running_at-go script config w p t frame below (Some statement.Nop) = idles-go t frame below
 running_at-go script config w p t frame below (Some (statement.If v)) = branches-go (body_of script frame.func) t frame below (value_of p.globals frame v)
 running_at-go script config w p t frame below (Some statement.Else) = skips-go (body_of script frame.func) t frame below
 running_at-go script config w p t frame below (Some (statement.While v)) = branches-go (body_of script frame.func) t frame below (value_of p.globals frame v)

@@ -13,7 +13,7 @@ use Rattle.pct_model.specs.declared.statement.Operand.{Operand}
 use Rattle.pct_model.specs.declared.statement.Stmt.{Stmt}
 use Rattle.pct_model.specs.declared.statement.Stmt.TheVariants as statement
 use Rattle.pct_model.specs.World.{Thread, Process, World, body_of, statement_at, value_of}
-use Rattle.pct_model.specs.Alternatives.{Alternative, stops, passes, emits, held_in, sets, adds, calls, branches, skips, pushes, running_at}
+use Rattle.pct_model.specs.Alternatives.{Alternative, stops, idles, emits, held_in, sets, adds, calls, branches, skips, pushes, running_at}
 use Rattle.pct_model.specs.Run.{is_stuck}
 use Rattle.pct_script.specs.declared.blocks.Blocks.{Blocks}
 use Rattle.pct_script.specs.Jumping.{jumps_of, opens_block, IsOpening}
@@ -66,7 +66,7 @@ pushes-goes t frame below f v = either-goes (nat_lt (length t.handlers) 32) _ _ 
 pub others-go : (script : Script) (config : Config) (w : World) (p : Process) (t : Thread) (frame : Frame) (below : List Frame) (s : Stmt)
     → ((v : Operand) → s ≡ statement.Pop v → ⊥) → ((v : Operand) → s ≡ statement.Return v → ⊥) → (s ≡ statement.End → ⊥)
     → true ≡ not (is_stuck (running_at script config w p t frame below (Some s)))
-unfolding running_at stops passes emits branches skips
+unfolding running_at stops idles emits branches skips
 others-go script config w p t frame below (statement.Set d v) pop return end = sets-goes t frame below d (value_of p.globals frame v)
 others-go script config w p t frame below (statement.Add d v) pop return end = adds-goes p.globals t frame below d (value_of p.globals frame v)
 others-go script config w p t frame below (statement.Do f v) pop return end = calls-goes t frame below f (value_of p.globals frame v)
@@ -91,7 +91,7 @@ module _ (script : Script) (config : Config) (old new : OneProcess) (before : Li
   unfolding running_at
   add-leads d o v is value leads = subst LeadsAt (sym is) (subst (λ (n : ℕ). Leads script old new before before (adds old.globals.items (thread_of old.thread) frame below d n)) value leads)
 
-  pub nop-leads : s ≡ statement.Nop → Leads script old new before before (passes (thread_of old.thread) frame below) → LeadsAt s
+  pub nop-leads : s ≡ statement.Nop → Leads script old new before before (idles (thread_of old.thread) frame below) → LeadsAt s
   unfolding running_at
   nop-leads is leads = subst LeadsAt (sym is) leads
 

@@ -1,16 +1,21 @@
 //! What is written: reports and refusals, gathered on their way to the sink.
 
-ghost use Rattle.std.specs.Prelude.{[], ◌∷◌, ◌++◌, ◌<◌, ◌^◌, length, map};
+ghost use Rattle.std.specs.Prelude.{◌≡◌, ◌≤◌, ℕ, List, [], ◌∷◌, ◌++◌, ◌<◌, ◌^◌, length, map, true};
 ghost use Rattle.std.specs.List.{join_with_byte};
 ghost use Rattle.pct_io.specs.Writes.{Writes};
 ghost use Rattle.pct_io.specs.Lines.{word_text};
 ghost use Rattle.pct_model.specs.Words.{line_text, text_of};
 ghost use Rattle.pct_model.specs.Report.{report_lines};
-ghost use Rattle.pct_model.specs.Outcome.{refused_words, refused_input, refused_script, refused_schedule, refused_entry};
+ghost use Rattle.pct_io.specs.Inners.{KeepsInners};
+ghost use Rattle.pct_script.specs.Fault.{IsFaultOf};
+ghost use Rattle.pct_command.specs.Texts.{TextAnswers, status_of_verdict};
+ghost use Rattle.pct_model.specs.Outcome.{is_accepted, script_part, refused_words, refused_input, refused_script, refused_schedule, refused_entry};
 
 use crate::report::write_report;
+use crate::status::Status;
 use pct_io::{Failed, Gatherer, Sink, Word, write_line};
 use pct_model::{Config, Entry, Event, Keyword, ParseWhy, ScheduleWhy, Script, Verdict};
+use pct_script::ParseFault;
 
 /// Writes a line through a gatherer.
 fn write_alone<K: Sink>(sink: &mut K, words: &[Word]) -> Result<(), Failed>
@@ -111,4 +116,33 @@ pub(crate) fn refuse_entry<K: Sink>(sink: &mut K, place: u32) -> Result<(), Fail
             Word::Number(place),
         ],
     )
+}
+
+/// Answers a script's part of an input that gave no script.
+pub(crate) fn answer_fault<K: Sink>(fault: ParseFault, sink: &mut K) -> Status
+    ensures answers { (words : List (List ℕ)) (input : List ℕ) → is_accepted words ≡ true → length input ≤ 16777216 → IsFaultOf (script_part words input) fault
+        → TextAnswers words input (K.written sink.old) (K.written sink.new) (K.faults sink.old) (K.faults sink.new) result }
+    ensures write_faults { K.faults sink.old ≤ K.faults sink.new }
+    ensures inners { KeepsInners (K.inners sink.old) (K.inners sink.new) }
+{
+    match fault {
+        ParseFault::NoMemory => Status::NoMemory,
+        ParseFault::Refused { line, why } => match refuse_script(sink, line, why) {
+            Ok(()) => Status::ScriptRefused,
+            Err(Failed) => Status::WriteFault,
+        },
+    }
+}
+
+/// The status that tells how a run stands.
+pub(crate) fn status_of(verdict: Verdict) -> Status
+    ensures { result ≡ status_of_verdict verdict }
+{
+    match verdict {
+        Verdict::Complete => Status::Complete,
+        Verdict::Deadlock => Status::Deadlock,
+        Verdict::Budget => Status::Budget,
+        Verdict::Undefined(_) => Status::Undefined,
+        Verdict::Open => Status::Open,
+    }
 }

@@ -6,7 +6,7 @@ ghost use Rattle.pct_model.specs.declared.word.Keyword.TheVariants as word;
 ghost use Rattle.pct_io.specs.Inners.{KeepsInners};
 ghost use Rattle.pct_command.specs.Texts.{TextAnswers};
 
-use crate::run_command::answer_fault;
+use crate::answers::answer_fault;
 use crate::status::Status;
 use pct_io::{Failed, Sink};
 use pct_script::{parse, print};

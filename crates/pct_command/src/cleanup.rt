@@ -1,4 +1,4 @@
-//! The script's own events, and cleanup handlers (XSH pthread_cleanup_push).
+//! Stops, `emit`, and cleanup handlers (XSH pthread_cleanup_push).
 //!
 //! Each function here makes one step of a thread whose top frame was taken off its stack: it is handed that frame, and
 //! puts it back.

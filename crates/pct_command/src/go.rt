@@ -52,7 +52,7 @@ fn can_go_in(script: &Script, jumps: &Jumps, process: &OneProcess, frame: &Frame
 }
 
 // Whether it has one at this statement.
-#[tactic(auto, unfolding(pct_model::specs::Alternatives::running_at, pct_model::specs::Alternatives::passes, pct_model::specs::Alternatives::emits, pct_model::specs::Alternatives::pops, pct_model::specs::Alternatives::branches, pct_model::specs::Alternatives::skips, pct_model::specs::Alternatives::stops))]
+#[tactic(auto, unfolding(pct_model::specs::Alternatives::running_at, pct_model::specs::Alternatives::idles, pct_model::specs::Alternatives::emits, pct_model::specs::Alternatives::pops, pct_model::specs::Alternatives::branches, pct_model::specs::Alternatives::skips, pct_model::specs::Alternatives::stops))]
 fn can_go_at(
     script: &Script,
     jumps: &Jumps,

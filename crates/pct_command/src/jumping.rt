@@ -1,10 +1,10 @@
-//! Where a thread goes on: the statements that change nothing else.
+//! `nop`, and the statements that jump: `if`, `else`, `while`, `end`.
 
 ghost use Rattle.std.specs.Prelude.{◌≡◌, ◌+◌, ◌<◌, ◌≤◌, List, false, length, reverse, vec_len, vec_capacity};
 ghost use Rattle.pct_model.specs.declared.event.Event.{Event as EventRecord};
 ghost use Rattle.pct_model.specs.World.{body_of};
 ghost use Rattle.pct_model.specs.Jumps.{holds, is_while, open_of};
-ghost use Rattle.pct_model.specs.Alternatives.{passes, branches, skips, closes_block, ends_at, behind_block};
+ghost use Rattle.pct_model.specs.Alternatives.{idles, branches, skips, closes_block, ends_at, behind_block};
 ghost use Rattle.pct_model.specs.Run.{is_stuck};
 ghost use Rattle.pct_script.specs.Jumping.{IsOpening, jumps_of};
 ghost use Rattle.pct_command.specs.OneThread.{thread_of, process_of, with_top, Leads};
@@ -15,12 +15,12 @@ use pct_model::{Event, Frame, Script, Stmt};
 use pct_script::Jumps;
 
 /// `nop`
-#[tactic(auto, unfolding(pct_model::specs::Alternatives::passes))]
+#[tactic(auto, unfolding(pct_model::specs::Alternatives::idles))]
 pub(crate) fn pass(script: &Script, process: &mut OneProcess, frame: Frame)
     requires frames { length process.old.thread.frames < 16 }
     requires place { frame.place < 2000 }
     ensures leads { (before : List EventRecord) → Leads script.now (with_top frame process.old) process.new before before
-        (passes (thread_of (with_top frame process.old).thread) frame process.old.thread.frames) }
+        (idles (thread_of (with_top frame process.old).thread) frame process.old.thread.frames) }
 {
     move_to(process, frame, frame.place + 1);
 }

@@ -11,9 +11,8 @@ ghost use Rattle.pct_io.specs.Inners.{KeepsInners};
 ghost use Rattle.pct_command.specs.Texts.{TextAnswers};
 ghost use Rattle.pct_command.specs.Ran.{StopsReplay};
 
-use crate::answers::{refuse_entry, refuse_schedule, write_ran};
+use crate::answers::{answer_fault, refuse_entry, refuse_schedule, status_of, write_ran};
 use crate::replay::{ReplayFault, replay};
-use crate::run_command::{answer_fault, status_of};
 use crate::status::Status;
 use pct_history::{ScheduleFault, read_schedule, split_replay};
 use pct_io::{Failed, Sink};

@@ -39,7 +39,7 @@ pub(crate) fn return_from(
 
 /// Exit begins with a value.
 #[tactic(auto, unfolding(pct_model::specs::Alternatives::exits))]
-pub(crate) fn exit(
+fn exit(
     script: &Script,
     process: &mut OneProcess,
     events: &mut Vec<Event>,

@@ -2,21 +2,20 @@
 
 ghost use Rattle.std.specs.Prelude.{◌≡◌, ◌≤◌, ℕ, List, length, true};
 ghost use Rattle.pct_model.specs.Spells.{Spells};
-ghost use Rattle.pct_model.specs.Outcome.{is_accepted, is_asked, default_config, script_part};
+ghost use Rattle.pct_model.specs.Outcome.{is_asked, default_config, script_part};
 ghost use Rattle.pct_model.specs.declared.word.Keyword.TheVariants as word;
-ghost use Rattle.pct_script.specs.Fault.{IsFaultOf};
 ghost use Rattle.pct_io.specs.Inners.{KeepsInners};
-ghost use Rattle.pct_command.specs.Texts.{TextAnswers, status_of_verdict};
+ghost use Rattle.pct_command.specs.Texts.{TextAnswers};
 ghost use Rattle.pct_command.specs.Words.{Asks};
 ghost use Rattle.pct_command.specs.declared.words.Job.TheVariants.{Run as RunJob};
 
-use crate::answers::{refuse_script, write_ran};
+use crate::answers::{answer_fault, status_of, write_ran};
 use crate::machine::run_alone;
 use crate::status::Status;
 use crate::words::RunOptions;
 use pct_io::{Failed, NoMemory, Sink};
-use pct_model::{Config, Script, Verdict};
-use pct_script::{ParseFault, parse};
+use pct_model::{Config, Script};
+use pct_script::parse;
 use std::alloc::Global;
 
 /// Runs the script that a text spells.
@@ -36,22 +35,6 @@ pub(crate) fn run_text<K: Sink>(
     match parse(alloc, text) {
         Ok(script) => run_script(alloc, options.config, &script, sink),
         Err(fault) => answer_fault(fault, sink),
-    }
-}
-
-/// Answers a script's part of an input that gave no script.
-pub(crate) fn answer_fault<K: Sink>(fault: ParseFault, sink: &mut K) -> Status
-    ensures answers { (words : List (List ℕ)) (input : List ℕ) → is_accepted words ≡ true → length input ≤ 16777216 → IsFaultOf (script_part words input) fault
-        → TextAnswers words input (K.written sink.old) (K.written sink.new) (K.faults sink.old) (K.faults sink.new) result }
-    ensures write_faults { K.faults sink.old ≤ K.faults sink.new }
-    ensures inners { KeepsInners (K.inners sink.old) (K.inners sink.new) }
-{
-    match fault {
-        ParseFault::NoMemory => Status::NoMemory,
-        ParseFault::Refused { line, why } => match refuse_script(sink, line, why) {
-            Ok(()) => Status::ScriptRefused,
-            Err(Failed) => Status::WriteFault,
-        },
     }
 }
 
@@ -79,18 +62,5 @@ fn run_script<K: Sink>(alloc: Global, config: Config, script: &Script, sink: &mu
                 Err(Failed) => Status::WriteFault,
             }
         }
-    }
-}
-
-/// The status that tells how a run stands.
-pub(crate) fn status_of(verdict: Verdict) -> Status
-    ensures { result ≡ status_of_verdict verdict }
-{
-    match verdict {
-        Verdict::Complete => Status::Complete,
-        Verdict::Deadlock => Status::Deadlock,
-        Verdict::Budget => Status::Budget,
-        Verdict::Undefined(_) => Status::Undefined,
-        Verdict::Open => Status::Open,
     }
 }

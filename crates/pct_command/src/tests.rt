@@ -201,7 +201,8 @@ fn reports(rt: HostRuntime) -> Result<(), Fail> {
     Ok(())
 }
 
-// Three pushes at a time, in one function after the other, come to the 33rd push.
+// Three pushes at a time, in one call of `main` after the other, come to the 33rd push; a pop that calls `main` each time comes
+// to the 17th frame.
 #[test]
 fn stops_on_one_thread(rt: HostRuntime) -> Result<(), Fail> {
     let mut script = Vec::from_slice(rt.alloc(), b"fn main x\n")?;
@@ -220,6 +221,17 @@ fn stops_on_one_thread(rt: HostRuntime) -> Result<(), Fail> {
     events.extend_from_slice(b"1.1 profile cleanup_full\n")?;
     let told = call(&rt, rt.alloc(), &["run"], &script, &QUIET)?;
     let text = report(rt.alloc(), &events, b"profile cleanup_full", 43)?;
+    assert_eq!(rt; told.status, Status::Undefined);
+    assert_eq!(rt; told.text.as_slice(), text.as_slice());
+
+    let script = b"fn main x\npthread_cleanup_push main 0\npthread_cleanup_pop 1\nend\n";
+    let mut events = Vec::new(rt.alloc());
+    for _ in 0..15 {
+        events.extend_from_slice(b"1.1 push main 0\n1.1 pop main 0 run\n")?;
+    }
+    events.extend_from_slice(b"1.1 push main 0\n1.1 profile stack_full\n")?;
+    let told = call(&rt, rt.alloc(), &["run"], script, &QUIET)?;
+    let text = report(rt.alloc(), &events, b"profile stack_full", 32)?;
     assert_eq!(rt; told.status, Status::Undefined);
     assert_eq!(rt; told.text.as_slice(), text.as_slice());
     Ok(())
@@ -469,6 +481,12 @@ fn the_outside(rt: HostRuntime) -> Result<(), Fail> {
     assert_eq!(rt; told.status, Status::WriteFault);
     assert_eq!(rt; told.status.code(), 10);
     assert_eq!(rt; told.text.as_slice(), b"r".as_slice());
+
+    let told = call(&rt, rt.alloc(), &["check"], SMALLEST, &write_fails)?;
+    assert_eq!(rt; told.status, Status::WriteFault);
+    assert_eq!(rt; told.text.as_slice(), b"f".as_slice());
+    let told = call(&rt, rt.alloc(), &["check"], SMALLEST, &read_fails)?;
+    assert_eq!(rt; told.status, Status::ReadFault);
 
     let told = call(&rt, rt.alloc(), &["walk"], SMALLEST, &write_fails)?;
     assert_eq!(rt; told.status, Status::WriteFault);

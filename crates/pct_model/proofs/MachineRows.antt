@@ -22,7 +22,7 @@ use Rattle.pct_model.specs.Checks.{none_wrong}
 use Rattle.pct_model.specs.Static.{has_word, have_words, has_first_word, has_line, has_lines, has_text, keeps_limits, has_each_name_once, names_plain, is_static}
 use Rattle.pct_model.specs.Jumps.{close_of, open_of}
 use Rattle.pct_model.specs.World.{statement_at, value_of, opening}
-use Rattle.pct_model.specs.Alternatives.{stops, passes, emits, held_in, sets, adds, calls, branches, skips, closes_block, pushes, pops, exits, returns_by, ends_at, ends_process, running_at}
+use Rattle.pct_model.specs.Alternatives.{stops, idles, emits, held_in, sets, adds, calls, branches, skips, closes_block, pushes, pops, exits, returns_by, ends_at, ends_process, running_at}
 use Rattle.pct_model.specs.Step.{step}
 use Rattle.pct_model.specs.Run.{run_step, run_from, run, verdict_of}
 use Rattle.pct_model.specs.Outcome.{default_config, first_goes}
@@ -52,7 +52,7 @@ counting = record { globals = counting_parts.globals; mutexes = []; conds = []; 
 
 -- it goes round twice, and behind the loop `main` returns 0
 counts_down : after counting 12 ≡ Some (what.Emit 2 ∷ what.Emit 1 ∷ what.ExitBegun 0 ∷ what.ProcessEnded 0 ∷ [], verdict.Complete)
-unfolding main_of keyword_text statement_at value_of opening stops passes emits held_in sets adds calls branches skips closes_block close_of open_of pushes pops exits returns_by ends_at ends_process running_at step run_step run_from run verdict_of
+unfolding main_of keyword_text statement_at value_of opening stops idles emits held_in sets adds calls branches skips closes_block close_of open_of pushes pops exits returns_by ends_at ends_process running_at step run_step run_from run verdict_of
 counts_down = refl
 
 -- ---- both ways of an `if`, in a function that is called twice
@@ -69,7 +69,7 @@ choosing = record { globals = choosing_parts.globals; mutexes = []; conds = []; 
 
 -- the first call goes to the `else`, the second past it
 chooses : after choosing 12 ≡ Some (what.Emit 2 ∷ what.Emit 1 ∷ what.ExitBegun 0 ∷ what.ProcessEnded 0 ∷ [], verdict.Complete)
-unfolding main_of keyword_text statement_at value_of opening stops passes emits held_in sets adds calls branches skips closes_block close_of open_of pushes pops exits returns_by ends_at ends_process running_at step run_step run_from run verdict_of
+unfolding main_of keyword_text statement_at value_of opening stops idles emits held_in sets adds calls branches skips closes_block close_of open_of pushes pops exits returns_by ends_at ends_process running_at step run_step run_from run verdict_of
 chooses = refl
 
 -- ---- blocks in one another
@@ -86,7 +86,7 @@ skipping = record { globals = skipping_parts.globals; mutexes = []; conds = []; 
 
 -- an `if` without `else` goes behind its own `end`
 skips_all : after skipping 5 ≡ Some (what.Emit 3 ∷ what.ExitBegun 0 ∷ what.ProcessEnded 0 ∷ [], verdict.Complete)
-unfolding main_of keyword_text statement_at value_of opening stops passes emits held_in sets adds calls branches skips closes_block close_of open_of pushes pops exits returns_by ends_at ends_process running_at step run_step run_from run verdict_of
+unfolding main_of keyword_text statement_at value_of opening stops idles emits held_in sets adds calls branches skips closes_block close_of open_of pushes pops exits returns_by ends_at ends_process running_at step run_step run_from run verdict_of
 skips_all = refl
 
 -- ---- a call with an argument, and a return of a value
@@ -103,7 +103,7 @@ calling = record { globals = calling_parts.globals; mutexes = []; conds = []; se
 
 -- the value of a call is dropped; the one of `main` is the exit value
 calls_and_returns : after calling 6 ≡ Some (what.Emit 4 ∷ what.Emit 5 ∷ what.ExitBegun 258 ∷ what.ProcessEnded 2 ∷ [], verdict.Complete)
-unfolding main_of keyword_text statement_at value_of opening stops passes emits held_in sets adds calls branches skips closes_block close_of open_of pushes pops exits returns_by ends_at ends_process running_at step run_step run_from run verdict_of
+unfolding main_of keyword_text statement_at value_of opening stops idles emits held_in sets adds calls branches skips closes_block close_of open_of pushes pops exits returns_by ends_at ends_process running_at step run_step run_from run verdict_of
 calls_and_returns = refl
 
 -- ---- a global whose sum wraps
@@ -120,7 +120,7 @@ adding = record { globals = adding_parts.globals; mutexes = []; conds = []; sems
 
 -- 4294967295 and 3
 adds_up : after adding 5 ≡ Some (what.Emit 2 ∷ what.ExitBegun 0 ∷ what.ProcessEnded 0 ∷ [], verdict.Complete)
-unfolding main_of keyword_text statement_at value_of opening stops passes emits held_in sets adds calls branches skips closes_block close_of open_of pushes pops exits returns_by ends_at ends_process running_at step run_step run_from run verdict_of
+unfolding main_of keyword_text statement_at value_of opening stops idles emits held_in sets adds calls branches skips closes_block close_of open_of pushes pops exits returns_by ends_at ends_process running_at step run_step run_from run verdict_of
 adds_up = refl
 
 -- ---- `main` calls itself
@@ -137,12 +137,12 @@ deep = record { globals = deep_parts.globals; mutexes = []; conds = []; sems = [
 
 -- the sixteenth call is stopped
 fills_the_stack : after deep 16 ≡ Some (what.Stopped why.StackFull ∷ [], verdict.Undefined why.StackFull)
-unfolding main_of keyword_text statement_at value_of opening stops passes emits held_in sets adds calls branches skips closes_block close_of open_of pushes pops exits returns_by ends_at ends_process running_at step run_step run_from run verdict_of
+unfolding main_of keyword_text statement_at value_of opening stops idles emits held_in sets adds calls branches skips closes_block close_of open_of pushes pops exits returns_by ends_at ends_process running_at step run_step run_from run verdict_of
 fills_the_stack = refl
 
 -- the fifteenth is not
 fills_nearly : after deep 15 ≡ Some ([], verdict.Open)
-unfolding main_of keyword_text statement_at value_of opening stops passes emits held_in sets adds calls branches skips closes_block close_of open_of pushes pops exits returns_by ends_at ends_process running_at step run_step run_from run verdict_of
+unfolding main_of keyword_text statement_at value_of opening stops idles emits held_in sets adds calls branches skips closes_block close_of open_of pushes pops exits returns_by ends_at ends_process running_at step run_step run_from run verdict_of
 fills_nearly = refl
 
 -- ---- `main` pushes three handlers and calls itself
@@ -159,7 +159,7 @@ piling = record { globals = piling_parts.globals; mutexes = []; conds = []; sems
 
 -- the thirty-third push is stopped
 fills_the_handlers : after piling 43 ≡ Some (replicate 32 (what.Pushed 0 0) ++ what.Stopped why.CleanupFull ∷ [], verdict.Undefined why.CleanupFull)
-unfolding main_of keyword_text statement_at value_of opening stops passes emits held_in sets adds calls branches skips closes_block close_of open_of pushes pops exits returns_by ends_at ends_process running_at step run_step run_from run verdict_of
+unfolding main_of keyword_text statement_at value_of opening stops idles emits held_in sets adds calls branches skips closes_block close_of open_of pushes pops exits returns_by ends_at ends_process running_at step run_step run_from run verdict_of
 fills_the_handlers = refl
 
 -- ---- a statement that is not built
@@ -176,5 +176,5 @@ unbuilt = record { globals = unbuilt_parts.globals; mutexes = []; conds = []; se
 
 -- its step is a stop
 stops_at_it : after unbuilt 1 ≡ Some (what.Stopped why.Unbuilt ∷ [], verdict.Undefined why.Unbuilt)
-unfolding main_of keyword_text statement_at value_of opening stops passes emits held_in sets adds calls branches skips closes_block close_of open_of pushes pops exits returns_by ends_at ends_process running_at step run_step run_from run verdict_of
+unfolding main_of keyword_text statement_at value_of opening stops idles emits held_in sets adds calls branches skips closes_block close_of open_of pushes pops exits returns_by ends_at ends_process running_at step run_step run_from run verdict_of
 stops_at_it = refl

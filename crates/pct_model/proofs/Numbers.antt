@@ -165,9 +165,3 @@ no_name_of_digits (b ∷ bs) h all =
     let parts = and_parts (not (is_digit b) && list_all is_name_byte (b ∷ bs)) (nat_le (length (b ∷ bs)) 31) h in
     let begins = not-true (is_digit b) (and_parts (not (is_digit b)) (list_all is_name_byte (b ∷ bs)) parts.0).0 in
     sym (and_parts (is_digit b) (list_all is_digit bs) all).0 ∙ begins
-
--- a number's digits are no name
-pub decimal_is_no_name : (n : ℕ) (w : List ℕ) → is_name w ≡ true → bytes_eq (decimal n) w ≡ false
-decimal_is_no_name n w h =
-    false_from_ne_true (bytes_eq (decimal n) w) (λ (e : bytes_eq (decimal n) w ≡ true).
-    true≢false (no_name_of_digits w h (sym (ap (list_all is_digit) (same_bytes (decimal n) w e)) ∙ digits_of_decimal n)))

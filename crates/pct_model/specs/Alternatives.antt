@@ -2,8 +2,8 @@
 -- and what is left to choose: `go` first, and then by rising slot or place.
 --
 -- So far a thread makes the script's own statements, pushes and pops cleanup handlers, returns, and exits. At any other
--- statement it has `go` alone, which stops the run; in any other status, and in a frame of any other kind that returns, it
--- has no alternative. The last line of each table below goes with the last case that is built.
+-- statement it has `go` alone, which stops the run. It has no alternative in any other status, at a pop where no handler is
+-- pushed, and at a return from a frame of another kind than Main, Call and PopHandler. The last line of each table below goes with the last case that is built.
 use Rattle.std.specs.Prelude.{ℕ, suc, ◌+◌, ◌%◌, true, false, if◌then◌else◌, List, [], ◌∷◌, length, Option, Some, None, is_some, unwrap_or, nat_eq, nat_lt, slice_index, slice_set}
 use Rattle.pct_model.specs.declared.script.Script.{Script}
 use Rattle.pct_model.specs.declared.statement.Dest.{Dest}
@@ -66,8 +66,8 @@ called t frame below func arg kind = record t { frames = new_frame func arg kind
 -- ---- the script's own statements
 
 -- `nop`
-unfoldable pub passes : Thread → Frame → List Frame → List Alternative
-passes t frame below = goes (moved_on t frame below) [] []
+unfoldable pub idles : Thread → Frame → List Frame → List Alternative
+idles t frame below = goes (moved_on t frame below) [] []
 
 -- `emit`
 unfoldable pub emits : Thread → Frame → List Frame → ℕ → List Alternative
@@ -171,7 +171,7 @@ running_at script config w p t frame below None = []
 running_at script config w p t frame below (Some (statement.Emit v)) = emits t frame below (value_of p.globals frame v)
 running_at script config w p t frame below (Some (statement.Set d v)) = sets t frame below d (value_of p.globals frame v)
 running_at script config w p t frame below (Some (statement.Add d v)) = adds p.globals t frame below d (value_of p.globals frame v)
-running_at script config w p t frame below (Some statement.Nop) = passes t frame below
+running_at script config w p t frame below (Some statement.Nop) = idles t frame below
 running_at script config w p t frame below (Some (statement.If v)) = branches (body_of script frame.func) t frame below (value_of p.globals frame v)
 running_at script config w p t frame below (Some statement.Else) = skips (body_of script frame.func) t frame below
 running_at script config w p t frame below (Some (statement.While v)) = branches (body_of script frame.func) t frame below (value_of p.globals frame v)

@@ -72,6 +72,7 @@ passes_limit before line =
     || passes_most before line kind.Sem || passes_most before line kind.Function
     || passes is_statement 2000 before line || has_many_locals line
 
+-- the check of limits
 unfoldable pub too_many : List Line → Option Fault
 too_many lines = fault_at_line TooMany (first_wrong passes_limit [] lines)
 
@@ -87,6 +88,7 @@ declares_again before line =
 abbrev pub heads : List Line → List Line
 heads lines = map (λ part. part.head) (parts_of lines)
 
+-- the check of names that are declared twice
 unfoldable pub name_twice : List Line → Option Fault
 name_twice lines = fault_at_line NameTwice (first_wrong declares_again [] (heads lines))
 
@@ -107,22 +109,27 @@ first_in why check lines = fault_at_line why (first_of (map check (functions_in 
 unfoldable pub uses_unknown : (Kind → List (List ℕ)) → List (List ℕ) → Said → Bool
 uses_unknown names locals line = is_none (all_replaced names locals (places_in line) line.words)
 
+-- the first line of a function that uses a name which is not declared
 abbrev pub unknown_in : (Kind → List (List ℕ)) → Part → Option ℕ
 unknown_in names part = first_that (uses_unknown names (locals_of part.head.1)) part.body
 
+-- the check of names that are not declared
 unfoldable pub unknown_name : List Line → Option Fault
 unknown_name lines = first_in UnknownName (unknown_in (names_declared lines)) lines
 
 -- ---- returns
 
+-- a pthread_cleanup_push
 abbrev pub is_push : Role → Bool
 is_push (role.Opens block.Push) = true
 is_push _ = false
 
+-- a pthread_cleanup_pop
 abbrev pub is_pop : Role → Bool
 is_pop role.Pop = true
 is_pop _ = false
 
+-- a `return`
 abbrev pub is_return : Role → Bool
 is_return role.Return = true
 is_return _ = false
@@ -131,11 +138,13 @@ is_return _ = false
 abbrev pub is_in_push : List Role → Role → Bool
 is_in_push before r = is_return r && nat_lt (count_by is_pop before) (count_by is_push before)
 
+-- the check of returns
 unfoldable pub return_in_push : List Line → Option Fault
 return_in_push lines = first_in ReturnInPush (λ part. first_wrong is_in_push [] (roles part.body)) lines
 
 -- ---- plain functions
 
+-- a place where the name of a plain function is asked
 abbrev pub asks_plain : Place → Bool
 asks_plain place.PlainFunction = true
 asks_plain place.OptionalPlainFunction = true
@@ -169,6 +178,7 @@ is_plain_function lines w =
 unfoldable pub names_other : List Line → Said → Bool
 names_other lines line = not (list_all (is_plain_function lines) (plain_names (places_in line) line.words))
 
+-- the check of plain functions
 unfoldable pub not_plain : List Line → Option Fault
 not_plain lines = first_in NotPlain (λ part. first_that (names_other lines) part.body) lines
 

@@ -5,18 +5,22 @@ use Rattle.std.specs.Option.{option_map_or}
 use Rattle.pct_model.specs.declared.statement.Stmt.{Stmt}
 use Rattle.pct_model.specs.declared.statement.Stmt.TheVariants as statement
 
+-- an `if`
 abbrev pub is_if : Stmt → Bool
 is_if (statement.If v) = true
 is_if _ = false
 
+-- a `while`
 abbrev pub is_while : Stmt → Bool
 is_while (statement.While v) = true
 is_while _ = false
 
+-- an `else`
 abbrev pub is_else : Stmt → Bool
 is_else statement.Else = true
 is_else _ = false
 
+-- an `end`
 abbrev pub is_end : Stmt → Bool
 is_end statement.End = true
 is_end _ = false

@@ -105,6 +105,7 @@ open_after (b ∷ blocks) Closes = blocks
 open_after [] Turns = []
 open_after (b ∷ blocks) Turns = block.Else ∷ blocks
 
+-- a line may not stand where it stands, or it is asked of those behind it
 abbrev pub nests_or : Result Change ParseWhy → (Change → Bool) → Bool
 nests_or (Ok change) behind = behind change
 nests_or (Err why) behind = false

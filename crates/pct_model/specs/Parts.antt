@@ -34,6 +34,7 @@ role_in line = (shape line.form).role
 abbrev pub places_in : Said → List Place
 places_in line = (shape line.form).places (length line.words)
 
+-- the two kinds are the same
 abbrev pub is_same : Kind → Kind → Bool
 is_same kind.Global kind.Global = true
 is_same kind.Mutex kind.Mutex = true
@@ -42,6 +43,7 @@ is_same kind.Sem kind.Sem = true
 is_same kind.Function kind.Function = true
 is_same _ _ = false
 
+-- a declaration of this kind
 abbrev pub declares_by : Kind → Role → Bool
 declares_by k (role.Declares other) = is_same k other
 declares_by k _ = false
@@ -50,6 +52,7 @@ declares_by k _ = false
 abbrev pub declares : Kind → Said → Bool
 declares k line = declares_by k (role_in line)
 
+-- a declaration of any kind
 abbrev pub is_declaration : Role → Bool
 is_declaration (role.Declares k) = true
 is_declaration _ = false
@@ -60,6 +63,7 @@ is_statement line = not (is_declaration (role_in line))
 
 -- ---- names that lines declare
 
+-- the name that a word says, if it says one
 abbrev pub name_in : Word → Option (List ℕ)
 name_in (word.Name name) = Some name
 name_in _ = None
@@ -103,6 +107,7 @@ put_in_front l p =
     then record { front = l ∷ p.front; parts = p.parts }
     else record { front = []; parts = record { head = l; body = p.front } ∷ p.parts }
 
+-- the statements that lines begin with, and the parts behind them
 unfoldable pub parted : List Line → Parted
 parted [] = record { front = []; parts = [] }
 parted (l ∷ lines) = put_in_front l (parted lines)
@@ -111,6 +116,7 @@ parted (l ∷ lines) = put_in_front l (parted lines)
 abbrev pub parts_of : List Line → List Part
 parts_of lines = (parted lines).parts
 
+-- a part that begins with a line `fn`
 abbrev pub is_function : Part → Bool
 is_function part = declares kind.Function part.head.1
 

@@ -19,6 +19,7 @@ use Rattle.pct_model.specs.Forms.{shape, form_of}
 abbrev pub is_blank : ℕ → Bool
 is_blank b = nat_eq b 9 || nat_eq b 13 || nat_eq b 32
 
+-- a list without items
 abbrev pub is_empty : {A : Type 0} → List A → Bool
 is_empty [] = true
 is_empty (x ∷ xs) = false
@@ -29,6 +30,7 @@ words_in bytes = filter (λ w. not (is_empty w)) (slice_split is_blank bytes)
 
 -- ---- lines
 
+-- the word begins with `#`
 abbrev pub begins_comment : List ℕ → Bool
 begins_comment [] = false
 begins_comment (b ∷ bytes) = nat_eq b 35

@@ -21,6 +21,7 @@ first_of (o ∷ others) = option_or o (first_of others)
 
 -- ---- a word
 
+-- the word begins with a digit
 abbrev pub begins_with_digit : List ℕ → Bool
 begins_with_digit [] = false
 begins_with_digit (b ∷ bytes) = is_digit b

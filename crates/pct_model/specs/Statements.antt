@@ -44,6 +44,7 @@ detached_or_not false = []
 abbrev pub Told : Type 0
 Told = Form × List Argument
 
+-- each statement as it is said
 unfoldable pub said_as : Stmt → Told
 said_as (statement.Emit v) = (form.Emit, value v ∷ [])
 said_as (statement.Set d v) = (form.Set, dest d ∷ value v ∷ [])

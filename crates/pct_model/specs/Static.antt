@@ -36,23 +36,28 @@ module _ (c : Contents) (locals : List (List ℕ)) where
   abbrev pub is_seen : ℕ → Bool
   is_seen i = is_found c.globals i && not (is_some (place_among locals (name_at c.globals i)))
 
+  -- a variable that some name says
   abbrev pub is_variable : Argument → Bool
   is_variable (argument.Local i) = is_found locals i
   is_variable (argument.Global i) = is_seen i
   is_variable _ = false
 
+  -- a number of 32 bits, or such a variable
   abbrev pub is_value : Argument → Bool
   is_value (argument.Number n) = nat_le n 4294967295
   is_value a = is_variable a
 
+  -- a position that some name of the kind says
   abbrev pub is_item : Kind → Argument → Bool
   is_item k (argument.Item i) = is_found (names_of_kind c k) i
   is_item k _ = false
 
+  -- what `-` says
   abbrev pub is_nothing : Argument → Bool
   is_nothing argument.Nothing = true
   is_nothing _ = false
 
+  -- what one of two fixed words says
   abbrev pub is_flag : Argument → Bool
   is_flag (argument.Flag says) = true
   is_flag _ = false
@@ -111,6 +116,7 @@ has_text c =
 abbrev pub nests : Func → Bool
 nests f = are_nested (block.Function ∷ []) (map role_of f.body)
 
+-- there are no more of a kind than there may be
 abbrev pub is_within : Contents → Kind → Bool
 is_within c k = nat_le (length (names_of_kind c k)) (most k)
 
@@ -152,6 +158,7 @@ names_plain c [] arguments = true
 names_plain c (p ∷ places) [] = true
 names_plain c (p ∷ places) (a ∷ arguments) = (not (asks_plain p) || is_plain_at c a) && names_plain c places arguments
 
+-- a statement names plain functions alone where they are asked for
 abbrev pub names_plain_functions : Contents → Stmt → Bool
 names_plain_functions c s = names_plain c (places_of s) (arguments_of s)
 

@@ -11,12 +11,15 @@ use Rattle.pct_model.specs.Alternatives.{Effect, SetsGlobal, ExitBegins, Process
 
 -- ---- what a step changes
 
+-- the new thread in place of the one with its number
 abbrev pub with_thread : Thread → Thread → Thread
 with_thread new t = if nat_eq t.id new.id then new else t
 
+-- a global of a process gets a value
 abbrev pub sets_global : ℕ → ℕ → ℕ → Process → Process
 sets_global pid i v p = if nat_eq p.pid pid then record p { globals = slice_set p.globals i v } else p
 
+-- exit begins in a process
 abbrev pub exit_begins : ℕ → ℕ → Process → Process
 exit_begins pid v p = if nat_eq p.pid pid then record p { exit_value = Some v } else p
 
@@ -30,9 +33,11 @@ process_ends pid n p =
     then if is_some p.ended then record p { reaped = true } else record p { parent = 0 }
     else p
 
+-- a process with a thread put back
 abbrev pub put_thread : ℕ → Thread → Process → Process
 put_thread pid new p = if nat_eq p.pid pid then record p { threads = map (with_thread new) p.threads } else p
 
+-- each process is changed
 abbrev pub on_processes : (Process → Process) → World → World
 on_processes f w = record w { processes = map f w.processes }
 
@@ -43,6 +48,7 @@ after_effect pid w (ExitBegins v) = on_processes (exit_begins pid v) w
 after_effect pid w (ProcessEnds n) = on_processes (process_ends pid n) w
 after_effect pid w (Stops why) = record w { stop = Some why }
 
+-- what a list of effects changes
 abbrev pub after_effects : ℕ → List Effect → World → World
 after_effects pid [] w = w
 after_effects pid (effect ∷ effects) w = after_effects pid effects (after_effect pid w effect)
@@ -54,6 +60,7 @@ pub record Stepped : Type 0 where
   pub world : World
   pub events : List What
 
+-- what an alternative leads to
 abbrev pub after : ℕ → World → Alternative → Stepped
 after pid w a = record { world = after_effects pid a.effects (on_processes (put_thread pid a.own) w); events = a.events }
 

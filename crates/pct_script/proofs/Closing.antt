@@ -34,10 +34,6 @@ find-next test a end within fails = next_by test a (end - a) (end - (a + 1)) (om
 pub find-here : (test : ℕ → Bool) (a end : ℕ) → a < end → test a ≡ true → find_from test a end ≡ Some a
 find-here test a end within passes = here_by test a (end - a) (omega (arith, within)) passes
 
--- behind the last there is none
-pub find-end : (test : ℕ → Bool) (a end : ℕ) → end ≤ a → find_from test a end ≡ None
-find-end test a end past = let none : end - a ≡ 0 = omega (arith, past) in ap (λ n. find test (range_with_len a n)) none
-
 -- ---- counts
 
 count_more : {X : Type 0} (p : X → Bool) (xs : List X) (i : ℕ) (d : X) (b : Bool) → i < length xs → p (get_or xs i d) ≡ b → count_by p (take (i + 1) xs) ≡ count_by p (take i xs) + cond b 1 0

@@ -116,52 +116,13 @@ heads_kept : (parts : List Part) → heads_of (filter is_function parts) ≡ dec
 heads_kept [] = refl
 heads_kept (part ∷ parts) = function_step part (filter is_function parts) (declaring kind.Function (heads_of parts)) (is_function part) (heads_kept parts)
 
--- the heads of the functions are the lines `fn`
-pub heads_of_functions : (lines : List Line) → map (λ part. part.head) (functions_in lines) ≡ declaring kind.Function lines
-heads_of_functions lines = heads_kept (parts_of lines) ∙ declaring_heads kind.Function lines
-
 -- ---- the names of a function's line
 
 -- the words of a line `fn`
 abbrev pub words_of : Func → List Word
 words_of f = word.Name f.name ∷ said_names f.locals
 
--- a part's head declares the function
-pub record Heads (part : Part) (f : Func) : Type 0 where
-  pub words : part.head.1.words ≡ words_of f
-  pub first : first_name part.head.1.words ≡ f.name
-  pub name : declared_by part.head.1 ≡ f.name ∷ []
-  pub locals : locals_of part.head.1 ≡ f.locals
-
-heads_one : (part : Part) (f : Func) → part.head.1.words ≡ words_of f → Heads part f
-heads_one part f e =
-    record {
-      words = e;
-      first = ap first_name e;
-      name = ap (λ (words : List Word). take 1 (names_in words)) e;
-      locals = ap (λ (words : List Word). drop 1 (names_in words)) e ∙ names_back f.locals;
-    }
-
-heads_each : (parts : List Part) (funcs : List Func) → map (λ part. part.head.1.words) parts ≡ map words_of funcs → AllZip Heads parts funcs
-heads_each [] [] e = tt
-heads_each [] (f ∷ funcs) e = absurd cc
-heads_each (part ∷ parts) [] e = absurd cc
-heads_each (part ∷ parts) (f ∷ funcs) e =
-    let first : part.head.1.words ≡ words_of f = cc in
-    let others : map (λ part. part.head.1.words) parts ≡ map words_of funcs = cc in
-    (heads_one part f first, heads_each parts funcs others)
-
-words_of_heads : (parts : List Part) → map (λ (l : Line). l.1.words) (heads_of parts) ≡ map (λ part. part.head.1.words) parts
-words_of_heads [] = refl
-words_of_heads (part ∷ parts) = ap (λ (rest : List (List Word)). part.head.1.words ∷ rest) (words_of_heads parts)
-
 -- what the script declares of functions
 pub of_function_declarations : (c : Contents) → declarations c kind.Function ≡ map words_of c.funcs
 unfolding declarations
 of_function_declarations c = refl
-
--- the functions' parts begin with the lines that declare the functions of the script
-pub locals_are : (lines : List Line) (c : Contents) → AreContents lines c → AllZip Heads (functions_in lines) c.funcs
-locals_are lines c are =
-    heads_each (functions_in lines) c.funcs
-    (sym (words_of_heads (functions_in lines)) ∙ ap (map (λ (l : Line). l.1.words)) (heads_of_functions lines) ∙ are.declared kind.Function ∙ of_function_declarations c)

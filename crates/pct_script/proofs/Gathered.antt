@@ -17,10 +17,6 @@ one_more_declared l lines k =
     ap (flat_map (λ (m : Line). declared_by m.1)) (filter-append (λ (m : Line). declares k m.1) (l ∷ []) lines)
     ∙ flat_map-append (λ (m : Line). declared_by m.1) (declaring k (l ∷ [])) (declaring k lines)
 
--- behind the last line, the names so far are all
-pub declared_end : (front : List (List ℕ)) (rest : List Line) (k : Kind) (all : List (List ℕ)) → rest ≡ [] → front ++ names_declared rest k ≡ all → front ≡ all
-declared_end front rest k all none so_far = sym (append-nil front) ∙ ap (λ (ls : List Line). front ++ names_declared ls k) (sym none) ∙ so_far
-
 one_at_most : (names : List (List ℕ)) → length (take 1 names) ≤ 1
 one_at_most [] = omega arith
 one_at_most (name ∷ names) = omega arith

@@ -97,16 +97,3 @@ few_in script funcs i f body are within is holds =
     let few = few_statements (parts_of script) i f script.passes_checks (omega (arith, long, within)) in
     let same : length body ≡ length (get_or script.funcs i f).body = ap length holds ∙ ap (λ (g : Func). length g.body) is ∙ ap (λ (fs : List Func). length (get_or fs i f).body) are in
     omega (arith, few, same)
-
-few_by : (script : Script) (func : ℕ) → (((f : Func) × (func < length script.funcs) × (slice_get script.funcs func ≡ Some f) × (get_or script.funcs func f ≡ f)) ⊎ ((length script.funcs ≤ func) × (slice_get script.funcs func ≡ None))) → length (body_of script func) ≤ 2000
-few_by script func (inl here) =
-    let few = few_in script script.funcs func here.0 here.0.body refl here.1 (sym here.3) refl in
-    let same : length (body_of script func) ≡ length here.0.body = ap (λ (o : Option Func). length (option_map_or (λ f. f.body) o [])) here.2 in
-    omega (arith, few, same)
-few_by script func (inr past) =
-    let same : length (body_of script func) ≡ 0 = ap (λ (o : Option Func). length (option_map_or (λ f. f.body) o [])) past.1 in
-    omega (arith, same)
-
--- so places are small
-pub few_at : (script : Script) (func : ℕ) → length (body_of script func) ≤ 2000
-few_at script func = few_by script func (slice_get_cases script.funcs func).1

@@ -39,7 +39,7 @@ pub mod DeclaredBefore
 pub mod LineHeads
 pub mod LineLimits
 pub mod LinesSaid
-pub mod ReversedBlocks
+pub mod Innermost
 pub mod WordsSaid
 pub mod NameLengths
 pub mod Closing
@@ -51,3 +51,4 @@ pub mod Gathered
 pub mod ReadingSteps
 pub mod ContentsSteps
 pub mod Ready
+pub mod TextChecks

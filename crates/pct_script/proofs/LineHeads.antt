@@ -1,5 +1,5 @@
 -- The heads of lines, a line after the other, and of lines that are spelled rightly.
-use Rattle.std.proofs.Common.{◌≡◌, ℕ, suc, true, List, [], ◌∷◌, Option, Some, None, length, refl, sym, ap, ◌∙◌, option_map, filter_map}
+use Rattle.std.proofs.Common.{◌≡◌, ℕ, suc, true, List, [], ◌∷◌, ◌++◌, Option, Some, None, length, refl, sym, ap, ◌∙◌, option_map, filter_map}
 use Rattle.std.specs.Prelude.{is_some, slice_get, Result, Ok, Err}
 use Rattle.std.specs.List.{list_all, cons_option}
 use Rattle.std.proofs.lemmas.Bool.{and_parts}
@@ -15,8 +15,8 @@ use Rattle.pct_model.specs.Forms.{shape, form_of}
 use Rattle.pct_model.specs.Checks.{roles}
 use Rattle.pct_model.specs.Nesting.{Blocks, standing, kinds_of, open_behind, faulty_or, nesting_in, nesting}
 use Rattle.pct_model.specs.Spelling.{Fault}
-use Rattle.pct_model.specs.Parts.{Line, line_said, role_in, said_lines}
-use Rattle.pct_model.specs.Saying.{Numbered, is_allowed, words_in, word_at, words_at, said_with, said_by, said, spelled_lines}
+use Rattle.pct_model.specs.Parts.{Line, line_said, role_in}
+use Rattle.pct_model.specs.Saying.{Numbered, is_allowed, words_in, word_at, words_at, said_with, said_by, said}
 use Rattle.pct_script.specs.declared.heads.Head.{Head}
 use Rattle.pct_script.specs.Heads.{head_by, head_line, heads_in, head_roles, head_of_said, heads_of}
 use Rattle.pct_script.proofs.Steps.{bind_some, map_some, cond_cases}
@@ -77,10 +77,10 @@ heads_said (l ∷ lines) all =
     let parts = and_parts (is_some (said l.1)) (list_all (λ (m : Numbered (List ℕ)). is_some (said m.1)) lines) all in
     one_said l lines (said l.1) refl parts.0 (heads_said lines parts.1)
 
--- the heads of a text that is spelled rightly
-pub heads_of_text : (text : List ℕ) → list_all (λ l. is_some (said l.1)) (spelled_lines text) ≡ true → heads_in (spelled_lines text) ≡ heads_of (said_lines text)
-unfolding said_lines
-heads_of_text text all = heads_said (spelled_lines text) all
+-- the heads of what lines say, in front of those of lines that all say something
+pub heads_together : (front : List Line) (lines : List (Numbered (List ℕ))) → list_all (λ l. is_some (said l.1)) lines ≡ true → heads_of front ++ heads_in lines ≡ heads_of (front ++ filter_map line_said lines)
+heads_together [] lines all = heads_said lines all
+heads_together (l ∷ front) lines all = ap (λ heads. (l.0, head_of_said l.1) ∷ heads) (heads_together front lines all)
 
 -- ---- nesting
 
@@ -88,9 +88,8 @@ roles_of_heads : (lines : List Line) → head_roles (heads_of lines) ≡ roles l
 roles_of_heads [] = refl
 roles_of_heads (l ∷ lines) = ap (λ others. (l.0, role_in l.1) ∷ others) (roles_of_heads lines)
 
-pub nesting_of_heads : (text : List ℕ) → list_all (λ l. is_some (said l.1)) (spelled_lines text) ≡ true
-    → nesting (head_roles (heads_in (spelled_lines text))) ≡ nesting (roles (said_lines text))
-nesting_of_heads text all = ap (λ heads. nesting (head_roles heads)) (heads_of_text text all) ∙ ap nesting (roles_of_heads (said_lines text))
+pub nesting_of_heads : (lines : List Line) → nesting (head_roles (heads_of lines)) ≡ nesting (roles lines)
+nesting_of_heads lines = ap nesting (roles_of_heads lines)
 
 -- a line that may not stand where it stands
 pub nesting_stops : (blocks : Blocks) (n : ℕ) (h : Head) (heads : List (Numbered Head)) (why : ParseWhy) → standing (kinds_of blocks) (shape h.form).role ≡ Err why

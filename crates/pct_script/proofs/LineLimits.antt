@@ -1,6 +1,5 @@
 -- The first line that passes a limit, by how many lines of each sort stand in front of it.
 use Rattle.std.proofs.Common.{◌≡◌, ℕ, zero, suc, ◌+◌, ◌-◌, Bool, true, false, ◌&&◌, ◌||◌, not, cond, List, [], ◌∷◌, Option, Some, None, length, drop, replicate, subst, ltb-true, ltb-false, refl, sym, ap, ◌∙◌, arith, option_map, filter_map, nat_le, nat_lt}
-use Rattle.std.specs.Prelude.{is_some}
 use Rattle.std.specs.List.{list_all, cons_option, count_by}
 use Rattle.std.specs.Option.{option_map_or}
 use Rattle.std.proofs.lemmas.Bool.{and_parts}
@@ -25,9 +24,8 @@ use Rattle.pct_model.specs.Parts.{Line, line_said, role_in, declares_by, declare
 use Rattle.pct_model.specs.Saying.{Numbered, is_allowed, words_in, word_at, words_at, said_with, said_by, said, spelled_lines}
 use Rattle.pct_script.specs.declared.heads.Head.{Head}
 use Rattle.pct_script.specs.declared.limits.Counts.{Counts}
-use Rattle.pct_script.specs.Heads.{heads_in, head_of_said, heads_of}
+use Rattle.pct_script.specs.Heads.{head_of_said, heads_of}
 use Rattle.pct_script.specs.LineCounts.{none_yet, with_role, with_head, limit_in}
-use Rattle.pct_script.proofs.LineHeads.{heads_of_text}
 use Rattle.pct_script.proofs.Steps.{bind_some, map_some, cond_cases}
 
 -- ---- a line after the other
@@ -274,8 +272,6 @@ limits_by_counts before [] named = limit_none (counts_of before)
 limits_by_counts before (l ∷ lines) named =
     one_limit before l (heads_of lines) named.0 ∙ ap (λ (o : Option ℕ). cond (passes_limit before l.1) (Some l.0) o) (limits_by_counts (l.1 ∷ before) lines named.1)
 
-pub limit_of_text : (text : List ℕ) → list_all (λ l. is_some (said l.1)) (spelled_lines text) ≡ true
-    → too_many (said_lines text) ≡ fault_at_line TooMany (limit_in none_yet (heads_in (spelled_lines text)))
+pub limit_of_text : (text : List ℕ) → fault_at_line TooMany (limit_in none_yet (heads_of (said_lines text))) ≡ too_many (said_lines text)
 unfolding too_many said_lines
-limit_of_text text all =
-    ap (fault_at_line TooMany) (sym (ap (limit_in none_yet) (heads_of_text text all) ∙ limits_by_counts [] (said_lines text) (each_named (spelled_lines text))))
+limit_of_text text = ap (fault_at_line TooMany) (limits_by_counts [] (filter_map line_said (spelled_lines text)) (each_named (spelled_lines text)))

@@ -1,13 +1,9 @@
--- The lines of a text that say something, a line after the other.
+-- The lines that say something, a line after the other.
 use Rattle.std.proofs.Common.{◌≡◌, ℕ, List, ◌∷◌, ◌++◌, Option, Some, None, refl, sym, ap, ◌∙◌, append_assoc, filter_map}
 use Rattle.std.specs.Prelude.{option_to_list}
 use Rattle.std.specs.List.{cons_option}
-use Rattle.pct_model.specs.Parts.{Line, line_said, said_lines}
-use Rattle.pct_model.specs.Saying.{Numbered, spelled_lines}
-
-pub from_first : (text : List ℕ) → filter_map line_said (spelled_lines text) ≡ said_lines text
-unfolding said_lines
-from_first text = refl
+use Rattle.pct_model.specs.Parts.{Line, line_said}
+use Rattle.pct_model.specs.Saying.{Numbered}
 
 in_front : {A : Type 0} (o : Option A) (xs : List A) → cons_option o xs ≡ option_to_list o ++ xs
 in_front None xs = refl

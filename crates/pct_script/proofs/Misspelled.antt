@@ -86,6 +86,24 @@ pub misspelled_or_said : (bytes : List ℕ) → spell_something (words_in bytes)
 unfolding misspelled said
 misspelled_or_said bytes e = by_bytes (words_in bytes) (list_all is_allowed bytes) e
 
+says_words : (words : List (List ℕ)) → is_some (said_by words) ≡ true → is_none (fault_of_words words) ≡ true
+unfolding fault_of_words said_by
+says_words [] is = absurd cc
+says_words (w ∷ words) is = by_form words (form_of w) ∙ is
+
+says_bytes : (words : List (List ℕ)) (t : Bool) → is_some (cond t (said_by words) None) ≡ true → is_none (cond t (fault_of_words words) (Some NotAscii)) ≡ true
+says_bytes words true is = says_words words is
+says_bytes words false is = absurd cc
+
+none_is : (o : Option ParseWhy) → is_none o ≡ true → o ≡ None
+none_is None e = refl
+none_is (Some why) e = absurd cc
+
+-- a line that says something is not misspelled
+pub not_misspelled : (bytes : List ℕ) (s : Said) → said bytes ≡ Some s → misspelled bytes ≡ None
+unfolding misspelled said
+not_misspelled bytes s e = none_is _ (says_bytes (words_in bytes) (list_all is_allowed bytes) (ap is_some e))
+
 -- ---- the lines of a text
 
 abbrev spells : Numbered (List ℕ) → Bool

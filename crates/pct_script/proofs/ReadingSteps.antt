@@ -120,10 +120,6 @@ pub functions_take : (lines : List Line) (head : Line) (body behind : List Line)
     → functions_in lines ≡ record { head = head; body = body } ∷ functions_in behind
 functions_take lines head body behind begins e = functions_with lines head body behind true begins e
 
--- those of lines that begin with another declaration
-pub functions_skip : (lines : List Line) (head : Line) (body behind : List Line) → BeginsWithPart lines head body behind → declares kind.Function head.1 ≡ false → functions_in lines ≡ functions_in behind
-functions_skip lines head body behind begins e = functions_with lines head body behind false begins e
-
 -- no lines have no functions
 pub no_functions : (lines : List Line) → lines ≡ [] → functions_in lines ≡ []
 unfolding parted

@@ -15,7 +15,3 @@ map_some f (Some x) y e = (x, refl, same_Some (f x) y e)
 pub cond_cases : {A : Type 0} (P : Type 0) (b : Bool) (x y z : A) → cond b x y ≡ z → (b ≡ true → x ≡ z → P) → (b ≡ false → y ≡ z → P) → P
 cond_cases P true x y z e f g = f refl e
 cond_cases P false x y z e f g = g refl e
-
-pub map_or_cases : {A B : Type 0} (P : Type 0) (f : A → B) (o : Option A) (d z : B) → option_map_or f o d ≡ z → (o ≡ None → d ≡ z → P) → ((x : A) → o ≡ Some x → f x ≡ z → P) → P
-map_or_cases P f None d z e g h = g refl e
-map_or_cases P f (Some x) d z e g h = h x refl e

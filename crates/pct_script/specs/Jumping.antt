@@ -25,11 +25,13 @@ opens_block s = is_if s || is_else s || is_while s
 pub record IsOpening (jumps : List Blocks) (func place : ℕ) : Type 0 where
   pub script : Script
   pub made : jumps ≡ jumps_of script.funcs
+  -- and of the block that an `end` closes
   pub opening : holds (body_of script func) opens_block place ≡ true
 
 -- what the jumps say of a place
 unfoldable pub closing : List Blocks → ℕ → ℕ → Option ℕ
 closing jumps func place = option_and_then (λ b. option_flatten (slice_get b.closes place)) (slice_get jumps func)
 
+-- and of the block that an `end` closes
 unfoldable pub opening : List Blocks → ℕ → ℕ → Option ℕ
 opening jumps func place = option_and_then (λ b. option_flatten (slice_get b.opens place)) (slice_get jumps func)

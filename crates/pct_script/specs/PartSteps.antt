@@ -12,6 +12,7 @@ pub record BeginsWithPart (lines : List Line) (head : Line) (body : List Line) (
   pub parts : parted lines ≡ record { front = []; parts = record { head = head; body = body } ∷ parts_of rest }
   pub behind : (parted rest).front ≡ []
 
+-- the first word is a name
 abbrev pub begins_with_name : List Word → Bool
 begins_with_name (word.Name name ∷ words) = true
 begins_with_name _ = false

@@ -1,4 +1,4 @@
--- The parts of a canonical text, as they are written one after the other.
+-- The parts of a canonical text, as they are written one after the other. No public clause cites this file.
 use Rattle.std.specs.Prelude.{ℕ, List, [], ◌∷◌, ◌++◌, flat_map, decimal}
 use Rattle.pct_model.specs.declared.form.Kind.{Kind}
 use Rattle.pct_model.specs.declared.form.Kind.TheVariants as kind

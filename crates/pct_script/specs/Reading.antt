@@ -143,6 +143,7 @@ abbrev pub sem_in : List Word → Option SemDecl
 sem_in (word.Name name ∷ word.Number n ∷ words) = Some (record { name = name; count = n })
 sem_in _ = None
 
+-- the semaphores that lines declare
 unfoldable pub sems_in : List Line → List SemDecl
 sems_in lines = filter_map (λ l. sem_in l.1.words) (declaring kind.Sem lines)
 

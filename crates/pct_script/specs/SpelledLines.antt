@@ -1,4 +1,4 @@
--- The lines of a text that spell something, from a line on.
+-- The lines of a text that spell something, from a line on. No public clause cites this file.
 use Rattle.std.specs.Prelude.{ℕ, List, filter}
 use Rattle.std.specs.List.{enumerate_from}
 use Rattle.pct_model.specs.Lines.{lines_of}

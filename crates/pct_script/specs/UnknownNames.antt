@@ -11,8 +11,10 @@ use Rattle.pct_model.specs.Spelling.{Fault, first_of}
 abbrev pub unknown_in_body : (Kind → List (List ℕ)) → List (List ℕ) → List Line → Option Fault
 unknown_in_body names locals body = fault_at_line UnknownName (first_that (uses_unknown names locals) body)
 
+-- the same in a function
 abbrev pub unknown_in_part : (Kind → List (List ℕ)) → Part → Option Fault
 unknown_in_part names part = fault_at_line UnknownName (unknown_in names part)
 
+-- and in functions, one after the other
 abbrev pub unknown_in_parts : (Kind → List (List ℕ)) → List Part → Option Fault
 unknown_in_parts names parts = fault_at_line UnknownName (first_of (map (unknown_in names) parts))

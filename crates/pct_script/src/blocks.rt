@@ -3,7 +3,7 @@
 ghost use Rattle.std.specs.Prelude.{◌≡◌, ◌+◌, ◌<◌, ◌≤◌, cond, false, length, map, find, nat_eq, slice_index_or, ◌&&◌, ◌||◌, IfOk, None};
 ghost use Rattle.std.specs.List.{range_with_len};
 ghost use Rattle.std.specs.Option.{option_map_or};
-ghost use Rattle.pct_model.specs.Jumps.{is_if as is_opening, is_while, is_else, is_end, holds, first_later, closes, closes_else, close_of, open_of};
+ghost use Rattle.pct_model.specs.Jumps.{is_if as is_if_statement, is_while, is_else, is_end, holds, first_later, closes, closes_else, close_of, open_of};
 ghost use Rattle.pct_script.specs.Jumping.{blocks_of};
 
 use pct_io::NoMemory;
@@ -80,7 +80,7 @@ fn close_of(body: &[Stmt], place: usize) -> Option<u32>
 fn close_of_block(body: &[Stmt], opening: usize, is_if: bool) -> Option<u32>
     requires few { length body.now ≤ 2000 }
     requires within { opening < length body.now }
-    requires opening { holds body.now is_opening opening ≡ is_if }
+    requires opening { holds body.now is_if_statement opening ≡ is_if }
     ensures { result ≡ first_later body.now (closes body.now opening) opening }
 {
     let mut begins = more(0, begins_block(body[opening]));
@@ -163,7 +163,7 @@ fn more(count: usize, counts: bool) -> usize
 }
 
 fn begins_block(statement: Stmt) -> bool
-    ensures { result ≡ is_opening statement || is_while statement }
+    ensures { result ≡ is_if_statement statement || is_while statement }
 {
     matches!(statement, Stmt::If(_) | Stmt::While(_))
 }

@@ -1,6 +1,6 @@
 //! The checks of a text, one after the other.
 
-ghost use Rattle.std.specs.Prelude.{◌≡◌, ◌≤◌, true, length};
+ghost use Rattle.std.specs.Prelude.{◌≡◌, ◌≤◌, true, length, Some};
 ghost use Rattle.std.specs.List.{list_all};
 ghost use Rattle.pct_model.specs.Saying.{spelled_lines};
 ghost use Rattle.pct_model.specs.Spelling.{spelling};
@@ -13,13 +13,13 @@ ghost use Rattle.pct_script.specs.Reading.{contents_read};
 
 use crate::contents::{ScriptContents, contents_read};
 use crate::fault::ParseFault;
+use crate::kept::kept_lines;
 use crate::limits::check_limits;
 use crate::lines::Line;
 use crate::main_function::no_main;
 use crate::nested::check_nesting;
 use crate::plain_functions::not_plain;
 use crate::returned::return_in_push;
-use crate::spelled_lines::first_misspelled;
 use crate::twice::name_twice;
 use pct_model::ParseWhy;
 use std::alloc::Global;
@@ -34,15 +34,17 @@ fn refuse(found: Option<(u32, ParseWhy)>) -> Result<(), ParseFault>
     }
 }
 
-/// The checks that go over the text: of the spelling, of the nesting, and of the limits.
+/// What the lines of a text say, where the checks of the spelling, of the nesting and of the limits find no fault.
 #[tactic(auto, unfolding(crate::specs::Order::early_fault))]
-pub(crate) fn check_text(alloc: Global, text: &[u8]) -> Result<(), ParseFault>
+pub(crate) fn read_text(alloc: Global, text: &[u8]) -> Result<Vec<Line>, ParseFault>
     requires { length text.now ≤ 16777216 }
-    ensures { Passes result (early_fault text.now) }
+    ensures { Reads (λ lines. lines.items) result (early_fault text.now) (Some (said_lines text.now)) }
 {
-    refuse(first_misspelled(text))?;
-    check_nesting(alloc, text)?;
-    refuse(check_limits(text))
+    let lines = kept_lines(alloc, text)?;
+    check_nesting(alloc, &lines)?;
+    refuse(check_limits(&lines))?;
+    let said = lines.into_lines(alloc)?;
+    Ok(said)
 }
 
 // The checks behind that of the names that are used.

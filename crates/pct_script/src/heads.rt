@@ -2,12 +2,12 @@
 
 ghost use Rattle.std.specs.Prelude.{◌≡◌, [], ◌∷◌, MatchOption};
 ghost use Rattle.pct_model.specs.Saying.{words_in};
-ghost use Rattle.pct_script.specs.Heads.{head_by, heads_in};
+ghost use Rattle.pct_script.specs.Heads.{head_by, head_of_said, heads_in};
 
 use crate::spelled_lines::SpelledLines;
 use crate::spelling::form_of;
 use crate::words::{count_words, next_word};
-use pct_model::Form;
+use pct_model::{Form, Said};
 
 /// The form of a line, and how many words stand behind its first.
 #[derive(Clone, Copy)]
@@ -26,6 +26,16 @@ fn head_of(line: &[u8]) -> Option<Head>
         form,
         words: count_words(behind),
     })
+}
+
+/// The head of what a line says.
+pub(crate) fn head_of_said(said: &Said) -> Head
+    ensures { result ≡ head_of_said said.now }
+{
+    Head {
+        form: said.form,
+        words: said.words.as_slice().len(),
+    }
 }
 
 /// The first of the heads that are left, with its line's number; behind the last there is none.

@@ -1,4 +1,4 @@
-//! Where a thread goes on at an `if`, an `else`, a `while` or an `end`.
+//! Where the blocks of a script's functions close and open.
 
 use crate::blocks::{Blocks, blocks_of};
 use pct_io::NoMemory;
@@ -54,7 +54,8 @@ impl Jumps {
         }
     }
 
-    /// The place of the `if`, `else` or `while` whose block the `end` at a place closes; none for the function's own.
+    /// The place of the `if`, `else` or `while` whose block the `end` at a place closes; none for the function's own, and
+    /// none where no `end` stands.
     pub fn open_of(&self, func: u32, place: u32) -> Option<u32>
         ensures { (script : ScriptRecord) → self.now ≡ jumps_of script.funcs → open_in (body_of script func) place ≡ result }
     {

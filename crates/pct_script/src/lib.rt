@@ -10,6 +10,7 @@ mod fault;
 mod functions;
 mod heads;
 mod jumps;
+mod kept;
 mod law;
 mod limits;
 mod line_names;
@@ -36,13 +37,11 @@ mod twice;
 mod words;
 mod words_said;
 
-pub use blocks::Blocks;
 pub use fault::ParseFault;
 pub use jumps::Jumps;
 pub use law::texts_spell_scripts;
 pub use parsing::parse;
 pub use printing::print;
-pub use spelled_lines::first_misspelled;
 
 #[cfg(test)]
 mod spelling_tests;

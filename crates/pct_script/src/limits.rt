@@ -1,16 +1,16 @@
 //! The check of limits: how many declarations of each kind a script may have, how many statement lines, and how many
 //! locals a function.
 
-ghost use Rattle.std.specs.Prelude.{◌≡◌, ◌≤◌, true, length, is_some};
-ghost use Rattle.std.specs.List.{list_all};
+ghost use Rattle.std.specs.Prelude.{◌≡◌};
 ghost use Rattle.pct_model.specs.declared.form.Kind.TheVariants.{Function};
-ghost use Rattle.pct_model.specs.Checks.{too_many};
-ghost use Rattle.pct_model.specs.Parts.{declares_by, said_lines};
-ghost use Rattle.pct_model.specs.Saying.{said, spelled_lines};
-ghost use Rattle.pct_script.specs.LineCounts.{none_yet, one_more, with_declared, with_statement, has_many_words, with_head};
+ghost use Rattle.pct_model.specs.Checks.{fault_at_line};
+ghost use Rattle.pct_model.specs.Parts.{declares_by};
+ghost use Rattle.pct_model.specs.declared.refusal.ParseWhy.TheVariants.{TooMany};
+ghost use Rattle.pct_script.specs.Heads.{heads_of};
+ghost use Rattle.pct_script.specs.LineCounts.{none_yet, one_more, with_declared, with_statement, has_many_words, with_head, limit_in};
 
-use crate::heads::{Head, next_head};
-use crate::spelled_lines::SpelledLines;
+use crate::heads::Head;
+use crate::kept::KeptLines;
 use pct_model::{Kind, MAX_FUNCTIONS, MAX_LOCALS, MAX_STATEMENTS, ParseWhy, Role};
 
 /// The declarations of each kind but functions.
@@ -37,8 +37,8 @@ fn one_more(count: usize, limit: usize) -> Option<usize>
     }
 }
 
-/// Whether the line is one of `fn`.
-pub(crate) fn is_fn(role: Role) -> bool
+// Whether the line is one of `fn`.
+fn is_fn(role: Role) -> bool
     ensures { result ≡ declares_by Function role }
 {
     match role {
@@ -119,15 +119,13 @@ impl Counts {
     }
 }
 
-/// The check of limits, of a text whose lines are all spelled rightly. It takes no memory.
-pub(crate) fn check_limits(text: &[u8]) -> Option<(u32, ParseWhy)>
-    requires short { length text.now ≤ 16777216 }
-    requires said { list_all (λ l. is_some (said l.1)) (spelled_lines text.now) ≡ true }
-    ensures { result ≡ too_many (said_lines text.now) }
+/// The check of limits, of the lines of a text. It takes no memory.
+pub(crate) fn check_limits(lines: &KeptLines) -> Option<(u32, ParseWhy)>
+    ensures { result ≡ fault_at_line TooMany (limit_in none_yet (heads_of lines.now)) }
 {
     let mut counts = Counts::none_yet();
-    let mut lines = SpelledLines::of(text);
-    while let Some((number, head)) = next_head(&mut lines) {
+    let mut heads = lines.heads();
+    while let Some((number, head)) = heads.next() {
         match counts.with_head(head) {
             Some(next) => counts = next,
             None => return Some((number, ParseWhy::TooMany)),

@@ -1,76 +1,21 @@
 //! What the lines of a script's text declare: names of each kind, semaphores, and the names of a function.
 
-ghost use Rattle.std.specs.Prelude.{◌≡◌, ◌<◌, ◌≤◌, ◌++◌, true, [], ◌∷◌, drop, length, IfOk, IfSome, MatchOption, OnOk};
-ghost use Rattle.pct_model.specs.Parts.{is_same, declares_by, declares, names_in, locals_of, names_declared};
+ghost use Rattle.std.specs.Prelude.{◌≡◌, ◌≤◌, ◌++◌, true, [], ◌∷◌, drop, length, IfOk, OnOk};
+ghost use Rattle.pct_model.specs.Parts.{names_in, locals_of, names_declared};
 ghost use Rattle.pct_script.specs.Reading.{first_name, sem_in, sems_in};
 ghost use Rattle.pct_script.specs.PartSteps.{begins_with_name};
 
+use crate::line_roles::declares;
 use crate::lines::Line;
 use crate::name_tables::NameTable;
-use pct_model::{Kind, Name, Role, Said, SemDecl, SemDecls, Sequence, Word};
+use crate::said_names::{next_declared, next_name};
+use pct_model::{Kind, Name, Said, SemDecl, SemDecls, Sequence, Word};
 use std::alloc::{AllocError, Global};
-
-fn is_same(kind: Kind, other: Kind) -> bool
-    ensures { result ≡ is_same kind other }
-{
-    match kind {
-        Kind::Global => matches!(other, Kind::Global),
-        Kind::Mutex => matches!(other, Kind::Mutex),
-        Kind::Cond => matches!(other, Kind::Cond),
-        Kind::Sem => matches!(other, Kind::Sem),
-        Kind::Function => matches!(other, Kind::Function),
-    }
-}
-
-fn declares_by(kind: Kind, role: Role) -> bool
-    ensures { result ≡ declares_by kind role }
-{
-    match role {
-        Role::Declares(other) => is_same(kind, other),
-        _ => false,
-    }
-}
-
-/// Whether the line declares something of this kind.
-pub(crate) fn declares(kind: Kind, line: &Said) -> bool
-    ensures { result ≡ declares kind line.now }
-{
-    declares_by(kind, line.form.role())
-}
 
 fn copied(name: &Name) -> Name
     ensures { result ≡ name.now }
 {
     Name::of(name.as_bytes())
-}
-
-// The first name among words, and the words behind it.
-fn next_name(words: &[Word]) -> Option<(&Name, &[Word])>
-    ensures name { MatchOption result (names_in words.now ≡ [])
-        (λ first. names_in words.now ≡ first.0.now ∷ names_in first.1.now) }
-    ensures shorter { IfSome result (λ first. length first.1.now < length words.now) }
-{
-    let mut rest = words;
-    while let Some((word, behind)) = rest.split_first() {
-        if let Word::Name(name) = word {
-            return Some((name, behind));
-        }
-        rest = behind;
-    }
-    None
-}
-
-// One more name, where the line declares one of this kind.
-fn keep_name(names: &mut Vec<Name>, kind: Kind, line: &Line) -> Result<(), AllocError>
-    ensures { OnOk result (names.new.items ≡ names.old.items ++ names_declared (line.now ∷ []) kind) }
-{
-    if !declares(kind, &line.1) {
-        return Ok(());
-    }
-    if let Some((name, _)) = next_name(line.1.words.as_slice()) {
-        names.push(copied(name))?;
-    }
-    Ok(())
 }
 
 /// The names that lines declare of a kind, in order.
@@ -84,8 +29,8 @@ pub(crate) fn names_declared(
 {
     let mut names = Vec::new(alloc);
     let mut rest = lines;
-    while let Some((line, behind)) = rest.split_first() {
-        keep_name(&mut names, kind, line)?;
+    while let Some((name, behind)) = next_declared(kind, rest) {
+        names.push(copied(name))?;
         rest = behind;
     }
     Ok(NameTable::of(names))

@@ -1,10 +1,9 @@
 //! The lines of a text as they are said.
 
-ghost use Rattle.std.specs.Prelude.{◌≡◌, ◌≤◌, ◌++◌, length, IfOk, OnOk, option_to_list};
-ghost use Rattle.pct_model.specs.Parts.{line_said, said_lines};
+ghost use Rattle.std.specs.Prelude.{◌≡◌, ◌++◌, IfOk, OnOk, option_to_list};
+ghost use Rattle.pct_model.specs.Parts.{line_said};
 ghost use Rattle.pct_model.specs.Saying.{words_in, said_by, said};
 
-use crate::spelled_lines::SpelledLines;
 use crate::spelling::form_of;
 use crate::words::{are_allowed, count_words, next_word};
 use crate::words_said::words_at;
@@ -31,8 +30,9 @@ fn said_by(alloc: Global, line: &[u8]) -> Result<Option<Said>, AllocError>
     Ok(Some(Said { form, words }))
 }
 
+/// What a line says, if it says something.
 #[tactic(auto, unfolding(pct_model::specs::Saying::said))]
-fn said_of(alloc: Global, line: &[u8]) -> Result<Option<Said>, AllocError>
+pub(crate) fn said_of(alloc: Global, line: &[u8]) -> Result<Option<Said>, AllocError>
     ensures { IfOk result (λ line_said. line_said ≡ said line.now) }
 {
     if are_allowed(line) {
@@ -42,7 +42,8 @@ fn said_of(alloc: Global, line: &[u8]) -> Result<Option<Said>, AllocError>
     }
 }
 
-fn keep_line(
+/// Keeps what a line says, if it says something.
+pub(crate) fn keep_line(
     alloc: Global,
     lines: &mut Vec<Line>,
     number: u32,
@@ -54,17 +55,4 @@ fn keep_line(
         lines.push((number, said))?;
     }
     Ok(())
-}
-
-/// The lines of a text that say something.
-pub(crate) fn said_lines(alloc: Global, text: &[u8]) -> Result<Vec<Line>, AllocError>
-    requires { length text.now ≤ 16777216 }
-    ensures { IfOk result (λ lines. lines.items ≡ said_lines text.now) }
-{
-    let mut lines = Vec::new(alloc);
-    let mut spelled = SpelledLines::of(text);
-    while let Some((number, line)) = spelled.next() {
-        keep_line(alloc, &mut lines, number, line)?;
-    }
-    Ok(lines)
 }

@@ -14,7 +14,7 @@ pub(crate) fn no_main(lines: &[Line]) -> Option<(u32, ParseWhy)>
 {
     let mut rest = lines;
     while let Some((name, behind)) = next_declared(Kind::Function, rest) {
-        if Keyword::Main.text() == name {
+        if Keyword::Main.text() == name.as_bytes() {
             return None;
         }
         rest = behind;

@@ -26,7 +26,7 @@ fn are_name_bytes(bytes: &[u8]) -> bool
 
 /// Whether the bytes are 1 to 31 letters, digits or `_`, the first of them no digit.
 #[tactic(auto, unfolding(pct_model::specs::Names::is_name))]
-pub fn is_name(bytes: &[u8]) -> bool
+pub(crate) fn is_name(bytes: &[u8]) -> bool
     ensures { result ≡ is_name bytes.now }
 {
     match bytes {

@@ -1,16 +1,12 @@
 //! The check of nesting: each line may stand where it stands, and no block is open behind the last.
 
-ghost use Rattle.std.specs.Prelude.{◌≡◌, ◌≤◌, true, [], ◌∷◌, length, is_some, slice_get, MatchOption, OnOk};
-ghost use Rattle.std.specs.List.{list_all};
+ghost use Rattle.std.specs.Prelude.{◌≡◌, [], ◌∷◌, length, slice_get, MatchOption, OnOk};
 ghost use Rattle.pct_model.specs.Checks.{roles};
 ghost use Rattle.pct_model.specs.Nesting.{opened_by, outside, else_in, end_in, pop_in, inside, standing, kinds_of, open_behind, nesting};
-ghost use Rattle.pct_model.specs.Parts.{said_lines};
-ghost use Rattle.pct_model.specs.Saying.{said, spelled_lines};
 ghost use Rattle.pct_script.specs.Fault.{Passes};
 
 use crate::fault::ParseFault;
-use crate::heads::next_head;
-use crate::spelled_lines::SpelledLines;
+use crate::kept::KeptLines;
 use pct_model::{Block, Change, Kind, ParseWhy, Role};
 use std::alloc::{AllocError, Global};
 use std::marker::Model;
@@ -128,7 +124,7 @@ impl OpenBlocks {
     }
 
     // A line where these are open.
-    #[tactic(auto, using(crate::proofs::ReversedBlocks::inside_first, crate::proofs::ReversedBlocks::outside_all))]
+    #[tactic(auto, using(crate::proofs::Innermost::inside_first, crate::proofs::Innermost::outside_all))]
     fn standing(&self, role: Role) -> Result<Change, ParseWhy>
         ensures { result ≡ standing (kinds_of self.now) role }
     {
@@ -158,15 +154,13 @@ impl OpenBlocks {
     }
 }
 
-/// The check of nesting, of a text whose lines are all spelled rightly.
-pub(crate) fn check_nesting(alloc: Global, text: &[u8]) -> Result<(), ParseFault>
-    requires short { length text.now ≤ 16777216 }
-    requires said { list_all (λ l. is_some (said l.1)) (spelled_lines text.now) ≡ true }
-    ensures { Passes result (nesting (roles (said_lines text.now))) }
+/// The check of nesting, of the lines of a text.
+pub(crate) fn check_nesting(alloc: Global, lines: &KeptLines) -> Result<(), ParseFault>
+    ensures { Passes result (nesting (roles lines.now)) }
 {
-    let mut lines = SpelledLines::of(text);
+    let mut heads = lines.heads();
     let mut blocks = OpenBlocks::new(alloc);
-    while let Some((number, head)) = next_head(&mut lines) {
+    while let Some((number, head)) = heads.next() {
         match blocks.standing(head.form.role()) {
             Ok(change) => blocks.change(number, change)?,
             Err(why) => return Err(ParseFault::Refused { line: number, why }),

@@ -10,10 +10,9 @@ ghost use Rattle.pct_script.specs.Order.{fault_in_order};
 ghost use Rattle.pct_script.specs.ReadContents.{contents_kept};
 ghost use Rattle.pct_script.specs.Reading.{contents_read};
 
-use crate::checking::{check_text, read_lines};
+use crate::checking::{read_lines, read_text};
 use crate::contents::ScriptContents;
 use crate::fault::ParseFault;
-use crate::lines::said_lines;
 use pct_model::Script;
 use std::alloc::Global;
 
@@ -23,8 +22,7 @@ fn read(alloc: Global, text: &[u8]) -> Result<ScriptContents, ParseFault>
     requires { length text.now ≤ 16777216 }
     ensures { Reads contents_kept result (fault_in_order text.now) (contents_read (said_lines text.now)) }
 {
-    check_text(alloc, text)?;
-    let lines = said_lines(alloc, text)?;
+    let lines = read_text(alloc, text)?;
     read_lines(alloc, &lines)
 }
 
@@ -39,8 +37,7 @@ fn read(alloc: Global, text: &[u8]) -> Result<ScriptContents, ParseFault>
 /// pop (`ReturnInPush`; XSH pthread_cleanup_push), functions that are not plain where plain ones are asked for (`NotPlain`),
 /// and no function that is called `main` (`NoMain`, at line 1).
 ///
-/// `NoMemory` comes where memory runs out while the script is made, and says nothing of the text. Comments and empty
-/// lines take no memory; open blocks take some, and so do the lines of a text within the limits.
+/// `NoMemory` comes where memory runs out while the script is made, and says nothing of the text.
 pub fn parse(alloc: Global, text: &[u8]) -> Result<Script, ParseFault>
     requires { length text.now ≤ 16777216 }
 

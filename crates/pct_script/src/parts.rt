@@ -1,26 +1,18 @@
 //! The parts of a script's lines: a declaration, and the statements between it and the next one.
 
 ghost use Rattle.std.specs.Prelude.{◌≡◌, ◌<◌, true, not, [], ◌∷◌, length, position, IfSome, MatchOption};
-ghost use Rattle.pct_model.specs.Parts.{is_declaration, is_statement, parted};
+ghost use Rattle.pct_model.specs.Parts.{is_statement, parted};
 ghost use Rattle.pct_script.specs.PartSteps.{BeginsWithPart};
 
+use crate::line_roles::is_declaration;
 use crate::lines::Line;
-use pct_model::{Role, Said};
-
-fn is_declaration(role: Role) -> bool
-    ensures { result ≡ is_declaration role }
-{
-    match role {
-        Role::Declares(_) => true,
-        _ => false,
-    }
-}
+use pct_model::Said;
 
 /// Whether the line is a statement, and no declaration.
 pub(crate) fn is_statement(line: &Said) -> bool
     ensures { result ≡ is_statement line.now }
 {
-    !is_declaration(line.form.role())
+    !is_declaration(line)
 }
 
 // The place of the first declaration.

@@ -41,7 +41,7 @@ fn digits_value(word: &[u8]) -> u64
 
 /// The value of a number: of 1 to 10 digits, and at most 4294967295.
 #[tactic(auto, using(crate::proofs::Fitting::not_short, crate::proofs::Fitting::short_in_range, crate::proofs::Fitting::short_too_large))]
-pub fn numeral(word: &[u8]) -> Option<u32>
+pub(crate) fn numeral(word: &[u8]) -> Option<u32>
     ensures { result ≡ numeral word.now }
 {
     if !is_short(word) {
@@ -89,7 +89,7 @@ fn fits(place: Place, word: &[u8]) -> bool
 
 /// Whether the word may stand at this place.
 #[tactic(auto, using(crate::proofs::Fitting::fits_is))]
-pub fn word_fits(place: Place, word: &[u8]) -> bool
+pub(crate) fn word_fits(place: Place, word: &[u8]) -> bool
     ensures { result ≡ is_some (word_at place word.now) }
 {
     fits(place, word)
@@ -116,7 +116,7 @@ fn not_a_number(word: &[u8]) -> ParseWhy
 
 /// The reason that a word may not stand at this place.
 #[tactic(auto, unfolding(pct_model::specs::Spelling::why_not))]
-pub fn why_not(place: Place, word: &[u8]) -> ParseWhy
+pub(crate) fn why_not(place: Place, word: &[u8]) -> ParseWhy
     ensures { result ≡ why_not place word.now }
 {
     match place {

@@ -45,7 +45,7 @@ fn function_place(lines: &[Line], name: &[u8]) -> Option<usize>
     let mut at: usize = 0;
     let mut rest = lines;
     while let Some((declared, behind)) = next_declared(Kind::Function, rest) {
-        if declared == name {
+        if declared.as_bytes() == name {
             return Some(at);
         }
         at += 1;

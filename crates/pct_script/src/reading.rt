@@ -11,7 +11,8 @@ ghost use Rattle.pct_script.specs.Reading.{body_read, function_read, functions_r
 ghost use Rattle.pct_script.specs.UnknownNames.{unknown_in_body, unknown_in_part, unknown_in_parts};
 
 use crate::fault::ParseFault;
-use crate::line_names::{declares, first_name, locals_of};
+use crate::line_names::{first_name, locals_of};
+use crate::line_roles::declares;
 use crate::lines::Line;
 use crate::name_tables::{NameTable, Tables};
 use crate::parts::next_part;

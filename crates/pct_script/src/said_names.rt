@@ -8,10 +8,10 @@ ghost use Rattle.pct_script.specs.SaidNames.{declared_of};
 
 use crate::line_roles::declares;
 use crate::lines::Line;
-use pct_model::{Kind, Said, Word};
+use pct_model::{Kind, Name, Said, Word};
 
 /// The first name among words, and the words behind it.
-pub(crate) fn next_name(words: &[Word]) -> Option<(&[u8], &[Word])>
+pub(crate) fn next_name(words: &[Word]) -> Option<(&Name, &[Word])>
     ensures names { MatchOption result (names_in words.now ≡ [])
         (λ first. names_in words.now ≡ first.0.now ∷ names_in first.1.now) }
     ensures shorter { IfSome result (λ first. length first.1.now < length words.now) }
@@ -19,7 +19,7 @@ pub(crate) fn next_name(words: &[Word]) -> Option<(&[u8], &[Word])>
     let mut rest = words;
     while let Some((word, behind)) = rest.split_first() {
         if let Word::Name(name) = word {
-            return Some((name.as_bytes(), behind));
+            return Some((name, behind));
         }
         rest = behind;
     }
@@ -27,12 +27,12 @@ pub(crate) fn next_name(words: &[Word]) -> Option<(&[u8], &[Word])>
 }
 
 // Whether the name is among words.
-fn is_among(name: &[u8], words: &[Word]) -> bool
+fn is_among(name: &Name, words: &[Word]) -> bool
     ensures { result ≡ list_any (bytes_eq name.now) (names_in words.now) }
 {
     let mut rest = words;
     while let Some((other, behind)) = next_name(rest) {
-        if name == other {
+        if name.as_bytes() == other.as_bytes() {
             return true;
         }
         rest = behind;
@@ -56,7 +56,7 @@ fn all_different(words: &[Word]) -> bool
 }
 
 /// The name that a declaration declares.
-pub(crate) fn declared_by(line: &Said) -> Option<&[u8]>
+pub(crate) fn declared_by(line: &Said) -> Option<&Name>
     ensures { MatchOption result (declared_by line.now ≡ []) (λ name. declared_by line.now ≡ name.now ∷ []) }
 {
     match next_name(line.words.as_slice()) {
@@ -77,7 +77,7 @@ pub(crate) fn locals_differ(line: &Said) -> bool
 }
 
 // The name that the line declares of this kind.
-fn declared_of(kind: Kind, line: &Said) -> Option<&[u8]>
+fn declared_of(kind: Kind, line: &Said) -> Option<&Name>
     ensures { MatchOption result (declared_of kind line.now ≡ []) (λ name. declared_of kind line.now ≡ name.now ∷ []) }
 {
     if declares(kind, line) {
@@ -88,7 +88,7 @@ fn declared_of(kind: Kind, line: &Said) -> Option<&[u8]>
 }
 
 /// The first name that lines declare of this kind, and the lines behind.
-pub(crate) fn next_declared(kind: Kind, lines: &[Line]) -> Option<(&[u8], &[Line])>
+pub(crate) fn next_declared(kind: Kind, lines: &[Line]) -> Option<(&Name, &[Line])>
     ensures names { MatchOption result (names_declared lines.now kind ≡ [])
         (λ first. names_declared lines.now kind ≡ first.0.now ∷ names_declared first.1.now kind) }
     ensures shorter { IfSome result (λ first. length first.1.now < length lines.now) }

@@ -7,23 +7,26 @@ ghost use Rattle.pct_model.specs.Spelling.{spelling};
 
 use crate::spelling::misspelled;
 use crate::words::spells_something;
-use pct_model::{ParseWhy, cut};
+use memchr::memchr;
+use pct_model::ParseWhy;
 use std::marker::Model;
 
-#[cfg(test)]
-mod tests;
-
-/// The first line of a text, without its end, and what stands behind it; nothing where the text is empty.
-pub(crate) fn first_line(text: &[u8]) -> Option<(&[u8], &[u8])>
+// The first line of a text, without its end, and what stands behind it; nothing where the text is empty.
+fn first_line(text: &[u8]) -> Option<(&[u8], &[u8])>
     ensures line { MatchOption result (lines_of text.now ≡ [])
         (λ parts. lines_of text.now ≡ parts.0.now ∷ lines_of parts.1.now) }
     ensures shorter { IfSome result (λ parts. length parts.1.now < length text.now) }
 {
-    if text.is_empty() {
-        return None;
+    let (first, rest) = text.split_first()?;
+    if *first == b'\n' {
+        return Some((&[], rest));
     }
-    match cut(text, b'\n') {
-        Some((line, behind)) => Some((line, behind)),
+    match memchr(b'\n', text) {
+        Some(end) => {
+            let (line, left) = text.split_at(end);
+            let (_, behind) = left.split_first()?;
+            Some((line, behind))
+        }
         None => Some((text, &[])),
     }
 }
@@ -60,9 +63,19 @@ impl<'a> SpelledLines<'a> {
         }
     }
 
+    /// The same lines, to go over them once more.
+    pub(crate) fn again(&self) -> SpelledLines<'a>
+        ensures { result ≡ self.now }
+    {
+        SpelledLines {
+            number: self.number,
+            rest: self.rest,
+        }
+    }
+
     /// The first that is left; behind the last there is none.
     pub(crate) fn next(&mut self) -> Option<(u32, &'a [u8])>
-        ensures { MatchOption result (self.old ≡ [])
+        ensures { MatchOption result ((self.old ≡ []) × (self.new ≡ []))
             (λ first. self.old ≡ (first.0, first.1.now) ∷ self.new) }
     {
         while let Some((line, behind)) = first_line(self.rest) {
@@ -77,12 +90,11 @@ impl<'a> SpelledLines<'a> {
     }
 }
 
-/// The first line of a script's text that spells something and is misspelled, by its number, and the reason.
-pub fn first_misspelled(text: &[u8]) -> Option<(u32, ParseWhy)>
-    requires { length text.now ≤ 16777216 }
-    ensures { result ≡ spelling (spelled_lines text.now) }
+/// The first of the lines that is misspelled, by its number, and the reason.
+pub(crate) fn first_misspelled(spelled: SpelledLines) -> Option<(u32, ParseWhy)>
+    ensures { result ≡ spelling spelled.entry }
 {
-    let mut lines = SpelledLines::of(text);
+    let mut lines = spelled;
     while let Some((number, line)) = lines.next() {
         if let Some(why) = misspelled(line) {
             return Some((number, why));

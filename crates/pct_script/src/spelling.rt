@@ -39,7 +39,7 @@ fn point_form(word: &[u8]) -> Option<Form>
 
 /// The form of a line that begins with this word.
 #[tactic(auto, unfolding(pct_model::specs::Forms::form_of))]
-pub fn form_of(word: &[u8]) -> Option<Form>
+pub(crate) fn form_of(word: &[u8]) -> Option<Form>
     ensures { result ≡ form_of word.now }
 {
     match form_with(word) {
@@ -93,7 +93,7 @@ fn fault_of_words(line: &[u8]) -> Option<ParseWhy>
 /// Why the line is misspelled, if it is: a byte that no line may have, a first word that is that of no form, another
 /// number of words than the form asks, or the first word that may not stand at its place. It takes no memory.
 #[tactic(auto, unfolding(pct_model::specs::Spelling::misspelled))]
-pub fn misspelled(line: &[u8]) -> Option<ParseWhy>
+pub(crate) fn misspelled(line: &[u8]) -> Option<ParseWhy>
     ensures { result ≡ misspelled line.now }
 {
     if are_allowed(line) {

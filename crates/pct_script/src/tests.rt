@@ -20,12 +20,37 @@ fn fault_of(alloc: Global, text: &[u8]) -> Result<Option<(u32, ParseWhy)>, Fail>
 
 #[test]
 fn finds_the_first_fault(rt: HostRuntime) -> Result<(), Fail> {
-    let rows: [(&[u8], u32, ParseWhy); 33] = [
+    let rows: [(&[u8], u32, ParseWhy); 38] = [
         (b"", 1, ParseWhy::NoMain),
         (b"# nothing\n\n", 1, ParseWhy::NoMain),
         (b"fn f x\nend\n", 1, ParseWhy::NoMain),
-        // A fault of an earlier check goes before one of a later check at an earlier line.
+        // A fault of an earlier check goes before one of the next check at an earlier line.
         (b"end\nwhat\n", 2, ParseWhy::UnknownWord),
+        (
+            b"fn main a b c d e f g h i\nend\nend\n",
+            3,
+            ParseWhy::StrayEnd,
+        ),
+        (
+            b"mutex m\nmutex m\nfn main a b c d e f g h i\nend\n",
+            3,
+            ParseWhy::TooMany,
+        ),
+        (
+            b"fn main x\nemit y\nend\nfn main x\nend\n",
+            4,
+            ParseWhy::NameTwice,
+        ),
+        (
+            b"fn main x\npthread_cleanup_push main 1\nreturn 0\npthread_cleanup_pop 0\nemit y\nend\n",
+            5,
+            ParseWhy::UnknownName,
+        ),
+        (
+            b"fn h x\nnop\nend\nfn main x\natexit - h\npthread_cleanup_push h 1\nreturn 0\npthread_cleanup_pop 0\nend\n",
+            7,
+            ParseWhy::ReturnInPush,
+        ),
         (b"end\n", 1, ParseWhy::StrayEnd),
         (b"emit 1\n", 1, ParseWhy::Misplaced),
         (b"fn main x\nglobal g\nend\n", 2, ParseWhy::Misplaced),
@@ -203,9 +228,6 @@ fn reads_what_a_text_says(rt: HostRuntime) -> Result<(), Fail> {
     );
     assert_eq!(rt; f.locals.as_slice().len(), 2);
     assert_eq!(rt; script.globals.as_slice().len(), 2);
-
-    let jumps = Jumps::new(rt.alloc(), &script).map_err(|_| AllocError)?;
-    assert_eq!(rt; jumps.open_of(0, 2), None);
     Ok(())
 }
 
@@ -219,5 +241,37 @@ fn prints_what_it_reads(rt: HostRuntime) -> Result<(), Fail> {
     let mut sink = MemSink::new(rt.alloc(), 10_000, 7, &[]).map_err(|_| AllocError)?;
     print(&script, &mut sink).map_err(|_| AllocError)?;
     assert_eq!(rt; sink.written(), CANONICAL);
+    Ok(())
+}
+
+// The `if` at 0 is closed by the `else` at 5, and that by the `end` at 7. In it stands the `while` at 1 with its `end` at 4,
+// and a push and its pop around nothing. Behind it stand an `if` without an `else`, and the function's own `end`.
+#[test]
+fn finds_where_blocks_close_and_open(rt: HostRuntime) -> Result<(), Fail> {
+    let script = parse(
+        rt.alloc(),
+        b"fn main x\nif x\nwhile x\npthread_cleanup_push main 0\npthread_cleanup_pop 0\nend\nelse\nnop\nend\nif 1\nend\nend\n",
+    )?;
+    let [main] = script.funcs.as_slice() else {
+        return Err("one function".into());
+    };
+    let jumps = Jumps::new(rt.alloc(), &script).map_err(|_| AllocError)?;
+    let opened: [Option<u32>; 11] = [
+        None,
+        None,
+        None,
+        None,
+        Some(1),
+        None,
+        None,
+        Some(5),
+        None,
+        Some(8),
+        None,
+    ];
+    for (place, opening) in opened.iter().enumerate() {
+        assert_eq!(rt; jumps.open_of(0, place as u32), *opening);
+    }
+    assert_eq!(rt; main.body.as_slice().len(), 11);
     Ok(())
 }

@@ -20,7 +20,7 @@ fn declares_name(name: &[u8], line: &Said) -> bool
         return false;
     }
     match declared_by(line) {
-        Some(declared) => name == declared,
+        Some(declared) => name == declared.as_bytes(),
         None => false,
     }
 }
@@ -43,7 +43,7 @@ fn is_declared(before: &[Line], line: &Said) -> bool
     ensures { result ≡ list_any (declare_name before.now) (declared_by line.now) }
 {
     match declared_by(line) {
-        Some(name) => declare_name(before, name),
+        Some(name) => declare_name(before, name.as_bytes()),
         None => false,
     }
 }

@@ -18,7 +18,7 @@ fn is_allowed(byte: u8) -> bool
 }
 
 /// Whether each of the bytes is a blank, or a printable character of ASCII.
-pub fn are_allowed(bytes: &[u8]) -> bool
+pub(crate) fn are_allowed(bytes: &[u8]) -> bool
     ensures { result ≡ list_all is_allowed bytes.now }
 {
     bytes.iter().all(|byte| is_allowed(*byte))
@@ -39,7 +39,7 @@ fn word_end(bytes: &[u8]) -> Option<usize>
 }
 
 /// The first word of the bytes, and the bytes behind it; nothing where they have no word.
-pub fn next_word(bytes: &[u8]) -> Option<(&[u8], &[u8])>
+pub(crate) fn next_word(bytes: &[u8]) -> Option<(&[u8], &[u8])>
     ensures words { words_in bytes.now
         ≡ option_map_or (λ parts. parts.0.now ∷ words_in parts.1.now) result [] }
     ensures shorter { IfSome result (λ parts. length parts.1.now < length bytes.now) }
@@ -50,7 +50,7 @@ pub fn next_word(bytes: &[u8]) -> Option<(&[u8], &[u8])>
 }
 
 /// How many words the bytes have.
-pub fn count_words(bytes: &[u8]) -> usize
+pub(crate) fn count_words(bytes: &[u8]) -> usize
     ensures { result ≡ length (words_in bytes.now) }
 {
     let mut count = 0;
@@ -72,7 +72,7 @@ fn begins_comment(word: &[u8]) -> bool
 }
 
 /// Whether a line of these bytes spells something: it has a word, and its first doesn't begin with `#`.
-pub fn spells_something(line: &[u8]) -> bool
+pub(crate) fn spells_something(line: &[u8]) -> bool
     ensures { result ≡ spell_something (words_in line.now) }
 {
     match next_word(line) {

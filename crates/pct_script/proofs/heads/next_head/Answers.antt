@@ -12,4 +12,4 @@ loop-number-preserved c =
     c.loop-number.invariant ∙ ap heads_in c.in-Some.ensures ∙ head_later c.in-Some.number c.in-Some.line.now c.next.new.self (sym c.in_default-head_of.ensures)
 
 pub returns : goal.returns
-returns c = c.loop-number.invariant ∙ ap heads_in c.in_default.ensures ∙ no_heads
+returns c = c.loop-number.invariant ∙ ap heads_in c.in_default.ensures.0 ∙ no_heads

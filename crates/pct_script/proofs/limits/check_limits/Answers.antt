@@ -1,24 +1,22 @@
 use Rattle.std.proofs.Common.{sym, ap, ◌∙◌}
 use Rattle.pct_model.specs.declared.refusal.ParseWhy.TheVariants.{TooMany}
 use Rattle.pct_model.specs.Checks.{fault_at_line}
-use Rattle.pct_script.specs.Heads.{heads_in}
 use Rattle.pct_script.specs.LineCounts.{limit_in}
-use Rattle.pct_script.proofs.LineLimits.{limit_of_text, limit_stops, limit_goes_on, limit_none}
+use Rattle.pct_script.proofs.LineLimits.{limit_stops, limit_goes_on, limit_none}
 use Rattle.pct_script.proofs.limits.check_limits.Goals as goal
 
 pub loop-number-preserved : goal.loop-number-preserved
 loop-number-preserved c =
     let counts = c.loop-number.counts in
     c.loop-number.invariant ∙ ap (limit_in counts) c.in-Some.ensures
-    ∙ limit_goes_on counts c.in-Some-with_head.next c.in-Some.number c.in-Some.head (heads_in c.next_head.new.lines) (sym c.in-Some-with_head.ensures)
+    ∙ limit_goes_on counts c.in-Some-with_head.next c.in-Some.number c.in-Some.head c.next.new.self (sym c.in-Some-with_head.ensures)
 
 pub returns-in-None : goal.returns-in-None
 returns-in-None c =
     let counts = c.loop-number.counts in
-    sym (limit_of_text c.args.text.now c.requires.said
-    ∙ ap (fault_at_line TooMany) (c.loop-number.invariant ∙ ap (limit_in counts) c.in-Some.ensures ∙ limit_stops counts c.in-Some.number c.in-Some.head (heads_in c.next_head.new.lines) (sym c.in-None.ensures)))
+    sym (ap (fault_at_line TooMany) (c.loop-number.invariant ∙ ap (limit_in counts) c.in-Some.ensures ∙ limit_stops counts c.in-Some.number c.in-Some.head c.next.new.self (sym c.in-None.ensures)))
 
 pub returns : goal.returns
 returns c =
     let counts = c.loop-number.counts in
-    sym (limit_of_text c.args.text.now c.requires.said ∙ ap (fault_at_line TooMany) (c.loop-number.invariant ∙ ap (limit_in counts) c.in_default.ensures ∙ limit_none counts))
+    sym (ap (fault_at_line TooMany) (c.loop-number.invariant ∙ ap (limit_in counts) c.in_default.ensures ∙ limit_none counts))

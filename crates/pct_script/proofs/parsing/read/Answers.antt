@@ -1,16 +1,17 @@
-use Rattle.std.proofs.Common.{ap, ◌∙◌, length, arith}
+use Rattle.std.proofs.Common.{sym, ap, ◌∙◌, length, arith}
 use Rattle.std.specs.List.{list_all}
-use Rattle.pct_model.specs.Parts.{are_in_functions}
+use Rattle.std.proofs.lemmas.Option.{same_Some}
+use Rattle.pct_model.specs.Parts.{said_lines, are_in_functions}
 use Rattle.pct_script.specs.PartSteps.{is_ready}
 use Rattle.pct_script.proofs.Passing.{is_checked}
 use Rattle.pct_script.proofs.Ready.{few_lines}
 use Rattle.pct_script.proofs.parsing.read.Goals as goal
 
 pub read_lines-requires-clause-few : goal.read_lines-requires-clause-few
-read_lines-requires-clause-few c = omega (arith, few_lines c.args.text.now, ap length (c.deref.ensures.value ∙ c.in_ok-lines.ensures), c.requires)
+read_lines-requires-clause-few c = omega (arith, few_lines c.args.text.now, ap length (c.deref.ensures.value ∙ sym (same_Some (said_lines c.args.text.now) c.in_ok-lines.lines.items c.in_ok-lines.ensures.1)), c.requires)
 
 pub read_lines-requires-clause-in_functions : goal.read_lines-requires-clause-in_functions
-read_lines-requires-clause-in_functions c = ap are_in_functions (c.deref.ensures.value ∙ c.in_ok-lines.ensures) ∙ (is_checked c.args.text.now c.in_ok-check_text.ensures).in_functions
+read_lines-requires-clause-in_functions c = ap are_in_functions (c.deref.ensures.value ∙ sym (same_Some (said_lines c.args.text.now) c.in_ok-lines.lines.items c.in_ok-lines.ensures.1)) ∙ (is_checked c.args.text.now c.in_ok-lines.ensures.0).in_functions
 
 pub read_lines-requires-clause-ready : goal.read_lines-requires-clause-ready
-read_lines-requires-clause-ready c = ap (list_all is_ready) (c.deref.ensures.value ∙ c.in_ok-lines.ensures) ∙ (is_checked c.args.text.now c.in_ok-check_text.ensures).ready
+read_lines-requires-clause-ready c = ap (list_all is_ready) (c.deref.ensures.value ∙ sym (same_Some (said_lines c.args.text.now) c.in_ok-lines.lines.items c.in_ok-lines.ensures.1)) ∙ (is_checked c.args.text.now c.in_ok-lines.ensures.0).ready

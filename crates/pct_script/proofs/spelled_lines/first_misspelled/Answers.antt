@@ -12,4 +12,4 @@ loop-number-preserved c =
     c.loop-number.invariant ∙ ap spelling c.in-Some.ensures ∙ spelled_right c.in-Some.number c.in-Some.line.now c.next.new.self (sym c.in_default-misspelled.ensures)
 
 pub returns : goal.returns
-returns c = sym (c.loop-number.invariant ∙ ap spelling c.in_default.ensures ∙ none_misspelled)
+returns c = sym (c.loop-number.invariant ∙ ap spelling c.in_default.ensures.0 ∙ none_misspelled)

@@ -15,4 +15,6 @@ loop-line-preserved c =
     )
 
 pub returns : goal.returns
-returns c = c.loop-line.invariant.0 ∙ none_spelled c.loop-line.self-inside.number c.loop-line.self-inside.rest.now c.in_default.ensures.line
+returns c =
+    let none = none_spelled c.loop-line.self-inside.number c.loop-line.self-inside.rest.now c.in_default.ensures.line in
+    (c.loop-line.invariant.0 ∙ none, none)

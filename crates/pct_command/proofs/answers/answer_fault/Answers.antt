@@ -1,7 +1,7 @@
 use Rattle.pct_io.proofs.Kept.{KeepsInners-refl}
 use Rattle.pct_command.proofs.Outcomes.{script-answer}
 use Rattle.pct_command.proofs.Told.{tells, tells_part}
-use Rattle.pct_command.proofs.run_command.answer_fault.Goals as goal
+use Rattle.pct_command.proofs.answers.answer_fault.Goals as goal
 
 pub returns-in-Ok-clause-answers : goal.returns-in-Ok-clause-answers
 returns-in-Ok-clause-answers g c = λ words input accepted fits first.
