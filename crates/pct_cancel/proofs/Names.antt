@@ -1,4 +1,4 @@
--- What the table of points gives: how many points of each kind there are, and that each name finds its own point.
+-- The table of points: how many points of each kind there are, and that each point is found by its name.
 use Rattle.std.proofs.Common.{◌≡◌, ℕ, ◌<◌, Bool, true, false, not, ◌&&◌, List, [], length, take, drop, get_or, Option, Some, None, refl, sym, ap, ◌∙◌, position, nat_eq}
 use Rattle.std.specs.Prelude.{bytes_eq, codes, slice_get, count_by, option_map, option_and_then}
 use Rattle.std.specs.List.{list_all}
@@ -11,7 +11,7 @@ use Rattle.pct_model.specs.declared.point.Point.{Point}
 use Rattle.pct_model.specs.declared.point.PointKind.{PointKind}
 use Rattle.pct_model.specs.declared.point.PointKind.TheVariants.{Required, Optional}
 use Rattle.pct_model.specs.declared.point.PointWait.TheVariants.{NoWait}
-use Rattle.pct_model.specs.Forms.{is_foreign}
+use Rattle.pct_model.specs.LineKinds.{is_foreign}
 use Rattle.pct_model.specs.Points.{Row, points, point_at, point_of, point_name}
 
 -- ---- how many
@@ -20,17 +20,17 @@ abbrev is_required : PointKind → Bool
 is_required Required = true
 is_required Optional = false
 
--- 58 points: first 47 that the standard requires, and then 11 that it allows
+-- 58 points: 47 required ones, then 11 optional ones
 kinds : (length points ≡ 58) × (list_all (λ row. is_required row.kind) (take 47 points) ≡ true) × (list_all (λ row. not (is_required row.kind)) (drop 47 points) ≡ true)
 unfolding points
 kinds = (refl, refl, refl)
 
--- at 38 of the required points a thread waits for nothing of the script
+-- at 38 of the required points a thread waits for an event outside the script, or for a signal
 waits : count_by (λ row. is_required row.kind && is_foreign row.wait) points ≡ 38
 unfolding points
 waits = refl
 
--- no points: a name that lacks its last byte or has one more, the empty name, and a function that is no point
+-- names of no point: a name without its last byte or with one byte more, the empty name, and another function
 others : (point_of (codes "accep") ≡ None) × (point_of (codes "accept4") ≡ None) × (point_of [] ≡ None) × (point_of (codes "pthread_mutex_lock") ≡ None)
 unfolding points point_of
 others = (refl, refl, refl, refl)
@@ -39,9 +39,9 @@ others = (refl, refl, refl, refl)
 
 abbrev is_found_at : ℕ → Option ℕ → Bool
 is_found_at index None = false
-is_found_at index (Some place) = nat_eq place index
+is_found_at index (Some row_number) = nat_eq row_number index
 
--- the first row with the name of this one is this one
+-- the first row with the name of the row at this index is that row
 abbrev is_first : ℕ → Bool
 is_first index = is_found_at index (position (λ row. bytes_eq row.name (point_name index)) points)
 
@@ -51,9 +51,9 @@ each_is_first index l = agree_below_at is_first (λ _. true) 58 index refl l
 
 found_from : (index : ℕ) (found : Option ℕ) → is_found_at index found ≡ true → found ≡ Some index
 found_from index None h = absurd (true≢false (sym h))
-found_from index (Some place) h = ap Some (eqb-true place index h)
+found_from index (Some row_number) h = ap Some (eqb-true row_number index h)
 
--- a name gives the point that has it, and so no two points have the same name
+-- a point is found by its name; so no two points have the same name
 pub name_finds_point : (index : ℕ) → index < 58 → point_of (point_name index) ≡ point_at index
 unfolding point_of
 name_finds_point index l = ap (option_and_then point_at) (found_from index _ (each_is_first index l))
@@ -62,8 +62,8 @@ named_in : (index : ℕ) (row : Row) (p : Point) → slice_get points index ≡ 
 unfolding point_name
 named_in index row p at is =
     let built : Some (record { index = index; kind = row.kind; wait = row.wait }) ≡ Some p = sym (ap (option_map (λ r. record { index = index; kind = r.kind; wait = r.wait })) at) ∙ is in
-    let place : p.index ≡ index = sym (ap (λ q. q.index) (same_Some _ _ built)) in
-    ap (λ i. option_map_or (λ r. r.name) (slice_get points i) []) place ∙ ap (λ r. option_map_or (λ r. r.name) r []) at
+    let row_number : p.index ≡ index = sym (ap (λ q. q.index) (same_Some _ _ built)) in
+    ap (λ i. option_map_or (λ r. r.name) (slice_get points i) []) row_number ∙ ap (λ r. option_map_or (λ r. r.name) r []) at
 
 named_at : (name : List ℕ) (found : Option ℕ) (p : Point) → position (λ row. bytes_eq row.name name) points ≡ found → option_and_then point_at found ≡ Some p → point_name p.index ≡ name
 named_at name None p there is = absurd (cc)
@@ -73,7 +73,7 @@ named_at name (Some index) p there is =
     let row = get_or points index blank in
     named_in index row p (slice_get-get_or points index blank first.0) is ∙ same_bytes row.name name first.1
 
--- the point that a name gives has this name
+-- the point found by a name has this name
 pub point_has_name : (name : List ℕ) (p : Point) → point_of name ≡ Some p → point_name p.index ≡ name
 unfolding point_of
 point_has_name name p is = named_at name _ p refl is

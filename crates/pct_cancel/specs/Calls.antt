@@ -1,9 +1,9 @@
--- The names of the functions that are cancellation points. No public clause cites this module.
+-- The names of the functions that are cancellation points. No public contract cites this module.
 use Rattle.std.specs.Prelude.{ℕ, List, codes}
 use Rattle.pct_cancel.specs.declared.call.Call.{Call}
 use Rattle.pct_cancel.specs.declared.call.Call.TheVariants as call
 
--- a function's name
+-- the name of each function
 unfoldable pub call_name : Call → List ℕ
 call_name call.Accept = codes "accept"
 call_name call.AioSuspend = codes "aio_suspend"

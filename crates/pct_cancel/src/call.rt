@@ -1,9 +1,9 @@
-//! The functions that are cancellation points, and their names.
+//! The names of the functions that are cancellation points.
 
 ghost use Rattle.std.specs.Prelude.{◌≡◌};
 ghost use Rattle.pct_cancel.specs.Calls.{call_name};
 
-/// A function that shall or may be a cancellation point.
+/// A function that is a cancellation point.
 #[derive(Clone, Copy)]
 pub(crate) enum Call {
     Accept,
@@ -67,7 +67,7 @@ pub(crate) enum Call {
 }
 
 impl Call {
-    /// Its name.
+    /// The function's name.
     #[tactic(auto, unfolding(crate::specs::Calls::call_name))]
     pub(crate) fn name(self) -> &'static [u8]
         ensures { result.now ≡ call_name self }

@@ -1,4 +1,4 @@
-//! What a thread has of cancelability (XSH 2.9.5).
+//! The cancelability of a thread (XSH 2.9.5).
 
 ghost use Rattle.std.specs.Prelude.{◌≡◌, true, false};
 ghost use Rattle.pct_model.specs.declared.state.State.TheVariants.{Enable};
@@ -7,7 +7,7 @@ ghost use Rattle.pct_model.specs.Cancelability.{is_deliverable, is_asynchronous,
 
 use crate::{Mode, State};
 
-/// A thread's cancelability state and type, and whether a request to cancel it is pending.
+/// A thread's cancelability state and type, and whether a cancellation request is pending.
 #[derive(Clone, Copy, Debug, PartialEq, Eq)]
 pub struct Cancel {
     pub state: State,
@@ -16,7 +16,7 @@ pub struct Cancel {
 }
 
 impl Cancel {
-    /// That of a new thread: enabled, deferred, with no request (pthread_setcancelstate).
+    /// The cancelability of a new thread: enabled, deferred, no request pending (pthread_setcancelstate).
     pub fn new() -> Cancel
         ensures { result ≡ record { state = Enable; mode = Deferred; pending = false } }
     {
@@ -27,14 +27,14 @@ impl Cancel {
         }
     }
 
-    /// A request is pending from here on, as it may have been before (pthread_cancel).
+    /// Makes a request pending (pthread_cancel). A second request changes nothing.
     pub fn request(&mut self)
         ensures { self.new ≡ record self.old { pending = true } }
     {
         self.pending = true;
     }
 
-    /// Sets the state, and answers the one before it (pthread_setcancelstate).
+    /// Sets the state, and returns the previous one (pthread_setcancelstate).
     pub fn set_state(&mut self, state: State) -> State
         ensures answer { result ≡ self.old.state }
         ensures set { self.new ≡ record self.old { state = state } }
@@ -44,7 +44,7 @@ impl Cancel {
         old
     }
 
-    /// Sets the type, and answers the one before it (pthread_setcanceltype, on the page of pthread_setcancelstate).
+    /// Sets the type, and returns the previous one (pthread_setcanceltype, on the page pthread_setcancelstate).
     pub fn set_mode(&mut self, mode: Mode) -> Mode
         ensures answer { result ≡ self.old.mode }
         ensures set { self.new ≡ record self.old { mode = mode } }
@@ -54,23 +54,24 @@ impl Cancel {
         old
     }
 
-    /// Whether a request is pending that is acted upon at a cancellation point: the state is ENABLE (XSH 2.9.5.2).
+    /// Whether the thread acts on a request at a cancellation point: one is pending, and the state is enabled
+    /// (XSH 2.9.5.2, pthread_testcancel).
     pub fn deliverable(&self) -> bool
         ensures { result ≡ is_deliverable self.now.state self.now.pending }
     {
         self.state == State::Enable && self.pending
     }
 
-    /// Whether a request may be acted upon at any time: the state is ENABLE and the type ASYNCHRONOUS, whether or not a
-    /// request is pending (XSH 2.9.5).
+    /// Whether the thread may act on a request at any time: the state is enabled and the type asynchronous, whether or
+    /// not a request is pending (XSH 2.9.5).
     pub fn async_on(&self) -> bool
         ensures { result ≡ is_asynchronous self.now.state self.now.mode }
     {
         self.state == State::Enable && self.mode == Mode::Asynchronous
     }
 
-    /// The thread begins to end: the state is DISABLE and the type DEFERRED now. A request that is pending
-    /// stays so (XSH 2.9.5.3, pthread_exit).
+    /// Sets the state and the type of a thread that begins to end: disabled and deferred (XSH 2.9.5.3, pthread_exit). A
+    /// pending request stays pending.
     pub fn begin_end(&mut self)
         ensures { self.new ≡ record self.old { state = ending_state; mode = ending_mode } }
     {

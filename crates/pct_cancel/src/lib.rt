@@ -1,4 +1,4 @@
-//! Cancelability: what a thread has of it, and the table of cancellation points.
+//! Cancelability (XSH 2.9.5): the cancelability of a thread, and the table of cancellation points.
 #![tactic(auto)]
 
 mod call;
@@ -7,7 +7,7 @@ mod point;
 
 pub use cancel::Cancel;
 pub use pct_model::{Mode, Point, PointKind, PointWait, State};
-pub use point::{point_of, write_point};
+pub use point::{POINT_COUNT, point_of, write_point};
 
 #[cfg(test)]
 mod tests;

@@ -3,7 +3,7 @@
 ghost use Rattle.std.specs.Prelude.{◌≡◌, ◌<◌, Some, bytes_eq, position, slice_get};
 ghost use Rattle.pct_io.specs.Writes.{Writes};
 ghost use Rattle.pct_model.specs.Points.{point_of, point_name};
-ghost use Rattle.pct_cancel.specs.declared.point.TheConstants.{POINTS};
+ghost use Rattle.pct_cancel.specs.declared.point.TheConstants.{POINTS, POINT_COUNT};
 ghost use Rattle.pct_cancel.specs.Calls.{call_name};
 
 use crate::PointKind::{Optional, Required};
@@ -12,8 +12,11 @@ use crate::call::Call;
 use crate::{Point, PointKind, PointWait};
 use pct_io::{Failed, Sink, write_all};
 
-// The rows in the order of their indexes.
-static POINTS: [(Call, PointKind, PointWait); 58] = [
+/// The number of cancellation points; their indexes are below it.
+pub const POINT_COUNT: usize = 58;
+
+// A point's index is its row number, from 0.
+static POINTS: [(Call, PointKind, PointWait); POINT_COUNT] = [
     (Call::Accept, Required, Outside),
     (Call::AioSuspend, Required, Outside),
     (Call::ClockNanosleep, Required, Outside),
@@ -74,31 +77,31 @@ static POINTS: [(Call, PointKind, PointWait); 58] = [
     (Call::Readdir, Optional, NoWait),
 ];
 
-/// The point with this name: its index in the table, whether the standard requires it, and what a thread at it waits
-/// for. `None` comes exactly where no point has the name (XSH 2.9.5.2). It takes no memory.
+/// The cancellation point with this name: its index in the table, its kind (required or optional), and what a thread
+/// suspended at it waits for. The result is `None` exactly if no cancellation point has the name (XSH 2.9.5.2).
 pub fn point_of(name: &[u8]) -> Option<Point>
     ensures { result ≡ point_of name.now }
 {
-    let place = place_of(name)?;
-    let (_, kind, wait) = row_at(place);
+    let index = index_of(name)?;
+    let (_, kind, wait) = row_at(index);
     Some(Point {
-        index: place as u32,
+        index: index as u32,
         kind,
         wait,
     })
 }
 
-/// Writes the name of the point with this index, which is below 58, and nothing else. At `Failed` a front of the name
-/// was written, and the sink's count of faults rose. It takes no memory.
+/// Writes the name of the point with this index to the sink. After `Failed` a prefix of the name was written, and the
+/// sink recorded an error.
 pub fn write_point<K: Sink>(index: u32, sink: &mut K) -> Result<(), Failed>
-    requires { index < 58 }
-    ensures { Writes K.written K.faults K.inners sink.old sink.new (point_name index) result }
+    requires { index < POINT_COUNT }
+    ensures { Writes K.written K.errors K.inners sink.old sink.new (point_name index) result }
 {
     write_all(sink, row_at(index as usize).0.name())
 }
 
 // The index of the first row with this name.
-fn place_of(name: &[u8]) -> Option<usize>
+fn index_of(name: &[u8]) -> Option<usize>
     ensures { result ≡ position (λ row. bytes_eq (call_name row.0) name.now) POINTS }
 {
     POINTS.iter().position(|row| row.0.name() == name)
@@ -106,7 +109,7 @@ fn place_of(name: &[u8]) -> Option<usize>
 
 // The row with this index.
 fn row_at(index: usize) -> (Call, PointKind, PointWait)
-    requires { index < 58 }
+    requires { index < POINT_COUNT }
     ensures { slice_get POINTS index ≡ Some result }
 {
     POINTS[index]

@@ -1,5 +1,5 @@
-//! The expected answers are written out from the two lists of cancellation points (XSH 2.9.5.2), from this host's choice
-//! of waits, and from the rules of cancelability.
+//! The expected values come from the two lists of cancellation points (XSH 2.9.5.2), this host's choice of waits, and
+//! the rules of cancelability (XSH 2.9.5).
 
 use super::*;
 use crate::Mode::{Asynchronous, Deferred};
@@ -9,7 +9,7 @@ use crate::State::{Disable, Enable};
 use pct_io::{Failed, MemSink};
 use std::test::Fail;
 
-// The points in the order of their indexes.
+// The points, in the order of their indexes.
 static ROWS: [(&[u8], PointKind, PointWait); 58] = [
     (b"accept", Required, Outside),
     (b"aio_suspend", Required, Outside),
@@ -73,9 +73,9 @@ static ROWS: [(&[u8], PointKind, PointWait); 58] = [
 
 #[test]
 fn each_name_has_its_row(rt: HostRuntime) -> Result<(), Fail> {
-    for place in 0..58 {
-        let (name, kind, wait) = ROWS[place];
-        let index = place as u32;
+    for row_number in 0..58 {
+        let (name, kind, wait) = ROWS[row_number];
+        let index = row_number as u32;
         assert_eq!(rt; point_of(name), Some(Point { index, kind, wait }));
     }
     Ok(())
@@ -102,15 +102,15 @@ fn other_names_are_no_points(rt: HostRuntime) -> Result<(), Fail> {
 
 #[test]
 fn writes_names_alone(rt: HostRuntime) -> Result<(), Fail> {
-    for place in 0..58 {
-        let name = ROWS[place].0;
+    for row_number in 0..58 {
+        let name = ROWS[row_number].0;
         let mut sink = MemSink::new(rt.alloc(), 100, 7, &[])?;
-        write_point(place as u32, &mut sink)?;
+        write_point(row_number as u32, &mut sink)?;
         assert_eq!(rt; sink.written(), name);
-        // Three bytes a call, of which the first or the second fails: each name has more than three.
+        // The sink takes three bytes a call, and the first or the second call fails. Each name has more than three bytes.
         for (fails, kept) in [(1, 0), (2, 3)] {
             let mut sink = MemSink::new(rt.alloc(), 100, 3, &[fails])?;
-            assert_eq!(rt; write_point(place as u32, &mut sink), Err(Failed));
+            assert_eq!(rt; write_point(row_number as u32, &mut sink), Err(Failed));
             assert_eq!(rt; sink.written().len(), kept);
             assert!(rt; name.starts_with(sink.written()));
         }

@@ -1,13 +1,14 @@
-pub mod Asked
+pub mod AskedWords
 pub mod Scripts
-pub mod Choices
+pub mod OnlyGo
 pub mod NotLegal
-pub mod Steps
-pub mod Readings
+pub mod StepEffects
+pub mod OneReading
 pub mod Openings
-pub mod Replays
+pub mod ReplayedEntries
 pub mod Texts
 pub mod Outcomes
-pub mod Told
-pub mod Complete
+pub mod WrittenAnswers
+pub mod CompleteOutcomes
 pub mod OneOutcome
+mod NonEmptyTexts

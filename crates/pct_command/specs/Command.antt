@@ -1,13 +1,13 @@
 -- What `command` promises, by its answer.
 use Rattle.std.specs.Prelude.{◌≡◌, ◌≢◌, ◌⊎◌, ℕ, ◌<◌, ◌≤◌, true, false, List, [], ◌∷◌, length, Option, Some, None, Ok}
 use Rattle.std.specs.Io.KnownBytes.{Appends, Consumes, IsAtEnd, Keeps}
-use Rattle.pct_io.specs.Faults.{Rose}
-use Rattle.pct_io.specs.Sinks.{AppendsPart}
+use Rattle.pct_io.specs.ErrorCounts.{Rose}
+use Rattle.pct_io.specs.Sinks.{AppendsPrefix}
 use Rattle.pct_model.specs.declared.script.Script.{Script}
 use Rattle.pct_model.specs.declared.schedule.Config.{Config}
 use Rattle.pct_model.specs.declared.schedule.Entry.{Entry}
-use Rattle.pct_model.specs.declared.word.Keyword.TheVariants as word
-use Rattle.pct_model.specs.Words.{keyword_text}
+use Rattle.pct_model.specs.declared.keyword.Keyword.TheVariants as keyword
+use Rattle.pct_model.specs.Keywords.{keyword_text}
 use Rattle.pct_model.specs.Spells.{Spells}
 use Rattle.pct_model.specs.Schedule.{sched_of}
 use Rattle.pct_model.specs.Run.{first_illegal}
@@ -16,82 +16,88 @@ use Rattle.pct_command.specs.declared.status.Status.{Status}
 use Rattle.pct_command.specs.declared.status.Status.TheVariants as status
 use Rattle.pct_command.specs.Status.{code_of}
 
--- the source and the sink: the bytes that are left and those that were written, where they are told, and the counts of faults
+-- the source and the sink: the bytes that are left and those that were written, if they are known, and the counts of errors
 pub record Outside : Type 0 where
   pub left : Option (List ℕ)
-  pub read_faults : ℕ
+  pub read_errors : ℕ
   pub written : Option (List ℕ)
-  pub write_faults : ℕ
+  pub write_errors : ℕ
+
+-- one error was recorded if and only if the answer is the status of a failed call; the count stops at its last value
+pub record Records (failed s : Status) (before after : ℕ) : Type 0 where
+  pub error : s ≡ failed → Rose before after
+  pub no_error : s ≢ failed → after ≡ before
 
 -- ---- what is written
 
--- of a `run` that was not refused: the schedule is the one that the text tells, the first thread of the first process makes
--- each step of it, and the run is not open
+-- the report of a `run`: its schedule is read back from the text, each step is one of the first thread of the first process,
+-- and the verdict is not `Open`
 pub record IsClosedRun (schedule : List Entry) (code : ℕ) (text : List ℕ) : Type 0 where
-  pub told : sched_of text ≡ Ok (default_config, schedule)
+  pub read_back : sched_of text ≡ Ok (default_config, schedule)
   pub alone : FirstGoesAlone schedule
   pub closed : code ≢ 4
 
--- `replay` of the script and of the schedule that the text tells, in whichever input they stand, has this outcome
+-- `replay` of any input with the same script and the schedule of the text has this outcome
 abbrev pub IsReplayed : List (List ℕ) → List ℕ → ℕ → List ℕ → Type 0
 IsReplayed words input code text =
     (script : Script) (again : List ℕ)
-    → Spells (script_part words input) script → Spells (script_part (keyword_text word.Replay ∷ []) again) script
+    → Spells (script_part words input) script → Spells (script_part (keyword_text keyword.Replay ∷ []) again) script
     → sched_of (schedule_part again) ≡ sched_of text → length again ≤ 16777216
-    → Outcome (keyword_text word.Replay ∷ []) again [] code text
+    → Outcome (keyword_text keyword.Replay ∷ []) again [] code text
 
--- the code and the text are the outcome of the words and the input; a report tells its schedule
+-- the code and the text are the outcome of the words and the input; the schedule of a report is read back from it, and its
+-- replay gives the same again
 pub record Answer (words : List (List ℕ)) (input : List ℕ) (code : ℕ) (text : List ℕ) : Type 0 where
   pub schedule : List Entry
   pub is_outcome : Outcome words input schedule code text
-  pub run : is_asked word.Run words ≡ true → code < 5 → IsClosedRun schedule code text
-  pub replay : is_asked word.Replay words ≡ true → code < 5 → sched_of text ≡ sched_of (schedule_part input)
-  pub replayed : is_asked word.Check words ≡ false → code < 5 → IsReplayed words input code text
+  pub run : is_asked keyword.Run words ≡ true → code < 5 → IsClosedRun schedule code text
+  pub replay : is_asked keyword.Replay words ≡ true → code < 5 → sched_of text ≡ sched_of (schedule_part input)
+  pub replayed : is_asked keyword.Check words ≡ false → code < 5 → IsReplayed words input code text
 
 -- the whole text was written
-pub record Tells (words : List (List ℕ)) (input : List ℕ) (before after : Option (List ℕ)) (code : ℕ) : Type 0 where
+pub record WroteAll (words : List (List ℕ)) (input : List ℕ) (before after : Option (List ℕ)) (code : ℕ) : Type 0 where
   pub text : List ℕ
   pub answer : Answer words input code text
   pub wrote : Appends before after text
 
--- a write failed: the sink counted it, and a front of the text was written
-pub record TellsPart (words : List (List ℕ)) (input : List ℕ) (before after : Option (List ℕ)) (faults_before faults_after : ℕ) : Type 0 where
+-- a write failed: the sink recorded the error, and a prefix of the text was written
+pub record WrotePrefix (words : List (List ℕ)) (input : List ℕ) (before after : Option (List ℕ)) (errors_before errors_after : ℕ) : Type 0 where
   pub code : ℕ
   pub text : List ℕ
   pub answer : Answer words input code text
-  pub wrote : AppendsPart before after text
-  pub cause : Rose faults_before faults_after
+  pub wrote : AppendsPrefix before after text
+  pub cause : Rose errors_before errors_after
 
 -- ---- the answers
 
--- what was read is a front of what the source had left, and all of it but where the words are refused or there is too much
+-- what was read is a prefix of what the source had left, and all of it unless the words are refused or it is too long
 pub record Reads (before after : Option (List ℕ)) (input : List ℕ) (code : ℕ) : Type 0 where
-  pub front : Consumes before after input
+  pub prefix : Consumes before after input
   pub to_end : code ≢ 5 → code ≢ 8 → IsAtEnd after
 
--- what was read, and the whole answer to it was written
+-- the input that was read, and the whole answer to it was written
 pub record Decides (words : List (List ℕ)) (before after : Outside) (code : ℕ) : Type 0 where
   pub input : List ℕ
   pub read : Reads before.left after.left input code
-  pub tells : Tells words input before.written after.written code
+  pub output : WroteAll words input before.written after.written code
 
--- what was read, and a front of the answer to it was written
+-- the input that was read, and a prefix of the answer to it was written
 pub record FailsToWrite (words : List (List ℕ)) (before after : Outside) : Type 0 where
   pub input : List ℕ
-  pub tells : TellsPart words input before.written after.written before.write_faults after.write_faults
-  pub read : Reads before.left after.left input tells.code
+  pub output : WrotePrefix words input before.written after.written before.write_errors after.write_errors
+  pub read : Reads before.left after.left input output.code
 
--- nothing was written, and what was taken is a front of what the source had left
+-- nothing was written, and what was taken is a prefix of what the source had left
 pub record Takes (words : List (List ℕ)) (before after : Outside) : Type 0 where
   pub accepted : is_accepted words ≡ true
   pub nothing : Keeps before.written after.written
   pub taken : List ℕ
-  pub front : Consumes before.left after.left taken
+  pub prefix : Consumes before.left after.left taken
 
--- a read failed: the source counted it
+-- a read failed: the source recorded the error
 pub record FailsToRead (words : List (List ℕ)) (before after : Outside) : Type 0 where
   pub takes : Takes words before after
-  pub cause : Rose before.read_faults after.read_faults
+  pub cause : Rose before.read_errors after.read_errors
 
 -- what `command` promises of each answer; memory runs out before the first byte is written
 abbrev pub Answers : List (List ℕ) → Outside → Outside → Status → Type 0
@@ -100,9 +106,15 @@ Answers words before after status.WriteFault = FailsToWrite words before after
 Answers words before after status.NoMemory = Takes words before after
 Answers words before after s = Decides words before after (code_of s)
 
+-- at least one byte was read
+pub record HasRead (before after : Option (List ℕ)) : Type 0 where
+  pub taken : List ℕ
+  pub prefix : Consumes before after taken
+  pub some : 0 < length taken
+
 -- ---- completeness
 
--- the schedule of the input of `replay` can be read, and each of its entries is legal in its place
+-- the schedule of the input of `replay` has no fault, and each of its entries is legal
 pub record HasLegalSchedule (script : Script) (input : List ℕ) : Type 0 where
   pub config : Config
   pub entries : List Entry
@@ -114,17 +126,17 @@ pub record IsValid (words : List (List ℕ)) (input : List ℕ) : Type 0 where
   pub fits : length input ≤ 16777216
   pub script : Script
   pub spelled : Spells (script_part words input) script
-  pub schedule : is_asked word.Replay words ≡ true → HasLegalSchedule script input
+  pub schedule : is_asked keyword.Replay words ≡ true → HasLegalSchedule script input
 
--- where no fault was counted, the outcome of all that the source had left was written whole, or memory ran out; accepted
--- words and a valid input are not refused
+-- if no error was recorded, the outcome of all that the source had left was written whole, or memory ran out; accepted words
+-- and a valid input are not refused
 abbrev pub IsComplete : List (List ℕ) → Outside → Outside → Status → Type 0
 IsComplete words before after s =
     (input : List ℕ) → before.left ≡ Some input
-    → ¬ Rose before.read_faults after.read_faults → ¬ Rose before.write_faults after.write_faults
-    → (s ≡ status.NoMemory) ⊎ (Tells words input before.written after.written (code_of s) × (is_accepted words ≡ true → IsValid words input → code_of s < 5))
+    → ¬ Rose before.read_errors after.read_errors → ¬ Rose before.write_errors after.write_errors
+    → (s ≡ status.NoMemory) ⊎ (WroteAll words input before.written after.written (code_of s) × (is_accepted words ≡ true → IsValid words input → code_of s < 5))
 
--- words, an input and a schedule have one outcome at the most
+-- words, an input and a schedule have at most one outcome
 abbrev pub OutcomesAreOne : Type 0
 OutcomesAreOne =
     (words : List (List ℕ)) (input : List ℕ) (schedule : List Entry) (code other_code : ℕ) (text other_text : List ℕ)

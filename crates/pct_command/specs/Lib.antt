@@ -1,5 +1,5 @@
 pub mod OneThread
-pub mod Ran
+pub mod Runs
 pub mod Status
 pub mod Words
 pub mod Command

@@ -1,4 +1,4 @@
--- The world for which the parts of a process of one thread stand, and what a step does to them.
+-- The world that the state of a process of one thread represents, and the effect of a step on that state.
 use Rattle.std.specs.Prelude.{◌≡◌, false, List, [], ◌∷◌, ◌++◌, map, reverse, length, replicate, None, is_some}
 use Rattle.pct_model.specs.declared.script.Script.{Script}
 use Rattle.pct_model.specs.declared.schedule.Config.{Config}
@@ -8,7 +8,7 @@ use Rattle.pct_model.specs.declared.frame.Frame.{Frame}
 use Rattle.pct_model.specs.declared.state.Reason.TheVariants as reason
 use Rattle.pct_model.specs.World.{Thread, Process, World}
 use Rattle.pct_model.specs.Alternatives.{Alternative, alternatives}
-use Rattle.pct_model.specs.Step.{after}
+use Rattle.pct_model.specs.Step.{successor}
 use Rattle.pct_model.specs.Run.{event_of}
 use Rattle.pct_model.specs.Outcome.{first_goes}
 use Rattle.pct_command.specs.declared.process.OneThread.{OneThread}
@@ -25,14 +25,14 @@ process_of script p = record { pid = 1; parent = 0; restricted = false; ended = 
 abbrev pub world_of : Script → OneProcess → World
 world_of script p = record { processes = process_of script p ∷ []; stop = p.stop }
 
--- the parts with a frame on top
+-- the state with a frame on top
 abbrev pub with_top : Frame → OneProcess → OneProcess
 with_top frame p = record p { thread = record p.thread { frames = frame ∷ p.thread.frames } }
 
--- the one alternative, `go`, leads from the old parts to the new ones, and to these events, which are listed newest first
+-- `go` is the only alternative, and leads from the old state to the new one and to these events, listed newest first
 abbrev pub Leads : Script → OneProcess → OneProcess → List Event → List Event → List Alternative → Type 0
 Leads script old new before now [] = ⊥
-Leads script old new before now (a ∷ []) = (a.choice ≡ Go) × (after 1 (world_of script old) a ≡ record { world = world_of script new; events = a.events }) × (now ≡ reverse (map (event_of first_goes) a.events) ++ before)
+Leads script old new before now (a ∷ []) = (a.choice ≡ Go) × (successor 1 (world_of script old) a ≡ record { world = world_of script new; events = a.events }) × (now ≡ reverse (map (event_of first_goes) a.events) ++ before)
 Leads script old new before now (a ∷ b ∷ rest) = ⊥
 
 -- the alternatives of the thread

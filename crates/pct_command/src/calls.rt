@@ -20,7 +20,7 @@ pub(crate) fn call(
 )
     requires room { vec_len events.old < vec_capacity events.old }
     requires frames { length process.old.thread.frames < 16 }
-    requires place { frame.place < 2000 }
+    requires pc { frame.pc < 2000 }
     ensures leads { Leads script.now (with_top frame process.old) process.new (reverse events.old.items) (reverse events.new.items)
         (calls (thread_of (with_top frame process.old).thread) frame process.old.thread.frames func value) }
     ensures len { vec_len events.new ≤ vec_len events.old + 1 }
@@ -29,7 +29,7 @@ pub(crate) fn call(
     if process.thread.frames.len() + 1 >= MAX_FRAMES {
         return stop(script, process, events, frame, Why::StackFull);
     }
-    move_to(process, frame, frame.place + 1);
+    move_to(process, frame, frame.pc + 1);
     process
         .thread
         .frames

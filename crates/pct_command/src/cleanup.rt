@@ -1,11 +1,11 @@
 //! Stops, `emit`, and cleanup handlers (XSH pthread_cleanup_push).
 //!
-//! Each function here makes one step of a thread whose top frame was taken off its stack: it is handed that frame, and
-//! puts it back.
+//! Each function makes one step of the thread. The caller has popped the top frame and passes it; the function pushes it
+//! back.
 
 ghost use Rattle.std.specs.Prelude.{◌≡◌, ◌+◌, ◌-◌, ◌<◌, ◌≤◌, ◌^◌, ◌∷◌, false, length, reverse, vec_len, vec_capacity};
 ghost use Rattle.pct_model.specs.Alternatives.{emits, pushes, pops, stops};
-ghost use Rattle.pct_model.specs.Run.{is_stuck};
+ghost use Rattle.pct_model.specs.Run.{has_none};
 ghost use Rattle.pct_command.specs.OneThread.{thread_of, with_top, Leads};
 
 use crate::events::record_event;
@@ -44,13 +44,13 @@ pub(crate) fn emit(
 )
     requires room { vec_len events.old < vec_capacity events.old }
     requires frames { length process.old.thread.frames < 16 }
-    requires place { frame.place < 2000 }
+    requires pc { frame.pc < 2000 }
     ensures leads { Leads script.now (with_top frame process.old) process.new (reverse events.old.items) (reverse events.new.items)
         (emits (thread_of (with_top frame process.old).thread) frame process.old.thread.frames value) }
     ensures len { vec_len events.new ≤ vec_len events.old + 1 }
     ensures capacity { vec_capacity events.old ≤ vec_capacity events.new }
 {
-    frame.place += 1;
+    frame.pc += 1;
     process.thread.frames.push(frame);
     record_event(events, What::Emit(value));
 }
@@ -67,7 +67,7 @@ pub(crate) fn push(
 )
     requires room { vec_len events.old < vec_capacity events.old }
     requires frames { length process.old.thread.frames < 16 }
-    requires place { frame.place < 2000 }
+    requires pc { frame.pc < 2000 }
     ensures leads { Leads script.now (with_top frame process.old) process.new (reverse events.old.items) (reverse events.new.items)
         (pushes (thread_of (with_top frame process.old).thread) frame process.old.thread.frames func value) }
     ensures len { vec_len events.new ≤ vec_len events.old + 1 }
@@ -76,7 +76,7 @@ pub(crate) fn push(
     if process.thread.handlers.len() >= MAX_HANDLERS {
         return stop(script, process, events, frame, Why::CleanupFull);
     }
-    frame.place += 1;
+    frame.pc += 1;
     process.thread.frames.push(frame);
     process.thread.handlers.push((func, value));
     record_event(events, What::Pushed(func, value));
@@ -91,10 +91,10 @@ pub(crate) fn pop(
     mut frame: Frame,
     value: u32,
 )
-    requires can { is_stuck (pops (thread_of (with_top frame process.old).thread) frame process.old.thread.frames value process.old.thread.handlers) ≡ false }
+    requires can { has_none (pops (thread_of (with_top frame process.old).thread) frame process.old.thread.frames value process.old.thread.handlers) ≡ false }
     requires room { vec_len events.old < vec_capacity events.old }
     requires frames { length process.old.thread.frames < 16 }
-    requires place { frame.place < 2000 }
+    requires pc { frame.pc < 2000 }
     ensures leads { Leads script.now (with_top frame process.old) process.new (reverse events.old.items) (reverse events.new.items)
         (pops (thread_of (with_top frame process.old).thread) frame process.old.thread.frames value process.old.thread.handlers) }
     ensures len { vec_len events.new ≤ vec_len events.old + 1 }
@@ -107,7 +107,7 @@ pub(crate) fn pop(
     let Some((func, arg)) = process.thread.handlers.pop() else {
         unreachable!();
     };
-    frame.place += 1;
+    frame.pc += 1;
     process.thread.frames.push(frame);
     if value == 0 {
         record_event(

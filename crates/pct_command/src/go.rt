@@ -1,14 +1,14 @@
-//! One step of the thread: which it is goes by its status, and then by the statement at which it stands.
+//! One step of the thread, by its status and its next statement.
 
 ghost use Rattle.std.specs.Prelude.{◌≡◌, ℕ, ◌+◌, ◌<◌, ◌≤◌, ◌∷◌, false, not, List, length, reverse, vec_len, vec_capacity, Some};
 ghost use Rattle.pct_model.specs.Alternatives.{running, running_at, returns_by, ends_at};
 ghost use Rattle.pct_model.specs.Jumps.{open_of};
-ghost use Rattle.pct_model.specs.Run.{is_stuck};
+ghost use Rattle.pct_model.specs.Run.{has_none};
 ghost use Rattle.pct_model.specs.declared.script.Script.{Script};
 ghost use Rattle.pct_model.specs.declared.schedule.Config.{Config};
 ghost use Rattle.pct_model.specs.World.{Thread, Process, World, body_of, statement_at as statement_in};
 ghost use Rattle.pct_model.specs.declared.frame.Frame.{Frame as FrameRecord};
-ghost use Rattle.pct_script.specs.Jumping.{jumps_of};
+ghost use Rattle.pct_jumps.specs.JumpTable.{jumps_of};
 ghost use Rattle.pct_command.specs.OneThread.{thread_of, process_of, world_of, alternatives_of, with_top, Leads};
 
 use crate::calls::call;
@@ -17,14 +17,14 @@ use crate::jumping::{branch, end, pass, skip};
 use crate::process::{OneProcess, statement_at, value_of};
 use crate::returns::{end_process, return_from};
 use crate::variables::{add, set};
+use pct_jumps::Jumps;
 use pct_model::{Config, Event, Frame, FrameKind, Script, Status, Stmt, Why};
-use pct_script::Jumps;
 
 /// Whether the thread has an alternative.
 #[tactic(auto, unfolding(pct_model::specs::Alternatives::ends_process))]
 pub(crate) fn can_go(script: &Script, jumps: &Jumps, config: Config, process: &OneProcess) -> bool
     requires { jumps.now ≡ jumps_of script.now.funcs }
-    ensures { result ≡ not (is_stuck (alternatives_of script.now config process.now)) }
+    ensures { result ≡ not (has_none (alternatives_of script.now config process.now)) }
 {
     match process.thread.status {
         Status::Running => match process.thread.frames.top() {
@@ -43,7 +43,7 @@ pub(crate) fn can_go(script: &Script, jumps: &Jumps, config: Config, process: &O
 #[tactic(auto, unfolding(pct_model::specs::Alternatives::running_at))]
 fn can_go_in(script: &Script, jumps: &Jumps, process: &OneProcess, frame: &Frame) -> bool
     requires { jumps.now ≡ jumps_of script.now.funcs }
-    ensures { (config : Config) (w : World) (below : List FrameRecord) → result ≡ not (is_stuck (running_at script.now config w (process_of script.now process.now) (thread_of process.now.thread) frame.now below (statement_in script.now frame.now))) }
+    ensures { (config : Config) (w : World) (below : List FrameRecord) → result ≡ not (has_none (running_at script.now config w (process_of script.now process.now) (thread_of process.now.thread) frame.now below (statement_in script.now frame.now))) }
 {
     match statement_at(script, frame) {
         None => false,
@@ -52,7 +52,7 @@ fn can_go_in(script: &Script, jumps: &Jumps, process: &OneProcess, frame: &Frame
 }
 
 // Whether it has one at this statement.
-#[tactic(auto, unfolding(pct_model::specs::Alternatives::running_at, pct_model::specs::Alternatives::idles, pct_model::specs::Alternatives::emits, pct_model::specs::Alternatives::pops, pct_model::specs::Alternatives::branches, pct_model::specs::Alternatives::skips, pct_model::specs::Alternatives::stops))]
+#[tactic(auto, unfolding(pct_model::specs::Alternatives::running_at, pct_model::specs::Alternatives::nop, pct_model::specs::Alternatives::emits, pct_model::specs::Alternatives::pops, pct_model::specs::Alternatives::branches, pct_model::specs::Alternatives::skips, pct_model::specs::Alternatives::stops))]
 fn can_go_at(
     script: &Script,
     jumps: &Jumps,
@@ -60,9 +60,9 @@ fn can_go_at(
     frame: &Frame,
     statement: Stmt,
 ) -> bool
-    requires place { frame.now.place < 2000 }
+    requires pc { frame.now.pc < 2000 }
     requires made { jumps.now ≡ jumps_of script.now.funcs }
-    ensures { (config : Config) (w : World) (below : List FrameRecord) → result ≡ not (is_stuck (running_at script.now config w (process_of script.now process.now) (thread_of process.now.thread) frame.now below (Some statement))) }
+    ensures { (config : Config) (w : World) (below : List FrameRecord) → result ≡ not (has_none (running_at script.now config w (process_of script.now process.now) (thread_of process.now.thread) frame.now below (Some statement))) }
 {
     match statement {
         Stmt::Pop(_) => process.thread.handlers.len() > 0,
@@ -75,7 +75,7 @@ fn can_go_at(
 // Whether a return from a frame of this kind is built.
 #[tactic(auto, unfolding(pct_model::specs::Alternatives::returns_by, pct_model::specs::Alternatives::exits, pct_model::specs::Alternatives::stops))]
 fn can_return(kind: FrameKind) -> bool
-    ensures { (p : Process) (t : Thread) (below : List FrameRecord) (v : ℕ) → result ≡ not (is_stuck (returns_by kind p t below v)) }
+    ensures { (p : Process) (t : Thread) (below : List FrameRecord) (v : ℕ) → result ≡ not (has_none (returns_by kind p t below v)) }
 {
     matches!(
         kind,
@@ -83,14 +83,14 @@ fn can_return(kind: FrameKind) -> bool
     )
 }
 
-// Whether an `end` at which a frame stands has an alternative.
+// Whether an `end` has an alternative.
 #[tactic(auto, unfolding(pct_model::specs::Alternatives::ends_at, pct_model::specs::Alternatives::closes_block))]
 fn can_end(script: &Script, jumps: &Jumps, frame: &Frame) -> bool
-    requires place { frame.now.place < 2000 }
+    requires pc { frame.now.pc < 2000 }
     requires made { jumps.now ≡ jumps_of script.now.funcs }
-    ensures { (p : Process) (t : Thread) (below : List FrameRecord) → result ≡ not (is_stuck (ends_at (body_of script.now frame.now.func) p t frame.now below (open_of (body_of script.now frame.now.func) frame.now.place))) }
+    ensures { (p : Process) (t : Thread) (below : List FrameRecord) → result ≡ not (has_none (ends_at (body_of script.now frame.now.func) p t frame.now below (open_of (body_of script.now frame.now.func) frame.now.pc))) }
 {
-    match jumps.open_of(frame.func, frame.place as u32) {
+    match jumps.open_of(frame.func, frame.pc as u32) {
         None => can_return(frame.kind),
         Some(_) => true,
     }
@@ -107,7 +107,7 @@ pub(crate) fn go(
 )
     requires made { jumps.now ≡ jumps_of script.now.funcs }
     requires room { vec_len events.old < vec_capacity events.old }
-    requires can { is_stuck (alternatives_of script.now config process.old) ≡ false }
+    requires can { has_none (alternatives_of script.now config process.old) ≡ false }
     ensures leads { Leads script.now process.old process.new (reverse events.old.items) (reverse events.new.items)
         (alternatives_of script.now config process.old) }
     ensures len { vec_len events.new ≤ vec_len events.old + 1 }
@@ -134,7 +134,7 @@ fn go_running(
 )
     requires made { jumps.now ≡ jumps_of script.now.funcs }
     requires room { vec_len events.old < vec_capacity events.old }
-    requires can { is_stuck (running script.now config (world_of script.now process.old) (process_of script.now process.old) (thread_of process.old.thread) process.old.thread.frames) ≡ false }
+    requires can { has_none (running script.now config (world_of script.now process.old) (process_of script.now process.old) (thread_of process.old.thread) process.old.thread.frames) ≡ false }
     ensures leads { Leads script.now process.old process.new (reverse events.old.items) (reverse events.new.items)
         (running script.now config (world_of script.now process.old) (process_of script.now process.old) (thread_of process.old.thread) process.old.thread.frames) }
     ensures len { vec_len events.new ≤ vec_len events.old + 1 }
@@ -162,10 +162,10 @@ fn go_at(
 )
     requires room { vec_len events.old < vec_capacity events.old }
     requires frames { length process.old.thread.frames < 16 }
-    requires place { frame.place < 2000 }
+    requires pc { frame.pc < 2000 }
     requires made { jumps.now ≡ jumps_of script.now.funcs }
     requires at { statement_in script.now frame ≡ Some statement }
-    requires can { is_stuck (running_at script.now config (world_of script.now (with_top frame process.old)) (process_of script.now (with_top frame process.old)) (thread_of (with_top frame process.old).thread) frame process.old.thread.frames (Some statement)) ≡ false }
+    requires can { has_none (running_at script.now config (world_of script.now (with_top frame process.old)) (process_of script.now (with_top frame process.old)) (thread_of (with_top frame process.old).thread) frame process.old.thread.frames (Some statement)) ≡ false }
     ensures leads { Leads script.now (with_top frame process.old) process.new (reverse events.old.items) (reverse events.new.items)
         (running_at script.now config (world_of script.now (with_top frame process.old)) (process_of script.now (with_top frame process.old)) (thread_of (with_top frame process.old).thread) frame process.old.thread.frames (Some statement)) }
     ensures len { vec_len events.new ≤ vec_len events.old + 1 }

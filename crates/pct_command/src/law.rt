@@ -1,9 +1,9 @@
-//! What an answer stands for.
+//! The outcome of an input is unique.
 
 ghost use Rattle.pct_command.specs.Command.{OutcomesAreOne};
 
-/// Words, an input and a schedule have one outcome at the most: one status and one text. So what the contract of
-/// `command` says of an answer is said of one text alone.
+/// An empty function whose contract states a theorem: words, an input and a schedule have at most one outcome, which is a
+/// status and a text.
 pub fn outcomes_are_one()
     ensures { OutcomesAreOne }
 {}

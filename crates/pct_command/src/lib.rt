@@ -1,17 +1,18 @@
-//! The top call: `command` reads words and an input, and runs the script, replays a schedule of it or writes it in its
-//! canonical form.
+//! The top call: `command` reads words and an input. It runs the script of the input, replays a schedule of it, or writes
+//! its canonical text.
 #![tactic(auto)]
 
-mod answers;
 mod calls;
 mod check_command;
 mod cleanup;
+mod dispatch;
 mod events;
 mod go;
 mod jumping;
 mod law;
-mod machine;
+mod one_thread;
 mod process;
+mod refusals;
 mod replay;
 mod replay_command;
 mod report;
@@ -19,13 +20,12 @@ mod returns;
 mod run_command;
 mod stack;
 mod status;
-mod top;
 mod variables;
 mod words;
 
+pub use dispatch::command;
 pub use law::outcomes_are_one;
 pub use status::Status;
-pub use top::command;
 pub use words::{Job, RunOptions, Usage, read_words};
 
 #[cfg(test)]

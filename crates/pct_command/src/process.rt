@@ -1,4 +1,4 @@
-//! A process of one thread: the parts of it that a script of one thread can change.
+//! A process of one thread: the part of its state that a script of one thread can change.
 
 ghost use Rattle.std.specs.Prelude.{◌≡◌, ◌<◌, length, IfSome};
 ghost use Rattle.pct_model.specs.World.{new_frame as frame_at_start, value_of as value_in, statement_at as statement_in};
@@ -41,31 +41,31 @@ pub(crate) fn new_frame(func: u32, arg: u32, kind: FrameKind) -> Frame
 {
     Frame {
         func,
-        place: 0,
+        pc: 0,
         locals: [arg, 0, 0, 0, 0, 0, 0, 0],
         kind,
     }
 }
 
-/// Puts a frame back, at a place.
-pub(crate) fn move_to(process: &mut OneProcess, mut frame: Frame, place: usize)
+/// Pushes a frame back, at a program counter.
+pub(crate) fn move_to(process: &mut OneProcess, mut frame: Frame, pc: usize)
     requires { length process.old.thread.frames < 16 }
-    ensures { process.new ≡ with_top (record frame { place = place }) process.old }
+    ensures { process.new ≡ with_top (record frame { pc = pc }) process.old }
 {
-    frame.place = place;
+    frame.pc = pc;
     process.thread.frames.push(frame);
 }
 
-/// The statement at which a frame stands.
+/// The statement at a frame's program counter.
 #[tactic(auto, unfolding(pct_model::specs::World::statement_at))]
 pub(crate) fn statement_at(script: &Script, frame: &Frame) -> Option<Stmt>
     ensures value { result ≡ statement_in script.now frame.now }
-    ensures place { IfSome result (λ _. frame.now.place < 2000) }
+    ensures pc { IfSome result (λ _. frame.now.pc < 2000) }
 {
     let func = script.funcs.as_slice().get(frame.func as usize)?;
     let body = func.body.as_slice();
-    if frame.place < body.len() {
-        Some(body[frame.place])
+    if frame.pc < body.len() {
+        Some(body[frame.pc])
     } else {
         None
     }

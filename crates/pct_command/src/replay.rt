@@ -1,20 +1,20 @@
-//! A run that is made again, under a schedule that is given.
+//! A run under a given schedule.
 
 ghost use Rattle.std.specs.Prelude.{◌≡◌, ◌+◌, ◌≤◌, false, length, reverse, true, vec_len, vec_capacity, Some, None, IfErr, IfNone, IfOk, IfSome, IsTrue};
 ghost use Rattle.pct_model.specs.Step.{step};
 ghost use Rattle.pct_model.specs.Run.{illegal_in, is_config, run_from};
-ghost use Rattle.pct_script.specs.Jumping.{jumps_of};
+ghost use Rattle.pct_jumps.specs.JumpTable.{jumps_of};
 ghost use Rattle.pct_command.specs.OneThread.{world_of};
-ghost use Rattle.pct_command.specs.Ran.{IsRan, IsTaken, StopsReplay, lets_first_go as first_goes_by, run_at};
+ghost use Rattle.pct_command.specs.Runs.{IsRunOf, IsTaken, StopsReplay, lets_first_go as first_goes_by, run_at};
 
 use crate::go::{can_go, go};
-use crate::machine::{opening_of, verdict_after};
+use crate::one_thread::{opening_of, verdict_after};
 use crate::process::OneProcess;
+use pct_jumps::Jumps;
 use pct_model::{Alt, Config, Entry, Event, MAX_WORKER, Script, Verdict};
-use pct_script::Jumps;
 use std::alloc::Global;
 
-/// A run that was made again: its events in order, and how it stands.
+/// A replayed run: its events in order, and its verdict.
 #[derive(Drop)]
 pub(crate) struct Replayed {
     pub(crate) events: Vec<Event>,
@@ -24,8 +24,8 @@ pub(crate) struct Replayed {
 /// Why a schedule was not replayed.
 #[derive(Drop)]
 pub(crate) enum ReplayFault {
-    /// The entry at this place, counted from 1, is the first that is not legal in its place.
-    NotLegal { place: u32 },
+    /// The first entry that is not legal, counted from 1.
+    NotLegal { entry_number: u32 },
     /// Memory ran out.
     NoMemory,
 }
@@ -39,7 +39,7 @@ pub(crate) fn replay(
 ) -> Result<Replayed, ReplayFault>
     requires config { IsTrue (is_config config) }
     requires few { length entries.now ≤ config.budget }
-    ensures ran { IfOk result (λ replayed. IsRan script.now config replayed.events.items entries.now replayed.verdict) }
+    ensures ran { IfOk result (λ replayed. IsRunOf script.now config replayed.events.items entries.now replayed.verdict) }
     ensures fault { IfErr result (λ fault. StopsReplay script.now config entries.now fault) }
 {
     let Ok(mut events) = Vec::with_capacity(alloc, entries.len()) else {
@@ -52,7 +52,7 @@ pub(crate) fn replay(
         return Err(ReplayFault::NoMemory);
     };
     match make_steps(script, &jumps, config, &mut process, &mut events, entries) {
-        Some(place) => Err(ReplayFault::NotLegal { place }),
+        Some(entry_number) => Err(ReplayFault::NotLegal { entry_number }),
         None => {
             let verdict = verdict_after(script, &jumps, config, &process, entries.len());
             Ok(Replayed { events, verdict })
@@ -60,7 +60,7 @@ pub(crate) fn replay(
     }
 }
 
-// Makes the steps of the entries up to the first that is not legal, and answers the place of that one, counted from 1.
+// Makes the steps of the entries up to the first that is not legal, and answers the number of that one, counted from 1.
 fn make_steps(
     script: &Script,
     jumps: &Jumps,
@@ -73,13 +73,13 @@ fn make_steps(
     requires few { length entries.now ≤ 200000 }
     requires room { vec_len events.old + length entries.now ≤ vec_capacity events.old }
     ensures all { IfNone result (run_from script.now config (run_at script.now process.old (reverse events.old.items)) entries.now ≡ Some (run_at script.now process.new (reverse events.new.items))) }
-    ensures first { IfSome result (λ place. illegal_in script.now config (run_at script.now process.old (reverse events.old.items)) entries.now ≡ Some place) }
+    ensures first { IfSome result (λ entry_number. illegal_in script.now config (run_at script.now process.old (reverse events.old.items)) entries.now ≡ Some entry_number) }
 {
-    let mut place = 0;
+    let mut entry_number = 0;
     for entry in entries {
-        place += 1;
+        entry_number += 1;
         if !is_legal(script, jumps, config, process, *entry) {
-            return Some(place);
+            return Some(entry_number);
         }
         go(script, jumps, config, process, events);
     }

@@ -1,31 +1,35 @@
-//! The word `replay`: a script is run under the schedule that stands behind it, and the report is written.
+//! The command `replay`: runs a script under the schedule that follows it, and writes the report.
 
-ghost use Rattle.std.specs.Prelude.{◌≡◌, ◌≤◌, ℕ, List, length, true, Ok as IsRead, IsTrue};
+ghost use Rattle.std.specs.Prelude.{◌≡◌, ◌≢◌, ◌≤◌, ℕ, List, length, true, Ok as IsRead, IsTrue, ◌<◌};
 ghost use Rattle.pct_model.specs.Spells.{Spells};
 ghost use Rattle.pct_model.specs.Schedule.{sched_of};
 ghost use Rattle.pct_model.specs.Run.{is_config};
 ghost use Rattle.pct_model.specs.Outcome.{is_asked, script_part, schedule_part};
-ghost use Rattle.pct_model.specs.declared.word.Keyword.TheVariants as word;
-ghost use Rattle.pct_history.specs.Gives.{Fails};
+ghost use Rattle.pct_model.specs.declared.keyword.Keyword.TheVariants as keyword;
+ghost use Rattle.pct_schedule.specs.Gives.{Fails};
 ghost use Rattle.pct_io.specs.Inners.{KeepsInners};
+ghost use Rattle.pct_command.specs.Command.{Records};
 ghost use Rattle.pct_command.specs.Texts.{TextAnswers};
-ghost use Rattle.pct_command.specs.Ran.{StopsReplay};
+ghost use Rattle.pct_command.specs.Runs.{StopsReplay};
 
-use crate::answers::{answer_fault, refuse_entry, refuse_schedule, status_of, write_ran};
+use crate::refusals::{answer_fault, refuse_entry, refuse_schedule, status_of, write_run_report};
 use crate::replay::{ReplayFault, replay};
 use crate::status::Status;
-use pct_history::{ScheduleFault, read_schedule, split_replay};
 use pct_io::{Failed, Sink};
 use pct_model::{Config, Entry, Script};
+use pct_schedule::{ScheduleFault, read_schedule, split_replay};
 use pct_script::parse;
 use std::alloc::Global;
 
 /// Replays the schedule of a text on the script of that text.
 pub(crate) fn replay_text<K: Sink>(alloc: Global, text: &[u8], sink: &mut K) -> Status
     requires { length text.now ≤ 16777216 }
-    ensures answers { (words : List (List ℕ)) → is_asked word.Replay words ≡ true
-        → TextAnswers words text.now (K.written sink.old) (K.written sink.new) (K.faults sink.old) (K.faults sink.new) result }
-    ensures write_faults { K.faults sink.old ≤ K.faults sink.new }
+    ensures answers { (words : List (List ℕ)) → is_asked keyword.Replay words ≡ true
+        → TextAnswers words text.now (K.written sink.old) (K.written sink.new) (K.errors sink.old) (K.errors sink.new) result }
+    ensures no_read { result ≢ Status.ReadFault }
+    ensures memory { result ≡ Status.NoMemory → 0 < length text.now }
+    ensures untouched { result ≡ Status.NoMemory → sink.new ≡ sink.old }
+    ensures write_errors { Records Status.WriteFault result (K.errors sink.old) (K.errors sink.new) }
     ensures inners { KeepsInners (K.inners sink.old) (K.inners sink.new) }
 {
     let (end, start) = split_replay(text);
@@ -38,9 +42,11 @@ pub(crate) fn replay_text<K: Sink>(alloc: Global, text: &[u8], sink: &mut K) -> 
 // Replays the schedule of a text on a script.
 fn replay_script<K: Sink>(alloc: Global, script: &Script, schedule: &[u8], sink: &mut K) -> Status
     requires { length schedule.now ≤ 16777216 }
-    ensures answers { (words : List (List ℕ)) (input : List ℕ) → is_asked word.Replay words ≡ true → length input ≤ 16777216 → Spells (script_part words input) script.now → schedule.now ≡ schedule_part input
-        → TextAnswers words input (K.written sink.old) (K.written sink.new) (K.faults sink.old) (K.faults sink.new) result }
-    ensures write_faults { K.faults sink.old ≤ K.faults sink.new }
+    ensures answers { (words : List (List ℕ)) (input : List ℕ) → is_asked keyword.Replay words ≡ true → length input ≤ 16777216 → Spells (script_part words input) script.now → schedule.now ≡ schedule_part input
+        → TextAnswers words input (K.written sink.old) (K.written sink.new) (K.errors sink.old) (K.errors sink.new) result }
+    ensures no_read { result ≢ Status.ReadFault }
+    ensures untouched { result ≡ Status.NoMemory → sink.new ≡ sink.old }
+    ensures write_errors { Records Status.WriteFault result (K.errors sink.old) (K.errors sink.new) }
     ensures inners { KeepsInners (K.inners sink.old) (K.inners sink.new) }
 {
     match read_schedule(alloc, schedule) {
@@ -49,11 +55,13 @@ fn replay_script<K: Sink>(alloc: Global, script: &Script, schedule: &[u8], sink:
     }
 }
 
-// Answers a schedule's part of an input that gave no schedule, behind a script.
+// Answers an input whose schedule cannot be read.
 fn answer_schedule_fault<K: Sink>(fault: ScheduleFault, script: &Script, sink: &mut K) -> Status
-    ensures answers { (words : List (List ℕ)) (input : List ℕ) → is_asked word.Replay words ≡ true → length input ≤ 16777216 → Spells (script_part words input) script.now → Fails fault (sched_of (schedule_part input))
-        → TextAnswers words input (K.written sink.old) (K.written sink.new) (K.faults sink.old) (K.faults sink.new) result }
-    ensures write_faults { K.faults sink.old ≤ K.faults sink.new }
+    ensures answers { (words : List (List ℕ)) (input : List ℕ) → is_asked keyword.Replay words ≡ true → length input ≤ 16777216 → Spells (script_part words input) script.now → Fails fault (sched_of (schedule_part input))
+        → TextAnswers words input (K.written sink.old) (K.written sink.new) (K.errors sink.old) (K.errors sink.new) result }
+    ensures no_read { result ≢ Status.ReadFault }
+    ensures untouched { result ≡ Status.NoMemory → sink.new ≡ sink.old }
+    ensures write_errors { Records Status.WriteFault result (K.errors sink.old) (K.errors sink.new) }
     ensures inners { KeepsInners (K.inners sink.old) (K.inners sink.new) }
 {
     match fault {
@@ -75,14 +83,16 @@ fn replay_entries<K: Sink>(
 ) -> Status
     requires config { IsTrue (is_config config) }
     requires few { length entries.now ≤ config.budget }
-    ensures answers { (words : List (List ℕ)) (input : List ℕ) → is_asked word.Replay words ≡ true → length input ≤ 16777216 → Spells (script_part words input) script.now → sched_of (schedule_part input) ≡ IsRead (config, entries.now)
-        → TextAnswers words input (K.written sink.old) (K.written sink.new) (K.faults sink.old) (K.faults sink.new) result }
-    ensures write_faults { K.faults sink.old ≤ K.faults sink.new }
+    ensures answers { (words : List (List ℕ)) (input : List ℕ) → is_asked keyword.Replay words ≡ true → length input ≤ 16777216 → Spells (script_part words input) script.now → sched_of (schedule_part input) ≡ IsRead (config, entries.now)
+        → TextAnswers words input (K.written sink.old) (K.written sink.new) (K.errors sink.old) (K.errors sink.new) result }
+    ensures no_read { result ≢ Status.ReadFault }
+    ensures untouched { result ≡ Status.NoMemory → sink.new ≡ sink.old }
+    ensures write_errors { Records Status.WriteFault result (K.errors sink.old) (K.errors sink.new) }
     ensures inners { KeepsInners (K.inners sink.old) (K.inners sink.new) }
 {
     match replay(alloc, script, config, entries) {
         Ok(replayed) => {
-            let written = write_ran(
+            let written = write_run_report(
                 sink,
                 script,
                 config,
@@ -99,7 +109,7 @@ fn replay_entries<K: Sink>(
     }
 }
 
-// Answers a schedule that was not replayed.
+// Answers an input whose schedule has an entry that is not legal.
 fn answer_replay_fault<K: Sink>(
     fault: ReplayFault,
     script: &Script,
@@ -107,14 +117,16 @@ fn answer_replay_fault<K: Sink>(
     entries: &[Entry],
     sink: &mut K,
 ) -> Status
-    ensures answers { (words : List (List ℕ)) (input : List ℕ) → is_asked word.Replay words ≡ true → length input ≤ 16777216 → Spells (script_part words input) script.now → sched_of (schedule_part input) ≡ IsRead (config, entries.now) → StopsReplay script.now config entries.now fault
-        → TextAnswers words input (K.written sink.old) (K.written sink.new) (K.faults sink.old) (K.faults sink.new) result }
-    ensures write_faults { K.faults sink.old ≤ K.faults sink.new }
+    ensures answers { (words : List (List ℕ)) (input : List ℕ) → is_asked keyword.Replay words ≡ true → length input ≤ 16777216 → Spells (script_part words input) script.now → sched_of (schedule_part input) ≡ IsRead (config, entries.now) → StopsReplay script.now config entries.now fault
+        → TextAnswers words input (K.written sink.old) (K.written sink.new) (K.errors sink.old) (K.errors sink.new) result }
+    ensures no_read { result ≢ Status.ReadFault }
+    ensures untouched { result ≡ Status.NoMemory → sink.new ≡ sink.old }
+    ensures write_errors { Records Status.WriteFault result (K.errors sink.old) (K.errors sink.new) }
     ensures inners { KeepsInners (K.inners sink.old) (K.inners sink.new) }
 {
     match fault {
         ReplayFault::NoMemory => Status::NoMemory,
-        ReplayFault::NotLegal { place } => match refuse_entry(sink, place) {
+        ReplayFault::NotLegal { entry_number } => match refuse_entry(sink, entry_number) {
             Ok(()) => Status::ScheduleRefused,
             Err(Failed) => Status::WriteFault,
         },

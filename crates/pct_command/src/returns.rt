@@ -2,7 +2,7 @@
 
 ghost use Rattle.std.specs.Prelude.{◌≡◌, ◌+◌, ◌-◌, ◌<◌, ◌≤◌, ◌^◌, ◌∷◌, [], Some, None, false, length, reverse, vec_len, vec_capacity};
 ghost use Rattle.pct_model.specs.Alternatives.{exits, returns_by, ends_process};
-ghost use Rattle.pct_model.specs.Run.{is_stuck};
+ghost use Rattle.pct_model.specs.Run.{has_none};
 ghost use Rattle.pct_command.specs.OneThread.{thread_of, process_of, with_top, Leads};
 
 use crate::cleanup::stop;
@@ -10,7 +10,7 @@ use crate::events::record_event;
 use crate::process::OneProcess;
 use pct_model::{Event, Frame, FrameKind, Mode, Script, State, Status, What, Why};
 
-/// A return of a value, from a frame whose kind this version returns from.
+/// A return of a value, from a frame of kind Main, Call or PopHandler.
 #[tactic(auto, unfolding(pct_model::specs::Alternatives::returns_by))]
 pub(crate) fn return_from(
     script: &Script,
@@ -21,7 +21,7 @@ pub(crate) fn return_from(
 )
     requires room { vec_len events.old < vec_capacity events.old }
     requires frames { length process.old.thread.frames < 16 }
-    requires returns { is_stuck (returns_by frame.kind (process_of script.now (with_top frame process.old)) (thread_of (with_top frame process.old).thread) process.old.thread.frames value) ≡ false }
+    requires returns { has_none (returns_by frame.kind (process_of script.now (with_top frame process.old)) (thread_of (with_top frame process.old).thread) process.old.thread.frames value) ≡ false }
     ensures leads { Leads script.now (with_top frame process.old) process.new (reverse events.old.items) (reverse events.new.items)
         (returns_by frame.kind (process_of script.now (with_top frame process.old)) (thread_of (with_top frame process.old).thread) process.old.thread.frames value) }
     ensures len { vec_len events.new ≤ vec_len events.old + 1 }

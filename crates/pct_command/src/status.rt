@@ -8,13 +8,13 @@ ghost use Rattle.pct_command.specs.Status.{code_of};
 pub enum Status {
     /// 0: the run is complete.
     Complete,
-    /// 1: the run can take no further step.
+    /// 1: no thread can take a step.
     Deadlock,
     /// 2: the run used up its budget.
     Budget,
     /// 3: the run was stopped.
     Undefined,
-    /// 4: the verdict of the run that was replayed is open.
+    /// 4: the replayed run can go on.
     Open,
     /// 5: the words are not accepted.
     Usage,

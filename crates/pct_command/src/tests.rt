@@ -10,7 +10,7 @@ const SMALLEST: &[u8] = b"fn main x\nreturn 0\nend\n";
 
 // What a call answered, what it wrote, and how many bytes it left unread.
 #[derive(Drop)]
-struct Told {
+struct Answer {
     status: Status,
     text: Vec<u8>,
     left: usize,
@@ -36,7 +36,7 @@ fn call<R: Threads + Sync>(
     words: &[&str],
     input: &[u8],
     outside: &Outside,
-) -> Result<Told, AllocError> {
+) -> Result<Answer, AllocError> {
     let mut all = Vec::new(alloc);
     for word in words {
         all.push(String::from_str(alloc, word)?)?;
@@ -45,18 +45,18 @@ fn call<R: Threads + Sync>(
     let mut source = MemSource::new(alloc, input, 4096, outside.read_fails).map_err(
         |_| AllocError,
     )?;
-    let mut sink = MemSink::new(alloc, 1_000_000, chunk, outside.write_fails).map_err(
+    let mut sink = MemSink::new(alloc, 2_000_000, chunk, outside.write_fails).map_err(
         |_| AllocError,
     )?;
     let status = command(rt, alloc, &all, &mut source, &mut sink, &NoGate);
-    Ok(Told {
+    Ok(Answer {
         status,
         text: sink.written().to_vec(alloc)?,
         left: source.left().len(),
     })
 }
 
-// The report of a run of the default numbers: its events, how it stands, and this many steps of the first thread.
+// The report of a run of the default numbers: its events, its verdict, and this many steps of the first thread.
 fn report(
     alloc: Global,
     events: &[u8],
@@ -191,11 +191,11 @@ fn reports(rt: HostRuntime) -> Result<(), Fail> {
         ),
     ];
     for (script, status, events, verdict, steps) in rows {
-        let told = call(&rt, rt.alloc(), &["run"], script, &QUIET)?;
+        let answer = call(&rt, rt.alloc(), &["run"], script, &QUIET)?;
         let text = report(rt.alloc(), events, verdict, steps)?;
-        assert_eq!(rt; told.status, status);
-        assert_eq!(rt; told.text.as_slice(), text.as_slice());
-        assert_eq!(rt; told.left, 0);
+        assert_eq!(rt; answer.status, status);
+        assert_eq!(rt; answer.text.as_slice(), text.as_slice());
+        assert_eq!(rt; answer.left, 0);
     }
     assert_eq!(rt; Status::Undefined.code(), 3);
     Ok(())
@@ -219,10 +219,10 @@ fn stops_on_one_thread(rt: HostRuntime) -> Result<(), Fail> {
         events.extend_from_slice(b"1.1 push main 0\n")?;
     }
     events.extend_from_slice(b"1.1 profile cleanup_full\n")?;
-    let told = call(&rt, rt.alloc(), &["run"], &script, &QUIET)?;
+    let answer = call(&rt, rt.alloc(), &["run"], &script, &QUIET)?;
     let text = report(rt.alloc(), &events, b"profile cleanup_full", 43)?;
-    assert_eq!(rt; told.status, Status::Undefined);
-    assert_eq!(rt; told.text.as_slice(), text.as_slice());
+    assert_eq!(rt; answer.status, Status::Undefined);
+    assert_eq!(rt; answer.text.as_slice(), text.as_slice());
 
     let script = b"fn main x\npthread_cleanup_push main 0\npthread_cleanup_pop 1\nend\n";
     let mut events = Vec::new(rt.alloc());
@@ -230,10 +230,10 @@ fn stops_on_one_thread(rt: HostRuntime) -> Result<(), Fail> {
         events.extend_from_slice(b"1.1 push main 0\n1.1 pop main 0 run\n")?;
     }
     events.extend_from_slice(b"1.1 push main 0\n1.1 profile stack_full\n")?;
-    let told = call(&rt, rt.alloc(), &["run"], script, &QUIET)?;
+    let answer = call(&rt, rt.alloc(), &["run"], script, &QUIET)?;
     let text = report(rt.alloc(), &events, b"profile stack_full", 32)?;
-    assert_eq!(rt; told.status, Status::Undefined);
-    assert_eq!(rt; told.text.as_slice(), text.as_slice());
+    assert_eq!(rt; answer.status, Status::Undefined);
+    assert_eq!(rt; answer.text.as_slice(), text.as_slice());
     Ok(())
 }
 
@@ -263,21 +263,21 @@ fn checks(rt: HostRuntime) -> Result<(), Fail> {
         ),
     ];
     for (script, status, text) in rows {
-        let told = call(&rt, rt.alloc(), &["check"], script, &QUIET)?;
-        assert_eq!(rt; told.status, status);
-        assert_eq!(rt; told.text.as_slice(), text);
-        assert_eq!(rt; told.left, 0);
+        let answer = call(&rt, rt.alloc(), &["check"], script, &QUIET)?;
+        assert_eq!(rt; answer.status, status);
+        assert_eq!(rt; answer.text.as_slice(), text);
+        assert_eq!(rt; answer.left, 0);
         if status == Status::ScriptRefused {
-            let told = call(&rt, rt.alloc(), &["run"], script, &QUIET)?;
-            assert_eq!(rt; told.status, status);
-            assert_eq!(rt; told.text.as_slice(), text);
+            let answer = call(&rt, rt.alloc(), &["run"], script, &QUIET)?;
+            assert_eq!(rt; answer.status, status);
+            assert_eq!(rt; answer.text.as_slice(), text);
         }
     }
     Ok(())
 }
 
-// The smallest script, a line `%%`, and these lines.
-fn behind_smallest(alloc: Global, schedule: &[u8]) -> Result<Vec<u8>, AllocError> {
+// The smallest script, the line `%%`, and these lines.
+fn after_smallest(alloc: Global, schedule: &[u8]) -> Result<Vec<u8>, AllocError> {
     let mut input = Vec::from_slice(alloc, SMALLEST)?;
     input.extend_from_slice(b"%%\n")?;
     input.extend_from_slice(schedule)?;
@@ -374,11 +374,11 @@ fn replays(rt: HostRuntime) -> Result<(), Fail> {
         ),
     ];
     for (schedule, status, text) in rows {
-        let input = behind_smallest(rt.alloc(), schedule)?;
-        let told = call(&rt, rt.alloc(), &["replay"], &input, &QUIET)?;
-        assert_eq!(rt; told.status, status);
-        assert_eq!(rt; told.text.as_slice(), text);
-        assert_eq!(rt; told.left, 0);
+        let input = after_smallest(rt.alloc(), schedule)?;
+        let answer = call(&rt, rt.alloc(), &["replay"], &input, &QUIET)?;
+        assert_eq!(rt; answer.status, status);
+        assert_eq!(rt; answer.text.as_slice(), text);
+        assert_eq!(rt; answer.left, 0);
     }
     assert_eq!(rt; Status::Open.code(), 4);
     assert_eq!(rt; Status::ScheduleRefused.code(), 7);
@@ -386,7 +386,7 @@ fn replays(rt: HostRuntime) -> Result<(), Fail> {
 }
 
 #[test]
-fn the_parts_of_a_replay(rt: HostRuntime) -> Result<(), Fail> {
+fn the_sections_of_a_replay(rt: HostRuntime) -> Result<(), Fail> {
     let rows: [(&[u8], Status, &[u8]); 4] = [
         // Without a line `%%` there is no schedule.
         (
@@ -401,7 +401,7 @@ fn the_parts_of_a_replay(rt: HostRuntime) -> Result<(), Fail> {
             b"refused script 1 no_main\n",
         ),
         (b"", Status::ScriptRefused, b"refused script 1 no_main\n"),
-        // The first line `%%` parts the input, and may end in a byte 13.
+        // The first line `%%` splits the input, and may end in a CR.
         (
             b"fn main x\nreturn 0\nend\n%%\r\n%%\nschedule 1 100 4 64\nend 1\n",
             Status::ScheduleRefused,
@@ -409,9 +409,9 @@ fn the_parts_of_a_replay(rt: HostRuntime) -> Result<(), Fail> {
         ),
     ];
     for (input, status, text) in rows {
-        let told = call(&rt, rt.alloc(), &["replay"], input, &QUIET)?;
-        assert_eq!(rt; told.status, status);
-        assert_eq!(rt; told.text.as_slice(), text);
+        let answer = call(&rt, rt.alloc(), &["replay"], input, &QUIET)?;
+        assert_eq!(rt; answer.status, status);
+        assert_eq!(rt; answer.text.as_slice(), text);
     }
 
     let write_fails = Outside {
@@ -419,10 +419,10 @@ fn the_parts_of_a_replay(rt: HostRuntime) -> Result<(), Fail> {
         write_chunk: 1,
         write_fails: &[2],
     };
-    let input = behind_smallest(rt.alloc(), b"schedule 1 100 4 64\nend 0\n")?;
-    let told = call(&rt, rt.alloc(), &["replay"], &input, &write_fails)?;
-    assert_eq!(rt; told.status, Status::WriteFault);
-    assert_eq!(rt; told.text.as_slice(), b"r".as_slice());
+    let input = after_smallest(rt.alloc(), b"schedule 1 100 4 64\nend 0\n")?;
+    let answer = call(&rt, rt.alloc(), &["replay"], &input, &write_fails)?;
+    assert_eq!(rt; answer.status, Status::WriteFault);
+    assert_eq!(rt; answer.text.as_slice(), b"r".as_slice());
     Ok(())
 }
 
@@ -443,11 +443,11 @@ fn words(rt: HostRuntime) -> Result<(), Fail> {
         &[],
     ];
     for row in rows {
-        let told = call(&rt, rt.alloc(), row, SMALLEST, &QUIET)?;
-        assert_eq!(rt; told.status, Status::Usage);
-        assert_eq!(rt; told.status.code(), 5);
-        assert_eq!(rt; told.text.as_slice(), b"refused words\n".as_slice());
-        assert_eq!(rt; told.left, SMALLEST.len());
+        let answer = call(&rt, rt.alloc(), row, SMALLEST, &QUIET)?;
+        assert_eq!(rt; answer.status, Status::Usage);
+        assert_eq!(rt; answer.status.code(), 5);
+        assert_eq!(rt; answer.text.as_slice(), b"refused words\n".as_slice());
+        assert_eq!(rt; answer.left, SMALLEST.len());
     }
     Ok(())
 }
@@ -458,65 +458,65 @@ fn the_outside(rt: HostRuntime) -> Result<(), Fail> {
         read_fails: &[1],
         ..QUIET
     };
-    let told = call(&rt, rt.alloc(), &["run"], SMALLEST, &read_fails)?;
-    assert_eq!(rt; told.status, Status::ReadFault);
-    assert_eq!(rt; told.status.code(), 9);
-    assert_eq!(rt; told.text.len(), 0);
+    let answer = call(&rt, rt.alloc(), &["run"], SMALLEST, &read_fails)?;
+    assert_eq!(rt; answer.status, Status::ReadFault);
+    assert_eq!(rt; answer.status.code(), 9);
+    assert_eq!(rt; answer.text.len(), 0);
 
-    // The first read takes the whole script, and the second would have told that it ends there.
+    // The first read takes the whole script, and the second would have shown that it ends there.
     let end_fails = Outside {
         read_fails: &[2],
         ..QUIET
     };
-    let told = call(&rt, rt.alloc(), &["run"], SMALLEST, &end_fails)?;
-    assert_eq!(rt; told.status, Status::ReadFault);
-    assert_eq!(rt; told.text.len(), 0);
+    let answer = call(&rt, rt.alloc(), &["run"], SMALLEST, &end_fails)?;
+    assert_eq!(rt; answer.status, Status::ReadFault);
+    assert_eq!(rt; answer.text.len(), 0);
 
     let write_fails = Outside {
         read_fails: &[],
         write_chunk: 1,
         write_fails: &[2],
     };
-    let told = call(&rt, rt.alloc(), &["run"], SMALLEST, &write_fails)?;
-    assert_eq!(rt; told.status, Status::WriteFault);
-    assert_eq!(rt; told.status.code(), 10);
-    assert_eq!(rt; told.text.as_slice(), b"r".as_slice());
+    let answer = call(&rt, rt.alloc(), &["run"], SMALLEST, &write_fails)?;
+    assert_eq!(rt; answer.status, Status::WriteFault);
+    assert_eq!(rt; answer.status.code(), 10);
+    assert_eq!(rt; answer.text.as_slice(), b"r".as_slice());
 
-    let told = call(&rt, rt.alloc(), &["check"], SMALLEST, &write_fails)?;
-    assert_eq!(rt; told.status, Status::WriteFault);
-    assert_eq!(rt; told.text.as_slice(), b"f".as_slice());
-    let told = call(&rt, rt.alloc(), &["check"], SMALLEST, &read_fails)?;
-    assert_eq!(rt; told.status, Status::ReadFault);
+    let answer = call(&rt, rt.alloc(), &["check"], SMALLEST, &write_fails)?;
+    assert_eq!(rt; answer.status, Status::WriteFault);
+    assert_eq!(rt; answer.text.as_slice(), b"f".as_slice());
+    let answer = call(&rt, rt.alloc(), &["check"], SMALLEST, &read_fails)?;
+    assert_eq!(rt; answer.status, Status::ReadFault);
 
-    let told = call(&rt, rt.alloc(), &["walk"], SMALLEST, &write_fails)?;
-    assert_eq!(rt; told.status, Status::WriteFault);
-    assert_eq!(rt; told.text.as_slice(), b"r".as_slice());
+    let answer = call(&rt, rt.alloc(), &["walk"], SMALLEST, &write_fails)?;
+    assert_eq!(rt; answer.status, Status::WriteFault);
+    assert_eq!(rt; answer.text.as_slice(), b"r".as_slice());
     Ok(())
 }
 
 #[test]
 fn the_length_of_the_input(rt: HostRuntime) -> Result<(), Fail> {
     let mut input = vec![in rt.alloc(); 10; 16_777_217]?;
-    let told = call(&rt, rt.alloc(), &["run"], &input, &QUIET)?;
-    assert_eq!(rt; told.status, Status::TooLong);
-    assert_eq!(rt; told.status.code(), 8);
+    let answer = call(&rt, rt.alloc(), &["run"], &input, &QUIET)?;
+    assert_eq!(rt; answer.status, Status::TooLong);
+    assert_eq!(rt; answer.status.code(), 8);
     assert_eq!(rt;
-        told.text.as_slice(),
+        answer.text.as_slice(),
         b"refused input too_long\n".as_slice()
     );
 
     let _ = input.pop();
-    let told = call(&rt, rt.alloc(), &["run"], &input, &QUIET)?;
-    assert_eq!(rt; told.status, Status::ScriptRefused);
-    assert_eq!(rt; told.status.code(), 6);
+    let answer = call(&rt, rt.alloc(), &["run"], &input, &QUIET)?;
+    assert_eq!(rt; answer.status, Status::ScriptRefused);
+    assert_eq!(rt; answer.status.code(), 6);
     assert_eq!(rt;
-        told.text.as_slice(),
+        answer.text.as_slice(),
         b"refused script 1 no_main\n".as_slice()
     );
     Ok(())
 }
 
-// A script whose `main` 99 times pushes and pops a handler of 97 events, emits so often, and ends: 9,902 steps and as
+// A script whose `main` pushes and pops a handler of 97 events 99 times, emits this often, and ends: 9,902 steps and as
 // many more as it emits.
 fn long_script(alloc: Global, emits: u32) -> Result<Vec<u8>, AllocError> {
     let mut text = Vec::from_slice(alloc, b"fn h x\n")?;
@@ -558,28 +558,74 @@ fn long_report(alloc: Global, emits: u32, ends: &[u8]) -> Result<Vec<u8>, AllocE
 #[test]
 fn a_run_of_all_the_budget_is_complete(rt: HostRuntime) -> Result<(), Fail> {
     let script = long_script(rt.alloc(), 98)?;
-    let told = call(&rt, rt.alloc(), &["run"], &script, &QUIET)?;
+    let answer = call(&rt, rt.alloc(), &["run"], &script, &QUIET)?;
     let ends = b"1.1 exit 0\n1.1 process_end 0\nverdict complete\n";
     let report = long_report(rt.alloc(), 98, ends)?;
-    assert_eq!(rt; told.status, Status::Complete);
-    assert_eq!(rt; told.text.as_slice(), report.as_slice());
+    assert_eq!(rt; answer.status, Status::Complete);
+    assert_eq!(rt; answer.text.as_slice(), report.as_slice());
 
     let mut input = script;
     input.extend_from_slice(b"%%\n")?;
     input.extend_from_slice(&report)?;
-    let told = call(&rt, rt.alloc(), &["replay"], &input, &QUIET)?;
-    assert_eq!(rt; told.status, Status::Complete);
-    assert_eq!(rt; told.text.as_slice(), report.as_slice());
+    let answer = call(&rt, rt.alloc(), &["replay"], &input, &QUIET)?;
+    assert_eq!(rt; answer.status, Status::Complete);
+    assert_eq!(rt; answer.text.as_slice(), report.as_slice());
     Ok(())
 }
 
 #[test]
 fn a_run_of_one_step_more_ends_at_the_budget(rt: HostRuntime) -> Result<(), Fail> {
     let script = long_script(rt.alloc(), 99)?;
-    let told = call(&rt, rt.alloc(), &["run"], &script, &QUIET)?;
+    let answer = call(&rt, rt.alloc(), &["run"], &script, &QUIET)?;
     let report = long_report(rt.alloc(), 99, b"1.1 exit 0\nverdict budget\n")?;
-    assert_eq!(rt; told.status, Status::Budget);
-    assert_eq!(rt; told.status.code(), 2);
-    assert_eq!(rt; told.text.as_slice(), report.as_slice());
+    assert_eq!(rt; answer.status, Status::Budget);
+    assert_eq!(rt; answer.status.code(), 2);
+    assert_eq!(rt; answer.text.as_slice(), report.as_slice());
+    Ok(())
+}
+
+// A script at the limits: 32 declarations of each kind, 64 functions and 2,000 statement lines, in its canonical form. It
+// never ends.
+fn largest_script(alloc: Global) -> Result<Vec<u8>, AllocError> {
+    let mut text = Vec::new(alloc);
+    for kind in ["global g", "mutex m", "cond c"] {
+        for i in 0..32 {
+            text.extend_from_slice(format!(in alloc; "{kind}{i}\n")?.as_bytes())?;
+        }
+    }
+    for i in 0..32 {
+        text.extend_from_slice(format!(in alloc; "sem s{i} 32767\n")?.as_bytes())?;
+    }
+    for i in 0..63 {
+        text.extend_from_slice(format!(in alloc; "fn f{i} x\nend\n")?.as_bytes())?;
+    }
+    text.extend_from_slice(b"fn main x\nwhile 1\n")?;
+    for _ in 0..1_934 {
+        text.extend_from_slice(b"nop\n")?;
+    }
+    text.extend_from_slice(b"end\nend\n")?;
+    Ok(text)
+}
+
+#[test]
+fn the_largest_inputs(rt: HostRuntime) -> Result<(), Fail> {
+    let script = largest_script(rt.alloc())?;
+    let answer = call(&rt, rt.alloc(), &["check"], &script, &QUIET)?;
+    assert_eq!(rt; answer.status, Status::Complete);
+    assert_eq!(rt; answer.text.as_slice(), script.as_slice());
+
+    let mut schedule = Vec::from_slice(rt.alloc(), b"schedule 1 200000 4 64\n")?;
+    for _ in 0..200_000 {
+        schedule.extend_from_slice(b"1 1 1 go\n")?;
+    }
+    schedule.extend_from_slice(b"end 200000\n")?;
+    let mut input = script;
+    input.extend_from_slice(b"%%\n")?;
+    input.extend_from_slice(&schedule)?;
+    let mut report = Vec::from_slice(rt.alloc(), b"report 1\nverdict budget\n")?;
+    report.extend_from_slice(&schedule)?;
+    let answer = call(&rt, rt.alloc(), &["replay"], &input, &QUIET)?;
+    assert_eq!(rt; answer.status, Status::Budget);
+    assert_eq!(rt; answer.text.as_slice(), report.as_slice());
     Ok(())
 }

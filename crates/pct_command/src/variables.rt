@@ -12,16 +12,16 @@ use pct_model::{Dest, Frame, Script};
 #[tactic(auto, unfolding(pct_model::specs::Alternatives::sets))]
 pub(crate) fn set(script: &Script, process: &mut OneProcess, frame: Frame, dest: Dest, value: u32)
     requires frames { length process.old.thread.frames < 16 }
-    requires place { frame.place < 2000 }
+    requires pc { frame.pc < 2000 }
     ensures leads { (before : List Event) → Leads script.now (with_top frame process.old) process.new before before
         (sets (thread_of (with_top frame process.old).thread) frame process.old.thread.frames dest value) }
 {
     match dest {
-        Dest::Drop => move_to(process, frame, frame.place + 1),
-        Dest::Local(i) => move_to(process, with_local(frame, i, value), frame.place + 1),
+        Dest::Drop => move_to(process, frame, frame.pc + 1),
+        Dest::Local(i) => move_to(process, with_local(frame, i, value), frame.pc + 1),
         Dest::Global(i) => {
             put(&mut process.globals, i, value);
-            move_to(process, frame, frame.place + 1);
+            move_to(process, frame, frame.pc + 1);
         }
     }
 }
@@ -30,7 +30,7 @@ pub(crate) fn set(script: &Script, process: &mut OneProcess, frame: Frame, dest:
 #[tactic(auto, unfolding(pct_model::specs::Alternatives::adds))]
 pub(crate) fn add(script: &Script, process: &mut OneProcess, frame: Frame, dest: Dest, value: u32)
     requires frames { length process.old.thread.frames < 16 }
-    requires place { frame.place < 2000 }
+    requires pc { frame.pc < 2000 }
     ensures leads { (before : List Event) → Leads script.now (with_top frame process.old) process.new before before
         (adds process.old.globals.items (thread_of (with_top frame process.old).thread) frame process.old.thread.frames dest value) }
 {

@@ -10,20 +10,20 @@ use pct_model::{Config, Keyword};
 #[derive(Clone, Copy, Debug, PartialEq, Eq)]
 pub struct Usage;
 
-/// Under which numbers a script is run. So far no word changes them.
+/// The numbers of a run. No option changes them yet.
 #[derive(Clone, Copy, Debug, PartialEq, Eq)]
 pub struct RunOptions {
     pub config: Config,
-    /// What the choices of the workers grow from.
+    /// The seed of the workers' choices.
     pub seed: u64,
-    /// How many workers there are.
+    /// The number of workers.
     pub workers: u32,
     /// The most turns of a worker.
     pub turns: u32,
 }
 
 impl RunOptions {
-    /// What holds where no word says otherwise.
+    /// The defaults.
     pub const DEFAULT: RunOptions = RunOptions {
         config: Config::DEFAULT,
         seed: 1,
@@ -32,20 +32,19 @@ impl RunOptions {
     };
 }
 
-/// What the words ask for.
+/// The command that the words name.
 #[derive(Clone, Copy, Debug, PartialEq, Eq)]
 pub enum Job {
-    /// Run the script of the input, and write its report.
+    /// Run the script of the input, and write the report.
     Run(RunOptions),
-    /// Run the script of the input under the schedule that stands behind it, and write its report.
+    /// Run the script of the input under the schedule that follows it, and write the report.
     Replay,
     /// Read the script of the input, and write its canonical text.
     Check,
 }
 
-/// What the words ask for. So far `run` alone, `replay` alone and `check` alone are accepted, and `Usage` comes with all
-/// other words.
-/// It takes no memory.
+/// The command that the words name: exactly one word, which is `run`, `replay` or `check`. `Usage` comes with all other
+/// words. It allocates no memory.
 #[tactic(auto, unfolding(pct_model::specs::Outcome::is_asked))]
 pub fn read_words(words: &[String]) -> Result<Job, Usage>
     ensures accepted { IsOk result ↔ (is_accepted (map string_bytes words.now) ≡ true) }

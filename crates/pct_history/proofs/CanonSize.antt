@@ -1,4 +1,4 @@
--- How long the canonical text of a script is at the most.
+-- The greatest size of a script's canonical text.
 use Rattle.std.proofs.Common.{◌≡◌, ℕ, zero, suc, ◌+◌, ◌*◌, ◌≤◌, Bool, true, false, not, ◌&&◌, List, [], ◌∷◌, ◌++◌, length, map, ap, ◌∙◌, arith, nat_le, leb-true, decimal, length-append, flat_map}
 use Rattle.std.specs.List.{list_all}
 use Rattle.std.proofs.lemmas.Bool.{and_parts}
@@ -6,31 +6,31 @@ use Rattle.std.proofs.lemmas.List.{length-map}
 use Rattle.std.proofs.lemmas.List.Concat.{flat_map-cons}
 use Rattle.std.proofs.lemmas.List.Sums.{sum_by-cons}
 use Rattle.std.proofs.lemmas.Grind.{flat_map-append}
-use Rattle.pct_model.specs.declared.form.Form.{Form}
-use Rattle.pct_model.specs.declared.form.Form.TheVariants as form
-use Rattle.pct_model.specs.declared.form.Kind.{Kind}
-use Rattle.pct_model.specs.declared.form.Kind.TheVariants as kind
-use Rattle.pct_model.specs.declared.form.Place.{Place}
-use Rattle.pct_model.specs.declared.form.Place.TheVariants as place
-use Rattle.pct_model.specs.declared.said.Argument.{Argument}
-use Rattle.pct_model.specs.declared.said.Argument.TheVariants as argument
+use Rattle.pct_model.specs.declared.line_kind.LineKind.{LineKind}
+use Rattle.pct_model.specs.declared.line_kind.LineKind.TheVariants as line_kind
+use Rattle.pct_model.specs.declared.line_kind.SymbolKind.{SymbolKind}
+use Rattle.pct_model.specs.declared.line_kind.SymbolKind.TheVariants as kind
+use Rattle.pct_model.specs.declared.line_kind.ArgumentKind.{ArgumentKind}
+use Rattle.pct_model.specs.declared.line_kind.ArgumentKind.TheVariants as argument_kind
+use Rattle.pct_model.specs.declared.parsed_line.Argument.{Argument}
+use Rattle.pct_model.specs.declared.parsed_line.Argument.TheVariants as argument
 use Rattle.pct_model.specs.declared.script.Func.{Func}
 use Rattle.pct_model.specs.declared.script.SemDecl.{SemDecl}
 use Rattle.pct_model.specs.declared.script.Script.{Script}
 use Rattle.pct_model.specs.declared.statement.Stmt.{Stmt}
 use Rattle.pct_model.specs.declared.statement.Stmt.TheVariants as statement
-use Rattle.pct_model.specs.Words.{line_text, text_of}
+use Rattle.pct_model.specs.Keywords.{line_text, text_of}
 use Rattle.pct_model.specs.Names.{is_digit, is_name_byte, is_name, name_at}
-use Rattle.pct_model.specs.Forms.{shape_of_declaration, shape}
-use Rattle.pct_model.specs.Statements.{said_as, form_of_statement, arguments_of, places_of}
+use Rattle.pct_model.specs.LineKinds.{declaration_syntax, syntax_of}
+use Rattle.pct_model.specs.Statements.{encode, line_kind_of_statement, arguments_of, argument_kinds_of}
 use Rattle.pct_model.specs.Contents.{Contents, names_of_kind}
 use Rattle.pct_model.specs.Static.{has_lines, statement_lines}
 use Rattle.pct_model.specs.Spells.{contents_of}
-use Rattle.pct_model.specs.Canon.{kind_at, flag_text, argument_text, argument_texts, declaration_line, statement_words, function_lines, script_lines, canon}
+use Rattle.pct_model.specs.Canon.{symbol_kind_at, flag_text, argument_text, argument_texts, declaration_line, statement_words, function_lines, script_lines, canon}
 use Rattle.pct_model.proofs.StaticFacts.{limits_kept, lines_of_function, few_functions}
-use Rattle.pct_history.proofs.Plain.{is_plain}
+use Rattle.pct_history.proofs.PlainWords.{is_plain}
 use Rattle.pct_history.proofs.FirstWords.{begins_percent, first_word}
-use Rattle.pct_history.proofs.Marked.{text_of-size}
+use Rattle.pct_history.proofs.FirstMarker.{text_of-size}
 use Rattle.pct_history.proofs.ScriptLines.{KindsAreNames, script_kinds, script_functions}
 use Rattle.pct_history.proofs.Sizes.{words_size, line_size, any_number_size}
 
@@ -47,32 +47,32 @@ name_at_size [] i all = omega arith
 name_at_size (name ∷ names) zero all = name_size name (and_parts (is_name name) (list_all is_name names) all).0
 name_at_size (name ∷ names) (suc i) all = name_at_size names i (and_parts (is_name name) (list_all is_name names) all).1
 
-flag_size : (p : Place) (says : Bool) → length (flag_text p says) ≤ 64
-flag_size place.State true = omega arith
-flag_size place.State false = omega arith
-flag_size place.Mode true = omega arith
-flag_size place.Mode false = omega arith
-flag_size _ says = omega arith
+flag_size : (p : ArgumentKind) (is_set : Bool) → length (flag_text p is_set) ≤ 64
+flag_size argument_kind.State true = omega arith
+flag_size argument_kind.State false = omega arith
+flag_size argument_kind.Mode true = omega arith
+flag_size argument_kind.Mode false = omega arith
+flag_size _ is_set = omega arith
 
-argument_size : (c : Contents) (locals : List (List ℕ)) (p : Place) (a : Argument) → KindsAreNames c → list_all is_name locals ≡ true → length (argument_text c locals p a) ≤ 64
+argument_size : (c : Contents) (locals : List (List ℕ)) (p : ArgumentKind) (a : Argument) → KindsAreNames c → list_all is_name locals ≡ true → length (argument_text c locals p a) ≤ 64
 unfolding argument_text
 argument_size c locals p (argument.Number n) kinds own = any_number_size n
 argument_size c locals p (argument.Local i) kinds own = omega (arith, name_at_size locals i own)
 argument_size c locals p (argument.Global i) kinds own = omega (arith, name_at_size c.globals i (kinds kind.Global))
-argument_size c locals p (argument.Item i) kinds own = omega (arith, name_at_size (names_of_kind c (kind_at p)) i (kinds (kind_at p)))
+argument_size c locals p (argument.Item i) kinds own = omega (arith, name_at_size (names_of_kind c (symbol_kind_at p)) i (kinds (symbol_kind_at p)))
 argument_size c locals p argument.Nothing kinds own = omega arith
-argument_size c locals p (argument.Flag says) kinds own = flag_size p says
+argument_size c locals p (argument.Flag is_set) kinds own = flag_size p is_set
 
-arguments_size : (c : Contents) (locals : List (List ℕ)) (places : List Place) (arguments : List Argument) → KindsAreNames c → list_all is_name locals ≡ true
-    → words_size (argument_texts c locals places arguments) ≤ 65 * length arguments + 1
+arguments_size : (c : Contents) (locals : List (List ℕ)) (argument_kinds : List ArgumentKind) (arguments : List Argument) → KindsAreNames c → list_all is_name locals ≡ true
+    → words_size (argument_texts c locals argument_kinds arguments) ≤ 65 * length arguments + 1
 unfolding argument_texts words_size
 arguments_size c locals [] arguments kinds own = omega arith
-arguments_size c locals (p ∷ places) [] kinds own = omega arith
-arguments_size c locals (p ∷ places) (a ∷ arguments) kinds own = omega (arith, argument_size c locals p a kinds own, arguments_size c locals places arguments kinds own)
+arguments_size c locals (p ∷ argument_kinds) [] kinds own = omega arith
+arguments_size c locals (p ∷ argument_kinds) (a ∷ arguments) kinds own = omega (arith, argument_size c locals p a kinds own, arguments_size c locals argument_kinds arguments kinds own)
 
--- a statement has at most 5 words behind its first
+-- a statement has at most 5 words after its first
 few_arguments : (s : Stmt) → length (arguments_of s) ≤ 5
-unfolding said_as
+unfolding encode
 few_arguments (statement.Emit v) = omega arith
 few_arguments (statement.Set d v) = omega arith
 few_arguments (statement.Add d v) = omega arith
@@ -114,21 +114,21 @@ few_arguments (statement.ProcExit v) = omega arith
 few_arguments (statement.ProcExitNow v) = omega arith
 few_arguments (statement.PointCall index) = omega arith
 
-first_size : (f : Form) → length (shape f).word ≤ 22
+first_size : (f : LineKind) → length (syntax_of f).keyword ≤ 22
 first_size f =
-    let w = (shape f).word in
+    let w = (syntax_of f).keyword in
     leb-true (length w) 22 (and_parts (is_plain w && not (begins_percent w)) (nat_le (length w) 22) (first_word f)).1
 
-declaration_size : (k : Kind) → length (shape_of_declaration k).word ≤ 22
-unfolding shape
-declaration_size k = first_size (form.Declares k)
+declaration_size : (k : SymbolKind) → length (declaration_syntax k).keyword ≤ 22
+unfolding syntax_of
+declaration_size k = first_size (line_kind.Declares k)
 
 -- ---- lines
 
 statement_size : (c : Contents) (locals : List (List ℕ)) (s : Stmt) → KindsAreNames c → list_all is_name locals ≡ true → length (line_text (statement_words c locals s)) ≤ 349
 unfolding statement_words words_size
 statement_size c locals s kinds own =
-    omega (arith, line_size (statement_words c locals s), first_size (form_of_statement s), arguments_size c locals (places_of s) (arguments_of s) kinds own, few_arguments s)
+    omega (arith, line_size (statement_words c locals s), first_size (line_kind_of_statement s), arguments_size c locals (argument_kinds_of s) (arguments_of s) kinds own, few_arguments s)
 
 body_size : (c : Contents) (locals : List (List ℕ)) (body : List Stmt) → KindsAreNames c → list_all is_name locals ≡ true → length (text_of (map (statement_words c locals) body)) ≤ 349 * length body
 body_size c locals [] kinds own = omega arith
@@ -142,11 +142,11 @@ names_size (name ∷ names) all =
     let parts = and_parts (is_name name) (list_all is_name names) all in
     omega (arith, name_size name parts.0, names_size names parts.1)
 
-declaration_line_size : (k : Kind) (words : List (List ℕ)) → length (line_text (declaration_line k words)) ≤ 23 + words_size words
+declaration_line_size : (k : SymbolKind) (words : List (List ℕ)) → length (line_text (declaration_line k words)) ≤ 23 + words_size words
 unfolding words_size
 declaration_line_size k words = omega (arith, line_size (declaration_line k words), declaration_size k)
 
-name_lines_size : (k : Kind) (names : List (List ℕ)) → list_all is_name names ≡ true → length (text_of (map (λ name. declaration_line k (name ∷ [])) names)) ≤ 56 * length names
+name_lines_size : (k : SymbolKind) (names : List (List ℕ)) → list_all is_name names ≡ true → length (text_of (map (λ name. declaration_line k (name ∷ [])) names)) ≤ 56 * length names
 name_lines_size k [] all = omega arith
 name_lines_size k (name ∷ names) all =
     let parts = and_parts (is_name name) (list_all is_name names) all in

@@ -1,17 +1,17 @@
--- The first words of a script's lines: none has a space, a line's end or a byte 13 in it, none begins with `%`, and none is
--- long.
+-- The keywords of a script's lines: none contains a byte up to the space (LF and CR among them) or begins with `%`, and
+-- none has more than 22 bytes.
 use Rattle.std.proofs.Common.{◌≡◌, ℕ, zero, suc, Bool, true, false, not, ◌&&◌, List, [], ◌∷◌, length, refl, nat_eq, nat_le}
 use Rattle.std.specs.Prelude.{slice_get}
 use Rattle.std.specs.List.{list_all}
 use Rattle.std.specs.Option.{option_map_or}
 use Rattle.std.proofs.lemmas.Bool.{and_parts}
-use Rattle.pct_model.specs.declared.form.Form.{Form}
-use Rattle.pct_model.specs.declared.form.Form.TheVariants as form
-use Rattle.pct_model.specs.declared.form.Kind.{Kind}
-use Rattle.pct_model.specs.declared.form.Kind.TheVariants as kind
+use Rattle.pct_model.specs.declared.line_kind.LineKind.{LineKind}
+use Rattle.pct_model.specs.declared.line_kind.LineKind.TheVariants as line_kind
+use Rattle.pct_model.specs.declared.line_kind.SymbolKind.{SymbolKind}
+use Rattle.pct_model.specs.declared.line_kind.SymbolKind.TheVariants as kind
 use Rattle.pct_model.specs.Points.{Row, points, point_name}
-use Rattle.pct_model.specs.Forms.{shape_of_declaration, shape}
-use Rattle.pct_history.proofs.Plain.{is_plain}
+use Rattle.pct_model.specs.LineKinds.{declaration_syntax, syntax_of}
+use Rattle.pct_history.proofs.PlainWords.{is_plain}
 
 abbrev pub begins_percent : List ℕ → Bool
 begins_percent [] = false
@@ -33,54 +33,54 @@ name_of_point : (i : ℕ) → is_first (point_name i) ≡ true
 unfolding point_name
 name_of_point i = name_in points i names_of_points
 
-declaration_word : (k : Kind) → is_first (shape_of_declaration k).word ≡ true
-unfolding shape_of_declaration
+declaration_word : (k : SymbolKind) → is_first (declaration_syntax k).keyword ≡ true
+unfolding declaration_syntax
 declaration_word kind.Global = refl
 declaration_word kind.Mutex = refl
 declaration_word kind.Cond = refl
 declaration_word kind.Sem = refl
 declaration_word kind.Function = refl
 
--- the first word of each form
-pub first_word : (f : Form) → is_first (shape f).word ≡ true
-unfolding shape
-first_word (form.Declares k) = declaration_word k
-first_word form.Emit = refl
-first_word form.Set = refl
-first_word form.Add = refl
-first_word form.Nop = refl
-first_word form.If = refl
-first_word form.Else = refl
-first_word form.While = refl
-first_word form.End = refl
-first_word form.Do = refl
-first_word form.Return = refl
-first_word form.Create = refl
-first_word form.Join = refl
-first_word form.Detach = refl
-first_word form.CancelThread = refl
-first_word form.SelfId = refl
-first_word form.ThreadExit = refl
-first_word form.TestCancel = refl
-first_word form.SetState = refl
-first_word form.SetMode = refl
-first_word form.Push = refl
-first_word form.Pop = refl
-first_word form.KeyCreate = refl
-first_word form.KeyDelete = refl
-first_word form.SetSpecific = refl
-first_word form.GetSpecific = refl
-first_word form.Lock = refl
-first_word form.Unlock = refl
-first_word form.CondWait = refl
-first_word form.Signal = refl
-first_word form.Broadcast = refl
-first_word form.SemWait = refl
-first_word form.SemPost = refl
-first_word form.AtFork = refl
-first_word form.Fork = refl
-first_word form.WaitPid = refl
-first_word form.AtExit = refl
-first_word form.ProcExit = refl
-first_word form.ProcExitNow = refl
-first_word (form.Point i) = name_of_point i
+-- the keyword of each kind of line
+pub first_word : (f : LineKind) → is_first (syntax_of f).keyword ≡ true
+unfolding syntax_of
+first_word (line_kind.Declares k) = declaration_word k
+first_word line_kind.Emit = refl
+first_word line_kind.Set = refl
+first_word line_kind.Add = refl
+first_word line_kind.Nop = refl
+first_word line_kind.If = refl
+first_word line_kind.Else = refl
+first_word line_kind.While = refl
+first_word line_kind.End = refl
+first_word line_kind.Do = refl
+first_word line_kind.Return = refl
+first_word line_kind.Create = refl
+first_word line_kind.Join = refl
+first_word line_kind.Detach = refl
+first_word line_kind.CancelThread = refl
+first_word line_kind.SelfId = refl
+first_word line_kind.ThreadExit = refl
+first_word line_kind.TestCancel = refl
+first_word line_kind.SetState = refl
+first_word line_kind.SetMode = refl
+first_word line_kind.Push = refl
+first_word line_kind.Pop = refl
+first_word line_kind.KeyCreate = refl
+first_word line_kind.KeyDelete = refl
+first_word line_kind.SetSpecific = refl
+first_word line_kind.GetSpecific = refl
+first_word line_kind.Lock = refl
+first_word line_kind.Unlock = refl
+first_word line_kind.CondWait = refl
+first_word line_kind.Signal = refl
+first_word line_kind.Broadcast = refl
+first_word line_kind.SemWait = refl
+first_word line_kind.SemPost = refl
+first_word line_kind.AtFork = refl
+first_word line_kind.Fork = refl
+first_word line_kind.WaitPid = refl
+first_word line_kind.AtExit = refl
+first_word line_kind.ProcExit = refl
+first_word line_kind.ProcExitNow = refl
+first_word (line_kind.Point i) = name_of_point i

@@ -1,14 +1,8 @@
-pub mod ByCuts
-pub mod ByLines
 pub mod CanonSize
-pub mod FirstLines
 pub mod FirstWords
-pub mod Loops
-pub mod Marked
-pub mod Plain
+pub mod FirstMarker
+pub mod PlainWords
 pub mod ReadBack
 pub mod ReplayInput
 pub mod ScriptLines
 pub mod Sizes
-pub mod Texts
-pub mod Within

@@ -4,58 +4,58 @@ use Rattle.std.specs.List.{list_all, join_with_byte}
 use Rattle.std.proofs.lemmas.Bool.{and_parts, and_from, not-true}
 use Rattle.std.proofs.lemmas.List.Concat.{flat_map-cons}
 use Rattle.std.proofs.lemmas.List.Folds.{list_all-append}
-use Rattle.pct_model.specs.declared.form.Form.{Form}
-use Rattle.pct_model.specs.declared.form.Form.TheVariants as form
-use Rattle.pct_model.specs.declared.form.Kind.{Kind}
-use Rattle.pct_model.specs.declared.form.Kind.TheVariants as kind
-use Rattle.pct_model.specs.declared.form.Place.{Place}
-use Rattle.pct_model.specs.declared.form.Place.TheVariants as place
-use Rattle.pct_model.specs.declared.said.Argument.{Argument}
-use Rattle.pct_model.specs.declared.said.Argument.TheVariants as argument
+use Rattle.pct_model.specs.declared.line_kind.LineKind.{LineKind}
+use Rattle.pct_model.specs.declared.line_kind.LineKind.TheVariants as line_kind
+use Rattle.pct_model.specs.declared.line_kind.SymbolKind.{SymbolKind}
+use Rattle.pct_model.specs.declared.line_kind.SymbolKind.TheVariants as kind
+use Rattle.pct_model.specs.declared.line_kind.ArgumentKind.{ArgumentKind}
+use Rattle.pct_model.specs.declared.line_kind.ArgumentKind.TheVariants as argument_kind
+use Rattle.pct_model.specs.declared.parsed_line.Argument.{Argument}
+use Rattle.pct_model.specs.declared.parsed_line.Argument.TheVariants as argument
 use Rattle.pct_model.specs.declared.script.Func.{Func}
 use Rattle.pct_model.specs.declared.script.SemDecl.{SemDecl}
 use Rattle.pct_model.specs.declared.script.Script.{Script}
 use Rattle.pct_model.specs.declared.statement.Stmt.{Stmt}
 use Rattle.pct_model.specs.Names.{is_name}
-use Rattle.pct_model.specs.Forms.{shape}
-use Rattle.pct_model.specs.Statements.{form_of_statement, arguments_of, places_of}
+use Rattle.pct_model.specs.LineKinds.{syntax_of}
+use Rattle.pct_model.specs.Statements.{line_kind_of_statement, arguments_of, argument_kinds_of}
 use Rattle.pct_model.specs.Contents.{Contents, names_of_kind}
 use Rattle.pct_model.specs.Static.{has_lines}
 use Rattle.pct_model.specs.Spells.{contents_of}
-use Rattle.pct_model.specs.Canon.{kind_at, flag_text, argument_text, argument_texts, declaration_line, statement_words, function_lines, script_lines}
+use Rattle.pct_model.specs.Canon.{symbol_kind_at, flag_text, argument_text, argument_texts, declaration_line, statement_words, function_lines, script_lines}
 use Rattle.pct_model.proofs.StaticFacts.{passes_all, text_parts, kinds_are_names, lines_of_function}
-use Rattle.pct_history.proofs.Plain.{is_plain, are_plain, more, decimal_plain, plain_name, name_at_plain}
+use Rattle.pct_history.proofs.PlainWords.{is_plain, are_plain, more, decimal_plain, plain_name, name_at_plain}
 use Rattle.pct_history.proofs.FirstWords.{begins_percent, first_word}
-use Rattle.pct_history.proofs.Marked.{is_percents, is_script_line, script_line}
+use Rattle.pct_history.proofs.FirstMarker.{is_percents, is_script_line, script_line}
 
 -- ---- words
 
-flag_plain : (p : Place) (says : Bool) → is_plain (flag_text p says) ≡ true
-flag_plain place.State true = refl
-flag_plain place.State false = refl
-flag_plain place.Mode true = refl
-flag_plain place.Mode false = refl
-flag_plain _ says = refl
+flag_plain : (p : ArgumentKind) (is_set : Bool) → is_plain (flag_text p is_set) ≡ true
+flag_plain argument_kind.State true = refl
+flag_plain argument_kind.State false = refl
+flag_plain argument_kind.Mode true = refl
+flag_plain argument_kind.Mode false = refl
+flag_plain _ is_set = refl
 
--- all names of the kinds are names
+-- all symbols of each kind have legal names
 abbrev pub KindsAreNames : Contents → Type 0
-KindsAreNames c = (k : Kind) → list_all is_name (names_of_kind c k) ≡ true
+KindsAreNames c = (k : SymbolKind) → list_all is_name (names_of_kind c k) ≡ true
 
-argument_plain : (c : Contents) (locals : List (List ℕ)) (p : Place) (a : Argument) → KindsAreNames c → list_all is_name locals ≡ true → is_plain (argument_text c locals p a) ≡ true
+argument_plain : (c : Contents) (locals : List (List ℕ)) (p : ArgumentKind) (a : Argument) → KindsAreNames c → list_all is_name locals ≡ true → is_plain (argument_text c locals p a) ≡ true
 unfolding argument_text
 argument_plain c locals p (argument.Number n) kinds own = decimal_plain n
 argument_plain c locals p (argument.Local i) kinds own = name_at_plain locals i own
 argument_plain c locals p (argument.Global i) kinds own = name_at_plain c.globals i (kinds kind.Global)
-argument_plain c locals p (argument.Item i) kinds own = name_at_plain (names_of_kind c (kind_at p)) i (kinds (kind_at p))
+argument_plain c locals p (argument.Item i) kinds own = name_at_plain (names_of_kind c (symbol_kind_at p)) i (kinds (symbol_kind_at p))
 argument_plain c locals p argument.Nothing kinds own = refl
-argument_plain c locals p (argument.Flag says) kinds own = flag_plain p says
+argument_plain c locals p (argument.Flag is_set) kinds own = flag_plain p is_set
 
-arguments_plain : (c : Contents) (locals : List (List ℕ)) (places : List Place) (arguments : List Argument) → KindsAreNames c → list_all is_name locals ≡ true → are_plain (argument_texts c locals places arguments) ≡ true
+arguments_plain : (c : Contents) (locals : List (List ℕ)) (argument_kinds : List ArgumentKind) (arguments : List Argument) → KindsAreNames c → list_all is_name locals ≡ true → are_plain (argument_texts c locals argument_kinds arguments) ≡ true
 unfolding argument_texts
 arguments_plain c locals [] arguments kinds own = refl
-arguments_plain c locals (p ∷ places) [] kinds own = refl
-arguments_plain c locals (p ∷ places) (a ∷ arguments) kinds own =
-    more (argument_text c locals p a) (argument_texts c locals places arguments) (argument_plain c locals p a kinds own) (arguments_plain c locals places arguments kinds own)
+arguments_plain c locals (p ∷ argument_kinds) [] kinds own = refl
+arguments_plain c locals (p ∷ argument_kinds) (a ∷ arguments) kinds own =
+    more (argument_text c locals p a) (argument_texts c locals argument_kinds arguments) (argument_plain c locals p a kinds own) (arguments_plain c locals argument_kinds arguments kinds own)
 
 -- ---- lines
 
@@ -65,17 +65,17 @@ other_by [] (next ∷ words) t e f = refl
 other_by (b ∷ w) [] t e f = rw (e ∙ f) refl
 other_by (b ∷ w) (next ∷ words) t e f = rw (e ∙ f) refl
 
--- a line that begins with the first word of a form, and has plain words behind it
-line_of_form : (f : Form) (words : List (List ℕ)) → are_plain words ≡ true → is_script_line ((shape f).word ∷ words) ≡ true
+-- a line that begins with the keyword of a kind of line, with plain words after it
+line_of_form : (f : LineKind) (words : List (List ℕ)) → are_plain words ≡ true → is_script_line ((syntax_of f).keyword ∷ words) ≡ true
 line_of_form f words plain =
-    let w = (shape f).word in
+    let w = (syntax_of f).keyword in
     let a = and_parts (is_plain w && not (begins_percent w)) (nat_le (length w) 22) (first_word f) in
     let b = and_parts (is_plain w) (not (begins_percent w)) a.0 in
     script_line (w ∷ words) (more w words b.0 plain) (other_by w words (begins_percent w) refl (not-true (begins_percent w) b.1))
 
-declaration_is_line : (k : Kind) (words : List (List ℕ)) → are_plain words ≡ true → is_script_line (declaration_line k words) ≡ true
-unfolding shape
-declaration_is_line k words plain = line_of_form (form.Declares k) words plain
+declaration_is_line : (k : SymbolKind) (words : List (List ℕ)) → are_plain words ≡ true → is_script_line (declaration_line k words) ≡ true
+unfolding syntax_of
+declaration_is_line k words plain = line_of_form (line_kind.Declares k) words plain
 
 names_plain : (names : List (List ℕ)) → list_all is_name names ≡ true → are_plain names ≡ true
 names_plain [] all = refl
@@ -84,10 +84,10 @@ names_plain (name ∷ names) all =
     more name names (plain_name name parts.0) (names_plain names parts.1)
 
 -- the line of a declaration of one name
-abbrev name_line : Kind → List ℕ → List (List ℕ)
+abbrev name_line : SymbolKind → List ℕ → List (List ℕ)
 name_line k name = declaration_line k (name ∷ [])
 
-name_lines : (k : Kind) (names : List (List ℕ)) → list_all is_name names ≡ true → list_all is_script_line (map (name_line k) names) ≡ true
+name_lines : (k : SymbolKind) (names : List (List ℕ)) → list_all is_name names ≡ true → list_all is_script_line (map (name_line k) names) ≡ true
 name_lines k [] all = refl
 name_lines k (name ∷ names) all =
     let parts = and_parts (is_name name) (list_all is_name names) all in
@@ -106,7 +106,7 @@ sem_lines (s ∷ sems) all =
 statement_is_line : (c : Contents) (locals : List (List ℕ)) (s : Stmt) → KindsAreNames c → list_all is_name locals ≡ true → is_script_line (statement_words c locals s) ≡ true
 unfolding statement_words
 statement_is_line c locals s kinds own =
-    line_of_form (form_of_statement s) (argument_texts c locals (places_of s) (arguments_of s)) (arguments_plain c locals (places_of s) (arguments_of s) kinds own)
+    line_of_form (line_kind_of_statement s) (argument_texts c locals (argument_kinds_of s) (arguments_of s)) (arguments_plain c locals (argument_kinds_of s) (arguments_of s) kinds own)
 
 body_lines : (c : Contents) (locals : List (List ℕ)) (body : List Stmt) → KindsAreNames c → list_all is_name locals ≡ true → list_all is_script_line (map (statement_words c locals) body) ≡ true
 body_lines c locals [] kinds own = refl
@@ -132,7 +132,7 @@ functions_are_lines c (f ∷ fs) kinds each =
 both : (one other : List (List (List ℕ))) → list_all is_script_line one ≡ true → list_all is_script_line other ≡ true → list_all is_script_line (one ++ other) ≡ true
 both one other first rest = list_all-append is_script_line one other ∙ and_from (list_all is_script_line one) (list_all is_script_line other) first rest
 
--- the names of a script's kinds are names
+-- the symbols of a script have legal names
 pub script_kinds : (script : Script) → KindsAreNames (contents_of script)
 script_kinds script k = kinds_are_names (contents_of script) k (text_parts (contents_of script) (passes_all (contents_of script) script.passes_checks).text)
 

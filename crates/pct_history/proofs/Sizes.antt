@@ -1,4 +1,4 @@
--- How long the texts of schedules are at the most.
+-- The greatest size of a schedule's text.
 use Rattle.std.proofs.Common.{◌≡◌, ℕ, zero, suc, ◌+◌, ◌*◌, ◌/◌, ◌%◌, ◌≤◌, true, false, List, [], ◌∷◌, ◌++◌, length, ap, ◌∙◌, arith, nat_eq, leb-true, decimal, length-append, flat_map}
 use Rattle.std.specs.Fmt.{digit_glyph, digits_onto, digits}
 use Rattle.std.specs.List.{list_all, join_with_byte}
@@ -9,15 +9,15 @@ use Rattle.pct_model.specs.declared.schedule.Alt.{Alt}
 use Rattle.pct_model.specs.declared.schedule.Alt.TheVariants as alt
 use Rattle.pct_model.specs.declared.schedule.Config.{Config}
 use Rattle.pct_model.specs.declared.schedule.Entry.{Entry}
-use Rattle.pct_model.specs.Words.{keyword_text, line_text, text_of}
+use Rattle.pct_model.specs.Keywords.{keyword_text, line_text, text_of}
 use Rattle.pct_model.specs.Report.{alt_words, entry_line, header_line, end_line, schedule_lines}
-use Rattle.pct_history.specs.ReadBack.{is_choice, is_entry, IsSchedule}
+use Rattle.pct_schedule.specs.Schedules.{is_choice, is_entry, IsSchedule}
 use Rattle.pct_history.proofs.ReadBack.{InLimits, in_limits, FitsEntry, fits_entry}
-use Rattle.pct_history.proofs.Texts.{schedule-text}
+use Rattle.pct_schedule.proofs.ScheduleTexts.{schedule-text}
 
 -- ---- words
 
--- the bytes of words, with one more for each and for the line
+-- the bytes of words, with one more byte for each word and one for the line
 unfoldable pub words_size : List (List ℕ) → ℕ
 words_size [] = 1
 words_size (w ∷ words) = length w + 1 + words_size words
@@ -35,14 +35,14 @@ line_size words = omega (arith, length-append (join_with_byte 32 words) (10 ∷ 
 pub number_size : (n : ℕ) → n ≤ 4294967295 → length (decimal n) ≤ 10
 number_size n fits = length-decimal-le 10 n (omega arith) (omega arith) (omega arith)
 
-digits_size : (k n : ℕ) (behind : List ℕ) → length (digits_onto k 10 false n behind) ≤ k + length behind
-digits_size zero n behind = omega arith
-digits_size (suc k) n behind =
+digits_size : (k n : ℕ) (after : List ℕ) → length (digits_onto k 10 false n after) ≤ k + length after
+digits_size zero n after = omega arith
+digits_size (suc k) n after =
     let glyph = digit_glyph false (n % 10) in
-    cond_both (nat_eq (n / 10) 0) (glyph ∷ behind) (digits_onto k 10 false (n / 10) (glyph ∷ behind)) (λ (xs : List ℕ). length xs ≤ suc k + length behind)
-    (λ _. omega arith) (λ _. omega (arith, digits_size k (n / 10) (glyph ∷ behind)))
+    cond_both (nat_eq (n / 10) 0) (glyph ∷ after) (digits_onto k 10 false (n / 10) (glyph ∷ after)) (λ (xs : List ℕ). length xs ≤ suc k + length after)
+    (λ _. omega arith) (λ _. omega (arith, digits_size k (n / 10) (glyph ∷ after)))
 
--- and any number at most 64
+-- any number has at most 64 digits
 pub any_number_size : (n : ℕ) → length (decimal n) ≤ 64
 unfolding digits
 any_number_size n = omega (arith, digits_size 64 n [])

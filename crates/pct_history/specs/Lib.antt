@@ -1,4 +1,2 @@
-pub mod Gives
 pub mod ReadBack
-pub mod Reading
 pub mod ReplayInput

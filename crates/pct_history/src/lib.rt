@@ -1,20 +1,13 @@
-//! Schedules as texts: a schedule is read from a text, which may be a whole report, and written; and the part of an
-//! input that holds a schedule is found.
+//! The laws of schedules: the schedule of a report is read back from the report's text, and what was run can be
+//! replayed. The reader and the writer of schedules are those of `pct_schedule`.
 #![tactic(auto)]
 
-mod fault;
 mod law;
-mod lines;
-mod reading;
-mod splitting;
-mod words;
-mod writing;
 
-pub use fault::ScheduleFault;
-pub use law::{replay_inputs_are_at_hand, reports_are_read_back};
-pub use reading::{Entries, read_schedule};
-pub use splitting::split_replay;
-pub use writing::write_schedule;
+pub use law::{replay_inputs_exist, reports_are_read_back};
+pub use pct_schedule::{
+    Entries, ScheduleFault, ScheduleWhy, read_schedule, split_replay, write_schedule,
+};
 
 #[cfg(test)]
 mod tests;

@@ -1,7 +1,9 @@
-pub mod Counts
-pub mod Parts
-pub mod Kept
-pub mod Text
-pub mod Fronts
-pub mod Through
+pub mod ErrorCounts
+pub mod Appending
+pub mod Unchanged
+pub mod WritesInTurn
+pub mod ReadsInFull
+pub mod Prefixes
+pub mod Fifo
+pub mod BufferedWrites
 pub mod Joined

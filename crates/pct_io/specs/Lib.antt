@@ -1,8 +1,8 @@
-pub mod Faults
+pub mod ErrorCounts
 pub mod Inners
 pub mod Sinks
 pub mod Writes
 pub mod Reads
 pub mod Memory
-pub mod Gathered
-pub mod Lines
+pub mod Buffered
+pub mod Fields

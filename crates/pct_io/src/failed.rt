@@ -1,14 +1,14 @@
-//! What goes wrong outside the host.
+//! Errors of sources, sinks and the allocator.
 ghost use Rattle.std.specs.Prelude.{◌≡◌};
 ghost use Rattle.pct_io.specs.declared.failed.ReadEnd.TheVariants as read_end;
 
 use std::alloc::{AllocError, AllocFailed};
 
-/// A read or a write failed. Its source or sink has counted it.
+/// A read or a write failed. The source or sink has recorded the error.
 #[derive(Clone, Copy, Debug, PartialEq, Eq)]
 pub struct Failed;
 
-/// There was no memory. It may come from every call that takes an allocator.
+/// Out of memory. Every call that takes an allocator can return it.
 #[derive(Clone, Copy, Debug, PartialEq, Eq)]
 pub struct NoMemory;
 
@@ -24,14 +24,14 @@ impl<T: Drop> From<AllocFailed<T>> for NoMemory {
     }
 }
 
-/// Why `read_all` has no bytes to answer.
+/// Why `read_all` returns no bytes.
 #[derive(Clone, Copy, Debug, PartialEq, Eq)]
 pub enum ReadEnd {
     /// A read failed.
     Failed,
-    /// There are more bytes than the limit allows.
+    /// The input has more bytes than the limit.
     TooLong,
-    /// There was no memory for the bytes.
+    /// There was not enough memory to hold the bytes.
     NoMemory,
 }
 

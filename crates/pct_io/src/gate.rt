@@ -1,13 +1,13 @@
-//! What stands before each turn of a worker.
+//! A hook that is called before each turn of a worker.
 
-/// Called before each turn of a worker, with the worker's number and the number of its turn. It answers nothing, and
-/// no promise rests on it: it may delay, print or count.
+/// A hook that is called before each turn of a worker. It can delay the worker, print or count. It returns nothing, and
+/// no contract depends on it.
 pub trait Gate: Sync {
-    /// Comes before the turn of this number of the worker of this number.
+    /// Is called with the worker's number and the number of its turn, counted from 1.
     fn at(&self, worker: u32, turn: u32);
 }
 
-/// The gate that does nothing.
+/// A gate that does nothing.
 #[derive(Clone, Copy, Debug)]
 pub struct NoGate;
 

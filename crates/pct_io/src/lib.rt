@@ -1,28 +1,28 @@
-//! The outside of the host: sources and sinks of bytes that count their faults, in memory and over std's streams,
-//! whole reads and writes, a gatherer of output, and the gate before each turn.
+//! Input and output of the host: byte sources and byte sinks that count their errors, in memory and over std's
+//! streams; reading and writing of whole texts; buffered output; and a hook for the turns of workers, which nothing calls yet.
 #![tactic(auto)]
 
-mod edge;
+mod buffered_sink;
 mod failed;
 mod gate;
-mod gatherer;
-mod held;
 mod line;
+mod line_buffer;
 mod memory;
+mod read_write;
 mod sink;
 mod source;
-mod tail;
-mod whole;
+mod std_streams;
+mod write_buffer;
 
-pub use edge::{StdSink, StdSource};
+pub use buffered_sink::{BufferedSink, write_buffered};
 pub use failed::{Failed, NoMemory, ReadEnd};
 pub use gate::{Gate, NoGate};
-pub use gatherer::{Gatherer, write_gathered};
-pub use line::{Word, write_line, write_spaced_word};
+pub use line::{Field, write_line, write_spaced_field};
 pub use memory::{MemSink, MemSource};
+pub use read_write::{read_all, write_all, write_parts};
 pub use sink::Sink;
 pub use source::Source;
-pub use whole::{read_all, write_all, write_parts};
+pub use std_streams::{StdSink, StdSource};
 
 #[cfg(test)]
 mod tests;

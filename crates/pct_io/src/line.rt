@@ -1,132 +1,138 @@
-//! Lines of words.
+//! Output lines, built from fields.
 
 ghost use Rattle.std.specs.Prelude.{◌≡◌, [], ◌∷◌, ◌++◌, map, IsTrue};
 ghost use Rattle.std.specs.List.{flat_map, join_with_byte};
 ghost use Rattle.pct_io.specs.Writes.{Writes};
-ghost use Rattle.pct_io.specs.Lines.{word_text};
+ghost use Rattle.pct_io.specs.Fields.{field_text};
 
-use crate::tail::Tail;
-use crate::whole::{write_all, write_parts};
+use crate::line_buffer::LineBuffer;
+use crate::read_write::{write_all, write_parts};
 use crate::{Failed, Sink};
 use itoa::Buffer;
 
-/// A word of a line.
+/// A field of a line.
 #[derive(Clone, Copy)]
-pub enum Word<'a> {
-    /// These bytes.
+pub enum Field<'a> {
+    /// The bytes as they are.
     Text(&'a [u8]),
     /// A number in decimal, without leading zeros.
     Number(u32),
-    /// Two numbers, parted by a dot.
+    /// A count in decimal, without leading zeros.
+    Count(usize),
+    /// Two numbers in decimal, separated by a dot.
     Dotted(u32, u32),
 }
 
-/// Writes a line: its words, parted by one space, and then a line's end (byte 10). At `Failed` a front of the line was
-/// written, and the sink's count of faults rose. It takes no memory.
-pub fn write_line<K: Sink>(sink: &mut K, words: &[Word]) -> Result<(), Failed>
-    ensures { Writes K.written K.faults K.inners sink.old sink.new (join_with_byte 32 (map word_text words.now) ++ 10 ∷ []) result }
+/// Writes a line: the fields, separated by one space, followed by LF (byte 10). `Failed` means that a prefix of the line
+/// was written and that the sink recorded one error. It allocates no memory.
+pub fn write_line<K: Sink>(sink: &mut K, fields: &[Field]) -> Result<(), Failed>
+    ensures { Writes K.written K.errors K.inners sink.old sink.new (join_with_byte 32 (map field_text fields.now) ++ 10 ∷ []) result }
 {
-    let mut line = Tail::new();
-    if put_line(&mut line, words) {
+    let mut line = LineBuffer::new();
+    if prepend_line(&mut line, fields) {
         write_all(sink, line.as_slice())
     } else {
-        write_by_words(sink, words)
+        write_by_fields(sink, fields)
     }
 }
 
-// Puts the line in front, and says whether there was room for it.
-fn put_line(tail: &mut Tail, words: &[Word]) -> bool
-    ensures { IsTrue result → tail.new ≡ join_with_byte 32 (map word_text words.now) ++ 10 ∷ tail.old }
+// Prepends the line to the buffer. Returns false if it does not fit.
+fn prepend_line(buffer: &mut LineBuffer, fields: &[Field]) -> bool
+    ensures { IsTrue result → buffer.new ≡ join_with_byte 32 (map field_text fields.now) ++ 10 ∷ buffer.old }
 {
-    tail.put(b"\n")
-        && match words.split_first() {
+    buffer.prepend(b"\n")
+        && match fields.split_first() {
             None => true,
-            Some((first, rest)) => put_spaced(tail, rest) && put_word(tail, first),
+            Some((first, rest)) => prepend_spaced(buffer, rest) && prepend_field(buffer, first),
         }
 }
 
-// Puts the words in front, each behind a space, and says whether there was room for them.
-fn put_spaced(tail: &mut Tail, words: &[Word]) -> bool
-    ensures { IsTrue result → tail.new ≡ flat_map (λ word. 32 ∷ word_text word) words.now ++ tail.old }
+// Prepends the fields, each preceded by a space. Returns false if they do not fit.
+fn prepend_spaced(buffer: &mut LineBuffer, fields: &[Field]) -> bool
+    ensures { IsTrue result → buffer.new ≡ flat_map (λ field. 32 ∷ field_text field) fields.now ++ buffer.old }
 {
-    for place in (0..words.len()).rev() {
-        if !put_spaced_word(tail, &words[place]) {
+    for position in (0..fields.len()).rev() {
+        if !prepend_spaced_field(buffer, &fields[position]) {
             return false;
         }
     }
     true
 }
 
-// Puts the word in front, behind a space, and says whether there was room for them.
+// Prepends a space and the field. Returns false if they do not fit.
 #[inline]
-fn put_spaced_word(tail: &mut Tail, word: &Word) -> bool
-    ensures { IsTrue result → tail.new ≡ 32 ∷ (word_text word.now ++ tail.old) }
+fn prepend_spaced_field(buffer: &mut LineBuffer, field: &Field) -> bool
+    ensures { IsTrue result → buffer.new ≡ 32 ∷ (field_text field.now ++ buffer.old) }
 {
-    put_word(tail, word) && tail.put(b" ")
+    prepend_field(buffer, field) && buffer.prepend(b" ")
 }
 
-// Puts the word in front, and says whether there was room for it.
+// Prepends the field. Returns false if it does not fit.
 #[inline]
-fn put_word(tail: &mut Tail, word: &Word) -> bool
-    ensures { IsTrue result → tail.new ≡ word_text word.now ++ tail.old }
+fn prepend_field(buffer: &mut LineBuffer, field: &Field) -> bool
+    ensures { IsTrue result → buffer.new ≡ field_text field.now ++ buffer.old }
 {
-    match word {
-        Word::Text(text) => tail.put(text),
-        Word::Number(number) => tail.put_number(*number),
-        Word::Dotted(first, second) => {
-            tail.put_number(*second) && tail.put(b".") && tail.put_number(*first)
+    match field {
+        Field::Text(text) => buffer.prepend(text),
+        Field::Number(number) => buffer.prepend_number(*number as u64),
+        Field::Count(count) => buffer.prepend_number(*count as u64),
+        Field::Dotted(first, second) => {
+            buffer.prepend_number(*second as u64)
+                && buffer.prepend(b".")
+                && buffer.prepend_number(*first as u64)
         }
     }
 }
 
-// Writes the line a word at a time.
+// Writes the line field by field, for a line that is too long for the buffer.
 #[cold]
-fn write_by_words<K: Sink>(sink: &mut K, words: &[Word]) -> Result<(), Failed>
-    ensures { Writes K.written K.faults K.inners sink.old sink.new (join_with_byte 32 (map word_text words.now) ++ 10 ∷ []) result }
+fn write_by_fields<K: Sink>(sink: &mut K, fields: &[Field]) -> Result<(), Failed>
+    ensures { Writes K.written K.errors K.inners sink.old sink.new (join_with_byte 32 (map field_text fields.now) ++ 10 ∷ []) result }
 {
-    write_words(sink, words)?;
+    write_fields(sink, fields)?;
     write_all(sink, b"\n")
 }
 
-// Writes the words, parted by one space.
-fn write_words<K: Sink>(sink: &mut K, words: &[Word]) -> Result<(), Failed>
-    ensures { Writes K.written K.faults K.inners sink.old sink.new (join_with_byte 32 (map word_text words.now)) result }
+// Writes the fields, separated by one space.
+fn write_fields<K: Sink>(sink: &mut K, fields: &[Field]) -> Result<(), Failed>
+    ensures { Writes K.written K.errors K.inners sink.old sink.new (join_with_byte 32 (map field_text fields.now)) result }
 {
-    match words.split_first() {
+    match fields.split_first() {
         None => Ok(()),
         Some((first, rest)) => {
-            write_word(sink, first)?;
+            write_field(sink, first)?;
             write_spaced(sink, rest)
         }
     }
 }
 
-// Writes the words, each behind a space.
-fn write_spaced<K: Sink>(sink: &mut K, words: &[Word]) -> Result<(), Failed>
-    ensures { Writes K.written K.faults K.inners sink.old sink.new (flat_map (λ word. 32 ∷ word_text word) words.now) result }
+// Writes the fields, each preceded by a space.
+fn write_spaced<K: Sink>(sink: &mut K, fields: &[Field]) -> Result<(), Failed>
+    ensures { Writes K.written K.errors K.inners sink.old sink.new (flat_map (λ field. 32 ∷ field_text field) fields.now) result }
 {
-    for word in words {
-        write_spaced_word(sink, word)?;
+    for field in fields {
+        write_spaced_field(sink, field)?;
     }
     Ok(())
 }
 
-/// Writes a space, and the word behind it. At `Failed` a front of them was written, and the sink's count of faults rose.
-/// It takes no memory.
-pub fn write_spaced_word<K: Sink>(sink: &mut K, word: &Word) -> Result<(), Failed>
-    ensures { Writes K.written K.faults K.inners sink.old sink.new (32 ∷ word_text word.now) result }
+/// Writes a space followed by the field. `Failed` means that a prefix of this text was written and that the sink
+/// recorded one error. It allocates no memory.
+pub fn write_spaced_field<K: Sink>(sink: &mut K, field: &Field) -> Result<(), Failed>
+    ensures { Writes K.written K.errors K.inners sink.old sink.new (32 ∷ field_text field.now) result }
 {
     write_all(sink, b" ")?;
-    write_word(sink, word)
+    write_field(sink, field)
 }
 
-fn write_word<K: Sink>(sink: &mut K, word: &Word) -> Result<(), Failed>
-    ensures { Writes K.written K.faults K.inners sink.old sink.new (word_text word.now) result }
+fn write_field<K: Sink>(sink: &mut K, field: &Field) -> Result<(), Failed>
+    ensures { Writes K.written K.errors K.inners sink.old sink.new (field_text field.now) result }
 {
-    match word {
-        Word::Text(text) => write_all(sink, text),
-        Word::Number(number) => write_all(sink, Buffer::new().format(*number).as_bytes()),
-        Word::Dotted(first, second) => write_parts(
+    match field {
+        Field::Text(text) => write_all(sink, text),
+        Field::Number(number) => write_all(sink, Buffer::new().format(*number).as_bytes()),
+        Field::Count(count) => write_all(sink, Buffer::new().format(*count).as_bytes()),
+        Field::Dotted(first, second) => write_parts(
             sink,
             &[
                 Buffer::new().format(*first).as_bytes(),

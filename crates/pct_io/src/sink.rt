@@ -1,29 +1,29 @@
-//! Where bytes go.
+//! Byte sinks.
 ghost use Rattle.std.specs.Prelude.{ℕ, List, Option, IfOk};
 ghost use Rattle.std.specs.Io.KnownBytes.{WriteAppends};
-ghost use Rattle.pct_io.specs.Faults.{HasCause};
+ghost use Rattle.pct_io.specs.ErrorCounts.{HasCause};
 ghost use Rattle.pct_io.specs.Inners.{Inner, KeepsInners};
-ghost use Rattle.pct_io.specs.Sinks.{Takes};
+ghost use Rattle.pct_io.specs.Sinks.{Accepts};
 
 use crate::Failed;
 
-/// A sink of bytes. It counts its faults.
+/// A byte sink that counts its errors.
 pub trait Sink {
-    /// The bytes written so far, where the sink tells them.
+    /// The bytes written so far, or `None` where the sink does not report them.
     ghost written: { Self → Option (List ℕ) };
 
-    /// How often it has failed. It never falls, and stands still at 18446744073709551615.
-    ghost faults: { Self → ℕ };
+    /// The number of errors so far, which stops at 18446744073709551615.
+    ghost errors: { Self → ℕ };
 
-    /// The sinks that it writes through, outermost first: none for a device, and for a gatherer the sink that it was
-    /// made over and those behind that one.
+    /// The sinks that this one writes to, outermost first. A device has none. A buffered sink has the sink that it
+    /// wraps, followed by the inner sinks of that sink.
     ghost inners: { Self → List Inner };
 
-    /// Writes a front of the piece, and answers its length, which is at least 1 for a piece that is not empty.
-    /// `Failed` writes nothing, and comes only where the count of faults rose.
+    /// Writes a prefix of `piece` and returns its length, which is at least 1 unless `piece` is empty. `Failed` means
+    /// that nothing was written and that the sink recorded one error.
     fn write(&mut self, piece: &[u8]) -> Result<usize, Failed>
-        ensures bound { IfOk result (λ n. Takes n piece.now) }
+        ensures bound { IfOk result (λ n. Accepts n piece.now) }
         ensures bytes { WriteAppends (written self.old) (written self.new) result piece.now }
-        ensures cause { HasCause (faults self.old) (faults self.new) result }
+        ensures cause { HasCause (errors self.old) (errors self.new) result }
         ensures inners { KeepsInners (inners self.old) (inners self.new) };
 }

@@ -1,10 +1,12 @@
 use super::*;
+use std::io;
+use std::io::{Read, Write};
 use std::test::Fail;
 
 #[test]
 fn reads_all_up_to_the_limit(rt: HostRuntime) -> Result<(), Fail> {
     let alloc = rt.alloc();
-    // How many bytes a call moves, the call that fails, the limit, and the number of bytes answered.
+    // The bytes per call, the failing call, the limit, and the number of bytes returned.
     for (chunk, fails, limit, want) in [
         (1, 0, 5, Ok(5)),
         (2, 0, 6, Ok(5)),
@@ -51,7 +53,7 @@ fn a_failed_read_takes_no_byte(rt: HostRuntime) -> Result<(), Fail> {
 #[test]
 fn writes_until_a_call_fails(rt: HostRuntime) -> Result<(), Fail> {
     let alloc = rt.alloc();
-    // The room, how many bytes a call moves, the call that fails, the answer, and the number of bytes written.
+    // The room, the bytes per call, the failing call, the result, and the number of bytes written.
     for (room, chunk, fails, want, length) in [
         (5, 1, 0, Ok(()), 5),
         (9, 4, 3, Ok(()), 5),
@@ -94,33 +96,37 @@ fn parts_follow_one_another(rt: HostRuntime) -> Result<(), Fail> {
 }
 
 #[test]
-fn a_line_is_its_words(rt: HostRuntime) -> Result<(), Fail> {
-    let rows: [(&[Word], &[u8]); 6] = [
+fn a_line_is_its_fields(rt: HostRuntime) -> Result<(), Fail> {
+    let rows: [(&[Field], &[u8]); 7] = [
         (&[], b"\n"),
-        (&[Word::Text(b"")], b"\n"),
-        (&[Word::Text(b""), Word::Text(b"")], b" \n"),
-        (&[Word::Text(b"end"), Word::Number(0)], b"end 0\n"),
-        (&[Word::Number(4_294_967_295)], b"4294967295\n"),
+        (&[Field::Text(b"")], b"\n"),
+        (&[Field::Text(b""), Field::Text(b"")], b" \n"),
+        (&[Field::Text(b"end"), Field::Number(0)], b"end 0\n"),
+        (&[Field::Number(4_294_967_295)], b"4294967295\n"),
         (
-            &[Word::Dotted(4_294_967_295, 10), Word::Text(b"exit")],
+            &[Field::Text(b"end"), Field::Count(usize::MAX)],
+            b"end 18446744073709551615\n",
+        ),
+        (
+            &[Field::Dotted(4_294_967_295, 10), Field::Text(b"exit")],
             b"4294967295.10 exit\n",
         ),
     ];
-    for (words, line) in rows {
+    for (fields, line) in rows {
         let mut sink = MemSink::new(rt.alloc(), 99, 99, &[])?;
-        write_line(&mut sink, words)?;
+        write_line(&mut sink, fields)?;
         assert_eq!(rt; sink.written(), line);
     }
     Ok(())
 }
 
 #[test]
-fn lines_may_be_of_any_length(rt: HostRuntime) -> Result<(), Fail> {
+fn lines_have_any_length(rt: HostRuntime) -> Result<(), Fail> {
     let alloc = rt.alloc();
     let text = [b'a'; 150];
     for length in 0..=150 {
         let name = &text[..length];
-        // Room for all, and for all but the line's end.
+        // Room for the whole line, and for the line without its LF.
         for room in [length as u32 + 16, length as u32 + 15] {
             let mut sink = MemSink::new(alloc, room, 7, &[])?;
             let mut same = MemSink::new(alloc, room, 7, &[])?;
@@ -128,9 +134,9 @@ fn lines_may_be_of_any_length(rt: HostRuntime) -> Result<(), Fail> {
                 write_line(
                     &mut sink,
                     &[
-                        Word::Dotted(1, 2),
-                        Word::Text(name),
-                        Word::Number(1_000_000_000)
+                        Field::Dotted(1, 2),
+                        Field::Text(name),
+                        Field::Number(1_000_000_000)
                     ],
                 ),
                 write_parts(&mut same, &[b"1.2 ", name, b" 1000000000", b"\n"]),
@@ -143,23 +149,23 @@ fn lines_may_be_of_any_length(rt: HostRuntime) -> Result<(), Fail> {
 }
 
 #[test]
-fn what_was_not_taken_is_still_held(rt: HostRuntime) -> Result<(), Fail> {
+fn unsent_bytes_stay_buffered(rt: HostRuntime) -> Result<(), Fail> {
     let mut sink = MemSink::new(rt.alloc(), 99, 4, &[2])?;
-    let mut out = Gatherer::new(&mut sink);
+    let mut out = BufferedSink::new(&mut sink);
     write_all(&mut out, b"gathered")?;
-    assert_eq!(rt; out.empty(), Err(Failed));
+    assert_eq!(rt; out.flush(), Err(Failed));
     write_all(&mut out, b" text")?;
-    assert_eq!(rt; out.empty(), Ok(()));
+    assert_eq!(rt; out.flush(), Ok(()));
     assert_eq!(rt; sink.written(), b"gathered text".as_slice());
     Ok(())
 }
 
 #[test]
-fn what_is_held_is_lost_without_empty(rt: HostRuntime) -> Result<(), Fail> {
+fn dropping_a_buffered_sink_discards_its_buffer(rt: HostRuntime) -> Result<(), Fail> {
     let mut sink = MemSink::new(rt.alloc(), 99, 4, &[2])?;
-    let mut out = Gatherer::new(&mut sink);
+    let mut out = BufferedSink::new(&mut sink);
     write_all(&mut out, b"gathered")?;
-    assert_eq!(rt; out.empty(), Err(Failed));
+    assert_eq!(rt; out.flush(), Err(Failed));
     assert_eq!(rt; sink.written(), b"gath".as_slice());
     Ok(())
 }
@@ -169,13 +175,13 @@ fn long_texts_pass_through(rt: HostRuntime) -> Result<(), Fail> {
     let alloc = rt.alloc();
     let text = vec![in alloc; 7; 20_000]?;
     let mut sink = MemSink::new(alloc, 1_000_000, 1000, &[])?;
-    write_gathered(&mut sink, &text)?;
+    write_buffered(&mut sink, &text)?;
     assert_eq!(rt; sink.written(), text.as_slice());
-    let mut out = Gatherer::new(&mut sink);
+    let mut out = BufferedSink::new(&mut sink);
     for piece in [b"abc".as_slice(), &text, b"def"] {
         write_all(&mut out, piece)?;
     }
-    out.empty()?;
+    out.flush()?;
     assert_eq!(rt; sink.written().len(), 40_006);
     Ok(())
 }
@@ -202,6 +208,103 @@ fn std_writer_is_a_sink(rt: HostRuntime) -> Result<(), Fail> {
         "it takes nothing of the d"
     );
     assert_eq!(rt; room, *b"abc");
+    Ok(())
+}
+
+// A reader of one byte a call, whose call number `fails` fails, counted from 1.
+#[derive(Drop)]
+struct FailingReader {
+    bytes: &'static [u8],
+    calls: u32,
+    fails: u32,
+}
+
+impl Read for FailingReader {
+    fn read(&mut self, buf: &mut [u8]) -> io::Result<usize> {
+        self.calls = self.calls.saturating_add(1);
+        if self.calls == self.fails {
+            return Err(io::ErrorKind::Interrupted.into());
+        }
+        if self.bytes.is_empty() || buf.is_empty() {
+            return Ok(0);
+        }
+        buf[0] = self.bytes[0];
+        self.bytes = &self.bytes[1..];
+        Ok(1)
+    }
+}
+
+#[test]
+fn each_error_of_a_reader_is_returned(rt: HostRuntime) -> Result<(), Fail> {
+    let alloc = rt.alloc();
+    // The failing call, and the bytes that are left after it. The fourth call reaches the end of the input.
+    for (fails, rest) in [(1, b"abc".as_slice()), (2, b"bc"), (3, b"c"), (4, b"")] {
+        let mut source = StdSource::new(FailingReader {
+            bytes: b"abc",
+            calls: 0,
+            fails,
+        });
+        assert_eq!(rt;
+            read_all(alloc, &mut source, 9).err(),
+            Some(ReadEnd::Failed),
+            "call {fails} fails"
+        );
+        assert_eq!(rt; read_all(alloc, &mut source, 9)?.as_slice(), rest);
+    }
+    Ok(())
+}
+
+// A writer that accepts one byte a call. The write and the flush with these numbers fail, counted from 1.
+#[derive(Drop)]
+struct FailingWriter {
+    writes: u32,
+    flushes: u32,
+    write_fails: u32,
+    flush_fails: u32,
+}
+
+impl Write for FailingWriter {
+    fn write(&mut self, buf: &[u8]) -> io::Result<usize> {
+        self.writes = self.writes.saturating_add(1);
+        if self.writes == self.write_fails {
+            return Err(io::ErrorKind::Other.into());
+        }
+        Ok(buf.len().min(1))
+    }
+
+    fn flush(&mut self) -> io::Result<()> {
+        self.flushes = self.flushes.saturating_add(1);
+        if self.flushes == self.flush_fails {
+            return Err(io::ErrorKind::Other.into());
+        }
+        Ok(())
+    }
+}
+
+#[test]
+fn each_write_is_flushed_once_and_each_error_returned(rt: HostRuntime) -> Result<(), Fail> {
+    // The failing write, the failing flush, and the result of writing three bytes.
+    for (write_fails, flush_fails, want) in [
+        (0, 0, Ok(())),
+        (1, 0, Err(Failed)),
+        (3, 0, Err(Failed)),
+        (4, 0, Ok(())),
+        (0, 1, Err(Failed)),
+        (0, 3, Err(Failed)),
+        (0, 4, Ok(())),
+    ] {
+        let mut sink = StdSink::new(FailingWriter {
+            writes: 0,
+            flushes: 0,
+            write_fails,
+            flush_fails,
+        });
+        assert_eq!(rt;
+            write_all(&mut sink, b"abc"),
+            want,
+            "write {write_fails} fails, flush {flush_fails} fails"
+        );
+    }
     Ok(())
 }
 

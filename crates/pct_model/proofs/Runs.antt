@@ -1,4 +1,4 @@
--- A run that goes on by one entry.
+-- A run with one more entry.
 use Rattle.std.proofs.Common.{◌≡◌, List, [], ◌∷◌, ◌++◌, Option, Some, None, refl}
 use Rattle.std.specs.Prelude.{option_and_then}
 use Rattle.pct_model.specs.declared.script.Script.{Script}
@@ -14,7 +14,7 @@ and_then-and_then : (o : Option Run) (f g h : Run → Option Run) → ((r : Run)
 and_then-and_then None f g h each = refl
 and_then-and_then (Some r) f g h each = each r
 
--- a run is the run of all entries but the last, and then the last one
+-- the run of a schedule is the run of all entries but the last, and then the step of the last
 pub run_from-more : (script : Script) (config : Config) (from : Run) (entries : List Entry) (e : Entry) → run_from script config from (entries ++ e ∷ []) ≡ option_and_then (λ r. run_step script config r e) (run_from script config from entries)
 unfolding run_from
 run_from-more script config from [] e = and_then-Some (run_step script config from e)

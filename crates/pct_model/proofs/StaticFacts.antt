@@ -1,20 +1,20 @@
--- What the checks of a script say, one by one.
+-- The checks of a well-formed script, one by one.
 use Rattle.std.proofs.Common.{◌≡◌, ℕ, ◌≤◌, true, List, [], ◌∷◌, length, map, refl, subst}
 use Rattle.std.specs.Prelude.{false, ◌&&◌, not, nat_le}
 use Rattle.std.specs.List.{list_all}
 use Rattle.std.proofs.lemmas.Bool.{and_parts, and_from, leb-true, not-true}
 use Rattle.std.proofs.lemmas.List.{length-map}
-use Rattle.pct_model.specs.declared.form.Kind.{Kind}
-use Rattle.pct_model.specs.declared.form.Kind.TheVariants as kind
+use Rattle.pct_model.specs.declared.line_kind.SymbolKind.{SymbolKind}
+use Rattle.pct_model.specs.declared.line_kind.SymbolKind.TheVariants as kind
 use Rattle.pct_model.specs.declared.script.Func.{Func}
 use Rattle.pct_model.specs.declared.script.SemDecl.{SemDecl}
 use Rattle.pct_model.specs.Names.{is_name, names_of}
-use Rattle.pct_model.specs.Saying.{is_empty}
+use Rattle.pct_model.specs.LineParsing.{is_empty}
 use Rattle.pct_model.specs.Contents.{Contents, names_of_kind}
 use Rattle.pct_model.specs.Checks.{most}
 use Rattle.pct_model.specs.Static.{has_line, has_lines, has_text, nests, is_within, statement_lines, keeps_limits, has_each_name_once, returns_outside_pushes, names_plain_functions, has_main, is_static}
 
--- the checks of a script that passes all of them
+-- the checks that a well-formed script passes
 pub record PassesAll (c : Contents) : Type 0 where
   pub text : has_text c ≡ true
   pub nested : list_all nests c.funcs ≡ true
@@ -52,13 +52,13 @@ static_from c p =
 
 -- ---- limits
 
--- the limits of a script, one by one
+-- the limits of a well-formed script
 pub record KeepsLimits (c : Contents) : Type 0 where
-  pub kinds : (k : Kind) → length (names_of_kind c k) ≤ most k
+  pub kinds : (k : SymbolKind) → length (names_of_kind c k) ≤ most k
   pub statements : statement_lines c.funcs ≤ 2000
   pub locals : list_all (λ f. nat_le (length f.locals) 8) c.funcs ≡ true
 
-within_kinds : (c : Contents) (k : Kind) → is_within c kind.Global ≡ true → is_within c kind.Mutex ≡ true → is_within c kind.Cond ≡ true → is_within c kind.Sem ≡ true → is_within c kind.Function ≡ true
+within_kinds : (c : Contents) (k : SymbolKind) → is_within c kind.Global ≡ true → is_within c kind.Mutex ≡ true → is_within c kind.Cond ≡ true → is_within c kind.Sem ≡ true → is_within c kind.Function ≡ true
     → length (names_of_kind c k) ≤ most k
 within_kinds c kind.Global globals mutexes conds sems functions = leb-true _ _ globals
 within_kinds c kind.Mutex globals mutexes conds sems functions = leb-true _ _ mutexes
@@ -90,7 +90,7 @@ few_functions c static = subst (λ (n : ℕ). n ≤ 64) (length-map c.funcs (λ 
 
 -- ---- names
 
--- what is said of a function that some lines say
+-- the properties of a function that some lines declare
 pub record HasLines (c : Contents) (f : Func) : Type 0 where
   pub name : is_name f.name ≡ true
   pub some : is_empty f.locals ≡ false
@@ -120,7 +120,7 @@ names_of_sems (s ∷ sems) h =
     let parts = and_parts (is_name s.name && nat_le s.count 32767) (list_all (λ (x : SemDecl). is_name x.name && nat_le x.count 32767) sems) h in
     and_from (is_name s.name) (list_all is_name (map (λ (x : SemDecl). x.name) sems)) (and_parts (is_name s.name) (nat_le s.count 32767) parts.0).0 (names_of_sems sems parts.1)
 
--- what is said of the parts of a script that some text spells
+-- the properties of a script that some text spells
 pub record HasText (c : Contents) : Type 0 where
   pub globals : list_all is_name c.globals ≡ true
   pub mutexes : list_all is_name c.mutexes ≡ true
@@ -141,14 +141,14 @@ text_parts c h =
     let e = and_parts globals mutexes d.0 in
     record { globals = e.0; mutexes = e.1; conds = d.1; sems = b.1; funcs = a.1 }
 
--- the declared names of each kind are names
-pub kinds_are_names : (c : Contents) (k : Kind) → HasText c → list_all is_name (names_of_kind c k) ≡ true
+-- the declared names of each kind are valid names
+pub kinds_are_names : (c : Contents) (k : SymbolKind) → HasText c → list_all is_name (names_of_kind c k) ≡ true
 kinds_are_names c kind.Global t = t.globals
 kinds_are_names c kind.Mutex t = t.mutexes
 kinds_are_names c kind.Cond t = t.conds
 kinds_are_names c kind.Sem t = names_of_sems c.sems t.sems
 kinds_are_names c kind.Function t = names_of_lines c c.funcs t.funcs
 
--- the names of a script's functions are names
+-- the names of a script's functions are valid names
 pub names_are_names : (c : Contents) → is_static c ≡ true → list_all is_name (names_of c.funcs) ≡ true
 names_are_names c static = kinds_are_names c kind.Function (text_parts c (passes_all c static).text)

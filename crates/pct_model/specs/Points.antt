@@ -1,6 +1,6 @@
--- The cancellation points (XSH 2.9.5.2, Cancellation Points): functions that shall be points, and some that may be. Which
--- names stand here, of which kind, in which order, and what a thread at a point waits for are this host's choice; the kinds
--- are drawn from the standard's two lists.
+-- The cancellation points (XSH 2.9.5.2): functions that shall be cancellation points, and some that may be. The
+-- standard has the two lists from which the kinds are taken. The selection of names, their order, and what a thread
+-- suspended at a point waits for are choices of this host.
 use Rattle.std.specs.Prelude.{ℕ, List, [], ◌∷◌, Option, codes, bytes_eq, position, slice_get, option_map, option_and_then}
 use Rattle.std.specs.Option.{option_map_or}
 use Rattle.pct_model.specs.declared.point.Point.{Point}
@@ -9,7 +9,8 @@ use Rattle.pct_model.specs.declared.point.PointKind.TheVariants.{Required, Optio
 use Rattle.pct_model.specs.declared.point.PointWait.{PointWait}
 use Rattle.pct_model.specs.declared.point.PointWait.TheVariants.{NoWait, Outside, Never, Inside}
 
--- a row of the table: a function's name, whether it shall or may be a point, and what a thread at it waits for
+-- a row of the table: a function's name, whether it shall or may be a cancellation point, and what a thread at it waits
+-- for
 pub record Row : Type 0 where
   pub name : List ℕ
   pub kind : PointKind
@@ -19,11 +20,11 @@ pub record Row : Type 0 where
 abbrev pub required : List ℕ → PointWait → Row
 required name wait = record { name = name; kind = Required; wait = wait }
 
--- a function at which a cancellation point may occur; here no thread is suspended at it
+-- a function at which a cancellation point may occur; in this host no thread is suspended at it
 abbrev pub optional : List ℕ → Row
 optional name = record { name = name; kind = Optional; wait = NoWait }
 
--- the table; a row's index is its place, from 0
+-- the table of cancellation points; a point's index is its row number, from 0
 unfoldable pub points : List Row
 points =
     required (codes "accept") Outside
@@ -86,14 +87,14 @@ points =
     ∷ optional (codes "readdir")
     ∷ []
 
--- the point with this index
+-- the point with an index, if the index is in the table
 abbrev pub point_at : ℕ → Option Point
 point_at index = option_map (λ r. record { index = index; kind = r.kind; wait = r.wait }) (slice_get points index)
 
--- the point with this name
+-- the point with a name, if there is one
 unfoldable pub point_of : List ℕ → Option Point
 point_of name = option_and_then point_at (position (λ r. bytes_eq r.name name) points)
 
--- the name of the point with this index
+-- the name of the point with an index, or the empty name if the index is out of range
 unfoldable pub point_name : ℕ → List ℕ
 point_name index = option_map_or (λ r. r.name) (slice_get points index) []

@@ -1,103 +1,103 @@
--- How a statement is said: the form of its line, and what the words behind the line's first stand for.
+-- The encoding of statements as lines: the line kind and the arguments of each statement.
 use Rattle.std.specs.Prelude.{ℕ, Bool, true, false, List, [], ◌∷◌, length, Option, Some, None}
-use Rattle.pct_model.specs.declared.form.Form.{Form}
-use Rattle.pct_model.specs.declared.form.Form.TheVariants as form
-use Rattle.pct_model.specs.declared.form.Place.{Place}
+use Rattle.pct_model.specs.declared.line_kind.LineKind.{LineKind}
+use Rattle.pct_model.specs.declared.line_kind.LineKind.TheVariants as line_kind
+use Rattle.pct_model.specs.declared.line_kind.ArgumentKind.{ArgumentKind}
 use Rattle.pct_model.specs.declared.role.Role.{Role}
-use Rattle.pct_model.specs.declared.said.Argument.{Argument}
-use Rattle.pct_model.specs.declared.said.Argument.TheVariants as argument
+use Rattle.pct_model.specs.declared.parsed_line.Argument.{Argument}
+use Rattle.pct_model.specs.declared.parsed_line.Argument.TheVariants as argument
 use Rattle.pct_model.specs.declared.statement.Dest.{Dest}
 use Rattle.pct_model.specs.declared.statement.Dest.TheVariants as destination
 use Rattle.pct_model.specs.declared.statement.Operand.{Operand}
 use Rattle.pct_model.specs.declared.statement.Operand.TheVariants as operand
 use Rattle.pct_model.specs.declared.statement.Stmt.{Stmt}
 use Rattle.pct_model.specs.declared.statement.Stmt.TheVariants as statement
-use Rattle.pct_model.specs.Forms.{shape}
+use Rattle.pct_model.specs.LineKinds.{syntax_of}
 
--- ---- parts of statements
+-- ---- arguments
 
--- a value
+-- the argument that is a value
 abbrev pub value : Operand → Argument
 value (operand.Num n) = argument.Number n
 value (operand.Local i) = argument.Local i
 value (operand.Global i) = argument.Global i
 
--- where a value goes; `-` drops it
+-- the argument that is the destination of a value; `-` drops the value
 abbrev pub dest : Dest → Argument
 dest destination.Drop = argument.Nothing
 dest (destination.Local i) = argument.Local i
 dest (destination.Global i) = argument.Global i
 
--- a function, or `-` where there is none
+-- the argument that is a function, or `-` for none
 abbrev pub optional : Option ℕ → Argument
 optional None = argument.Nothing
 optional (Some f) = argument.Item f
 
--- `detached` is there or not
+-- the optional argument `detached`
 abbrev pub detached_or_not : Bool → List Argument
 detached_or_not true = argument.Flag true ∷ []
 detached_or_not false = []
 
 -- ---- the table
 
--- a line's form, and its arguments
-abbrev pub Told : Type 0
-Told = Form × List Argument
+-- a line kind, and the arguments of a line of this kind
+abbrev pub EncodedStmt : Type 0
+EncodedStmt = LineKind × List Argument
 
--- each statement as it is said
-unfoldable pub said_as : Stmt → Told
-said_as (statement.Emit v) = (form.Emit, value v ∷ [])
-said_as (statement.Set d v) = (form.Set, dest d ∷ value v ∷ [])
-said_as (statement.Add d v) = (form.Add, dest d ∷ value v ∷ [])
-said_as statement.Nop = (form.Nop, [])
-said_as (statement.If v) = (form.If, value v ∷ [])
-said_as statement.Else = (form.Else, [])
-said_as (statement.While v) = (form.While, value v ∷ [])
-said_as statement.End = (form.End, [])
-said_as (statement.Do f v) = (form.Do, argument.Item f ∷ value v ∷ [])
-said_as (statement.Return v) = (form.Return, value v ∷ [])
-said_as (statement.Create result id f v detached) = (form.Create, dest result ∷ dest id ∷ argument.Item f ∷ value v ∷ detached_or_not detached)
-said_as (statement.Join id d) = (form.Join, value id ∷ dest d ∷ [])
-said_as (statement.Detach id) = (form.Detach, value id ∷ [])
-said_as (statement.CancelThread id) = (form.CancelThread, value id ∷ [])
-said_as (statement.SelfId d) = (form.SelfId, dest d ∷ [])
-said_as (statement.ThreadExit v) = (form.ThreadExit, value v ∷ [])
-said_as statement.TestCancel = (form.TestCancel, [])
-said_as (statement.SetState enable old) = (form.SetState, argument.Flag enable ∷ dest old ∷ [])
-said_as (statement.SetMode asynchronous old) = (form.SetMode, argument.Flag asynchronous ∷ dest old ∷ [])
-said_as (statement.Push f v) = (form.Push, argument.Item f ∷ value v ∷ [])
-said_as (statement.Pop v) = (form.Pop, value v ∷ [])
-said_as (statement.KeyCreate result key f) = (form.KeyCreate, dest result ∷ dest key ∷ optional f ∷ [])
-said_as (statement.KeyDelete key) = (form.KeyDelete, value key ∷ [])
-said_as (statement.SetSpecific key v) = (form.SetSpecific, value key ∷ value v ∷ [])
-said_as (statement.GetSpecific d key) = (form.GetSpecific, dest d ∷ value key ∷ [])
-said_as (statement.Lock m) = (form.Lock, argument.Item m ∷ [])
-said_as (statement.Unlock m) = (form.Unlock, argument.Item m ∷ [])
-said_as (statement.CondWait c m) = (form.CondWait, argument.Item c ∷ argument.Item m ∷ [])
-said_as (statement.Signal c) = (form.Signal, argument.Item c ∷ [])
-said_as (statement.Broadcast c) = (form.Broadcast, argument.Item c ∷ [])
-said_as (statement.SemWait s) = (form.SemWait, argument.Item s ∷ [])
-said_as (statement.SemPost s) = (form.SemPost, argument.Item s ∷ [])
-said_as (statement.AtFork result prepare parent child) = (form.AtFork, dest result ∷ optional prepare ∷ optional parent ∷ optional child ∷ [])
-said_as (statement.Fork result child) = (form.Fork, dest result ∷ dest child ∷ [])
-said_as (statement.WaitPid result pid d) = (form.WaitPid, dest result ∷ value pid ∷ dest d ∷ [])
-said_as (statement.AtExit result f) = (form.AtExit, dest result ∷ argument.Item f ∷ [])
-said_as (statement.ProcExit v) = (form.ProcExit, value v ∷ [])
-said_as (statement.ProcExitNow v) = (form.ProcExitNow, value v ∷ [])
-said_as (statement.PointCall index) = (form.Point index, [])
+-- the encoding of each statement
+unfoldable pub encode : Stmt → EncodedStmt
+encode (statement.Emit v) = (line_kind.Emit, value v ∷ [])
+encode (statement.Set d v) = (line_kind.Set, dest d ∷ value v ∷ [])
+encode (statement.Add d v) = (line_kind.Add, dest d ∷ value v ∷ [])
+encode statement.Nop = (line_kind.Nop, [])
+encode (statement.If v) = (line_kind.If, value v ∷ [])
+encode statement.Else = (line_kind.Else, [])
+encode (statement.While v) = (line_kind.While, value v ∷ [])
+encode statement.End = (line_kind.End, [])
+encode (statement.Do f v) = (line_kind.Do, argument.Item f ∷ value v ∷ [])
+encode (statement.Return v) = (line_kind.Return, value v ∷ [])
+encode (statement.Create result id f v detached) = (line_kind.Create, dest result ∷ dest id ∷ argument.Item f ∷ value v ∷ detached_or_not detached)
+encode (statement.Join id d) = (line_kind.Join, value id ∷ dest d ∷ [])
+encode (statement.Detach id) = (line_kind.Detach, value id ∷ [])
+encode (statement.CancelThread id) = (line_kind.CancelThread, value id ∷ [])
+encode (statement.SelfId d) = (line_kind.SelfId, dest d ∷ [])
+encode (statement.ThreadExit v) = (line_kind.ThreadExit, value v ∷ [])
+encode statement.TestCancel = (line_kind.TestCancel, [])
+encode (statement.SetState enable old) = (line_kind.SetState, argument.Flag enable ∷ dest old ∷ [])
+encode (statement.SetMode asynchronous old) = (line_kind.SetMode, argument.Flag asynchronous ∷ dest old ∷ [])
+encode (statement.Push f v) = (line_kind.Push, argument.Item f ∷ value v ∷ [])
+encode (statement.Pop v) = (line_kind.Pop, value v ∷ [])
+encode (statement.KeyCreate result key f) = (line_kind.KeyCreate, dest result ∷ dest key ∷ optional f ∷ [])
+encode (statement.KeyDelete key) = (line_kind.KeyDelete, value key ∷ [])
+encode (statement.SetSpecific key v) = (line_kind.SetSpecific, value key ∷ value v ∷ [])
+encode (statement.GetSpecific d key) = (line_kind.GetSpecific, dest d ∷ value key ∷ [])
+encode (statement.Lock m) = (line_kind.Lock, argument.Item m ∷ [])
+encode (statement.Unlock m) = (line_kind.Unlock, argument.Item m ∷ [])
+encode (statement.CondWait c m) = (line_kind.CondWait, argument.Item c ∷ argument.Item m ∷ [])
+encode (statement.Signal c) = (line_kind.Signal, argument.Item c ∷ [])
+encode (statement.Broadcast c) = (line_kind.Broadcast, argument.Item c ∷ [])
+encode (statement.SemWait s) = (line_kind.SemWait, argument.Item s ∷ [])
+encode (statement.SemPost s) = (line_kind.SemPost, argument.Item s ∷ [])
+encode (statement.AtFork result prepare parent child) = (line_kind.AtFork, dest result ∷ optional prepare ∷ optional parent ∷ optional child ∷ [])
+encode (statement.Fork result child) = (line_kind.Fork, dest result ∷ dest child ∷ [])
+encode (statement.WaitPid result pid d) = (line_kind.WaitPid, dest result ∷ value pid ∷ dest d ∷ [])
+encode (statement.AtExit result f) = (line_kind.AtExit, dest result ∷ argument.Item f ∷ [])
+encode (statement.ProcExit v) = (line_kind.ProcExit, value v ∷ [])
+encode (statement.ProcExitNow v) = (line_kind.ProcExitNow, value v ∷ [])
+encode (statement.PointCall index) = (line_kind.Point index, [])
 
--- the form of a statement's line
-abbrev pub form_of_statement : Stmt → Form
-form_of_statement s = (said_as s).0
+-- the line kind of a statement
+abbrev pub line_kind_of_statement : Stmt → LineKind
+line_kind_of_statement s = (encode s).0
 
--- what stands behind the first word of its line
+-- the arguments of a statement
 abbrev pub arguments_of : Stmt → List Argument
-arguments_of s = (said_as s).1
+arguments_of s = (encode s).1
 
--- the places where they stand
-abbrev pub places_of : Stmt → List Place
-places_of s = (shape (form_of_statement s)).places (length (arguments_of s))
+-- the kinds of a statement's arguments
+abbrev pub argument_kinds_of : Stmt → List ArgumentKind
+argument_kinds_of s = (syntax_of (line_kind_of_statement s)).argument_kinds (length (arguments_of s))
 
--- what a statement is to the statements around it
+-- the role of a statement among the statements around it
 abbrev pub role_of : Stmt → Role
-role_of s = (shape (form_of_statement s)).role
+role_of s = (syntax_of (line_kind_of_statement s)).role

@@ -1,8 +1,8 @@
-//! What a run shows: one event a line of the report.
+//! The events of a run. Its trace is the list of them, and the report has one line for each.
 
 use crate::stop::Why;
 
-/// A call whose refusal is an event.
+/// A call that can return an error number, which is an event.
 #[derive(Clone, Copy, Debug, PartialEq, Eq)]
 pub enum Caller {
     Create,
@@ -13,7 +13,8 @@ pub enum Caller {
     AtExit,
 }
 
-/// What happened.
+/// What happened. Functions, mutexes, condition variables and semaphores are given by their indexes in the script, and
+/// cancellation points by their indexes in the table of points.
 #[derive(Clone, Copy, Debug, PartialEq, Eq)]
 pub enum What {
     Emit(u32),
@@ -57,7 +58,7 @@ pub enum What {
     Stopped(Why),
 }
 
-/// What happened, and to which thread of which process.
+/// An event of a thread of a process.
 #[derive(Clone, Copy, Debug, PartialEq, Eq)]
 pub struct Event {
     pub pid: u32,

@@ -1,13 +1,13 @@
-//! A frame of a thread's stack.
+//! Frames of a thread's stack.
 
 use crate::state::FrameKind;
 
-/// A function that a thread is in: where in its body it stands, its locals, of which those that it doesn't have are 0,
-/// and what it was called for.
+/// A frame: the function's index, the program counter (the index in its body of the statement to execute next), the
+/// locals, of which those that the function does not declare are 0, and why the function was called.
 #[derive(Clone, Copy, Debug, Default, PartialEq, Eq)]
 pub struct Frame {
     pub func: u32,
-    pub place: usize,
+    pub pc: usize,
     pub locals: [u32; 8],
     pub kind: FrameKind,
 }

@@ -1,26 +1,28 @@
-//! The limits of a script and of a run.
+//! The limits of a script and of a run. Each constant is the greatest value that is allowed, but for `MIN_PASSES`.
 
-/// The bytes of an input.
+/// Bytes of the program's input.
 pub const MAX_INPUT: u32 = 16_777_216;
-/// The functions of a script.
+/// Globals of a script; and mutexes, condition variables and semaphores, each.
+pub const MAX_DECLARED: usize = 32;
+/// Functions of a script.
 pub const MAX_FUNCTIONS: usize = 64;
-/// The statement lines of a script, each closing `end` included.
+/// Statement lines of a script; the closing `end` of a function is one.
 pub const MAX_STATEMENTS: usize = 2_000;
-/// The locals of a function, its parameter included.
+/// Locals of a function, its parameter included.
 pub const MAX_LOCALS: usize = 8;
-/// The frames of a thread.
+/// Frames of a thread.
 pub const MAX_FRAMES: usize = 16;
-/// The cleanup handlers that a thread has pushed.
+/// Cleanup handlers of a thread.
 pub const MAX_HANDLERS: usize = 32;
-/// The initial count of a semaphore.
+/// Initial count of a semaphore.
 pub const MAX_COUNT: u32 = 32_767;
-/// The number of a worker.
+/// Number of a worker.
 pub const MAX_WORKER: u32 = 16;
-/// The steps of a run.
+/// Budget of a run: its number of steps.
 pub const MAX_BUDGET: u32 = 200_000;
-/// The fewest passes over the destructors of an ending thread.
+/// The least limit on the passes over the destructors of a thread that ends.
 pub const MIN_PASSES: u32 = 4;
-/// The most passes over the destructors of an ending thread.
+/// Limit on the passes over the destructors of a thread that ends.
 pub const MAX_PASSES: u32 = 16;
-/// The stack slots of a process.
+/// Thread slots of a process.
 pub const MAX_SLOTS: u32 = 64;

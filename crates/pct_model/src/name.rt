@@ -1,34 +1,36 @@
-//! A name of a script.
+//! Names in scripts.
 
 ghost use Rattle.std.specs.Prelude.{◌≡◌, ℕ, ◌<◌, ◌≤◌, ◌+◌, ◌++◌, List, [], ◌∷◌, length};
+ghost use Rattle.pct_model.specs.declared.name.TheConstants.{MAX_NAME};
 
 use arrayvec::ArrayVec;
 use std::marker::Model;
 
-/// The most bytes of a name.
+/// The greatest length of a name, in bytes.
 pub const MAX_NAME: usize = 31;
 
-/// A name, of 1 to 31 bytes. A contract sees its bytes.
+/// A name of 1 to 31 bytes. In a contract it is the list of its bytes.
 #[derive(Debug, Drop)]
 pub struct Name {
-    bytes: ArrayVec<u8, 31>,
+    bytes: ArrayVec<u8, MAX_NAME>,
 }
 
 impl Model for Name {
     ghost use Rattle.std.specs.Prelude.{ℕ, ◌<◌, ◌≤◌, List, length};
+    ghost use Rattle.pct_model.specs.declared.name.TheConstants.{MAX_NAME};
 
     ghost Value = { List ℕ };
 
     ghost view = { λ n. n.bytes.items };
 
-    ghost invariant = { (λ n. (0 < length n.bytes.items) × (length n.bytes.items ≤ 31)) };
+    ghost invariant = { (λ n. (0 < length n.bytes.items) × (length n.bytes.items ≤ MAX_NAME)) };
 }
 
 impl Name {
-    /// The name with these bytes, of which there are 1 to 31.
+    /// The name with these bytes.
     pub fn of(bytes: &[u8]) -> Name
         requires some { 0 < length bytes.now }
-        requires few { length bytes.now ≤ 31 }
+        requires few { length bytes.now ≤ MAX_NAME }
         ensures { result ≡ bytes.now }
     {
         let mut kept = ArrayVec::new();
@@ -38,11 +40,11 @@ impl Name {
         Name { bytes: kept }
     }
 
-    /// Its bytes.
+    /// The bytes of the name.
     pub fn as_bytes(&self) -> &[u8]
         ensures bytes { result.now ≡ self.now }
         ensures some { 0 < length result.now }
-        ensures few { length result.now ≤ 31 }
+        ensures few { length result.now ≤ MAX_NAME }
     {
         self.bytes.as_slice()
     }

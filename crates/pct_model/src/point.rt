@@ -1,26 +1,26 @@
 //! Cancellation points (XSH 2.9.5.2).
 
-/// Whether a call shall be a cancellation point, or may be one.
+/// Whether a function shall be a cancellation point (required), or may be one (optional).
 #[derive(Clone, Copy, Debug, PartialEq, Eq)]
 pub enum PointKind {
     Required,
     Optional,
 }
 
-/// What a thread that is suspended at the point waits for.
+/// What a thread suspended at the point waits for.
 #[derive(Clone, Copy, Debug, PartialEq, Eq)]
 pub enum PointWait {
-    /// It is never suspended.
+    /// Nothing: a thread is never suspended there.
     NoWait,
-    /// Something outside the script, which may be there at any moment.
+    /// An event outside the script, which may occur at any time.
     Outside,
-    /// A signal, which never comes.
+    /// A signal, which is never delivered.
     Never,
-    /// Something that another thread or process of the script does.
+    /// An action of another thread or process of the script.
     Inside,
 }
 
-/// A row of the table of points.
+/// A cancellation point: its index in the table of points, its kind, and its wait.
 #[derive(Clone, Copy, Debug, PartialEq, Eq)]
 pub struct Point {
     pub index: u32,

@@ -1,11 +1,11 @@
-//! Why a text is refused.
+//! The reasons to refuse a text.
 
 ghost use Rattle.std.specs.Prelude.{◌≡◌};
 ghost use Rattle.pct_model.specs.Outcome.{name_of_fault, name_of_schedule_fault};
 
-use crate::word::Keyword;
+use crate::keyword::Keyword;
 
-/// Why a script is refused, in the order in which the checks are made.
+/// Why a script is refused, in the order of the checks.
 #[derive(Clone, Copy, Debug, PartialEq, Eq)]
 pub enum ParseWhy {
     NotAscii,
@@ -26,7 +26,7 @@ pub enum ParseWhy {
 }
 
 impl ParseWhy {
-    /// The word that names the fault.
+    /// The word that is reported for this reason.
     pub fn name(self) -> Keyword
         ensures { result ≡ name_of_fault self }
     {
@@ -61,7 +61,7 @@ pub enum ScheduleWhy {
 }
 
 impl ScheduleWhy {
-    /// The word that names the fault.
+    /// The word that is reported for this reason.
     pub fn name(self) -> Keyword
         ensures { result ≡ name_of_schedule_fault self }
     {

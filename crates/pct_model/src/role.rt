@@ -1,8 +1,8 @@
-//! What the lines of a script are to one another.
+//! The roles of lines in the nesting of blocks.
 
-use crate::form::Kind;
+use crate::line_kind::SymbolKind;
 
-/// What a line opens that a later line closes.
+/// A block: it begins at the line that opens it, and ends at the line that closes it.
 #[derive(Clone, Copy)]
 pub enum Block {
     Function,
@@ -12,34 +12,34 @@ pub enum Block {
     Push,
 }
 
-/// What a line is to the lines around it.
+/// The role of a line among the lines around it.
 #[derive(Clone, Copy)]
 pub enum Role {
-    /// It stands outside functions.
-    Declares(Kind),
-    /// An `if`, a `while` or a push.
+    /// A declaration, which is outside functions.
+    Declares(SymbolKind),
+    /// `if`, `while` or pthread_cleanup_push
     Opens(Block),
     /// `else`
     Else,
     /// `end`
     End,
-    /// It closes a push.
+    /// pthread_cleanup_pop
     Pop,
     /// `return`
     Return,
-    /// Another statement that plain functions may have.
+    /// Any other statement that is allowed in a plain function.
     Plain,
     /// Any other statement.
     Other,
 }
 
-/// What a line does to the blocks that are open where it stands.
+/// The effect of a line on the open blocks.
 #[derive(Clone, Copy)]
 pub enum Change {
     Stays,
     Opens(Block),
-    /// The innermost one is closed.
+    /// The innermost block is closed.
     Closes,
-    /// The innermost one, an `if`, has its `else` from here on.
+    /// The innermost block, an `if`, continues as its `else`.
     Turns,
 }

@@ -1,18 +1,18 @@
-//! A schedule: under which numbers a run goes, and which step came when.
+//! Schedules: the configuration of a run, and its steps in order.
 
-/// The numbers under which a run goes.
+/// The configuration of a run.
 #[derive(Clone, Copy, Debug, PartialEq, Eq)]
 pub struct Config {
-    /// The most steps, 1 to 200,000.
+    /// The greatest number of steps: 1 to `MAX_BUDGET`.
     pub budget: u32,
-    /// The most passes over the destructors of an ending thread, 4 to 16.
+    /// The greatest number of passes over the destructors of a thread that ends: `MIN_PASSES` to `MAX_PASSES`.
     pub passes: u32,
-    /// The stack slots of a process, 1 to 64.
+    /// The number of thread slots of a process: 1 to `MAX_SLOTS`.
     pub slots: u32,
 }
 
 impl Config {
-    /// What holds where no word says otherwise.
+    /// The configuration of the command `run`.
     pub const DEFAULT: Config = Config {
         budget: 10_000,
         passes: 4,
@@ -20,22 +20,23 @@ impl Config {
     };
 }
 
-/// What a thread does next, where POSIX leaves a choice.
+/// A choice of the scheduler: what a thread does next, where POSIX allows more than one behavior.
 #[derive(Clone, Copy, Debug, PartialEq, Eq)]
 pub enum Alt {
-    /// It goes on.
+    /// The thread executes its next statement, or completes the call in which it was suspended.
     Go,
-    /// It acts on a cancellation request, and hands a signal on to the thread with this id, if it is not 0.
+    /// The thread acts on a cancellation request. A signal that it consumed goes to the thread with this id, if it is
+    /// not 0.
     Act(u32),
-    /// It makes the thread, or the key, with this number.
+    /// The thread creates the thread or the key with this number.
     New(u32),
-    /// It wakes the thread with this id.
+    /// The thread signals a condition variable, and wakes the thread with this id.
     Pick(u32),
-    /// It calls the destructor of this key.
+    /// The thread calls the destructor of this key.
     Dtor(u32),
 }
 
-/// One step: which worker made it, of which thread of which process, and the alternative that was taken.
+/// An entry of a schedule, which is one step: the worker that makes it, the process, the thread, and the choice.
 #[derive(Clone, Copy, Debug, PartialEq, Eq)]
 pub struct Entry {
     pub worker: u32,

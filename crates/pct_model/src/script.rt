@@ -1,21 +1,21 @@
-//! A script: what its text declares.
+//! Scripts: what a script's text declares.
 
 ghost use Rattle.std.specs.Prelude.{◌≡◌, ◌≤◌, length, IsTrue};
 ghost use Rattle.pct_model.specs.Names.{main_of, names_of};
 ghost use Rattle.pct_model.specs.Static.{is_static};
 
+use crate::keyword::Keyword;
 use crate::name::Name;
 use crate::sequence::{Funcs, Names, SemDecls, Stmts};
-use crate::word::Keyword;
 
-/// A semaphore and its first count.
+/// A semaphore and its initial count.
 #[derive(Debug, Drop)]
 pub struct SemDecl {
     pub name: Name,
     pub count: u32,
 }
 
-/// A function. The first of its locals is its parameter, and its body ends with its closing `End`.
+/// A function. Its first local is its parameter; its last statement is the closing `End`.
 #[derive(Debug, Drop)]
 pub struct Func {
     pub name: Name,
@@ -23,7 +23,7 @@ pub struct Func {
     pub body: Stmts,
 }
 
-/// A script that passes all checks: the type keeps it.
+/// A well-formed script: the type guarantees that it passes all checks.
 #[derive(Debug, Drop)]
 pub struct Script {
     pub globals: Names,
@@ -34,20 +34,20 @@ pub struct Script {
     ghost passes_checks: { IsTrue (is_static (record { globals = globals; mutexes = mutexes; conds = conds; sems = sems; funcs = funcs })) },
 }
 
-/// The position of the first function called `main`, or how many functions there are where none is.
+/// The index of the first function named `main`, or the number of functions if there is none.
 #[tactic(auto, unfolding(crate::specs::Names::main_of))]
 pub fn main_of(funcs: &[Func]) -> usize
     ensures value { result ≡ main_of (names_of funcs.now) }
     ensures bound { result ≤ length funcs.now }
 {
-    let mut place = 0;
+    let mut index = 0;
     let mut rest = funcs;
     while let Some((func, after)) = rest.split_first() {
         if Keyword::Main.text() == func.name.as_bytes() {
             break;
         }
-        place += 1;
+        index += 1;
         rest = after;
     }
-    place
+    index
 }

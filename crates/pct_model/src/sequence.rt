@@ -1,4 +1,4 @@
-//! Lists that contracts compare.
+//! Lists that are equal in contracts if their items are.
 
 ghost use Rattle.std.specs.Prelude.{◌≡◌, length};
 
@@ -7,7 +7,7 @@ use crate::script::{Func, SemDecl};
 use crate::statement::Stmt;
 use std::marker::Model;
 
-/// A list that a vector keeps. A contract sees the list alone, and not where it lies.
+/// A list, kept in a vector. In a contract it is the list of its items, without the vector's capacity.
 #[derive(Debug, Drop)]
 pub struct Sequence<T> {
     items: Vec<T>,
@@ -22,7 +22,7 @@ impl<T> Model for Sequence<T> {
 }
 
 impl<T> Sequence<T> {
-    /// The list of the vector's items. The vector is kept, and no memory is taken.
+    /// The list of a vector's items. It takes over the vector, and allocates no memory.
     pub fn of(items: Vec<T>) -> Sequence<T>
         ensures { result ≡ items.items }
     {
@@ -37,9 +37,9 @@ impl<T> Sequence<T> {
     }
 }
 
-/// A list of names.
+/// Names.
 pub type Names = Sequence<Name>;
-/// A list of semaphores.
+/// Declarations of semaphores.
 pub type SemDecls = Sequence<SemDecl>;
 /// The statements of a function.
 pub type Stmts = Sequence<Stmt>;

@@ -1,20 +1,20 @@
-//! The states of a thread.
+//! The state of a thread.
 
-/// Its cancelability state.
+/// A cancelability state (XSH 2.9.5.1, pthread_setcancelstate).
 #[derive(Clone, Copy, Debug, PartialEq, Eq)]
 pub enum State {
     Enable,
     Disable,
 }
 
-/// Its cancelability type.
+/// A cancelability type (XSH 2.9.5.1, pthread_setcanceltype).
 #[derive(Clone, Copy, Debug, PartialEq, Eq)]
 pub enum Mode {
     Deferred,
     Asynchronous,
 }
 
-/// Which list of fork handlers a fork goes through.
+/// The phase of a fork: which fork handlers it runs (XSH pthread_atfork).
 #[derive(Clone, Copy, Debug, PartialEq, Eq)]
 pub enum Phase {
     Prepare,
@@ -22,7 +22,7 @@ pub enum Phase {
     Child,
 }
 
-/// Why a thread left its condition wait.
+/// Why a thread left a condition wait.
 #[derive(Clone, Copy, Debug, PartialEq, Eq)]
 pub enum Cause {
     Signalled,
@@ -30,7 +30,7 @@ pub enum Cause {
     Canceled,
 }
 
-/// Why a thread began to end.
+/// Why a thread began to end; `None` for a thread that did not.
 #[derive(Clone, Copy, Debug, PartialEq, Eq)]
 pub enum Reason {
     None,
@@ -38,30 +38,30 @@ pub enum Reason {
     Canceled,
 }
 
-/// What a thread does.
+/// The status of a thread.
 #[derive(Clone, Copy, Debug, PartialEq, Eq)]
 pub enum Status {
     Running,
-    /// Suspended at the point with this index.
+    /// Suspended at the cancellation point with this index.
     AtPoint(u32),
-    /// Suspended in pthread_join of the thread with this id.
+    /// Suspended in pthread_join, for the thread with this id.
     Joining(u32),
-    /// Suspended in sem_wait.
+    /// Suspended in sem_wait, for the semaphore with this index.
     InSem(u32),
-    /// Suspended in waitpid of this process.
+    /// Suspended in waitpid, for this process.
     InWaitPid(u32),
-    /// Suspended in pthread_cond_wait on a condition variable, with a mutex.
+    /// Suspended in pthread_cond_wait, with the indexes of the condition variable and the mutex.
     Waiting(u32, u32),
-    /// It has left the wait and wants its mutex again.
+    /// Suspended in pthread_cond_wait until it owns the mutex again.
     Reacquire(u32, u32, Cause),
     Ending,
-    /// In fork: the phase, the next place of the list, the list's length, the answer.
+    /// In fork: the phase, the index of the next fork handler, the number of fork handlers, and the result.
     Forking(Phase, u32, u32, u32),
     Exiting,
     Ended(u32),
 }
 
-/// The values of a fork that are kept while one of its handlers runs.
+/// The values of a fork in progress, while one of its fork handlers runs.
 #[derive(Clone, Copy, Debug, PartialEq, Eq)]
 pub struct ForkAt {
     pub phase: Phase,
@@ -70,24 +70,24 @@ pub struct ForkAt {
     pub answer: u32,
 }
 
-/// What a frame was made for.
+/// Why a function was called.
 #[derive(Clone, Copy, Debug, Default, PartialEq, Eq)]
 pub enum FrameKind {
-    /// `main` in the initial thread.
+    /// It is `main`, in the initial thread.
     Main,
-    /// A start routine.
+    /// It is the start routine of a thread.
     Start,
-    /// A function that a statement called.
+    /// By the statement `do`.
     #[default]
     Call,
-    /// A cleanup handler that a pop called.
+    /// A cleanup handler, by pthread_cleanup_pop.
     PopHandler,
-    /// A cleanup handler of a thread that ends.
+    /// A cleanup handler, as the thread ends.
     Handler,
-    /// A destructor of thread-specific data.
+    /// A destructor of thread-specific data, as the thread ends.
     Destructor,
-    /// A fork handler.
+    /// A fork handler, by fork.
     ForkFn,
-    /// A function that exit calls.
+    /// A function registered by atexit, by exit.
     ExitFn,
 }

@@ -1,16 +1,16 @@
-//! The statements of a script: its own, and the calls of POSIX threads.
+//! The statements of a script: those of the script language, and calls of POSIX functions.
 
-/// A value that a statement reads.
+/// An operand: a value that a statement reads.
 #[derive(Clone, Copy, Debug, PartialEq, Eq)]
 pub enum Operand {
     Num(u32),
-    /// A local of the function around it, by position.
+    /// A local of the function, by index.
     Local(u32),
-    /// A global, by position.
+    /// A global, by index.
     Global(u32),
 }
 
-/// A place that a statement writes.
+/// A destination: where a statement writes a value.
 #[derive(Clone, Copy, Debug, PartialEq, Eq)]
 pub enum Dest {
     /// The value is dropped.
@@ -19,7 +19,8 @@ pub enum Dest {
     Global(u32),
 }
 
-/// One statement. Functions, mutexes, condition variables, semaphores and points are named by their positions.
+/// A statement. Functions, mutexes, condition variables and semaphores are given by their indexes in the script, and
+/// cancellation points by their indexes in the table of points.
 #[derive(Clone, Copy, Debug, PartialEq, Eq)]
 pub enum Stmt {
     Emit(Operand),
@@ -126,6 +127,6 @@ pub enum Stmt {
     ProcExit(Operand),
     /// _exit
     ProcExitNow(Operand),
-    /// A cancellation point that has no other statement, by its index in the table of points.
+    /// A generic cancellation point.
     PointCall(u32),
 }

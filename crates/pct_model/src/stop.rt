@@ -1,14 +1,14 @@
-//! Why a run stops, and how it ends.
+//! The stops of a run, and its verdict.
 
 ghost use Rattle.std.specs.Prelude.{◌≡◌};
 ghost use Rattle.pct_model.specs.Report.{class_of_stop, name_of_stop};
 
-use crate::word::Keyword;
+use crate::keyword::Keyword;
 
-/// What stops a run: a use that POSIX leaves undefined, or one that this host's profile of POSIX leaves out.
+/// Why a run was stopped: POSIX leaves the behavior undefined, or this host's profile of POSIX excludes it.
 #[derive(Clone, Copy, Debug, PartialEq, Eq)]
 pub enum Why {
-    /// A statement that this version does not run yet.
+    /// The statement is not implemented yet.
     Unbuilt,
     ForkChildCall,
     AsyncCall,
@@ -29,7 +29,7 @@ pub enum Why {
 }
 
 impl Why {
-    /// Whether POSIX leaves what was done undefined, or this host leaves it out.
+    /// `undefined` if POSIX leaves the behavior undefined, `profile` if this host excludes it.
     pub fn class(self) -> Keyword
         ensures { result ≡ class_of_stop self }
     {
@@ -43,7 +43,7 @@ impl Why {
         }
     }
 
-    /// The word that names the stop.
+    /// The word that is reported for this stop.
     pub fn name(self) -> Keyword
         ensures { result ≡ name_of_stop self }
     {
@@ -69,17 +69,17 @@ impl Why {
     }
 }
 
-/// How a run stands.
+/// The verdict of a run.
 #[derive(Clone, Copy, Debug, PartialEq, Eq)]
 pub enum Verdict {
-    /// All processes ended.
+    /// All processes have ended.
     Complete,
-    /// Nothing is legal.
+    /// No thread has an alternative.
     Deadlock,
-    /// The budget of steps is used up.
+    /// The run has as many steps as its budget allows.
     Budget,
     /// The run was stopped.
     Undefined(Why),
-    /// The run can go on.
+    /// The run can continue.
     Open,
 }

@@ -1,5 +1,5 @@
-//! The program: standard input is the source, standard output the sink, and the exit status is that of `command`.
-//! Nothing is written to standard error.
+//! The program. It calls `command` with its arguments, standard input as the source and standard output as the sink, and
+//! exits with the code of the status that `command` returns. It writes nothing to standard error.
 #![tactic(auto)]
 
 use pct_command::{Status, command};
@@ -20,7 +20,7 @@ fn main(rt: HostRuntime) -> ExitCode {
     ExitCode::from(status.code())
 }
 
-// The words after the program's name. Where one is no UTF-8 they are none, which are not accepted either.
+// The arguments after the program's name. If one is not UTF-8, the list is empty, which `command` refuses as well.
 fn words_of<R: Env + AllocGlobal>(rt: &R) -> Result<Vec<String>, NoMemory> {
     match env::args(rt) {
         Ok(args) => Ok(args.skip(1).collect(rt.alloc())?),

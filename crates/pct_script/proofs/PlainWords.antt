@@ -1,56 +1,56 @@
--- The names of a line that stand where a plain function is asked for, a word after the other.
+-- The arguments of a line that have to be plain functions, token by token.
 use Rattle.std.proofs.Common.{◌≡◌, ℕ, suc, ◌+◌, Bool, true, false, ◌&&◌, cond, List, [], ◌∷◌, Some, None, length, drop, refl, sym, ap, ◌∙◌, arith}
 use Rattle.std.specs.Prelude.{slice_get}
 use Rattle.std.specs.List.{list_all}
 use Rattle.std.proofs.lemmas.List.Folds.{list_all-append}
 use Rattle.std.proofs.lemmas.Option.{slice_get_cases}
-use Rattle.pct_model.specs.declared.form.Place.{Place}
-use Rattle.pct_model.specs.declared.said.Word.{Word}
-use Rattle.pct_model.specs.Parts.{names_in}
+use Rattle.pct_model.specs.declared.line_kind.ArgumentKind.{ArgumentKind}
+use Rattle.pct_model.specs.declared.parsed_line.Token.{Token}
+use Rattle.pct_model.specs.Sections.{names_in}
 use Rattle.pct_model.specs.Checks.{asks_plain, plain_names}
-use Rattle.pct_script.proofs.Faults.{place_in_front, past}
+use Rattle.pct_script.proofs.FaultyWords.{argument_kind_first, past}
 
--- the names of one word
-abbrev pub names_here : Place → Word → List (List ℕ)
+-- the names of one token
+abbrev pub names_here : ArgumentKind → Token → List (List ℕ)
 names_here p w = cond (asks_plain p) (names_in (w ∷ [])) []
 
-nil : (places : List Place) → plain_names places [] ≡ []
+nil : (argument_kinds : List ArgumentKind) → plain_names argument_kinds [] ≡ []
 unfolding plain_names
 nil [] = refl
-nil (p ∷ places) = refl
+nil (p ∷ argument_kinds) = refl
 
-without_places : (words : List Word) → plain_names [] words ≡ []
+without_kinds : (words : List Token) → plain_names [] words ≡ []
 unfolding plain_names
-without_places words = refl
+without_kinds words = refl
 
 module _ (P : List ℕ → Bool) where
-  abbrev pass : List Place → List Word → Bool
-  pass places words = list_all P (plain_names places words)
+  abbrev pass : List ArgumentKind → List Token → Bool
+  pass argument_kinds words = list_all P (plain_names argument_kinds words)
 
-  -- without words all names pass a test
-  pub pass_at_end : (places : List Place) (words : List Word) → length words ≡ 0 → list_all P (plain_names places words) ≡ true
-  pass_at_end places [] none = ap (list_all P) (nil places)
-  pass_at_end places (w ∷ words) none = absurd (omega arith)
+  -- without tokens all names pass a test
+  pub pass_at_end : (argument_kinds : List ArgumentKind) (words : List Token) → length words ≡ 0 → list_all P (plain_names argument_kinds words) ≡ true
+  pass_at_end argument_kinds [] none = ap (list_all P) (nil argument_kinds)
+  pass_at_end argument_kinds (w ∷ words) none = absurd (omega arith)
 
-  -- so do they without places
-  pub pass_behind : (places : List Place) (at : ℕ) (words : List Word) → slice_get places at ≡ None → list_all P (plain_names (drop at places) words) ≡ true
-  pass_behind places at words none = ap (λ ps. pass ps words) (past places at none (slice_get_cases places at).1) ∙ ap (list_all P) (without_places words)
+  -- without argument kinds all names pass a test
+  pub pass_after : (argument_kinds : List ArgumentKind) (at : ℕ) (words : List Token) → slice_get argument_kinds at ≡ None → list_all P (plain_names (drop at argument_kinds) words) ≡ true
+  pass_after argument_kinds at words none = ap (λ ps. pass ps words) (past argument_kinds at none (slice_get_cases argument_kinds at).1) ∙ ap (list_all P) (without_kinds words)
 
-  step : (places : List Place) (at : ℕ) (p : Place) (w : Word) (words : List Word) → slice_get places at ≡ Some p
-      → pass (drop at places) (w ∷ words) ≡ (list_all P (names_here p w) && pass (drop (at + 1) places) words)
+  step : (argument_kinds : List ArgumentKind) (at : ℕ) (p : ArgumentKind) (w : Token) (words : List Token) → slice_get argument_kinds at ≡ Some p
+      → pass (drop at argument_kinds) (w ∷ words) ≡ (list_all P (names_here p w) && pass (drop (at + 1) argument_kinds) words)
   unfolding plain_names
-  step places at p w words here =
+  step argument_kinds at p w words here =
       let next : suc at ≡ at + 1 = omega arith in
-      ap (λ ps. pass ps (w ∷ words)) (place_in_front places at p here)
-      ∙ list_all-append P (names_here p w) (plain_names (drop (suc at) places) words)
-      ∙ ap (λ n. list_all P (names_here p w) && pass (drop n places) words) next
+      ap (λ ps. pass ps (w ∷ words)) (argument_kind_first argument_kinds at p here)
+      ∙ list_all-append P (names_here p w) (plain_names (drop (suc at) argument_kinds) words)
+      ∙ ap (λ n. list_all P (names_here p w) && pass (drop n argument_kinds) words) next
 
-  -- a word whose names don't all pass
-  pub fails_here : (places : List Place) (at : ℕ) (p : Place) (w : Word) (words : List Word) → slice_get places at ≡ Some p → list_all P (names_here p w) ≡ false
-      → list_all P (plain_names (drop at places) (w ∷ words)) ≡ false
-  fails_here places at p w words here wrong = step places at p w words here ∙ ap (λ (t : Bool). t && pass (drop (at + 1) places) words) wrong
+  -- a token whose names do not all pass
+  pub fails_here : (argument_kinds : List ArgumentKind) (at : ℕ) (p : ArgumentKind) (w : Token) (words : List Token) → slice_get argument_kinds at ≡ Some p → list_all P (names_here p w) ≡ false
+      → list_all P (plain_names (drop at argument_kinds) (w ∷ words)) ≡ false
+  fails_here argument_kinds at p w words here wrong = step argument_kinds at p w words here ∙ ap (λ (t : Bool). t && pass (drop (at + 1) argument_kinds) words) wrong
 
-  -- one whose names do
-  pub passes_here : (places : List Place) (at : ℕ) (p : Place) (w : Word) (words : List Word) → slice_get places at ≡ Some p → list_all P (names_here p w) ≡ true
-      → list_all P (plain_names (drop (at + 1) places) words) ≡ list_all P (plain_names (drop at places) (w ∷ words))
-  passes_here places at p w words here right = sym (step places at p w words here ∙ ap (λ (t : Bool). t && pass (drop (at + 1) places) words) right)
+  -- a token whose names all pass
+  pub passes_here : (argument_kinds : List ArgumentKind) (at : ℕ) (p : ArgumentKind) (w : Token) (words : List Token) → slice_get argument_kinds at ≡ Some p → list_all P (names_here p w) ≡ true
+      → list_all P (plain_names (drop (at + 1) argument_kinds) words) ≡ list_all P (plain_names (drop at argument_kinds) (w ∷ words))
+  passes_here argument_kinds at p w words here right = sym (step argument_kinds at p w words here ∙ ap (λ (t : Bool). t && pass (drop (at + 1) argument_kinds) words) right)

@@ -1,4 +1,4 @@
--- The bytes of a script's lines, as they are written one after the other.
+-- The bytes of a script's lines, in the order in which they are written.
 use Rattle.std.proofs.Common.{◌≡◌, ℕ, suc, ◌+◌, ◌≤◌, List, [], ◌∷◌, ◌++◌, Option, Some, None, length, drop, map, flat_map, refl, sym, ap, ◌∙◌, append_assoc, decimal, arith}
 use Rattle.std.specs.Prelude.{slice_get}
 use Rattle.std.specs.List.{join_with_byte}
@@ -8,27 +8,27 @@ use Rattle.std.proofs.lemmas.List.Concat.{flat_map-cons}
 use Rattle.std.proofs.lemmas.List.Folds.{flat_map-map}
 use Rattle.std.proofs.lemmas.Grind.{flat_map-append}
 use Rattle.std.proofs.lemmas.Option.{slice_get_past}
-use Rattle.pct_model.specs.declared.form.Kind.TheVariants as kind
-use Rattle.pct_model.specs.declared.form.Place.{Place}
-use Rattle.pct_model.specs.declared.said.Argument.{Argument}
+use Rattle.pct_model.specs.declared.line_kind.SymbolKind.TheVariants as kind
+use Rattle.pct_model.specs.declared.line_kind.ArgumentKind.{ArgumentKind}
+use Rattle.pct_model.specs.declared.parsed_line.Argument.{Argument}
 use Rattle.pct_model.specs.declared.script.Func.{Func}
 use Rattle.pct_model.specs.declared.script.SemDecl.{SemDecl}
-use Rattle.pct_model.specs.Words.{line_text, text_of}
+use Rattle.pct_model.specs.Keywords.{line_text, text_of}
 use Rattle.pct_model.specs.Points.{Row, points, point_name}
 use Rattle.pct_model.specs.Contents.{Contents}
 use Rattle.pct_model.specs.Canon.{argument_text, argument_texts, statement_words, declaration_line, function_lines, script_lines}
 use Rattle.pct_script.specs.Printing.{spaced, declarations_text, arguments_text, body_text, functions_text}
-use Rattle.pct_script.proofs.Faults.{place_in_front, past_places}
+use Rattle.pct_script.proofs.FaultyWords.{argument_kind_first, past_kinds}
 
 joined : (w : List ℕ) (words : List (List ℕ)) → join_with_byte 32 (w ∷ words) ≡ w ++ spaced words
 joined w [] = sym (append-nil w)
 joined w (next ∷ words) = ap (λ rest. w ++ (32 ∷ rest)) (joined next words) ∙ ap (λ rest. w ++ rest) (sym (flat_map-cons (λ (x : List ℕ). 32 ∷ x) next words))
 
--- a line is its first word, the others, each behind a space, and a line's end
+-- a line is its first word, the others, each after a space, and LF
 pub line_is : (w : List ℕ) (words : List (List ℕ)) → line_text (w ∷ words) ≡ (w ++ spaced words) ++ 10 ∷ []
 line_is w words = ap (λ line. line ++ 10 ∷ []) (joined w words)
 
--- and so is a line of two words and others
+-- a line of two words and others
 pub line_of_two : (w next : List ℕ) (words : List (List ℕ)) → line_text (w ∷ next ∷ words) ≡ ((w ++ 32 ∷ next) ++ spaced words) ++ 10 ∷ []
 line_of_two w next words =
     line_is w (next ∷ words)
@@ -39,38 +39,38 @@ pub no_point : (index : ℕ) → 58 ≤ index → point_name index ≡ []
 unfolding points point_name
 no_point index past = ap (λ (o : Option Row). option_map_or (λ r. r.name) o []) (slice_get_past points index past)
 
--- an argument in front of others
-pub argument_next : (c : Contents) (locals : List (List ℕ)) (places : List Place) (at : ℕ) (p : Place) (a : Argument) (rest arguments : List Argument) → Some p ≡ slice_get places at → rest ≡ a ∷ arguments
-    → (32 ∷ argument_text c locals p a) ++ arguments_text c locals (drop (at + 1) places) arguments ≡ arguments_text c locals (drop at places) rest
+-- an argument and the others
+pub argument_next : (c : Contents) (locals : List (List ℕ)) (argument_kinds : List ArgumentKind) (at : ℕ) (p : ArgumentKind) (a : Argument) (rest arguments : List Argument) → Some p ≡ slice_get argument_kinds at → rest ≡ a ∷ arguments
+    → (32 ∷ argument_text c locals p a) ++ arguments_text c locals (drop (at + 1) argument_kinds) arguments ≡ arguments_text c locals (drop at argument_kinds) rest
 unfolding argument_texts
-argument_next c locals places at p a rest arguments here front =
+argument_next c locals argument_kinds at p a rest arguments here prefix =
     let next : at + 1 ≡ suc at = omega arith in
-    ap (λ n. (32 ∷ argument_text c locals p a) ++ arguments_text c locals (drop n places) arguments) next
-    ∙ sym (flat_map-cons (λ (w : List ℕ). 32 ∷ w) (argument_text c locals p a) (argument_texts c locals (drop (suc at) places) arguments))
-    ∙ sym (ap (λ ps. arguments_text c locals ps (a ∷ arguments)) (place_in_front places at p (sym here)))
-    ∙ sym (ap (λ others. arguments_text c locals (drop at places) others) front)
+    ap (λ n. (32 ∷ argument_text c locals p a) ++ arguments_text c locals (drop n argument_kinds) arguments) next
+    ∙ sym (flat_map-cons (λ (w : List ℕ). 32 ∷ w) (argument_text c locals p a) (argument_texts c locals (drop (suc at) argument_kinds) arguments))
+    ∙ sym (ap (λ ps. arguments_text c locals ps (a ∷ arguments)) (argument_kind_first argument_kinds at p (sym here)))
+    ∙ sym (ap (λ others. arguments_text c locals (drop at argument_kinds) others) prefix)
 
--- arguments where there is no place
-pub no_more_places : (c : Contents) (locals : List (List ℕ)) (places : List Place) (at : ℕ) (rest : List Argument) → None ≡ slice_get places at → [] ≡ arguments_text c locals (drop at places) rest
+-- arguments past the last argument kind
+pub no_more_kinds : (c : Contents) (locals : List (List ℕ)) (argument_kinds : List ArgumentKind) (at : ℕ) (rest : List Argument) → None ≡ slice_get argument_kinds at → [] ≡ arguments_text c locals (drop at argument_kinds) rest
 unfolding argument_texts
-no_more_places c locals places at rest none = sym (ap (λ ps. arguments_text c locals ps rest) (past_places places at (sym none)))
+no_more_kinds c locals argument_kinds at rest none = sym (ap (λ ps. arguments_text c locals ps rest) (past_kinds argument_kinds at (sym none)))
 
-no_words : (c : Contents) (locals : List (List ℕ)) (places : List Place) → argument_texts c locals places [] ≡ []
+no_words : (c : Contents) (locals : List (List ℕ)) (argument_kinds : List ArgumentKind) → argument_texts c locals argument_kinds [] ≡ []
 unfolding argument_texts
 no_words c locals [] = refl
-no_words c locals (p ∷ places) = refl
+no_words c locals (p ∷ argument_kinds) = refl
 
 -- no arguments
-pub no_more_arguments : (c : Contents) (locals : List (List ℕ)) (places : List Place) (rest : List Argument) → length rest ≡ 0 → [] ≡ arguments_text c locals places rest
-no_more_arguments c locals places [] none = sym (ap spaced (no_words c locals places))
-no_more_arguments c locals places (a ∷ rest) none = absurd (omega arith)
+pub no_more_arguments : (c : Contents) (locals : List (List ℕ)) (argument_kinds : List ArgumentKind) (rest : List Argument) → length rest ≡ 0 → [] ≡ arguments_text c locals argument_kinds rest
+no_more_arguments c locals argument_kinds [] none = sym (ap spaced (no_words c locals argument_kinds))
+no_more_arguments c locals argument_kinds (a ∷ rest) none = absurd (omega arith)
 
--- a function is its first line, and its statements
+-- a function is its `fn` line and its statements
 pub function_is : (c : Contents) (f : Func) → text_of (function_lines c f) ≡ line_text (declaration_line kind.Function (f.name ∷ f.locals)) ++ body_text c f.locals f.body
 unfolding function_lines
 function_is c f =
-    let head = declaration_line kind.Function (f.name ∷ f.locals) in
-    flat_map-cons line_text head (map (statement_words c f.locals) f.body) ∙ ap (λ rest. line_text head ++ rest) (flat_map-map line_text (statement_words c f.locals) f.body)
+    let header = declaration_line kind.Function (f.name ∷ f.locals) in
+    flat_map-cons line_text header (map (statement_words c f.locals) f.body) ∙ ap (λ rest. line_text header ++ rest) (flat_map-map line_text (statement_words c f.locals) f.body)
 
 onto : (lines more : List (List (List ℕ))) (a b : List ℕ) → text_of lines ≡ a → text_of more ≡ b → text_of (lines ++ more) ≡ a ++ b
 onto lines more a b e f = flat_map-append line_text lines more ∙ ap (λ text. text ++ text_of more) e ∙ ap (λ text. a ++ text) f

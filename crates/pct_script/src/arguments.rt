@@ -1,95 +1,135 @@
-//! The words that stand for the arguments of a statement.
+//! The tokens of a line: its words, parsed by the argument kind of their position.
 
-ghost use Rattle.std.specs.Prelude.{◌≡◌, map};
-ghost use Rattle.pct_io.specs.Lines.{word_text};
-ghost use Rattle.pct_model.specs.Names.{name_at, names_of};
-ghost use Rattle.pct_model.specs.Contents.{names_of_kind};
-ghost use Rattle.pct_model.specs.Spells.{contents_of};
-ghost use Rattle.pct_model.specs.Canon.{kind_at, flag_text, argument_text};
+ghost use Rattle.std.specs.Prelude.{◌≡◌, ◌<◌, ◌≤◌, true, false, length, codes, IfOk};
+ghost use Rattle.std.specs.Option.{option_or};
+ghost use Rattle.pct_model.specs.LineKinds.{syntax_of};
+ghost use Rattle.pct_model.specs.Names.{is_name};
+ghost use Rattle.pct_model.specs.LineParsing.{name, number, initial_count, hyphen, flag, token_at, tokens_at, words_in};
 
-use pct_io::Word;
-use pct_model::{Argument, Func, Kind, Name, Place, Script, SemDecl};
+use crate::identifier::is_name;
+use pct_model::{ArgumentKind, LineKind, MAX_COUNT, Name, Sequence, Token, Tokens};
+use pct_text::{next_word, numeral};
+use std::alloc::{AllocError, Global};
 
-/// The word at a place, in a function with these locals.
-#[tactic(auto, unfolding(pct_model::specs::Canon::argument_text))]
-pub(crate) fn argument_word<'a>(
-    script: &'a Script,
-    locals: &'a [Name],
-    place: Place,
-    argument: Argument,
-) -> Word<'a>
-    ensures { word_text result ≡ argument_text (contents_of script.now) locals.now place argument }
+#[tactic(auto, using(crate::proofs::NameLengths::name_is_short, crate::proofs::NameLengths::name_is_some))]
+fn name(word: &[u8]) -> Option<Token>
+    ensures { result ≡ name word.now }
 {
-    match argument {
-        Argument::Number(number) => Word::Number(number),
-        Argument::Local(at) => Word::Text(name_at(locals, at)),
-        Argument::Global(at) => Word::Text(name_at(script.globals.as_slice(), at)),
-        Argument::Item(at) => Word::Text(item_name(script, kind_at(place), at)),
-        Argument::Nothing => Word::Text(b"-"),
-        Argument::Flag(says) => Word::Text(flag_text(place, says)),
+    if is_name(word) {
+        Some(Token::Name(Name::of(word)))
+    } else {
+        None
     }
 }
 
-fn kind_at(place: Place) -> Kind
-    ensures { result ≡ kind_at place }
+fn number(word: &[u8]) -> Option<Token>
+    ensures { result ≡ number word.now }
 {
-    match place {
-        Place::Item(kind) => kind,
-        _ => Kind::Function,
+    Some(Token::Number(numeral(word)?))
+}
+
+fn initial_count(word: &[u8]) -> Option<Token>
+    ensures { result ≡ initial_count word.now }
+{
+    let value = numeral(word)?;
+    if value <= MAX_COUNT {
+        Some(Token::Number(value))
+    } else {
+        None
     }
 }
 
-fn flag_text(place: Place, says: bool) -> &'static [u8]
-    ensures { result.now ≡ flag_text place says }
+// Parses a number or a name.
+fn operand(word: &[u8]) -> Option<Token>
+    ensures { result ≡ option_or (number word.now) (name word.now) }
 {
-    match (place, says) {
-        (Place::State, true) => b"enable",
-        (Place::State, false) => b"disable",
-        (Place::Mode, true) => b"asynchronous",
-        (Place::Mode, false) => b"deferred",
-        _ => b"detached",
+    match number(word) {
+        Some(parsed) => Some(parsed),
+        None => name(word),
     }
 }
 
-// The name of this kind at a position.
-fn item_name(script: &Script, kind: Kind, at: u32) -> &[u8]
-    ensures { result.now ≡ name_at (names_of_kind (contents_of script.now) kind) at }
+// Parses `-` or a name.
+fn optional(word: &[u8]) -> Option<Token>
+    ensures { result ≡ option_or (hyphen word.now) (name word.now) }
 {
-    match kind {
-        Kind::Global => name_at(script.globals.as_slice(), at),
-        Kind::Mutex => name_at(script.mutexes.as_slice(), at),
-        Kind::Cond => name_at(script.conds.as_slice(), at),
-        Kind::Sem => sem_name(script.sems.as_slice(), at),
-        Kind::Function => function_name(script.funcs.as_slice(), at),
+    if word == b"-".as_slice() {
+        Some(Token::Nothing)
+    } else {
+        name(word)
     }
 }
 
-#[tactic(auto, unfolding(pct_model::specs::Names::name_at))]
-fn name_at(names: &[Name], at: u32) -> &[u8]
-    ensures { result.now ≡ name_at names.now at }
+// Parses one of two fixed words.
+fn either(word: &[u8], this: &[u8], other: &[u8]) -> Option<Token>
+    ensures { result ≡ option_or (flag this.now true word.now) (flag other.now false word.now) }
 {
-    match names.get(at as usize) {
-        None => &[],
-        Some(name) => name.as_bytes(),
+    if word == this {
+        Some(Token::Flag(true))
+    } else if word == other {
+        Some(Token::Flag(false))
+    } else {
+        None
     }
 }
 
-#[tactic(auto, unfolding(pct_model::specs::Names::name_at))]
-fn sem_name(sems: &[SemDecl], at: u32) -> &[u8]
-    ensures { result.now ≡ name_at (map (λ s. s.name) sems.now) at }
+fn detached(word: &[u8]) -> Option<Token>
+    ensures { result ≡ flag (codes "detached") true word.now }
 {
-    match sems.get(at as usize) {
-        None => &[],
-        Some(sem) => sem.name.as_bytes(),
+    if word == b"detached".as_slice() {
+        Some(Token::Flag(true))
+    } else {
+        None
     }
 }
 
-#[tactic(auto, unfolding(pct_model::specs::Names::name_at))]
-fn function_name(funcs: &[Func], at: u32) -> &[u8]
-    ensures { result.now ≡ name_at (names_of funcs.now) at }
+// Parses a word by its argument kind.
+#[tactic(auto, unfolding(pct_model::specs::LineParsing::token_at))]
+fn token_at(argument_kind: ArgumentKind, word: &[u8]) -> Option<Token>
+    ensures { result ≡ token_at argument_kind word.now }
 {
-    match funcs.get(at as usize) {
-        None => &[],
-        Some(func) => func.name.as_bytes(),
+    match argument_kind {
+        ArgumentKind::Declared
+        | ArgumentKind::Local
+        | ArgumentKind::Variable
+        | ArgumentKind::Item(_)
+        | ArgumentKind::PlainFunction => name(word),
+        ArgumentKind::Count => initial_count(word),
+        ArgumentKind::Operand => operand(word),
+        ArgumentKind::Dest | ArgumentKind::OptionalFunction | ArgumentKind::OptionalPlainFunction =>
+            optional(word),
+        ArgumentKind::State => either(word, b"enable", b"disable"),
+        ArgumentKind::Mode => either(word, b"asynchronous", b"deferred"),
+        ArgumentKind::Detached => detached(word),
+    }
+}
+
+/// Parses the words after the first one of a line of this kind, where `words` is their number. The result is `None` if
+/// a word does not fit its argument kind, or if there are more or fewer words than argument kinds.
+pub(crate) fn tokens_at(
+    alloc: Global,
+    line_kind: LineKind,
+    words: usize,
+    bytes: &[u8],
+) -> Result<Option<Tokens>, AllocError>
+    ensures { IfOk result (λ parsed. parsed ≡ tokens_at ((syntax_of line_kind).argument_kinds words) (words_in bytes.now)) }
+{
+    let mut parsed = Vec::new(alloc);
+    let mut at = 0;
+    let mut rest = bytes;
+    while let Some((word, after)) = next_word(rest) {
+        let Some(argument_kind) = line_kind.argument_kind(words, at) else {
+            return Ok(None);
+        };
+        let Some(first) = token_at(argument_kind, word) else {
+            return Ok(None);
+        };
+        parsed.push(first)?;
+        at += 1;
+        rest = after;
+    }
+    match line_kind.argument_kind(words, at) {
+        Some(_) => Ok(None),
+        None => Ok(Some(Sequence::of(parsed))),
     }
 }

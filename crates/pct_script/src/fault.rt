@@ -1,4 +1,4 @@
-//! Why a text gave no script.
+//! The error of `parse`.
 
 ghost use Rattle.std.specs.Prelude.{◌≡◌};
 ghost use Rattle.pct_script.specs.declared.fault.ParseFault.TheVariants.{NoMemory};
@@ -7,13 +7,13 @@ use pct_model::ParseWhy;
 use std::alloc::{AllocError, AllocFailed};
 use thiserror::Error;
 
-/// Why a text gave no script.
+/// Why a text was not parsed to a script.
 #[derive(Debug, Drop, Error)]
 pub enum ParseFault {
-    /// The text spells no script: its first fault, and the line of it, counted from 1.
+    /// The text spells no script. `why` is its first fault, and `line` the number of the line, counted from 1.
     #[error("line {line}: {why:?}")]
     Refused { line: u32, why: ParseWhy },
-    /// Memory ran out.
+    /// An allocation failed.
     #[error("memory ran out")]
     NoMemory,
 }

@@ -1,47 +1,38 @@
-//! Scripts from their texts, and texts from scripts: `parse` reads a script or finds the first fault of its text, `print`
-//! writes its canonical text, and `Jumps` tells where its blocks close and open.
+//! Scripts and their texts: `parse` returns the script that a text spells or the first fault of the text, and `print` writes
+//! the canonical text of a script. `Jumps` is the jump table of a script.
+//!
+//! A text passes the modules in this order: scan, spelling, line and arguments, nesting, limits, sections, duplicates,
+//! symbols and resolve, push_returns, plain_functions, checks. A script that is printed passes encode, argument_text, printer.
 #![tactic(auto)]
 
+mod argument_kind;
+mod argument_text;
 mod arguments;
-mod blocks;
-mod checking;
-mod contents;
+mod checks;
+mod decode;
+mod duplicates;
+mod encode;
 mod fault;
-mod functions;
-mod heads;
-mod jumps;
-mod kept;
-mod law;
+mod identifier;
 mod limits;
-mod line_names;
-mod line_roles;
-mod lines;
-mod main_function;
-mod name_tables;
-mod naming;
-mod nested;
-mod parsing;
-mod parts;
-mod placed;
+mod line;
+mod nesting;
+mod parser;
 mod plain_functions;
-mod printing;
-mod reading;
-mod replaced;
-mod returned;
-mod said_names;
-mod spelled_lines;
+mod printer;
+mod push_returns;
+mod resolve;
+mod scan;
+mod sections;
 mod spelling;
-mod statement_of;
-mod told;
-mod twice;
-mod words;
-mod words_said;
+mod symbols;
 
 pub use fault::ParseFault;
-pub use jumps::Jumps;
-pub use law::texts_spell_scripts;
-pub use parsing::parse;
-pub use printing::print;
+pub use parser::parse;
+pub use pct_grammar::texts_spell_scripts;
+pub use pct_jumps::Jumps;
+pub use pct_model::ParseWhy;
+pub use printer::print;
 
 #[cfg(test)]
 mod spelling_tests;

@@ -1,22 +1,19 @@
-//! The check of limits: how many declarations of each kind a script may have, how many statement lines, and how many
-//! locals a function.
+//! The check of limits: on the declarations of each kind, on the statement lines, and on the locals of a function.
 
 ghost use Rattle.std.specs.Prelude.{◌≡◌};
-ghost use Rattle.pct_model.specs.declared.form.Kind.TheVariants.{Function};
+ghost use Rattle.pct_model.specs.declared.line_kind.SymbolKind.TheVariants.{Function};
 ghost use Rattle.pct_model.specs.Checks.{fault_at_line};
-ghost use Rattle.pct_model.specs.Parts.{declares_by};
+ghost use Rattle.pct_model.specs.Sections.{declares_by};
 ghost use Rattle.pct_model.specs.declared.refusal.ParseWhy.TheVariants.{TooMany};
-ghost use Rattle.pct_script.specs.Heads.{heads_of};
-ghost use Rattle.pct_script.specs.LineCounts.{none_yet, one_more, with_declared, with_statement, has_many_words, with_head, limit_in};
+ghost use Rattle.pct_script.specs.Outlines.{outlines_of};
+ghost use Rattle.pct_script.specs.LineCounts.{none_yet, one_more, with_declared, with_statement, has_many_words, with_outline, limit_in};
 
-use crate::heads::Head;
-use crate::kept::KeptLines;
-use pct_model::{Kind, MAX_FUNCTIONS, MAX_LOCALS, MAX_STATEMENTS, ParseWhy, Role};
+use crate::scan::{LineOutline, StoredLines};
+use pct_model::{
+    MAX_DECLARED, MAX_FUNCTIONS, MAX_LOCALS, MAX_STATEMENTS, ParseWhy, Role, SymbolKind,
+};
 
-/// The declarations of each kind but functions.
-const MAX_DECLARED: usize = 32;
-
-/// How many lines of each sort stand in front of a line.
+/// The numbers of lines of each sort before a line.
 #[derive(Clone, Copy)]
 struct Counts {
     globals: usize,
@@ -37,21 +34,21 @@ fn one_more(count: usize, limit: usize) -> Option<usize>
     }
 }
 
-// Whether the line is one of `fn`.
+// Whether the line is a `fn` line.
 fn is_fn(role: Role) -> bool
     ensures { result ≡ declares_by Function role }
 {
     match role {
-        Role::Declares(Kind::Function) => true,
+        Role::Declares(SymbolKind::Function) => true,
         _ => false,
     }
 }
 
-// Whether the line declares a function of more than 8 locals.
-fn has_many_locals(head: Head) -> bool
-    ensures { result ≡ has_many_words head }
+// Whether the line declares a function with more than 8 locals.
+fn has_many_locals(outline: LineOutline) -> bool
+    ensures { result ≡ has_many_words outline }
 {
-    is_fn(head.form.role()) && 1 + MAX_LOCALS < head.words
+    is_fn(outline.line_kind.role()) && 1 + MAX_LOCALS < outline.token_count
 }
 
 impl Counts {
@@ -68,27 +65,27 @@ impl Counts {
         }
     }
 
-    fn with_declared(self, kind: Kind) -> Option<Counts>
+    fn with_declared(self, kind: SymbolKind) -> Option<Counts>
         ensures { result ≡ with_declared self kind }
     {
         match kind {
-            Kind::Global => Some(Counts {
+            SymbolKind::Global => Some(Counts {
                 globals: one_more(self.globals, MAX_DECLARED)?,
                 ..self
             }),
-            Kind::Mutex => Some(Counts {
+            SymbolKind::Mutex => Some(Counts {
                 mutexes: one_more(self.mutexes, MAX_DECLARED)?,
                 ..self
             }),
-            Kind::Cond => Some(Counts {
+            SymbolKind::Cond => Some(Counts {
                 conds: one_more(self.conds, MAX_DECLARED)?,
                 ..self
             }),
-            Kind::Sem => Some(Counts {
+            SymbolKind::Sem => Some(Counts {
                 sems: one_more(self.sems, MAX_DECLARED)?,
                 ..self
             }),
-            Kind::Function => Some(Counts {
+            SymbolKind::Function => Some(Counts {
                 functions: one_more(self.functions, MAX_FUNCTIONS)?,
                 ..self
             }),
@@ -104,29 +101,29 @@ impl Counts {
         })
     }
 
-    // With one more line, if it passes no limit.
-    #[tactic(auto, unfolding(crate::specs::LineCounts::with_head))]
-    fn with_head(self, head: Head) -> Option<Counts>
-        ensures { result ≡ with_head self head }
+    // The counts with one more line, if it exceeds no limit.
+    #[tactic(auto, unfolding(crate::specs::LineCounts::with_outline))]
+    fn with_outline(self, outline: LineOutline) -> Option<Counts>
+        ensures { result ≡ with_outline self outline }
     {
-        if has_many_locals(head) {
+        if has_many_locals(outline) {
             return None;
         }
-        match head.form.role() {
+        match outline.line_kind.role() {
             Role::Declares(kind) => self.with_declared(kind),
             _ => self.with_statement(),
         }
     }
 }
 
-/// The check of limits, of the lines of a text. It takes no memory.
-pub(crate) fn check_limits(lines: &KeptLines) -> Option<(u32, ParseWhy)>
-    ensures { result ≡ fault_at_line TooMany (limit_in none_yet (heads_of lines.now)) }
+/// The check of limits on the lines of a text. It allocates no memory.
+pub(crate) fn check_limits(lines: &StoredLines) -> Option<(u32, ParseWhy)>
+    ensures { result ≡ fault_at_line TooMany (limit_in none_yet (outlines_of lines.now)) }
 {
     let mut counts = Counts::none_yet();
-    let mut heads = lines.heads();
-    while let Some((number, head)) = heads.next() {
-        match counts.with_head(head) {
+    let mut outlines = lines.outlines();
+    while let Some((number, outline)) = outlines.next() {
+        match counts.with_outline(outline) {
             Some(next) => counts = next,
             None => return Some((number, ParseWhy::TooMany)),
         }

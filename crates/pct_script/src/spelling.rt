@@ -1,16 +1,16 @@
-//! The first check of a script's text, for one line: why it says nothing.
+//! The check of spelling, for one line.
 
 ghost use Rattle.std.specs.Prelude.{◌≡◌, length};
 ghost use Rattle.std.specs.Option.{option_map};
-ghost use Rattle.pct_model.specs.declared.form.Form.TheVariants.{Point};
-ghost use Rattle.pct_model.specs.Forms.{is_generic, point_statement, form_of, shape};
-ghost use Rattle.pct_model.specs.Saying.{words_in};
+ghost use Rattle.pct_model.specs.declared.line_kind.LineKind.TheVariants.{Point};
+ghost use Rattle.pct_model.specs.LineKinds.{is_generic, point_statement, line_kind_of, syntax_of};
+ghost use Rattle.pct_model.specs.LineParsing.{words_in};
 ghost use Rattle.pct_model.specs.Spelling.{faulty_word, fault_at, fault_of_words, misspelled};
 
-use crate::placed::{why_not, word_fits};
-use crate::words::{are_allowed, count_words, next_word};
+use crate::argument_kind::{why_not, word_fits};
 use pct_cancel::point_of;
-use pct_model::{Form, ParseWhy, PointKind, PointWait, form_with};
+use pct_model::{LineKind, ParseWhy, PointKind, PointWait, line_kind_with};
+use pct_text::{are_allowed, count_words, next_word};
 
 fn is_generic(kind: PointKind, wait: PointWait) -> bool
     ensures { result ≡ is_generic kind wait }
@@ -24,74 +24,74 @@ fn is_generic(kind: PointKind, wait: PointWait) -> bool
     }
 }
 
-// The form of a cancellation point that is a statement by its name alone.
-#[tactic(auto, unfolding(pct_model::specs::Forms::point_statement))]
-fn point_form(word: &[u8]) -> Option<Form>
+// The line kind of a cancellation point that is a statement by its name alone.
+#[tactic(auto, unfolding(pct_model::specs::LineKinds::point_statement))]
+fn point_kind(word: &[u8]) -> Option<LineKind>
     ensures { result ≡ option_map (λ index. Point index) (point_statement word.now) }
 {
     let point = point_of(word)?;
     if is_generic(point.kind, point.wait) {
-        Some(Form::Point(point.index))
+        Some(LineKind::Point(point.index))
     } else {
         None
     }
 }
 
-/// The form of a line that begins with this word.
-#[tactic(auto, unfolding(pct_model::specs::Forms::form_of))]
-pub(crate) fn form_of(word: &[u8]) -> Option<Form>
-    ensures { result ≡ form_of word.now }
+/// The kind of a line that begins with this word.
+#[tactic(auto, unfolding(pct_model::specs::LineKinds::line_kind_of))]
+pub(crate) fn line_kind_of(word: &[u8]) -> Option<LineKind>
+    ensures { result ≡ line_kind_of word.now }
 {
-    match form_with(word) {
-        Some(form) => Some(form),
-        None => point_form(word),
+    match line_kind_with(word) {
+        Some(line_kind) => Some(line_kind),
+        None => point_kind(word),
     }
 }
 
-// The reason that the first of the words may not stand at its place of a line of this form and so many words.
-fn faulty_word(form: Form, words: usize, bytes: &[u8]) -> Option<ParseWhy>
-    ensures { result ≡ faulty_word ((shape form).places words) (words_in bytes.now) }
+// The fault of the first word that does not fit its argument kind, on a line of this kind with this number of words.
+fn faulty_word(line_kind: LineKind, words: usize, bytes: &[u8]) -> Option<ParseWhy>
+    ensures { result ≡ faulty_word ((syntax_of line_kind).argument_kinds words) (words_in bytes.now) }
 {
     let mut at = 0;
     let mut rest = bytes;
-    while let Some((word, behind)) = next_word(rest) {
-        let place = form.place(words, at)?;
-        if !word_fits(place, word) {
-            return Some(why_not(place, word));
+    while let Some((word, after)) = next_word(rest) {
+        let argument_kind = line_kind.argument_kind(words, at)?;
+        if !word_fits(argument_kind, word) {
+            return Some(why_not(argument_kind, word));
         }
         at += 1;
-        rest = behind;
+        rest = after;
     }
     None
 }
 
-// What is wrong with the words behind the first of a line of this form.
+// The fault of the words after the first one of a line of this kind.
 #[tactic(auto, unfolding(pct_model::specs::Spelling::fault_at))]
-fn fault_at(form: Form, bytes: &[u8]) -> Option<ParseWhy>
-    ensures { result ≡ fault_at ((shape form).places (length (words_in bytes.now))) (words_in bytes.now) }
+fn fault_at(line_kind: LineKind, bytes: &[u8]) -> Option<ParseWhy>
+    ensures { result ≡ fault_at ((syntax_of line_kind).argument_kinds (length (words_in bytes.now))) (words_in bytes.now) }
 {
     let words = count_words(bytes);
-    if words == form.count(words) {
-        faulty_word(form, words, bytes)
+    if words == line_kind.argument_count(words) {
+        faulty_word(line_kind, words, bytes)
     } else {
         Some(ParseWhy::WordCount)
     }
 }
 
-// What is wrong with the words of a line.
+// The fault of the words of a line.
 #[tactic(auto, unfolding(pct_model::specs::Spelling::fault_of_words))]
 fn fault_of_words(line: &[u8]) -> Option<ParseWhy>
     ensures { result ≡ fault_of_words (words_in line.now) }
 {
-    let (word, behind) = next_word(line)?;
-    match form_of(word) {
-        Some(form) => fault_at(form, behind),
+    let (word, after) = next_word(line)?;
+    match line_kind_of(word) {
+        Some(line_kind) => fault_at(line_kind, after),
         None => Some(ParseWhy::UnknownWord),
     }
 }
 
-/// Why the line is misspelled, if it is: a byte that no line may have, a first word that is that of no form, another
-/// number of words than the form asks, or the first word that may not stand at its place. It takes no memory.
+/// Why the line is misspelled, if it is: a byte that is not allowed, a first word that begins no kind of line, a wrong
+/// number of words, or the first word that does not fit its argument kind. It allocates no memory.
 #[tactic(auto, unfolding(pct_model::specs::Spelling::misspelled))]
 pub(crate) fn misspelled(line: &[u8]) -> Option<ParseWhy>
     ensures { result ≡ misspelled line.now }

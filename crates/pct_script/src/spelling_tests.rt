@@ -1,13 +1,13 @@
-//! The expected answers are written out from the rules of a line: its bytes, the places behind the first word of each
-//! form, the order of its faults, and the limits of numbers, counts and names.
+//! The expected results follow from the rules of a line: its bytes, the argument kinds of each kind of line, the order of
+//! faults, and the limits of numbers, counts and names.
 
 use crate::spelling::misspelled;
-use crate::words::spells_something;
 use pct_model::ParseWhy;
+use pct_text::spells_something;
 use std::test::Fail;
 
-// Each form but the points, with each word that may stand at its places.
-static FORMS: [&[u8]; 48] = [
+// Each kind of line except the points, with each word that fits its argument kinds.
+static LINE_KINDS: [&[u8]; 48] = [
     b"global a",
     b"mutex a",
     b"cond a",
@@ -265,8 +265,8 @@ static BAD_NAME: [&[u8]; 44] = [
 
 #[test]
 fn spelled_lines_have_no_fault(rt: HostRuntime) -> Result<(), Fail> {
-    let tables: [&[&[u8]]; 3] = [&FORMS, &POINTS, &LIMITS];
-    for lines in tables {
+    let symbols: [&[&[u8]]; 3] = [&LINE_KINDS, &POINTS, &LIMITS];
+    for lines in symbols {
         for line in lines {
             assert!(rt; spells_something(line));
             assert_eq!(rt; misspelled(line), None);
@@ -277,14 +277,14 @@ fn spelled_lines_have_no_fault(rt: HostRuntime) -> Result<(), Fail> {
 
 #[test]
 fn other_lines_have_their_first_fault(rt: HostRuntime) -> Result<(), Fail> {
-    let tables: [(&[&[u8]], ParseWhy); 5] = [
+    let symbols: [(&[&[u8]], ParseWhy); 5] = [
         (&NOT_ASCII, ParseWhy::NotAscii),
         (&UNKNOWN_WORD, ParseWhy::UnknownWord),
         (&WORD_COUNT, ParseWhy::WordCount),
         (&BAD_NUMBER, ParseWhy::BadNumber),
         (&BAD_NAME, ParseWhy::BadName),
     ];
-    for (lines, why) in tables {
+    for (lines, why) in symbols {
         for line in lines {
             assert!(rt; spells_something(line));
             assert_eq!(rt; misspelled(line), Some(why));

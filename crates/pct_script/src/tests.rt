@@ -1,4 +1,4 @@
-//! Texts and what is answered to them. The expected answers are worked by hand from the rules of script texts.
+//! Texts and their results. The expected results are worked out by hand from the rules of script texts.
 
 use super::*;
 use pct_io::MemSink;
@@ -6,7 +6,7 @@ use pct_model::{Dest, Operand, ParseWhy, Stmt};
 use std::alloc::{AllocError, Global};
 use std::test::*;
 
-// What a text answers: its first fault, if it has one.
+// The first fault of a text, if it has one.
 fn fault_of(alloc: Global, text: &[u8]) -> Result<Option<(u32, ParseWhy)>, Fail> {
     if text.len() > 16_777_216 {
         return Err("longer than an input".into());
@@ -24,7 +24,7 @@ fn finds_the_first_fault(rt: HostRuntime) -> Result<(), Fail> {
         (b"", 1, ParseWhy::NoMain),
         (b"# nothing\n\n", 1, ParseWhy::NoMain),
         (b"fn f x\nend\n", 1, ParseWhy::NoMain),
-        // A fault of an earlier check goes before one of the next check at an earlier line.
+        // A fault of an earlier check is reported before one of a later check on an earlier line.
         (b"end\nwhat\n", 2, ParseWhy::UnknownWord),
         (
             b"fn main a b c d e f g h i\nend\nend\n",
@@ -143,62 +143,70 @@ fn finds_the_first_fault(rt: HostRuntime) -> Result<(), Fail> {
     Ok(())
 }
 
-// Some bytes, these so many times, and some more.
-fn repeated(
-    alloc: Global,
-    front: &[u8],
-    piece: &[u8],
-    count: usize,
-    back: &[u8],
-) -> Result<Vec<u8>, AllocError> {
-    let mut text = Vec::from_slice(alloc, front)?;
+// `count` copies of a piece.
+fn push_copies(text: &mut Vec<u8>, piece: &[u8], count: usize) -> Result<(), AllocError> {
     for _ in 0..count {
         text.extend_from_slice(piece)?;
     }
-    text.extend_from_slice(back)?;
-    Ok(text)
+    Ok(())
 }
 
-// Declarations of so many names, each after these words.
-fn declared(alloc: Global, word: &[u8], count: u8, back: &[u8]) -> Result<Vec<u8>, AllocError> {
-    let mut text = Vec::new(alloc);
-    for place in 0..count {
+// `count` lines that begin with `word` and a number of two digits, each with `back` after it.
+fn push_declared(
+    text: &mut Vec<u8>,
+    word: &[u8],
+    count: u8,
+    back: &[u8],
+) -> Result<(), AllocError> {
+    for index in 0..count {
         text.extend_from_slice(word)?;
-        text.extend_from_slice(&[b' ', b'a', b'0' + place / 10, b'0' + place % 10])?;
+        text.extend_from_slice(&[b'0' + index / 10, b'0' + index % 10])?;
         text.extend_from_slice(back)?;
     }
-    text.extend_from_slice(b"fn main x\nend\n")?;
-    Ok(text)
+    Ok(())
 }
+
+const MAIN: &[u8] = b"fn main x\nend\n";
 
 #[test]
 fn keeps_the_limits(rt: HostRuntime) -> Result<(), Fail> {
     let alloc = rt.alloc();
     let kinds: [(&[u8], u8, &[u8], u32); 5] = [
-        (b"global", 32, b"\n", 33),
-        (b"mutex", 32, b"\n", 33),
-        (b"cond", 32, b"\n", 33),
-        (b"sem", 32, b" 1\n", 33),
-        (b"fn", 63, b" x\nend\n", 129),
+        (b"global a", 32, b"\n", 33),
+        (b"mutex a", 32, b"\n", 33),
+        (b"cond a", 32, b"\n", 33),
+        (b"sem a", 32, b" 1\n", 33),
+        (b"fn a", 63, b" x\nend\n", 129),
     ];
     for (word, count, back, line) in kinds {
-        assert_eq!(rt;
-            fault_of(alloc, &declared(alloc, word, count, back)?)?,
-            None
-        );
-        assert_eq!(rt;
-            fault_of(alloc, &declared(alloc, word, count + 1, back)?)?,
-            Some((line, ParseWhy::TooMany))
-        );
+        let mut text = Vec::new(alloc);
+        push_declared(&mut text, word, count, back)?;
+        text.extend_from_slice(MAIN)?;
+        assert_eq!(rt; fault_of(alloc, &text)?, None);
+        let mut text = Vec::new(alloc);
+        push_declared(&mut text, word, count + 1, back)?;
+        text.extend_from_slice(MAIN)?;
+        assert_eq!(rt; fault_of(alloc, &text)?, Some((line, ParseWhy::TooMany)));
     }
-    let lines = repeated(alloc, b"fn main x\n", b"emit 1\n", 1_999, b"end\n")?;
-    assert_eq!(rt; fault_of(alloc, &lines)?, None);
-    let lines = repeated(alloc, b"fn main x\n", b"emit 1\n", 2_000, b"end\n")?;
-    assert_eq!(rt; fault_of(alloc, &lines)?, Some((2_002, ParseWhy::TooMany)));
+    // All limits at once: 32 declarations of each kind, 64 functions, 2,000 statement lines; and one statement more.
+    let mut text = Vec::new(alloc);
+    push_declared(&mut text, b"global g", 32, b"\n")?;
+    push_declared(&mut text, b"mutex m", 32, b"\n")?;
+    push_declared(&mut text, b"cond c", 32, b"\n")?;
+    push_declared(&mut text, b"sem s", 32, b" 1\n")?;
+    push_declared(&mut text, b"fn f", 63, b" a b c d e f g h\nend\n")?;
+    text.extend_from_slice(b"fn main x\n")?;
+    push_copies(&mut text, b"emit 1\n", 1_936)?;
+    let mut longer = Vec::from_slice(alloc, &text)?;
+    text.extend_from_slice(b"end\n")?;
+    assert_eq!(rt; fault_of(alloc, &text)?, None);
+    longer.extend_from_slice(b"emit 1\nend\n")?;
+    assert_eq!(rt; fault_of(alloc, &longer)?, Some((2_193, ParseWhy::TooMany)));
     assert_eq!(rt; fault_of(alloc, b"fn main a b c d e f g h\nend\n")?, None);
-    // Blocks may stand in one another as deep as there are lines.
-    let deep = repeated(alloc, b"fn main x\n", b"if x\n", 999, b"")?;
-    let deep = repeated(alloc, &deep, b"end\n", 1_000, b"")?;
+    // The depth of nesting has no limit of its own.
+    let mut deep = Vec::from_slice(alloc, b"fn main x\n")?;
+    push_copies(&mut deep, b"if x\n", 999)?;
+    push_copies(&mut deep, b"end\n", 1_000)?;
     assert_eq!(rt; fault_of(alloc, &deep)?, None);
     Ok(())
 }
@@ -212,7 +220,7 @@ fn reads_what_a_text_says(rt: HostRuntime) -> Result<(), Fail> {
     let [f, main] = script.funcs.as_slice() else {
         return Err("two functions".into());
     };
-    // A local hides the global of its name.
+    // A local hides the global with its name.
     assert_eq!(rt;
         f.body.as_slice(),
         [
@@ -231,7 +239,7 @@ fn reads_what_a_text_says(rt: HostRuntime) -> Result<(), Fail> {
     Ok(())
 }
 
-// Each form of a line, as the canonical text has it.
+// Each kind of line, in canonical form.
 const CANONICAL: &[u8] =
     b"global g\nmutex m\ncond c\nsem s 3\nfn p a\nif a\nreturn a\nend\nend\nfn main x y\nemit 1\nset y 2\nadd g y\nnop\nif x\nelse\nend\nwhile 0\nend\ndo p y\npthread_create - y p 4\npthread_create g - p x detached\npthread_join y -\npthread_detach 1\npthread_cancel y\npthread_self y\npthread_exit 1\npthread_testcancel\npthread_setcancelstate enable -\npthread_setcancelstate disable y\npthread_setcanceltype asynchronous -\npthread_setcanceltype deferred y\npthread_cleanup_push p 1\npthread_cleanup_pop 0\npthread_key_create - y p\npthread_key_create y - -\npthread_key_delete y\npthread_setspecific y 1\npthread_getspecific - y\npthread_mutex_lock m\npthread_mutex_unlock m\npthread_cond_wait c m\npthread_cond_signal c\npthread_cond_broadcast c\nsem_wait s\nsem_post s\npthread_atfork y p - p\nfork y -\nwaitpid y x -\natexit y p\nexit 1\n_exit 4294967295\naccept\nreaddir\nreturn 0\nend\n";
 
@@ -241,37 +249,5 @@ fn prints_what_it_reads(rt: HostRuntime) -> Result<(), Fail> {
     let mut sink = MemSink::new(rt.alloc(), 10_000, 7, &[]).map_err(|_| AllocError)?;
     print(&script, &mut sink).map_err(|_| AllocError)?;
     assert_eq!(rt; sink.written(), CANONICAL);
-    Ok(())
-}
-
-// The `if` at 0 is closed by the `else` at 5, and that by the `end` at 7. In it stands the `while` at 1 with its `end` at 4,
-// and a push and its pop around nothing. Behind it stand an `if` without an `else`, and the function's own `end`.
-#[test]
-fn finds_where_blocks_close_and_open(rt: HostRuntime) -> Result<(), Fail> {
-    let script = parse(
-        rt.alloc(),
-        b"fn main x\nif x\nwhile x\npthread_cleanup_push main 0\npthread_cleanup_pop 0\nend\nelse\nnop\nend\nif 1\nend\nend\n",
-    )?;
-    let [main] = script.funcs.as_slice() else {
-        return Err("one function".into());
-    };
-    let jumps = Jumps::new(rt.alloc(), &script).map_err(|_| AllocError)?;
-    let opened: [Option<u32>; 11] = [
-        None,
-        None,
-        None,
-        None,
-        Some(1),
-        None,
-        None,
-        Some(5),
-        None,
-        Some(8),
-        None,
-    ];
-    for (place, opening) in opened.iter().enumerate() {
-        assert_eq!(rt; jumps.open_of(0, place as u32), *opening);
-    }
-    assert_eq!(rt; main.body.as_slice().len(), 11);
     Ok(())
 }

@@ -1,8 +1,8 @@
 use Rattle.std.proofs.Common.{ap, ◌∙◌, sym}
 use Rattle.pct_model.specs.Run.{Run, run_from}
 use Rattle.pct_command.specs.OneThread.{world_of}
-use Rattle.pct_command.proofs.Steps.{is-run}
-use Rattle.pct_command.proofs.Replays.{at_opening}
+use Rattle.pct_command.proofs.StepEffects.{is-run}
+use Rattle.pct_command.proofs.ReplayedEntries.{at_opening}
 use Rattle.pct_command.proofs.replay.replay.Goals as goal
 
 pub returns-in-None-clause-ran : goal.returns-in-None-clause-ran

@@ -1,5 +1,5 @@
 use Rattle.pct_command.proofs.Outcomes.{replay-answer}
-use Rattle.pct_command.proofs.Told.{tells_run, tells_part}
+use Rattle.pct_command.proofs.WrittenAnswers.{tells_run, tells_part}
 use Rattle.pct_command.proofs.replay_command.replay_entries.Goals as goal
 
 pub returns-in-Ok-written-clause-answers : goal.returns-in-Ok-written-clause-answers

@@ -1,4 +1,4 @@
-use Rattle.pct_io.proofs.Text.{Writes-then}
+use Rattle.pct_io.proofs.WritesInTurn.{Writes-then}
 use Rattle.pct_command.proofs.report.write_end.Goals as goal
 
 pub returns : goal.returns

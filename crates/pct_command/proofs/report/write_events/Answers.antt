@@ -1,8 +1,8 @@
 use Rattle.std.proofs.Common.{arith}
 use Rattle.std.proofs.lemmas.Result.{err_from_is_err_and}
-use Rattle.pct_model.specs.Words.{line_text}
+use Rattle.pct_model.specs.Keywords.{line_text}
 use Rattle.pct_model.specs.Report.{event_line}
-use Rattle.pct_io.proofs.Text.{Writes-last, Writes-next, Writes-next_fails}
+use Rattle.pct_io.proofs.WritesInTurn.{Writes-last, Writes-next, Writes-next_fails}
 use Rattle.pct_command.proofs.report.write_events.Goals as goal
 
 pub loop-event-preserved : goal.loop-event-preserved

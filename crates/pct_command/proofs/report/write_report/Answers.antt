@@ -1,5 +1,5 @@
 use Rattle.std.proofs.lemmas.Result.{err_from_is_err_and}
-use Rattle.pct_io.proofs.Text.{Writes-then, Writes-fails}
+use Rattle.pct_io.proofs.WritesInTurn.{Writes-then, Writes-fails}
 use Rattle.pct_command.proofs.Texts.{report-text}
 use Rattle.pct_command.proofs.report.write_report.Goals as goal
 

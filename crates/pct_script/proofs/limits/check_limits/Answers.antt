@@ -9,12 +9,12 @@ pub loop-number-preserved : goal.loop-number-preserved
 loop-number-preserved c =
     let counts = c.loop-number.counts in
     c.loop-number.invariant ∙ ap (limit_in counts) c.in-Some.ensures
-    ∙ limit_goes_on counts c.in-Some-with_head.next c.in-Some.number c.in-Some.head c.next.new.self (sym c.in-Some-with_head.ensures)
+    ∙ limit_goes_on counts c.in-Some-with_outline.next c.in-Some.number c.in-Some.outline c.next.new.self (sym c.in-Some-with_outline.ensures)
 
 pub returns-in-None : goal.returns-in-None
 returns-in-None c =
     let counts = c.loop-number.counts in
-    sym (ap (fault_at_line TooMany) (c.loop-number.invariant ∙ ap (limit_in counts) c.in-Some.ensures ∙ limit_stops counts c.in-Some.number c.in-Some.head c.next.new.self (sym c.in-None.ensures)))
+    sym (ap (fault_at_line TooMany) (c.loop-number.invariant ∙ ap (limit_in counts) c.in-Some.ensures ∙ limit_stops counts c.in-Some.number c.in-Some.outline c.next.new.self (sym c.in-None.ensures)))
 
 pub returns : goal.returns
 returns c =

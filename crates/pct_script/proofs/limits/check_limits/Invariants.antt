@@ -1,10 +1,10 @@
 use Rattle.std.proofs.Common.{◌≡◌, length}
-use Rattle.pct_script.specs.Heads.{heads_of}
+use Rattle.pct_script.specs.Outlines.{outlines_of}
 use Rattle.pct_script.specs.LineCounts.{none_yet, limit_in}
 use Rattle.pct_script.proofs.limits.check_limits.Given as goal
 
 abbrev pub invariant-loop-number : goal.invariant-loop-number
-invariant-loop-number l = limit_in none_yet (heads_of l.lines) ≡ limit_in l.counts l.heads
+invariant-loop-number l = limit_in none_yet (outlines_of l.lines) ≡ limit_in l.counts l.outlines
 
 abbrev pub decreases-loop-number : goal.decreases-loop-number
-decreases-loop-number l = length l.heads
+decreases-loop-number l = length l.outlines

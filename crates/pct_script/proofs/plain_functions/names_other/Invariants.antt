@@ -1,12 +1,12 @@
 use Rattle.std.proofs.Common.{◌≡◌, length}
 use Rattle.std.proofs.Common.{◌+◌, ◌≤◌, drop}
 use Rattle.std.specs.List.{list_all}
-use Rattle.pct_model.specs.Parts.{places_in}
+use Rattle.pct_model.specs.Sections.{argument_kinds_in}
 use Rattle.pct_model.specs.Checks.{is_plain_function, plain_names}
 use Rattle.pct_script.proofs.plain_functions.names_other.Given as goal
 
 abbrev pub invariant-loop-word : goal.invariant-loop-word
-invariant-loop-word l = record { found : list_all (is_plain_function l.lines) (plain_names (drop l.at (places_in l.line)) l.rest) ≡ list_all (is_plain_function l.lines) (plain_names (places_in l.line) l.line.words); few : l.at + length l.rest ≤ length l.line.words }
+invariant-loop-word l = record { found : list_all (is_plain_function l.lines) (plain_names (drop l.at (argument_kinds_in l.line)) l.rest) ≡ list_all (is_plain_function l.lines) (plain_names (argument_kinds_in l.line) l.line.tokens); few : l.at + length l.rest ≤ length l.line.tokens }
 
 abbrev pub decreases-loop-word : goal.decreases-loop-word
 decreases-loop-word l = length l.rest

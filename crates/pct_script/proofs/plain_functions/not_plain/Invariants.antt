@@ -1,12 +1,12 @@
 use Rattle.std.proofs.Common.{◌≡◌, length}
 use Rattle.std.proofs.Common.{[]}
 use Rattle.pct_model.specs.declared.refusal.ParseWhy.TheVariants.{NotPlain}
-use Rattle.pct_model.specs.Parts.{parted}
+use Rattle.pct_model.specs.Sections.{split_sections}
 use Rattle.pct_model.specs.Checks.{first_in, first_that, names_other, not_plain}
 use Rattle.pct_script.proofs.plain_functions.not_plain.Given as goal
 
 abbrev pub invariant-loop-body : goal.invariant-loop-body
-invariant-loop-body l = record { found : first_in NotPlain (λ part. first_that (names_other l.lines) part.body) l.rest ≡ not_plain l.lines; front : (parted l.rest).front ≡ [] }
+invariant-loop-body l = record { found : first_in NotPlain (λ section. first_that (names_other l.lines) section.body) l.rest ≡ not_plain l.lines; prefix : (split_sections l.rest).preamble ≡ [] }
 
 abbrev pub decreases-loop-body : goal.decreases-loop-body
 decreases-loop-body l = length l.rest

@@ -1,12 +1,12 @@
 use Rattle.std.proofs.Common.{◌≡◌, ◌+◌, ◌≤◌, length, drop}
-use Rattle.pct_model.specs.Forms.{shape}
-use Rattle.pct_model.specs.Saying.{words_in}
+use Rattle.pct_model.specs.LineKinds.{syntax_of}
+use Rattle.pct_model.specs.LineParsing.{words_in}
 use Rattle.pct_model.specs.Spelling.{faulty_word}
 use Rattle.pct_script.proofs.spelling.faulty_word.Given as goal
 
 abbrev pub invariant-loop-word : goal.invariant-loop-word
 invariant-loop-word l = record {
-  fault : faulty_word (drop l.at ((shape l.form).places l.words)) (words_in l.rest) ≡ faulty_word ((shape l.form).places l.words) (words_in l.bytes);
+  fault : faulty_word (drop l.at ((syntax_of l.line_kind).argument_kinds l.words)) (words_in l.rest) ≡ faulty_word ((syntax_of l.line_kind).argument_kinds l.words) (words_in l.bytes);
   few : l.at + length l.rest ≤ length l.bytes;
 }
 

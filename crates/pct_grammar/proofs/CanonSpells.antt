@@ -1,0 +1,276 @@
+-- The canonical text of a script spells it.
+use Rattle.std.proofs.Common.{◌≡◌, ℕ, Bool, true, false, not, ◌&&◌, ◌||◌, cond, List, [], ◌∷◌, ◌++◌, Option, Some, map, refl, sym, ap, ◌∙◌, append_assoc, subst, nat_le, leb-true, decimal, flat_map}
+use Rattle.std.specs.List.{list_all, enumerate_from}
+use Rattle.std.proofs.lemmas.Bool.{and_parts, and_from}
+use Rattle.std.proofs.lemmas.List.{map-append, append-nil}
+use Rattle.std.proofs.lemmas.List.Concat.{flat_map-cons}
+use Rattle.std.proofs.lemmas.List.Folds.{list_all-append}
+use Rattle.pct_model.specs.declared.line_kind.SymbolKind.{SymbolKind}
+use Rattle.pct_model.specs.declared.line_kind.SymbolKind.TheVariants as kind
+use Rattle.pct_model.specs.declared.parsed_line.ParsedLine.{ParsedLine}
+use Rattle.pct_model.specs.declared.parsed_line.Token.{Token}
+use Rattle.pct_model.specs.declared.parsed_line.Token.TheVariants as token
+use Rattle.pct_model.specs.declared.script.Func.{Func}
+use Rattle.pct_model.specs.declared.script.Script.{Script}
+use Rattle.pct_model.specs.declared.script.SemDecl.{SemDecl}
+use Rattle.pct_model.specs.declared.statement.Stmt.{Stmt}
+use Rattle.pct_model.specs.Keywords.{text_of}
+use Rattle.pct_model.specs.Names.{is_name, names_of}
+use Rattle.pct_model.specs.Statements.{EncodedStmt, encode}
+use Rattle.pct_model.specs.LineParsing.{is_empty, parsed_words}
+use Rattle.pct_model.specs.Contents.{Contents, names_of_kind}
+use Rattle.pct_model.specs.Sections.{Line, Section, is_same, is_statement, split_sections, sections_of, is_function}
+use Rattle.pct_model.specs.Spells.{declarations, encoded, AreContents, SpellsContents, contents_of, Spells}
+use Rattle.pct_model.specs.Static.{has_line, has_lines, has_text}
+use Rattle.pct_model.specs.Canon.{statement_words, declaration_line, function_lines, script_lines, canon}
+use Rattle.pct_model.proofs.StaticFacts.{passes_all}
+use Rattle.pct_grammar.proofs.SharedWords.{NameLists}
+use Rattle.pct_grammar.proofs.CanonLines.{is_line, LineParses, parsed_lines_again, each_parses_again}
+use Rattle.pct_grammar.proofs.CanonLineParsing.{declared_line, ParsesAs, is_plain_kind, name_parses, sem_parses, function_parses, statement_parses}
+use Rattle.pct_grammar.proofs.CanonSections.{words_declared, cond_same, nothing_before, declared_numbered, statements_declare, kinds_declare, declares_first, StatementsThen, nothing_after, kinds_after, function_after}
+
+-- ---- lines that parse
+
+-- lines and their parsed lines
+record ParseAll (lines : List (List (List ℕ))) (all : List ParsedLine) : Type 0 where
+  are : list_all is_line lines ≡ true
+  parse_all : LineParses lines all
+
+one_more : (words : List (List ℕ)) (line : ParsedLine) (lines : List (List (List ℕ))) (all : List ParsedLine) → ParsesAs words line → ParseAll lines all → ParseAll (words ∷ lines) (line ∷ all)
+one_more words line lines all first others =
+    record {
+      are = and_from (is_line words) (list_all is_line lines) first.are others.are;
+      parse_all = ap (λ (o : Option ParsedLine). o ∷ map parsed_words lines) first.parsed ∙ ap (λ (os : List (Option ParsedLine)). Some line ∷ os) others.parse_all;
+    }
+
+both : (lines more : List (List (List ℕ))) (all rest : List ParsedLine) → ParseAll lines all → ParseAll more rest → ParseAll (lines ++ more) (all ++ rest)
+both lines more all rest first others =
+    record {
+      are = list_all-append is_line lines more ∙ and_from (list_all is_line lines) (list_all is_line more) first.are others.are;
+      parse_all = map-append parsed_words lines more ∙ ap (λ (os : List (Option ParsedLine)). os ++ map parsed_words more) first.parse_all
+          ∙ ap (λ (os : List (Option ParsedLine)). map (λ (line : ParsedLine). Some line) all ++ os) others.parse_all ∙ sym (map-append (λ (line : ParsedLine). Some line) all rest);
+    }
+
+group_parses : {X : Type 0} (k : SymbolKind) (texts : X → List (List ℕ)) (words : X → List Token) (ok : X → Bool)
+    → ((x : X) → ok x ≡ true → ParsesAs (declaration_line k (texts x)) (declared_line k (words x))) → (xs : List X) → list_all ok xs ≡ true
+    → ParseAll (map (λ x. declaration_line k (texts x)) xs) (map (declared_line k) (map words xs))
+group_parses k texts words ok each [] all = record { are = refl; parse_all = refl }
+group_parses k texts words ok each (x ∷ xs) all =
+    let sections = and_parts (ok x) (list_all ok xs) all in
+    one_more (declaration_line k (texts x)) (declared_line k (words x)) (map (λ y. declaration_line k (texts y)) xs) (map (declared_line k) (map words xs))
+    (each x sections.0) (group_parses k texts words ok each xs sections.1)
+
+-- ---- names
+
+record TextSections (c : Contents) : Type 0 where
+  globals : list_all is_name c.globals ≡ true
+  mutexes : list_all is_name c.mutexes ≡ true
+  conds : list_all is_name c.conds ≡ true
+  sems : list_all (λ s. is_name s.name && nat_le s.count 32767) c.sems ≡ true
+  funcs : list_all (has_lines c) c.funcs ≡ true
+
+text_sections_parse : (c : Contents) → has_text c ≡ true → TextSections c
+unfolding has_text
+text_sections_parse c h =
+    let sems = list_all (λ (s : SemDecl). is_name s.name && nat_le s.count 32767) c.sems in
+    let a = and_parts (list_all is_name c.globals && list_all is_name c.mutexes && list_all is_name c.conds && sems) (list_all (has_lines c) c.funcs) h in
+    let b = and_parts (list_all is_name c.globals && list_all is_name c.mutexes && list_all is_name c.conds) sems a.0 in
+    let d = and_parts (list_all is_name c.globals && list_all is_name c.mutexes) (list_all is_name c.conds) b.0 in
+    let e = and_parts (list_all is_name c.globals) (list_all is_name c.mutexes) d.0 in
+    record { globals = e.0; mutexes = e.1; conds = d.1; sems = b.1; funcs = a.1 }
+
+record LinesSections (c : Contents) (f : Func) : Type 0 where
+  name : is_name f.name ≡ true
+  some : not (is_empty f.locals) ≡ true
+  locals : list_all is_name f.locals ≡ true
+  body : list_all (has_line c f.locals) f.body ≡ true
+
+lines_sections : (c : Contents) (f : Func) → has_lines c f ≡ true → LinesSections c f
+unfolding has_lines
+lines_sections c f h =
+    let a = and_parts (is_name f.name && not (is_empty f.locals) && list_all is_name f.locals) (list_all (has_line c f.locals) f.body) h in
+    let b = and_parts (is_name f.name && not (is_empty f.locals)) (list_all is_name f.locals) a.0 in
+    let d = and_parts (is_name f.name) (not (is_empty f.locals)) b.0 in
+    record { name = d.0; some = d.1; locals = b.1; body = a.1 }
+
+sem_names : (sems : List SemDecl) → list_all (λ s. is_name s.name && nat_le s.count 32767) sems ≡ true → list_all is_name (map (λ s. s.name) sems) ≡ true
+sem_names [] all = refl
+sem_names (s ∷ sems) all =
+    let sections = and_parts (is_name s.name && nat_le s.count 32767) (list_all (λ (x : SemDecl). is_name x.name && nat_le x.count 32767) sems) all in
+    and_from (is_name s.name) (list_all is_name (map (λ (x : SemDecl). x.name) sems)) (and_parts (is_name s.name) (nat_le s.count 32767) sections.0).0 (sem_names sems sections.1)
+
+function_names : (c : Contents) (funcs : List Func) → list_all (has_lines c) funcs ≡ true → list_all is_name (names_of funcs) ≡ true
+function_names c [] all = refl
+function_names c (f ∷ funcs) all =
+    let sections = and_parts (has_lines c f) (list_all (has_lines c) funcs) all in
+    and_from (is_name f.name) (list_all is_name (names_of funcs)) (lines_sections c f sections.0).name (function_names c funcs sections.1)
+
+are_names : (c : Contents) → TextSections c → (k : SymbolKind) → list_all is_name (names_of_kind c k) ≡ true
+are_names c p kind.Global = p.globals
+are_names c p kind.Mutex = p.mutexes
+are_names c p kind.Cond = p.conds
+are_names c p kind.Sem = sem_names c.sems p.sems
+are_names c p kind.Function = function_names c c.funcs p.funcs
+
+-- ---- functions
+
+-- the parsed lines of a function's statements
+record Body (c : Contents) (locals : List (List ℕ)) (body : List Stmt) : Type 0 where
+  all : List ParsedLine
+  line_parses : ParseAll (map (statement_words c locals) body) all
+  resolves_to : map (encoded c locals) all ≡ map (λ s. Some (encode s)) body
+  statements : list_all is_statement all ≡ true
+
+body_parses : (c : Contents) (locals : List (List ℕ)) (body : List Stmt) → NameLists c locals → list_all (has_line c locals) body ≡ true → Body c locals body
+body_parses c locals [] names have = record { all = []; line_parses = record { are = refl; parse_all = refl }; resolves_to = refl; statements = refl }
+body_parses c locals (s ∷ body) names have =
+    let sections = and_parts (has_line c locals s) (list_all (has_line c locals) body) have in
+    let first = statement_parses c locals s names sections.0 in
+    let others = body_parses c locals body names sections.1 in
+    record {
+      all = first.line ∷ others.all;
+      line_parses = one_more (statement_words c locals s) first.line (map (statement_words c locals) body) others.all first.line_parses others.line_parses;
+      resolves_to = ap (λ (o : Option EncodedStmt). o ∷ map (encoded c locals) others.all) first.resolves_to ∙ ap (λ (os : List (Option EncodedStmt)). Some (encode s) ∷ os) others.resolves_to;
+      statements = and_from (is_statement first.line) (list_all is_statement others.all) first.no_declaration others.statements;
+    }
+
+-- the tokens of `fn` lines
+abbrev outlines_of : List Func → List (List Token)
+outlines_of funcs = map (λ f. token.Name f.name ∷ map (λ name. token.Name name) f.locals) funcs
+
+header_step : (t : Bool) (words : List Token) (lines headers : List (List Token)) → lines ≡ cond t headers [] → cond t (words ∷ lines) lines ≡ cond t (words ∷ headers) []
+header_step true words lines headers e = ap (λ ws. words ∷ ws) e
+header_step false words lines headers e = e
+
+-- the parsed lines of functions
+record Functions (c : Contents) (funcs : List Func) : Type 0 where
+  all : List ParsedLine
+  line_parses : ParseAll (flat_map (function_lines c) funcs) all
+  after : (n : ℕ) → StatementsThen c (split_sections (enumerate_from n all)) [] funcs
+  declared : (k : SymbolKind) → words_declared k all ≡ cond (is_same k kind.Function) (outlines_of funcs) []
+
+functions_parse : (c : Contents) (funcs : List Func) → TextSections c → list_all (has_lines c) funcs ≡ true → Functions c funcs
+unfolding function_lines
+functions_parse c [] p have = record { all = []; line_parses = record { are = refl; parse_all = refl }; after = nothing_after c; declared = λ k. sym (cond_same (is_same k kind.Function) []) }
+functions_parse c (f ∷ funcs) p have =
+    let sections = and_parts (has_lines c f) (list_all (has_lines c) funcs) have in
+    let own = lines_sections c f sections.0 in
+    let words = token.Name f.name ∷ map (λ (name : List ℕ). token.Name name) f.locals in
+    let body = body_parses c f.locals f.body (record { kinds = are_names c p; own = own.locals }) own.body in
+    let others = functions_parse c funcs p sections.1 in
+    let all = declared_line kind.Function words ∷ body.all ++ others.all in
+    let header = function_parses f.name f.locals own.name own.some own.locals in
+    let first : ParseAll (function_lines c f) (declared_line kind.Function words ∷ body.all) =
+    one_more (declaration_line kind.Function (f.name ∷ f.locals)) (declared_line kind.Function words) (map (statement_words c f.locals) f.body) body.all header body.line_parses
+    in
+    record {
+      all = all;
+      line_parses = subst (λ (lines : List (List (List ℕ))). ParseAll lines all) (sym (flat_map-cons (function_lines c) f funcs))
+          (both (function_lines c f) (flat_map (function_lines c) funcs) (declared_line kind.Function words ∷ body.all) others.all first others.line_parses);
+      after = λ n. function_after c f funcs words body.all others.all n body.statements body.resolves_to others.after;
+      declared = λ k. declares_first k kind.Function words (body.all ++ others.all)
+          ∙ header_step (is_same k kind.Function) words (words_declared k (body.all ++ others.all)) (outlines_of funcs) (statements_declare k body.all others.all body.statements ∙ others.declared k);
+    }
+
+-- ---- the theorem
+
+-- the parsed lines of the declarations before the functions, and those of the functions
+abbrev with_declarations : Contents → List ParsedLine → List ParsedLine
+with_declarations c functions =
+    map (declared_line kind.Global) (declarations c kind.Global) ++ (map (declared_line kind.Mutex) (declarations c kind.Mutex)
+    ++ (map (declared_line kind.Cond) (declarations c kind.Cond) ++ (map (declared_line kind.Sem) (declarations c kind.Sem) ++ functions)))
+
+regrouped : {A : Type 0} (v w x y z : List A) → (((v ++ w) ++ x) ++ y) ++ z ≡ v ++ (w ++ (x ++ (y ++ z)))
+regrouped v w x y z = simp append_assoc
+
+names_parse : (k : SymbolKind) (names : List (List ℕ)) → is_plain_kind k ≡ true → list_all is_name names ≡ true
+    → ParseAll (map (λ (name : List ℕ). declaration_line k (name ∷ [])) names) (map (declared_line k) (map (λ (name : List ℕ). token.Name name ∷ []) names))
+names_parse k names plain all = group_parses k (λ (name : List ℕ). name ∷ []) (λ (name : List ℕ). token.Name name ∷ []) is_name (λ name ok. name_parses k name plain ok) names all
+
+all_parses : (c : Contents) → TextSections c → (functions : List ParsedLine) → ParseAll (flat_map (function_lines c) c.funcs) functions → ParseAll (script_lines c) (with_declarations c functions)
+unfolding script_lines declarations
+all_parses c p functions line_parses =
+    let resolve_name : SymbolKind → List (List ℕ) → List (List (List ℕ)) = λ k names. map (λ (name : List ℕ). declaration_line k (name ∷ [])) names in
+    let parsed : SymbolKind → List (List ℕ) → List ParsedLine = λ k names. map (declared_line k) (map (λ (name : List ℕ). token.Name name ∷ []) names) in
+    let sem_lines = map (λ (s : SemDecl). declaration_line kind.Sem (s.name ∷ decimal s.count ∷ [])) c.sems in
+    let sems_said = map (declared_line kind.Sem) (map (λ (s : SemDecl). token.Name s.name ∷ token.Number s.count ∷ []) c.sems) in
+    let function_text = flat_map (function_lines c) c.funcs in
+    let of_sems : ParseAll sem_lines sems_said =
+    group_parses kind.Sem (λ (s : SemDecl). s.name ∷ decimal s.count ∷ []) (λ (s : SemDecl). token.Name s.name ∷ token.Number s.count ∷ []) (λ (s : SemDecl). is_name s.name && nat_le s.count 32767)
+    (λ s ok. let sections = and_parts (is_name s.name) (nat_le s.count 32767) ok in sem_parses s.name s.count sections.0 (leb-true s.count 32767 sections.1)) c.sems p.sems
+    in
+    let from_sems = both sem_lines function_text sems_said functions of_sems line_parses in
+    let from_conds = both (resolve_name kind.Cond c.conds) (sem_lines ++ function_text) (parsed kind.Cond c.conds) (sems_said ++ functions) (names_parse kind.Cond c.conds refl p.conds) from_sems in
+    let from_mutexes =
+    both (resolve_name kind.Mutex c.mutexes) (resolve_name kind.Cond c.conds ++ (sem_lines ++ function_text)) (parsed kind.Mutex c.mutexes) (parsed kind.Cond c.conds ++ (sems_said ++ functions))
+    (names_parse kind.Mutex c.mutexes refl p.mutexes) from_conds
+    in
+    let from_globals =
+    both (resolve_name kind.Global c.globals) (resolve_name kind.Mutex c.mutexes ++ (resolve_name kind.Cond c.conds ++ (sem_lines ++ function_text)))
+    (parsed kind.Global c.globals) (parsed kind.Mutex c.mutexes ++ (parsed kind.Cond c.conds ++ (sems_said ++ functions))) (names_parse kind.Global c.globals refl p.globals) from_mutexes
+    in
+    subst (λ (lines : List (List (List ℕ))). ParseAll lines (with_declarations c functions)) (sym (regrouped (resolve_name kind.Global c.globals) (resolve_name kind.Mutex c.mutexes) (resolve_name kind.Cond c.conds) sem_lines function_text)) from_globals
+
+-- the declarations of one kind, with these after it
+abbrev onto : SymbolKind → SymbolKind → List (List Token) → List (List Token) → List (List Token)
+onto k other all rest = cond (is_same k other) (all ++ rest) rest
+
+in_turn : (c : Contents) (functions : List ParsedLine) (k : SymbolKind) → words_declared k (with_declarations c functions)
+    ≡ onto k kind.Global (declarations c kind.Global) (onto k kind.Mutex (declarations c kind.Mutex) (onto k kind.Cond (declarations c kind.Cond) (onto k kind.Sem (declarations c kind.Sem) (words_declared k functions))))
+in_turn c functions k =
+    let sems = map (declared_line kind.Sem) (declarations c kind.Sem) ++ functions in
+    let conds = map (declared_line kind.Cond) (declarations c kind.Cond) ++ sems in
+    let mutexes = map (declared_line kind.Mutex) (declarations c kind.Mutex) ++ conds in
+    let to_global = onto k kind.Global (declarations c kind.Global) in
+    let to_mutex = onto k kind.Mutex (declarations c kind.Mutex) in
+    let to_cond = onto k kind.Cond (declarations c kind.Cond) in
+    kinds_declare k kind.Global (declarations c kind.Global) mutexes
+    ∙ ap to_global (kinds_declare k kind.Mutex (declarations c kind.Mutex) conds)
+    ∙ ap (λ ws. to_global (to_mutex ws)) (kinds_declare k kind.Cond (declarations c kind.Cond) sems)
+    ∙ ap (λ ws. to_global (to_mutex (to_cond ws))) (kinds_declare k kind.Sem (declarations c kind.Sem) functions)
+
+declared_all : (c : Contents) (functions : List ParsedLine) → ((k : SymbolKind) → words_declared k functions ≡ cond (is_same k kind.Function) (outlines_of c.funcs) [])
+    → (k : SymbolKind) → words_declared k (with_declarations c functions) ≡ declarations c k
+unfolding declarations
+declared_all c functions parsed kind.Global = in_turn c functions kind.Global ∙ ap (λ ws. declarations c kind.Global ++ ws) (parsed kind.Global) ∙ append-nil (declarations c kind.Global)
+declared_all c functions parsed kind.Mutex = in_turn c functions kind.Mutex ∙ ap (λ ws. declarations c kind.Mutex ++ ws) (parsed kind.Mutex) ∙ append-nil (declarations c kind.Mutex)
+declared_all c functions parsed kind.Cond = in_turn c functions kind.Cond ∙ ap (λ ws. declarations c kind.Cond ++ ws) (parsed kind.Cond) ∙ append-nil (declarations c kind.Cond)
+declared_all c functions parsed kind.Sem = in_turn c functions kind.Sem ∙ ap (λ ws. declarations c kind.Sem ++ ws) (parsed kind.Sem) ∙ append-nil (declarations c kind.Sem)
+declared_all c functions parsed kind.Function = in_turn c functions kind.Function ∙ parsed kind.Function
+
+after_all : (c : Contents) (functions : List ParsedLine) → ((n : ℕ) → StatementsThen c (split_sections (enumerate_from n functions)) [] c.funcs) → (n : ℕ) → StatementsThen c (split_sections (enumerate_from n (with_declarations c functions))) [] c.funcs
+after_all c functions after n =
+    let sems = map (declared_line kind.Sem) (declarations c kind.Sem) ++ functions in
+    let conds = map (declared_line kind.Cond) (declarations c kind.Cond) ++ sems in
+    let mutexes = map (declared_line kind.Mutex) (declarations c kind.Mutex) ++ conds in
+    kinds_after c c.funcs kind.Global (declarations c kind.Global) mutexes n refl (λ n1.
+    kinds_after c c.funcs kind.Mutex (declarations c kind.Mutex) conds n1 refl (λ n2.
+    kinds_after c c.funcs kind.Cond (declarations c kind.Cond) sems n2 refl (λ n3.
+    kinds_after c c.funcs kind.Sem (declarations c kind.Sem) functions n3 refl after)))
+
+are_contents : (c : Contents) (functions : List ParsedLine) → ((k : SymbolKind) → words_declared k functions ≡ cond (is_same k kind.Function) (outlines_of c.funcs) [])
+    → ((n : ℕ) → StatementsThen c (split_sections (enumerate_from n functions)) [] c.funcs) → AreContents (enumerate_from 1 (with_declarations c functions)) c
+are_contents c functions declared after =
+    let all = with_declarations c functions in
+    let sections = after_all c functions after 1 in
+    record {
+      declared = λ k. declared_numbered k 1 all ∙ declared_all c functions declared k;
+      bodies = sections.bodies;
+      in_functions = and_from (is_empty (split_sections (enumerate_from 1 all)).preamble) (list_all (λ (section : Section). is_function section || is_empty section.body) (sections_of (enumerate_from 1 all)))
+          (nothing_before (split_sections (enumerate_from 1 all)).preamble sections.prefix) sections.within;
+    }
+
+spells_contents : (c : Contents) → has_text c ≡ true → SpellsContents (text_of (script_lines c)) c
+spells_contents c h =
+    let p = text_sections_parse c h in
+    let functions = functions_parse c c.funcs p p.funcs in
+    let all = with_declarations c functions.all in
+    let line_parses = all_parses c p functions.all functions.line_parses in
+    record {
+      each_says = each_parses_again (script_lines c) all line_parses.are line_parses.parse_all;
+      are_contents = subst (λ (lines : List Line). AreContents lines c) (sym (parsed_lines_again (script_lines c) all line_parses.are line_parses.parse_all)) (are_contents c functions.all functions.declared functions.after);
+    }
+
+-- the canonical text of a script spells it
+pub canon_spells : (script : Script) → Spells (canon script) script
+canon_spells script = spells_contents (contents_of script) (passes_all (contents_of script) script.passes_checks).text

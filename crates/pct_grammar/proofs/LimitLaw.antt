@@ -1,0 +1,258 @@
+-- The check of limits on lines, and the limits of the script that they spell.
+use Rattle.std.proofs.Common.{◌≡◌, ℕ, ◌+◌, ◌<◌, ◌≤◌, Bool, true, false, not, ◌&&◌, ◌||◌, cond, List, [], ◌∷◌, ◌++◌, Some, length, refl, sym, ap, ◌∙◌, arith, filter, map, nat_le, nat_lt, leb-true, le-leb}
+use Rattle.std.specs.Prelude.{is_none, drop, sum_by, count_by}
+use Rattle.std.specs.List.{AllZip, list_all}
+use Rattle.std.proofs.lemmas.Bool.{and_parts, lt-leb, leb-false, ltb-true, ltb-false}
+use Rattle.std.proofs.lemmas.List.{length-map, length-append}
+use Rattle.std.proofs.lemmas.List.Elements.{filter-append}
+use Rattle.std.proofs.lemmas.List.Folds.{list_all-map}
+use Rattle.std.proofs.lemmas.List.Sums.{sum_by-cons}
+use Rattle.pct_model.specs.declared.line_kind.SymbolKind.{SymbolKind}
+use Rattle.pct_model.specs.declared.line_kind.SymbolKind.TheVariants as kind
+use Rattle.pct_model.specs.declared.refusal.ParseWhy.TheVariants.{TooMany}
+use Rattle.pct_model.specs.declared.parsed_line.ParsedLine.{ParsedLine}
+use Rattle.pct_model.specs.declared.parsed_line.Token.{Token}
+use Rattle.pct_model.specs.declared.parsed_line.Token.TheVariants as token
+use Rattle.pct_model.specs.declared.script.Func.{Func}
+use Rattle.pct_model.specs.declared.script.SemDecl.{SemDecl}
+use Rattle.pct_model.specs.declared.statement.Stmt.{Stmt}
+use Rattle.pct_model.specs.LineParsing.{is_empty}
+use Rattle.pct_model.specs.Statements.{encode}
+use Rattle.pct_model.specs.Contents.{Contents, names_of_kind}
+use Rattle.pct_model.specs.Sections.{Line, Section, role_in, declares, is_declaration, is_statement, names_in, locals_of, declaring, is_function, split_sections, sections_of, functions_in}
+use Rattle.pct_model.specs.Checks.{first_wrong, none_wrong, most, exceeds, has_many_locals, exceeds_limit, too_many}
+use Rattle.pct_model.specs.Static.{is_within, statement_lines, keeps_limits}
+use Rattle.pct_model.specs.Spells.{declarations, encoded, SpellsBody, AreContents}
+use Rattle.pct_grammar.proofs.SectionSplits.{lines_of_sections, all_statements, is_section, are_sections}
+use Rattle.pct_grammar.proofs.FirstFaults.{line_none, first_wrong_none}
+
+-- ---- rules
+
+or_step : (a b x y : Bool) → (not (a || b) && (x && y)) ≡ ((not a && x) && (not b && y))
+or_step true b x y = refl
+or_step false true true y = refl
+or_step false true false y = refl
+or_step false false true y = refl
+or_step false false false y = refl
+
+-- no line breaks one of two rules if and only if no line breaks the first and none the second
+pub none_or : {A : Type 0} (r s : List A → A → Bool) (before items : List A) → none_wrong (λ earlier a. r earlier a || s earlier a) before items ≡ (none_wrong r before items && none_wrong s before items)
+unfolding none_wrong
+none_or r s before [] = refl
+none_or r s before (a ∷ items) =
+    ap (λ (t : Bool). not (r before a || s before a) && t) (none_or r s (a ∷ before) items)
+    ∙ or_step (r before a) (s before a) (none_wrong r (a ∷ before) items) (none_wrong s (a ∷ before) items)
+
+-- a rule that does not depend on earlier lines
+pub none_by_test : {A : Type 0} (test : A → Bool) (before items : List A) → none_wrong (λ earlier a. test a) before items ≡ list_all (λ a. not (test a)) items
+unfolding none_wrong
+none_by_test test before [] = refl
+none_by_test test before (a ∷ items) = ap (λ (t : Bool). not (test a) && t) (none_by_test test (a ∷ before) items)
+
+-- ---- counts
+
+counted : {A : Type 0} (test : A → Bool) (a : A) (xs : List A) (t : Bool) → test a ≡ t → count_by test (a ∷ xs) ≡ cond t 1 0 + count_by test xs
+counted test a xs t e = sum_by-cons (λ x. cond (test x) 1 0) a xs ∙ ap (λ (s : Bool). cond s 1 0 + count_by test xs) e
+
+passes_step : (test : ParsedLine → Bool) (n : ℕ) (before : List ParsedLine) (a : ParsedLine) (items : List ParsedLine) (t u : Bool) → test a ≡ t → nat_le n (count_by test before) ≡ u → count_by test before ≤ n
+    → (count_by test (a ∷ before) ≤ n → none_wrong (exceeds test n) (a ∷ before) items ≡ nat_le (count_by test (a ∷ before) + count_by test items) n)
+    → (not (t && u) && none_wrong (exceeds test n) (a ∷ before) items) ≡ nat_le (count_by test before + count_by test (a ∷ items)) n
+passes_step test n before a items false u e full few more =
+    let prefix = counted test a before false e in
+    let after = counted test a items false e in
+    let still : count_by test (a ∷ before) ≤ n = omega (arith, prefix) in
+    let same : count_by test (a ∷ before) + count_by test items ≡ count_by test before + count_by test (a ∷ items) = omega (arith, prefix, after) in
+    more still ∙ ap (λ m. nat_le m n) same
+passes_step test n before a items true true e full few more =
+    let after = counted test a items true e in
+    let enough : n ≤ count_by test before = leb-true n (count_by test before) full in
+    let over : n < count_by test before + count_by test (a ∷ items) = omega (arith, after, enough) in
+    sym (lt-leb (count_by test before + count_by test (a ∷ items)) n over)
+passes_step test n before a items true false e full few more =
+    let prefix = counted test a before true e in
+    let after = counted test a items true e in
+    let fewer : count_by test before < n = leb-false n (count_by test before) full in
+    let still : count_by test (a ∷ before) ≤ n = omega (arith, prefix, fewer) in
+    let same : count_by test (a ∷ before) + count_by test items ≡ count_by test before + count_by test (a ∷ items) = omega (arith, prefix, after) in
+    more still ∙ ap (λ m. nat_le m n) same
+
+none_passes_after : (test : ParsedLine → Bool) (n : ℕ) (before items : List ParsedLine) → count_by test before ≤ n → none_wrong (exceeds test n) before items ≡ nat_le (count_by test before + count_by test items) n
+unfolding none_wrong
+none_passes_after test n before [] few =
+    let still : count_by test before + count_by test [] ≤ n = omega arith in
+    sym (le-leb (count_by test before + count_by test []) n still)
+none_passes_after test n before (a ∷ items) few =
+    passes_step test n before a items (test a) (nat_le n (count_by test before)) refl refl few (none_passes_after test n (a ∷ before) items)
+
+-- no line is one too many if and only if there are not too many lines
+none_passes : (test : ParsedLine → Bool) (n : ℕ) (items : List ParsedLine) → none_wrong (exceeds test n) [] items ≡ nat_le (count_by test items) n
+none_passes test n items =
+    let none : count_by test [] ≤ n = omega arith in
+    let same : count_by test [] + count_by test items ≡ count_by test items = omega arith in
+    none_passes_after test n [] items none ∙ ap (λ m. nat_le m n) same
+
+one_counted : {A : Type 0} (t : Bool) (n : ℕ) (x : A) (xs : List A) → n ≡ length xs → cond t 1 0 + n ≡ length (cond t (x ∷ xs) xs)
+one_counted true n x xs e = omega (arith, e)
+one_counted false n x xs e = omega (arith, e)
+
+-- the values that pass a test are counted by the items with such values
+pub count_by-map : {A B : Type 0} (test : B → Bool) (f : A → B) (xs : List A) → count_by test (map f xs) ≡ length (filter (λ x. test (f x)) xs)
+count_by-map test f [] = refl
+count_by-map test f (x ∷ xs) =
+    counted test (f x) (map f xs) (test (f x)) refl
+    ∙ one_counted (test (f x)) (count_by test (map f xs)) x (filter (λ y. test (f y)) xs) (count_by-map test f xs)
+
+-- ---- declarations
+
+abbrev parsed_each : List Line → List ParsedLine
+parsed_each lines = map (λ (l : Line). l.1) lines
+
+declared_length : (c : Contents) (k : SymbolKind) → length (declarations c k) ≡ length (names_of_kind c k)
+unfolding declarations
+declared_length c kind.Global = length-map c.globals (λ (name : List ℕ). token.Name name ∷ [])
+declared_length c kind.Mutex = length-map c.mutexes (λ (name : List ℕ). token.Name name ∷ [])
+declared_length c kind.Cond = length-map c.conds (λ (name : List ℕ). token.Name name ∷ [])
+declared_length c kind.Sem = length-map c.sems (λ (s : SemDecl). token.Name s.name ∷ token.Number s.count ∷ []) ∙ sym (length-map c.sems (λ (s : SemDecl). s.name))
+declared_length c kind.Function = length-map c.funcs (λ (f : Func). token.Name f.name ∷ map (λ (name : List ℕ). token.Name name) f.locals) ∙ sym (length-map c.funcs (λ (f : Func). f.name))
+
+kind_within : (lines : List Line) (c : Contents) → AreContents lines c → (k : SymbolKind) → none_wrong (exceeds (declares k) (most k)) [] (parsed_each lines) ≡ is_within c k
+kind_within lines c are k =
+    none_passes (declares k) (most k) (parsed_each lines)
+    ∙ ap (λ n. nat_le n (most k))
+    (count_by-map (declares k) (λ (l : Line). l.1) lines ∙ sym (length-map (declaring k lines) (λ (l : Line). l.1.tokens)) ∙ ap (λ (ws : List (List Token)). length ws) (are.declared k) ∙ declared_length c k)
+
+-- ---- statements
+
+abbrev counts_as : Line → Bool
+counts_as l = is_statement l.1
+
+abbrev body_length : Section → ℕ
+body_length section = length section.body
+
+all_counted : (body : List Line) → all_statements body ≡ true → filter counts_as body ≡ body
+all_counted [] are = refl
+all_counted (l ∷ body) are =
+    let sections = and_parts (is_statement l.1) (all_statements body) are in
+    ap (λ (t : Bool). cond t (l ∷ filter counts_as body) (filter counts_as body)) sections.0 ∙ ap (λ (ls : List Line). l ∷ ls) (all_counted body sections.1)
+
+none_there : {A : Type 0} (xs : List A) → is_empty xs ≡ true → xs ≡ []
+none_there [] e = refl
+none_there (x ∷ xs) e = absurd cc
+
+with_section : (section : Section) (others : List Section) (t : Bool) → (t || is_empty section.body) ≡ true → length section.body + sum_by body_length others ≡ sum_by body_length (cond t (section ∷ others) others)
+with_section section others true e = sym (sum_by-cons body_length section others)
+with_section section others false e =
+    let none : length section.body ≡ 0 = ap (λ (ls : List Line). length ls) (none_there section.body e) in
+    omega (arith, none)
+
+sections_count : (sections : List Section) → list_all is_section sections ≡ true → list_all (λ section. is_function section || is_empty section.body) sections ≡ true
+    → length (filter counts_as (lines_of_sections sections)) ≡ sum_by body_length (filter is_function sections)
+unfolding lines_of_sections
+sections_count [] are wholes = refl
+sections_count (section ∷ sections) are wholes =
+    let h = and_parts (is_section section) (list_all is_section sections) are in
+    let this = and_parts (is_declaration (role_in section.header.1)) (all_statements section.body) h.0 in
+    let w = and_parts (is_function section || is_empty section.body) (list_all (λ (p : Section). is_function p || is_empty p.body) sections) wholes in
+    let after = filter counts_as (section.body ++ lines_of_sections sections) in
+    let rest = filter counts_as (lines_of_sections sections) in
+    ap (λ (t : Bool). length (cond (not t) (section.header ∷ after) after)) this.0
+    ∙ ap (λ (ls : List Line). length ls) (filter-append counts_as section.body (lines_of_sections sections) ∙ ap (λ (ls : List Line). ls ++ rest) (all_counted section.body this.1))
+    ∙ length-append section.body rest ∙ ap (λ n. length section.body + n) (sections_count sections h.1 w.1)
+    ∙ with_section section (filter is_function sections) (is_function section) w.0
+
+bodies_count : (c : Contents) (sections : List Section) (funcs : List Func) → AllZip (SpellsBody c) sections funcs → sum_by body_length sections ≡ statement_lines funcs
+bodies_count c [] [] zip = refl
+bodies_count c [] (f ∷ funcs) zip = absurd zip
+bodies_count c (section ∷ sections) [] zip = absurd zip
+bodies_count c (section ∷ sections) (f ∷ funcs) zip =
+    let same : length section.body ≡ length f.body = sym (length-map section.body (λ (l : Line). encoded c f.locals l.1)) ∙ ap length zip.0 ∙ length-map f.body (λ (s : Stmt). Some (encode s)) in
+    sum_by-cons body_length section sections ∙ ap (λ n. n + sum_by body_length sections) same ∙ ap (λ n. length f.body + n) (bodies_count c sections funcs zip.1)
+    ∙ sym (sum_by-cons (λ (g : Func). length g.body) f funcs)
+
+statements_count : (lines : List Line) (c : Contents) → AreContents lines c → count_by is_statement (parsed_each lines) ≡ statement_lines c.funcs
+statements_count lines c are =
+    let p = are_sections lines in
+    let prefix = (split_sections lines).preamble in
+    let h = and_parts (is_empty prefix) (list_all (λ (section : Section). is_function section || is_empty section.body) (sections_of lines)) are.in_functions in
+    count_by-map is_statement (λ (l : Line). l.1) lines
+    ∙ ap (λ (ls : List Line). length (filter counts_as ls)) (p.whole ∙ ap (λ (ls : List Line). ls ++ lines_of_sections (sections_of lines)) (none_there prefix h.0))
+    ∙ sections_count (sections_of lines) p.sections_are h.1 ∙ bodies_count c (functions_in lines) c.funcs are.bodies
+
+-- ---- locals
+
+abbrev few_names : List Token → Bool
+few_names words = not (nat_lt 8 (length (drop 1 (names_in words))))
+
+few_or : (l : Line) (others : List Line) (t rest : Bool) → rest ≡ list_all (λ (m : Line). few_names m.1.tokens) others
+    → (not (t && nat_lt 8 (length (locals_of l.1))) && rest) ≡ list_all (λ (m : Line). few_names m.1.tokens) (cond t (l ∷ others) others)
+few_or l others true rest e = ap (λ (t : Bool). few_names l.1.tokens && t) e
+few_or l others false rest e = e
+
+few_locals : (lines : List Line) → list_all (λ (line : ParsedLine). not (has_many_locals line)) (parsed_each lines) ≡ list_all (λ (l : Line). few_names l.1.tokens) (declaring kind.Function lines)
+few_locals [] = refl
+few_locals (l ∷ lines) =
+    few_or l (declaring kind.Function lines) (declares kind.Function l.1) (list_all (λ (line : ParsedLine). not (has_many_locals line)) (parsed_each lines)) (few_locals lines)
+
+names_counted : (names : List (List ℕ)) → names_in (map (λ (name : List ℕ). token.Name name) names) ≡ names
+names_counted [] = refl
+names_counted (name ∷ names) = ap (λ (ns : List (List ℕ)). name ∷ ns) (names_counted names)
+
+at_most : (n : ℕ) (t : Bool) → nat_lt 8 n ≡ t → not t ≡ nat_le n 8
+at_most n true e = sym (lt-leb n 8 (ltb-true 8 n e))
+at_most n false e = sym (le-leb n 8 (ltb-false 8 n e))
+
+abbrev words_of_function : Func → List Token
+words_of_function f = token.Name f.name ∷ map (λ (name : List ℕ). token.Name name) f.locals
+
+few_of : (funcs : List Func) → list_all (λ (f : Func). few_names (words_of_function f)) funcs ≡ list_all (λ (f : Func). nat_le (length f.locals) 8) funcs
+few_of [] = refl
+few_of (f ∷ funcs) =
+    let this : few_names (words_of_function f) ≡ nat_le (length f.locals) 8 =
+    ap (λ (names : List (List ℕ)). not (nat_lt 8 (length names))) (names_counted f.locals) ∙ at_most (length f.locals) (nat_lt 8 (length f.locals)) refl
+    in ap (λ (t : Bool). t && list_all (λ (g : Func). few_names (words_of_function g)) funcs) this ∙ ap (λ (t : Bool). nat_le (length f.locals) 8 && t) (few_of funcs)
+
+locals_within : (lines : List Line) (c : Contents) → AreContents lines c → none_wrong (λ before line. has_many_locals line) [] (parsed_each lines) ≡ list_all (λ (f : Func). nat_le (length f.locals) 8) c.funcs
+unfolding declarations
+locals_within lines c are =
+    none_by_test has_many_locals [] (parsed_each lines) ∙ few_locals lines ∙ sym (list_all-map few_names (λ (l : Line). l.1.tokens) (declaring kind.Function lines))
+    ∙ ap (λ (ws : List (List Token)). list_all few_names ws) (are.declared kind.Function) ∙ list_all-map few_names words_of_function c.funcs ∙ few_of c.funcs
+
+-- ---- all limits
+
+abbrev Rule : Type 0
+Rule = List ParsedLine → ParsedLine → Bool
+
+abbrev by_kind : SymbolKind → Rule
+by_kind k = exceeds (declares k) (most k)
+
+abbrev either : Rule → Rule → Rule
+either r s = λ before line. r before line || s before line
+
+abbrev kinds : Rule
+kinds = either (either (either (either (by_kind kind.Global) (by_kind kind.Mutex)) (by_kind kind.Cond)) (by_kind kind.Sem)) (by_kind kind.Function)
+
+none_either : (r s : Rule) (items : List ParsedLine) (t u : Bool) → none_wrong r [] items ≡ t → none_wrong s [] items ≡ u → none_wrong (either r s) [] items ≡ (t && u)
+none_either r s items t u e f = none_or r s [] items ∙ ap (λ (b : Bool). b && none_wrong s [] items) e ∙ ap (λ (b : Bool). t && b) f
+
+kinds_within : (lines : List Line) (c : Contents) → AreContents lines c
+    → none_wrong kinds [] (parsed_each lines) ≡ (is_within c kind.Global && is_within c kind.Mutex && is_within c kind.Cond && is_within c kind.Sem && is_within c kind.Function)
+kinds_within lines c are =
+    let within = kind_within lines c are in
+    let all = parsed_each lines in
+    none_either _ _ all _ _
+    (none_either _ _ all _ _
+    (none_either _ _ all _ _ (none_either (by_kind kind.Global) (by_kind kind.Mutex) all _ _ (within kind.Global) (within kind.Mutex)) (within kind.Cond))
+    (within kind.Sem))
+    (within kind.Function)
+
+-- the check finds no fault if and only if the script keeps the limits
+pub limits_law : (lines : List Line) (c : Contents) → AreContents lines c → is_none (too_many lines) ≡ keeps_limits c
+unfolding too_many exceeds_limit keeps_limits
+limits_law lines c are =
+    let all = parsed_each lines in
+    let within_all = is_within c kind.Global && is_within c kind.Mutex && is_within c kind.Cond && is_within c kind.Sem && is_within c kind.Function in
+    let short = nat_le (statement_lines c.funcs) 2000 in
+    let statements : none_wrong (exceeds is_statement 2000) [] all ≡ short = none_passes is_statement 2000 all ∙ ap (λ n. nat_le n 2000) (statements_count lines c are) in
+    line_none TooMany (first_wrong exceeds_limit [] lines) ∙ first_wrong_none exceeds_limit [] lines
+    ∙ none_either (either kinds (exceeds is_statement 2000)) (λ before line. has_many_locals line) all (within_all && short) (list_all (λ (f : Func). nat_le (length f.locals) 8) c.funcs)
+    (none_either kinds (exceeds is_statement 2000) all within_all short (kinds_within lines c are) statements) (locals_within lines c are)

@@ -1,0 +1,213 @@
+-- All names of lines are declared if and only if the lines resolve to a script.
+use Rattle.std.proofs.Common.{◌≡◌, ℕ, Bool, true, false, not, ◌&&◌, cond, List, [], ◌∷◌, map, find, Option, Some, is_some, is_none, refl, sym, ap, ◌∙◌, subst, option_map}
+use Rattle.std.specs.List.{AllZip}
+use Rattle.std.proofs.Math.Path.{fun_ext}
+use Rattle.std.proofs.lemmas.Bool.{and_from}
+use Rattle.pct_model.specs.declared.line_kind.SymbolKind.{SymbolKind}
+use Rattle.pct_model.specs.declared.line_kind.SymbolKind.TheVariants as kind
+use Rattle.pct_model.specs.declared.parsed_line.Argument.{Argument}
+use Rattle.pct_model.specs.declared.parsed_line.ParsedLine.{ParsedLine}
+use Rattle.pct_model.specs.declared.script.Func.{Func}
+use Rattle.pct_model.specs.declared.statement.Stmt.{Stmt}
+use Rattle.pct_model.specs.Statements.{EncodedStmt, encode}
+use Rattle.pct_model.specs.Spelling.{first_of}
+use Rattle.pct_model.specs.Contents.{Contents, names_of_kind, resolve_all}
+use Rattle.pct_model.specs.Sections.{Line, Section, argument_kinds_in, is_statement, locals_of, declaring, names_declared, functions_in, are_in_functions}
+use Rattle.pct_model.specs.Checks.{uses_unknown, unknown_in, unknown_name}
+use Rattle.pct_model.specs.Spells.{declarations, encoded, SpellsBody, AreContents}
+use Rattle.pct_grammar.specs.Resolving.{decode, resolve_statement, resolve_body, first_name, resolve_function, resolve_functions, sems_in, resolve_contents}
+use Rattle.pct_grammar.proofs.SharedWords.{IsParsed, EachParsed}
+use Rattle.pct_grammar.proofs.OptionFacts.{mapped_some, mapped_none, or_none, and_some, some_not_none, MappedFrom, mapped_from, BothFrom, both_from}
+use Rattle.pct_grammar.proofs.EncodeDecode.{statement_back}
+use Rattle.pct_grammar.proofs.Declarations.{names_from, parsed_again, each_declares, parsed_names, parsed_sems, parsed_functions}
+use Rattle.pct_grammar.proofs.EncodedFunctions.{EachStatement, EachSection, FunctionParsed, functions_parsed, WroteAll, words_of_function, words_of_headers, functions_resolve, locals_resolved, no_declaration, line_has_words}
+
+-- ---- known names resolve
+
+found_none : {A : Type 0} (test : A → Bool) (a : A) (o : Option A) (t : Bool) → test a ≡ t → is_none (cond t (Some a) o) ≡ (not t && is_none o)
+found_none test a o true e = refl
+found_none test a o false e = refl
+
+line_known : (names : SymbolKind → List (List ℕ)) (locals : List (List ℕ)) (line : ParsedLine) → not (uses_unknown names locals line) ≡ is_some (resolve_statement names locals line)
+unfolding uses_unknown resolve_statement
+line_known names locals line =
+    let o = resolve_all names locals (argument_kinds_in line) line.tokens in
+    some_not_none o ∙ sym (mapped_some (decode line.line_kind) o)
+
+body_known : (names : SymbolKind → List (List ℕ)) (locals : List (List ℕ)) (body : List Line) → is_none (find (λ l. uses_unknown names locals l.1) body) ≡ is_some (resolve_body names locals body)
+unfolding resolve_body
+body_known names locals [] = refl
+body_known names locals (l ∷ body) =
+    let more = find (λ (m : Line). uses_unknown names locals m.1) body in
+    found_none (λ (m : Line). uses_unknown names locals m.1) l more (uses_unknown names locals l.1) refl
+    ∙ ap (λ t. t && is_none more) (line_known names locals l.1)
+    ∙ ap (λ t. is_some (resolve_statement names locals l.1) && t) (body_known names locals body)
+    ∙ sym (and_some (λ (s : Stmt) (others : List Stmt). s ∷ others) (resolve_statement names locals l.1) (resolve_body names locals body))
+
+function_known : (names : SymbolKind → List (List ℕ)) (section : Section) → is_none (unknown_in names section) ≡ is_some (resolve_function names section)
+unfolding resolve_function
+function_known names section =
+    let locals = locals_of section.header.1 in
+    mapped_none (λ (l : Line). l.0) (find (λ (l : Line). uses_unknown names locals l.1) section.body)
+    ∙ body_known names locals section.body
+    ∙ sym (mapped_some {B = Func} (λ body. record { name = first_name section.header.1.tokens; locals = locals; body = body }) (resolve_body names locals section.body))
+
+functions_known : (names : SymbolKind → List (List ℕ)) (sections : List Section) → is_none (first_of (map (unknown_in names) sections)) ≡ is_some (resolve_functions names sections)
+unfolding resolve_functions
+functions_known names [] = refl
+functions_known names (section ∷ sections) =
+    or_none (unknown_in names section) (first_of (map (unknown_in names) sections))
+    ∙ ap (λ t. t && is_none (first_of (map (unknown_in names) sections))) (function_known names section)
+    ∙ ap (λ t. is_some (resolve_function names section) && t) (functions_known names sections)
+    ∙ sym (and_some (λ (f : Func) (others : List Func). f ∷ others) (resolve_function names section) (resolve_functions names sections))
+
+-- no name is unknown if and only if the lines resolve to contents
+pub unknown_law : (lines : List Line) → is_none (unknown_name lines) ≡ is_some (resolve_contents lines)
+unfolding unknown_name resolve_contents
+unknown_law lines =
+    mapped_none _ (first_of (map (unknown_in (names_declared lines)) (functions_in lines)))
+    ∙ functions_known (names_declared lines) (functions_in lines)
+    ∙ sym (mapped_some _ (resolve_functions (names_declared lines) (functions_in lines)))
+
+-- ---- what is resolved is spelled
+
+line_resolved : (c : Contents) (locals : List (List ℕ)) (line : ParsedLine) (s : Stmt) → IsParsed line → is_statement line ≡ true → resolve_statement (names_of_kind c) locals line ≡ Some s
+    → encoded c locals line ≡ Some (encode s)
+unfolding resolve_statement
+line_resolved c locals line s from is h =
+    let o = resolve_all (names_of_kind c) locals (argument_kinds_in line) line.tokens in
+    let at : MappedFrom (decode line.line_kind) o s = mapped_from (decode line.line_kind) o s h in
+    let back : encode (decode line.line_kind at.value) ≡ (line.line_kind, at.value) =
+    statement_back c locals line.line_kind at.value (no_declaration line is) (line_has_words c locals line at.value from is at.from)
+    in ap (λ (p : Option (List Argument)). option_map {U = EncodedStmt} (λ arguments. (line.line_kind, arguments)) p) at.from ∙ ap (λ (t : EncodedStmt). Some t) (sym back ∙ sym (ap encode at.is))
+
+body_resolved : (c : Contents) (locals : List (List ℕ)) (body : List Line) (stmts : List Stmt) → EachStatement body → resolve_body (names_of_kind c) locals body ≡ Some stmts
+    → map (λ l. encoded c locals l.1) body ≡ map (λ s. Some (encode s)) stmts
+unfolding resolve_body
+body_resolved c locals [] stmts from h =
+    let none : [] ≡ stmts = cc in
+    ap (map (λ (s : Stmt). Some (encode s))) none
+body_resolved c locals (l ∷ body) stmts from h =
+    let o = resolve_statement (names_of_kind c) locals l.1 in
+    let at : BothFrom o (resolve_body (names_of_kind c) locals body) stmts = both_from o (resolve_body (names_of_kind c) locals body) stmts h in
+    ap (λ (t : Option EncodedStmt). t ∷ map (λ (m : Line). encoded c locals m.1) body) (line_resolved c locals l.1 at.first from.0 from.1 at.one)
+    ∙ ap (λ more. Some (encode at.first) ∷ more) (body_resolved c locals body at.others from.2 at.rest)
+    ∙ sym (ap (map (λ (s : Stmt). Some (encode s))) at.whole)
+
+-- the function of a section with these statements
+abbrev function_of : Section → List Stmt → Func
+function_of section body = record { name = first_name section.header.1.tokens; locals = locals_of section.header.1; body = body }
+
+function_resolved : (c : Contents) (section : Section) (f : Func) → EachStatement section.body → resolve_function (names_of_kind c) section ≡ Some f → SpellsBody c section f
+unfolding resolve_function
+function_resolved c section f from h =
+    let o = resolve_body (names_of_kind c) (locals_of section.header.1) section.body in
+    let at : MappedFrom (function_of section) o f = mapped_from (function_of section) o f h in
+    subst (SpellsBody c section) (sym at.is) (body_resolved c (locals_of section.header.1) section.body at.value from at.from)
+
+functions_resolved : (c : Contents) (sections : List Section) (funcs : List Func) → EachSection FunctionParsed sections → resolve_functions (names_of_kind c) sections ≡ Some funcs → AllZip (SpellsBody c) sections funcs
+unfolding resolve_functions
+functions_resolved c [] funcs from h =
+    let none : [] ≡ funcs = cc in
+    subst (AllZip (SpellsBody c) []) none tt
+functions_resolved c (section ∷ sections) funcs from h =
+    let o = resolve_function (names_of_kind c) section in
+    let at : BothFrom o (resolve_functions (names_of_kind c) sections) funcs = both_from o (resolve_functions (names_of_kind c) sections) funcs h in
+    subst (AllZip (SpellsBody c) (section ∷ sections)) (sym at.whole) (function_resolved c section at.first from.0.body at.one, functions_resolved c sections at.others from.1 at.rest)
+
+-- ---- what is resolved is declared
+
+header_read : (names : SymbolKind → List (List ℕ)) (section : Section) (f : Func) → resolve_function names section ≡ Some f → parsed_again section.header.1.tokens ≡ words_of_function f
+unfolding resolve_function
+header_read names section f h =
+    let o = resolve_body names (locals_of section.header.1) section.body in
+    let at : MappedFrom (function_of section) o f = mapped_from (function_of section) o f h in
+    sym (ap words_of_function at.is)
+
+headers_read : (names : SymbolKind → List (List ℕ)) (sections : List Section) (funcs : List Func) → resolve_functions names sections ≡ Some funcs → map (λ section. parsed_again section.header.1.tokens) sections ≡ map words_of_function funcs
+unfolding resolve_functions
+headers_read names [] funcs h =
+    let none : [] ≡ funcs = cc in
+    ap (map words_of_function) none
+headers_read names (section ∷ sections) funcs h =
+    let at : BothFrom (resolve_function names section) (resolve_functions names sections) funcs = both_from (resolve_function names section) (resolve_functions names sections) funcs h in
+    ap (λ ws. ws ∷ map (λ (p : Section). parsed_again p.header.1.tokens) sections) (header_read names section at.first at.one)
+    ∙ ap (λ more. words_of_function at.first ∷ more) (headers_read names sections at.others at.rest)
+    ∙ sym (ap (map words_of_function) at.whole)
+
+-- the contents with these functions
+abbrev contents_with : List Line → List Func → Contents
+contents_with lines funcs = record { globals = names_declared lines kind.Global; mutexes = names_declared lines kind.Mutex; conds = names_declared lines kind.Cond; sems = sems_in lines; funcs = funcs }
+
+all_declared : (lines : List Line) (funcs : List Func) → EachParsed lines → resolve_functions (names_declared lines) (functions_in lines) ≡ Some funcs → (k : SymbolKind)
+    → map (λ l. l.1.tokens) (declaring k lines) ≡ declarations (contents_with lines funcs) k
+unfolding declarations sems_in
+all_declared lines funcs from h kind.Global = parsed_names (declaring kind.Global lines) (each_declares kind.Global lines from)
+all_declared lines funcs from h kind.Mutex = parsed_names (declaring kind.Mutex lines) (each_declares kind.Mutex lines from)
+all_declared lines funcs from h kind.Cond = parsed_names (declaring kind.Cond lines) (each_declares kind.Cond lines from)
+all_declared lines funcs from h kind.Sem = parsed_sems (declaring kind.Sem lines) (each_declares kind.Sem lines from)
+all_declared lines funcs from h kind.Function =
+    parsed_functions (declaring kind.Function lines) (each_declares kind.Function lines from) ∙ sym (words_of_headers parsed_again lines) ∙ headers_read (names_declared lines) (functions_in lines) funcs h
+
+contents_from : (lines : List Line) (funcs : List Func) → EachParsed lines → are_in_functions lines ≡ true → resolve_functions (names_declared lines) (functions_in lines) ≡ Some funcs
+    → AreContents lines (contents_with lines funcs)
+contents_from lines funcs from inside h =
+    let c = contents_with lines funcs in
+    let declared = all_declared lines funcs from h in
+    let names : names_declared lines ≡ names_of_kind c = fun_ext (λ k. names_from lines c k (declared k)) in
+    let again : resolve_functions (names_of_kind c) (functions_in lines) ≡ Some funcs = sym (ap (λ (n : SymbolKind → List (List ℕ)). resolve_functions n (functions_in lines)) names) ∙ h in
+    record { declared = declared; bodies = functions_resolved c (functions_in lines) funcs (functions_parsed lines from) again; in_functions = inside }
+
+-- lines spell the contents that they resolve to
+pub contents_are : (lines : List Line) (c : Contents) → EachParsed lines → are_in_functions lines ≡ true → resolve_contents lines ≡ Some c → AreContents lines c
+unfolding resolve_contents
+contents_are lines c from inside h =
+    let at : MappedFrom (contents_with lines) (resolve_functions (names_declared lines) (functions_in lines)) c =
+    mapped_from (contents_with lines) (resolve_functions (names_declared lines) (functions_in lines)) c h
+    in subst (AreContents lines) (sym at.is) (contents_from lines at.value from inside at.from)
+
+-- ---- what is spelled is known
+
+line_read : (c : Contents) (locals : List (List ℕ)) (line : ParsedLine) (t : EncodedStmt) → encoded c locals line ≡ Some t → is_some (resolve_statement (names_of_kind c) locals line) ≡ true
+unfolding resolve_statement
+line_read c locals line t h =
+    let o = resolve_all (names_of_kind c) locals (argument_kinds_in line) line.tokens in
+    mapped_some (decode line.line_kind) o ∙ sym (mapped_some {B = EncodedStmt} (λ arguments. (line.line_kind, arguments)) o) ∙ ap (λ (p : Option EncodedStmt). is_some p) h
+
+body_is_read : (c : Contents) (locals : List (List ℕ)) (body : List Line) (stmts : List Stmt) → map (λ l. encoded c locals l.1) body ≡ map (λ s. Some (encode s)) stmts
+    → is_some (resolve_body (names_of_kind c) locals body) ≡ true
+unfolding resolve_body
+body_is_read c locals [] stmts h = refl
+body_is_read c locals (l ∷ body) [] h = absurd cc
+body_is_read c locals (l ∷ body) (s ∷ stmts) h =
+    let first : encoded c locals l.1 ≡ Some (encode s) = cc in
+    let others : map (λ (m : Line). encoded c locals m.1) body ≡ map (λ (t : Stmt). Some (encode t)) stmts = cc in
+    and_some (λ (t : Stmt) (more : List Stmt). t ∷ more) (resolve_statement (names_of_kind c) locals l.1) (resolve_body (names_of_kind c) locals body)
+    ∙ and_from (is_some (resolve_statement (names_of_kind c) locals l.1)) (is_some (resolve_body (names_of_kind c) locals body)) (line_read c locals l.1 (encode s) first) (body_is_read c locals body stmts others)
+
+function_is_read : (c : Contents) (section : Section) (f : Func) → WroteAll c section f → is_some (resolve_function (names_of_kind c) section) ≡ true
+unfolding resolve_function
+function_is_read c section f resolves_to =
+    let locals = locals_resolved c section f resolves_to in
+    mapped_some (function_of section) (resolve_body (names_of_kind c) (locals_of section.header.1) section.body)
+    ∙ ap (λ (names : List (List ℕ)). is_some (resolve_body (names_of_kind c) names section.body)) locals
+    ∙ body_is_read c f.locals section.body f.body resolves_to.body
+
+functions_are_read : (c : Contents) (sections : List Section) (funcs : List Func) → AllZip (WroteAll c) sections funcs → is_some (resolve_functions (names_of_kind c) sections) ≡ true
+unfolding resolve_functions
+functions_are_read c [] funcs tell = refl
+functions_are_read c (section ∷ sections) [] tell = absurd tell
+functions_are_read c (section ∷ sections) (f ∷ funcs) tell =
+    let o = resolve_function (names_of_kind c) section in
+    let others = resolve_functions (names_of_kind c) sections in
+    and_some (λ (g : Func) (more : List Func). g ∷ more) o others ∙ and_from (is_some o) (is_some others) (function_is_read c section f tell.0) (functions_are_read c sections funcs tell.1)
+
+-- no name is unknown in lines that spell contents
+pub known_law : (lines : List Line) (c : Contents) → AreContents lines c → is_none (unknown_name lines) ≡ true
+unfolding resolve_contents
+known_law lines c are =
+    let names : names_declared lines ≡ names_of_kind c = fun_ext (λ k. names_from lines c k (are.declared k)) in
+    unknown_law lines
+    ∙ mapped_some (contents_with lines) (resolve_functions (names_declared lines) (functions_in lines))
+    ∙ ap (λ (n : SymbolKind → List (List ℕ)). is_some (resolve_functions n (functions_in lines))) names
+    ∙ functions_are_read c (functions_in lines) c.funcs (functions_resolve lines c are)

@@ -1,0 +1,54 @@
+-- Facts on options, and on lists that are built from options.
+use Rattle.std.proofs.Common.{◌≡◌, not, ◌&&◌, List, ◌∷◌, Option, Some, None, is_some, is_none, refl, option_map}
+use Rattle.std.specs.Option.{option_or}
+use Rattle.pct_model.specs.Lines.{◌>>=◌}
+
+-- if a mapped option is Some, so is the option
+pub mapped_some : {A B : Type 0} (f : A → B) (o : Option A) → is_some (option_map f o) ≡ is_some o
+mapped_some f None = refl
+mapped_some f (Some a) = refl
+
+-- if a mapped option is None, so is the option
+pub mapped_none : {A B : Type 0} (f : A → B) (o : Option A) → is_none (option_map f o) ≡ is_none o
+mapped_none f None = refl
+mapped_none f (Some a) = refl
+
+-- if a choice of two is None, both are None
+pub or_none : {A : Type 0} (o p : Option A) → is_none (option_or o p) ≡ (is_none o && is_none p)
+or_none None p = refl
+or_none (Some a) p = refl
+
+-- if two are Some together, each is
+pub and_some : {A B C : Type 0} (f : A → B → C) (o : Option A) (p : Option B) → is_some (o >>= λ a. option_map (f a) p) ≡ (is_some o && is_some p)
+and_some f None p = refl
+and_some f (Some a) p = mapped_some (f a) p
+
+-- an option that is not None is Some
+pub some_not_none : {A : Type 0} (o : Option A) → not (is_none o) ≡ is_some o
+some_not_none None = refl
+some_not_none (Some a) = refl
+
+-- the value that was mapped
+pub record MappedFrom {A B : Type 0} (f : A → B) (o : Option A) (b : B) : Type 0 where
+  pub value : A
+  pub from : o ≡ Some value
+  pub is : b ≡ f value
+
+-- a mapped option that is Some comes from a value
+pub mapped_from : {A B : Type 0} (f : A → B) (o : Option A) (b : B) → option_map f o ≡ Some b → MappedFrom f o b
+mapped_from f None b h = absurd cc
+mapped_from f (Some a) b h = record { value = a; from = refl; is = cc }
+
+-- the first item and the others, each from an option that is Some
+pub record BothFrom {A : Type 0} (o : Option A) (p : Option (List A)) (xs : List A) : Type 0 where
+  pub first : A
+  pub others : List A
+  pub one : o ≡ Some first
+  pub rest : p ≡ Some others
+  pub whole : xs ≡ first ∷ others
+
+-- a list that is Some comes from its first item and the others
+pub both_from : {A : Type 0} (o : Option A) (p : Option (List A)) (xs : List A) → (o >>= λ a. option_map (λ (others : List A). a ∷ others) p) ≡ Some xs → BothFrom o p xs
+both_from None p xs h = absurd cc
+both_from (Some a) None xs h = absurd cc
+both_from (Some a) (Some others) xs h = record { first = a; others = others; one = refl; rest = refl; whole = cc }

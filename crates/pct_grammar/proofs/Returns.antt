@@ -1,0 +1,25 @@
+-- A return between a push and its pop: in the lines, and in the functions that they spell.
+use Rattle.std.proofs.Common.{◌≡◌, List, [], ap, ◌∙◌}
+use Rattle.std.specs.Prelude.{is_none}
+use Rattle.std.specs.List.{list_all}
+use Rattle.pct_model.specs.declared.refusal.ParseWhy.TheVariants.{ReturnInPush}
+use Rattle.pct_model.specs.declared.role.Role.{Role}
+use Rattle.pct_model.specs.declared.script.Func.{Func}
+use Rattle.pct_model.specs.Contents.{Contents}
+use Rattle.pct_model.specs.Sections.{Line, Section, functions_in}
+use Rattle.pct_model.specs.Checks.{first_wrong, none_wrong, roles, is_in_push, return_in_push}
+use Rattle.pct_model.specs.Static.{returns_outside_pushes}
+use Rattle.pct_model.specs.Spells.{SpellsBody, AreContents}
+use Rattle.pct_grammar.proofs.FirstFaults.{first_wrong_none, first_in_none}
+use Rattle.pct_grammar.proofs.Roles.{without_numbers, roles_same, functions_same}
+
+one_function : (c : Contents) (section : Section) (f : Func) → SpellsBody c section f → is_none (first_wrong is_in_push [] (roles section.body)) ≡ returns_outside_pushes f
+one_function c section f e =
+    first_wrong_none is_in_push [] (roles section.body) ∙ ap (λ (rs : List Role). none_wrong is_in_push [] rs) (without_numbers section.body ∙ roles_same c section f e)
+
+-- the check finds no fault if and only if no function has such a return
+pub returns_law : (lines : List Line) (c : Contents) → AreContents lines c → is_none (return_in_push lines) ≡ list_all returns_outside_pushes c.funcs
+unfolding return_in_push
+returns_law lines c are =
+    first_in_none ReturnInPush (λ (section : Section). first_wrong is_in_push [] (roles section.body)) lines
+    ∙ functions_same c (functions_in lines) c.funcs (λ (section : Section). is_none (first_wrong is_in_push [] (roles section.body))) returns_outside_pushes are.bodies (one_function c)

@@ -1,0 +1,49 @@
+-- The lines of a text are the statements before its first section, and then its sections in order.
+use Rattle.std.proofs.Common.{◌≡◌, Bool, true, false, not, ◌&&◌, cond, List, [], ◌∷◌, ◌++◌, refl, ap}
+use Rattle.std.specs.List.{list_all}
+use Rattle.std.proofs.lemmas.Bool.{and_from}
+use Rattle.pct_model.specs.Sections.{Line, Section, Sections, role_in, is_declaration, is_statement, split_sections}
+
+-- the lines of sections
+unfoldable pub lines_of_sections : List Section → List Line
+lines_of_sections [] = []
+lines_of_sections (section ∷ sections) = section.header ∷ (section.body ++ lines_of_sections sections)
+
+-- lines that are all statements
+abbrev pub all_statements : List Line → Bool
+all_statements lines = list_all (λ l. is_statement l.1) lines
+
+-- a section is a declaration with statements after it
+abbrev pub is_section : Section → Bool
+is_section section = is_declaration (role_in section.header.1) && all_statements section.body
+
+-- these lines, split into sections
+pub record AreSectionsOf (lines : List Line) (p : Sections) : Type 0 where
+  pub prefix_is : all_statements p.preamble ≡ true
+  pub sections_are : list_all is_section p.sections ≡ true
+  pub whole : lines ≡ p.preamble ++ lines_of_sections p.sections
+
+opposite : (t : Bool) → not t ≡ false → t ≡ true
+opposite true e = refl
+opposite false e = absurd cc
+
+one_more : (l : Line) (lines : List Line) (p : Sections) (t : Bool) → is_statement l.1 ≡ t → AreSectionsOf lines p
+    → AreSectionsOf (l ∷ lines) (cond t (record { preamble = l ∷ p.preamble; sections = p.sections }) (record { preamble = []; sections = record { header = l; body = p.preamble } ∷ p.sections }))
+unfolding lines_of_sections
+one_more l lines p true e are = record {
+  prefix_is = and_from (is_statement l.1) (all_statements p.preamble) e are.prefix_is;
+  sections_are = are.sections_are;
+  whole = ap (λ (ls : List Line). l ∷ ls) are.whole;
+}
+one_more l lines p false e are = record {
+  prefix_is = refl;
+  sections_are = and_from (is_declaration (role_in l.1) && all_statements p.preamble) (list_all is_section p.sections)
+      (and_from (is_declaration (role_in l.1)) (all_statements p.preamble) (opposite (is_declaration (role_in l.1)) e) are.prefix_is) are.sections_are;
+  whole = ap (λ (ls : List Line). l ∷ ls) are.whole;
+}
+
+-- the lines of every text split so
+pub are_sections : (lines : List Line) → AreSectionsOf lines (split_sections lines)
+unfolding split_sections lines_of_sections
+are_sections [] = record { prefix_is = refl; sections_are = refl; whole = refl }
+are_sections (l ∷ lines) = one_more l lines (split_sections lines) (is_statement l.1) refl (are_sections lines)

@@ -1,0 +1,34 @@
+-- Definitions that the lemmas of this crate share.
+use Rattle.std.proofs.Common.{◌≡◌, ℕ, Bool, true, not, ◌&&◌, List, [], ◌∷◌, Some, length, nat_le}
+use Rattle.std.specs.List.{list_all}
+use Rattle.pct_model.specs.declared.line_kind.SymbolKind.{SymbolKind}
+use Rattle.pct_model.specs.declared.parsed_line.ParsedLine.{ParsedLine}
+use Rattle.pct_model.specs.Names.{is_name}
+use Rattle.pct_model.specs.LineKinds.{syntax_of, line_kind_of}
+use Rattle.pct_model.specs.LineParsing.{is_empty, tokens_at}
+use Rattle.pct_model.specs.Contents.{Contents, names_of_kind}
+use Rattle.pct_model.specs.Sections.{Line}
+
+-- a line that was parsed from words
+pub record IsParsed (line : ParsedLine) : Type 0 where
+  pub first : List ℕ
+  pub others : List (List ℕ)
+  pub line_kind : line_kind_of first ≡ Some line.line_kind
+  pub words : tokens_at ((syntax_of line.line_kind).argument_kinds (length others)) others ≡ Some line.tokens
+
+-- each line was parsed from words
+abbrev pub EachParsed : List Line → Type 0
+EachParsed [] = Unit {0}
+EachParsed (l ∷ lines) = IsParsed l.1 × EachParsed lines
+
+-- printable bytes, and at least one
+abbrev pub is_printable : ℕ → Bool
+is_printable b = nat_le 33 b && nat_le b 126
+
+abbrev pub is_word : List ℕ → Bool
+is_word w = not (is_empty w) && list_all is_printable w
+
+-- all names are names
+pub record NameLists (c : Contents) (locals : List (List ℕ)) : Type 0 where
+  pub kinds : (k : SymbolKind) → list_all is_name (names_of_kind c k) ≡ true
+  pub own : list_all is_name locals ≡ true

@@ -1,5 +1,0 @@
-use Rattle.pct_io.proofs.Text.{Writes-then}
-use Rattle.pct_io.proofs.line.write_spaced_word.Goals as goal
-
-pub returns : goal.returns
-returns g c = Writes-then _ c.in_ok-write_all.ensures c.write_word.ensures

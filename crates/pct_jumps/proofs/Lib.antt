@@ -1,0 +1,5 @@
+pub mod Closing
+pub mod NestedBodies
+pub mod OpenBlocks
+pub mod JumpTableFacts
+pub mod SmallScript

@@ -1,0 +1,386 @@
+-- In a body whose blocks nest, each block that a statement opens is closed by an `end`.
+use Rattle.std.proofs.Common.{◌≡◌, ◌⊎◌, inl, inr, ℕ, zero, suc, ◌+◌, ◌-◌, ◌<◌, ◌≤◌, Bool, true, false, cond, ◌&&◌, ◌||◌, List, [], ◌∷◌, length, map, take, drop, get_or, find, Option, Some, None, refl, sym, ap, ◌∙◌, arith}
+use Rattle.std.specs.Prelude.{is_some, slice_get, slice_range}
+use Rattle.std.specs.List.{range_with_len, count_by}
+use Rattle.std.specs.Option.{option_map_or}
+use Rattle.std.proofs.lemmas.Bool.{false≢true, true≢false, eq-eqb, cases_lt}
+use Rattle.std.proofs.Math.Nat.{eq-or-lt_of_le}
+use Rattle.std.proofs.lemmas.List.{drop_more, length-drop}
+use Rattle.std.proofs.lemmas.Option.{slice_get_cases}
+use Rattle.std.proofs.lemmas.List.Sums.{sum_by-cons}
+use Rattle.pct_model.specs.declared.role.Block.{Block}
+use Rattle.pct_model.specs.declared.role.Block.TheVariants as block
+use Rattle.pct_model.specs.declared.role.Change.{Change}
+use Rattle.pct_model.specs.declared.role.Role.{Role}
+use Rattle.pct_model.specs.declared.role.Role.TheVariants as role
+use Rattle.pct_model.specs.declared.statement.Stmt.{Stmt}
+use Rattle.pct_model.specs.declared.statement.Stmt.TheVariants as statement
+use Rattle.pct_model.specs.LineKinds.{syntax_of}
+use Rattle.pct_model.specs.Statements.{encode, role_of}
+use Rattle.pct_model.specs.Nesting.{outside, inside, change_at, open_after, nests_or, are_nested}
+use Rattle.pct_model.specs.Jumps.{is_if, is_while, is_end, holds, begins, ends, closes, closes_else, first_later, closing, close_of}
+use Rattle.pct_jumps.specs.JumpTable.{opens_block}
+
+-- ---- depth of nesting
+
+-- an `end` closes any block except a push
+abbrev pub counts : Block → ℕ
+counts block.Push = 0
+counts _ = 1
+
+abbrev pub depth : List Block → ℕ
+depth [] = 0
+depth (b ∷ blocks) = counts b + depth blocks
+
+abbrev pub begun_by : Role → ℕ
+begun_by (role.Opens b) = counts b
+begun_by _ = 0
+
+abbrev pub ended_by : Role → ℕ
+ended_by role.End = 1
+ended_by _ = 0
+
+abbrev pub begins_block : Stmt → Bool
+begins_block s = is_if s || is_while s
+
+pub begun_is : (s : Stmt) → begun_by (role_of s) ≡ cond (begins_block s) 1 0
+unfolding encode syntax_of
+begun_is (statement.If v) = refl
+begun_is _ = refl
+
+pub ended_is : (s : Stmt) → ended_by (role_of s) ≡ cond (is_end s) 1 0
+unfolding encode syntax_of
+ended_is statement.End = refl
+ended_is _ = refl
+
+abbrev is_nil : List Block → Bool
+is_nil [] = true
+is_nil (b ∷ blocks) = false
+
+-- the function's block is the outermost, and no other block is a function's
+abbrev pub is_based : List Block → Bool
+is_based [] = false
+is_based (block.Function ∷ blocks) = is_nil blocks
+is_based (block.If ∷ blocks) = is_based blocks
+is_based (block.Else ∷ blocks) = is_based blocks
+is_based (block.While ∷ blocks) = is_based blocks
+is_based (block.Push ∷ blocks) = is_based blocks
+
+based_deep : (blocks : List Block) → is_based blocks ≡ true → 0 < depth blocks
+based_deep [] based = absurd (false≢true based)
+based_deep (block.Function ∷ blocks) based = omega arith
+based_deep (block.If ∷ blocks) based = omega arith
+based_deep (block.Else ∷ blocks) based = omega arith
+based_deep (block.While ∷ blocks) based = omega arith
+based_deep (block.Push ∷ blocks) based = omega (arith, based_deep blocks based)
+
+-- the roles that statements have
+abbrev pub is_inner : Role → Bool
+is_inner (role.Declares k) = false
+is_inner (role.Opens block.Function) = false
+is_inner (role.Opens block.Else) = false
+is_inner _ = true
+
+pub inner_is : (s : Stmt) → is_inner (role_of s) ≡ true
+unfolding encode syntax_of
+inner_is (statement.If v) = refl
+inner_is _ = refl
+
+-- ---- one statement
+
+record After (b : Block) (blocks : List Block) (r : Role) (roles : List Role) : Type 0 where
+  left : List Block
+  nested : are_nested left roles ≡ true
+  deep : depth left + ended_by r ≡ depth (b ∷ blocks) + begun_by r
+  based : (left ≡ []) ⊎ (is_based left ≡ true)
+
+-- no block is around the function's
+pub based_outside : (blocks : List Block) → is_based (block.Function ∷ blocks) ≡ true → blocks ≡ []
+based_outside [] based = refl
+based_outside (b ∷ blocks) based = absurd (false≢true based)
+
+after_opens : (inner b : Block) (blocks : List Block) (roles : List Role) → is_inner (role.Opens inner) ≡ true → is_based (b ∷ blocks) ≡ true → are_nested (inner ∷ b ∷ blocks) roles ≡ true → After b blocks (role.Opens inner) roles
+after_opens block.Function b blocks roles within based nests = absurd (false≢true within)
+after_opens block.Else b blocks roles within based nests = absurd (false≢true within)
+after_opens block.If b blocks roles within based nests = record { left = block.If ∷ b ∷ blocks; nested = nests; deep = omega arith; based = inr based }
+after_opens block.While b blocks roles within based nests = record { left = block.While ∷ b ∷ blocks; nested = nests; deep = omega arith; based = inr based }
+after_opens block.Push b blocks roles within based nests = record { left = block.Push ∷ b ∷ blocks; nested = nests; deep = omega arith; based = inr based }
+
+after_role : (b : Block) (blocks : List Block) (r : Role) (roles : List Role) → is_inner r ≡ true → is_based (b ∷ blocks) ≡ true → are_nested (b ∷ blocks) (r ∷ roles) ≡ true → After b blocks r roles
+unfolding are_nested change_at inside open_after
+after_role b blocks (role.Declares k) roles within based nests = absurd (false≢true nests)
+after_role b blocks (role.Opens inner) roles within based nests = after_opens inner b blocks roles within based nests
+after_role block.If blocks role.Else roles within based nests = record { left = block.Else ∷ blocks; nested = nests; deep = refl; based = inr based }
+after_role block.Function blocks role.Else roles within based nests = absurd (false≢true nests)
+after_role block.Else blocks role.Else roles within based nests = absurd (false≢true nests)
+after_role block.While blocks role.Else roles within based nests = absurd (false≢true nests)
+after_role block.Push blocks role.Else roles within based nests = absurd (false≢true nests)
+after_role block.Push blocks role.End roles within based nests = absurd (false≢true nests)
+after_role block.If blocks role.End roles within based nests = record { left = blocks; nested = nests; deep = omega arith; based = inr based }
+after_role block.Function blocks role.End roles within based nests = record { left = blocks; nested = nests; deep = omega arith; based = inl (based_outside blocks based) }
+after_role block.Else blocks role.End roles within based nests = record { left = blocks; nested = nests; deep = omega arith; based = inr based }
+after_role block.While blocks role.End roles within based nests = record { left = blocks; nested = nests; deep = omega arith; based = inr based }
+after_role block.Push blocks role.Pop roles within based nests = record { left = blocks; nested = nests; deep = omega arith; based = inr based }
+after_role block.If blocks role.Pop roles within based nests = absurd (false≢true nests)
+after_role block.Function blocks role.Pop roles within based nests = absurd (false≢true nests)
+after_role block.Else blocks role.Pop roles within based nests = absurd (false≢true nests)
+after_role block.While blocks role.Pop roles within based nests = absurd (false≢true nests)
+after_role b blocks role.Return roles within based nests = record { left = b ∷ blocks; nested = nests; deep = refl; based = inr based }
+after_role b blocks role.Plain roles within based nests = record { left = b ∷ blocks; nested = nests; deep = refl; based = inr based }
+after_role b blocks role.Other roles within based nests = record { left = b ∷ blocks; nested = nests; deep = refl; based = inr based }
+
+-- a statement that opens a block
+record Opened (roles : List Role) : Type 0 where
+  left : List Block
+  nested : are_nested left roles ≡ true
+  deep : 1 < depth left
+  based : is_based left ≡ true
+
+opened_by_else : (blocks : List Block) (roles : List Role) → is_based blocks ≡ true → are_nested blocks (role.Else ∷ roles) ≡ true → Opened roles
+unfolding are_nested change_at inside outside open_after
+opened_by_else [] roles based nests = absurd (false≢true nests)
+opened_by_else (block.If ∷ blocks) roles based nests = record { left = block.Else ∷ blocks; nested = nests; deep = omega (arith, based_deep blocks based); based = based }
+opened_by_else (block.Function ∷ blocks) roles based nests = absurd (false≢true nests)
+opened_by_else (block.Else ∷ blocks) roles based nests = absurd (false≢true nests)
+opened_by_else (block.While ∷ blocks) roles based nests = absurd (false≢true nests)
+opened_by_else (block.Push ∷ blocks) roles based nests = absurd (false≢true nests)
+
+opened_by : (inner : Block) (blocks : List Block) (roles : List Role) → counts inner ≡ 1 → is_based (inner ∷ blocks) ≡ true → is_based blocks ≡ true → are_nested blocks (role.Opens inner ∷ roles) ≡ true → Opened roles
+unfolding are_nested change_at inside outside open_after
+opened_by inner [] roles one all based nests = absurd (false≢true nests)
+opened_by inner (b ∷ blocks) roles one all based nests = record { left = inner ∷ b ∷ blocks; nested = nests; deep = omega (arith, one, based_deep (b ∷ blocks) based); based = all }
+
+opened : (s : Stmt) (blocks : List Block) (roles : List Role) → opens_block s ≡ true → is_based blocks ≡ true → are_nested blocks (role_of s ∷ roles) ≡ true → Opened roles
+unfolding encode syntax_of
+opened (statement.If v) blocks roles opens based nests = opened_by block.If blocks roles refl based based nests
+opened (statement.While v) blocks roles opens based nests = opened_by block.While blocks roles refl based based nests
+opened statement.Else blocks roles opens based nests = opened_by_else blocks roles based nests
+opened _ blocks roles opens based nests = absurd (false≢true opens)
+
+-- ---- a run of statements
+
+-- the `end` at which the depth has fallen from n to m; above depth 0 it is not the last statement
+record Falls (body : List Stmt) (n m : ℕ) : Type 0 where
+  at : ℕ
+  within : at < length body
+  more : 0 < m → suc at < length body
+  is : holds body is_end at ≡ true
+  count : count_by is_end (take (suc at) body) + m ≡ count_by begins_block (take (suc at) body) + n
+
+pub count-cons : (p : Stmt → Bool) (s : Stmt) (body : List Stmt) → count_by p (s ∷ body) ≡ cond (p s) 1 0 + count_by p body
+count-cons p s body = sum_by-cons (λ x. cond (p x) 1 0) s body
+
+at_least_one : (b : Bool) → 1 ≤ cond b 1 0 → b ≡ true
+at_least_one true some = refl
+at_least_one false some = absurd (omega (arith, some))
+
+at_most_one : (b : Bool) → cond b 1 0 ≤ 1
+at_most_one true = omega arith
+at_most_one false = omega arith
+
+falls_later : (s : Stmt) (body : List Stmt) (n m d : ℕ) → d + cond (is_end s) 1 0 ≡ n + cond (begins_block s) 1 0 → Falls body d m → Falls (s ∷ body) n m
+falls_later s body n m d step falls = record {
+  at = suc falls.at;
+  within = omega (arith, falls.within);
+  more = λ above. omega (arith, falls.more above);
+  is = falls.is;
+  count = omega (arith, falls.count, step, count-cons is_end s (take (suc falls.at) body), count-cons begins_block s (take (suc falls.at) body));
+}
+
+falls_here : (s : Stmt) (body : List Stmt) (n m d : ℕ) → d + cond (is_end s) 1 0 ≡ n + cond (begins_block s) 1 0 → d ≤ m → m < n → (0 < d → 0 < length body) → Falls (s ∷ body) n m
+falls_here s body n m d step low high rest = record {
+  at = 0;
+  within = omega arith;
+  more = λ above. omega (arith, rest (omega (arith, step, low, high, above, at_most_one (is_end s))));
+  is = at_least_one (is_end s) (omega (arith, step, low, high));
+  count = omega (arith, step, low, high, at_most_one (is_end s), count-cons is_end s [], count-cons begins_block s []);
+}
+
+falls_by : (s : Stmt) (body : List Stmt) (n m d : ℕ) → d + cond (is_end s) 1 0 ≡ n + cond (begins_block s) 1 0 → m < n → (m < d → Falls body d m) → (0 < d → 0 < length body) → (m < d) ⊎ (d ≤ m) → Falls (s ∷ body) n m
+falls_by s body n m d step high later rest (inl above) = falls_later s body n m d step (later above)
+falls_by s body n m d step high later rest (inr low) = falls_here s body n m d step low high rest
+
+-- blocks that are open are closed by later statements
+rest_closes : (body : List Stmt) (blocks : List Block) → 0 < depth blocks → are_nested blocks (map role_of body) ≡ true → 0 < length body
+unfolding are_nested
+rest_closes [] [] deep nests = absurd (omega (arith, deep))
+rest_closes [] (b ∷ blocks) deep nests = absurd (false≢true nests)
+rest_closes (s ∷ body) blocks deep nests = omega arith
+
+based_if_open : (blocks : List Block) (m : ℕ) → m < depth blocks → (blocks ≡ []) ⊎ (is_based blocks ≡ true) → is_based blocks ≡ true
+based_if_open blocks m high (inl none) = let closed : depth blocks ≡ 0 = ap depth none in absurd (omega (arith, high, closed))
+based_if_open blocks m high (inr based) = based
+
+falls : (body : List Stmt) (blocks : List Block) (m : ℕ) → m < depth blocks → is_based blocks ≡ true → are_nested blocks (map role_of body) ≡ true → Falls body (depth blocks) m
+unfolding are_nested
+falls [] [] m high based nests = absurd (omega (arith, high))
+falls [] (b ∷ blocks) m high based nests = absurd (false≢true nests)
+falls (s ∷ body) [] m high based nests = absurd (omega (arith, high))
+falls (s ∷ body) (b ∷ blocks) m high based nests =
+    let after = after_role b blocks (role_of s) (map role_of body) (inner_is s) based nests in
+    falls_by s body (depth (b ∷ blocks)) m (depth after.left) (omega (arith, after.deep, begun_is s, ended_is s)) high
+    (λ above. falls body after.left m above (based_if_open after.left m above after.based) after.nested)
+    (λ some. rest_closes body after.left some after.nested)
+    (cases_lt m (depth after.left))
+
+-- ---- one statement of a body
+
+-- outside of functions there is no statement
+outside_none : (r : Role) (rest : Change → Bool) → is_inner r ≡ true → nests_or (outside r) rest ≡ false
+unfolding outside
+outside_none (role.Declares k) rest within = absurd (false≢true within)
+outside_none (role.Opens inner) rest within = refl
+outside_none _ rest within = refl
+
+none_left : (s : Stmt) (body : List Stmt) → are_nested [] (role_of s ∷ map role_of body) ≡ true → true ≡ false
+unfolding are_nested change_at
+none_left s body nests = sym nests ∙ outside_none (role_of s) (λ change. are_nested (open_after [] change) (map role_of body)) (inner_is s)
+
+-- if statements are left, so are open blocks
+pub open_left : (body : List Stmt) (blocks : List Block) → 0 < length body → are_nested blocks (map role_of body) ≡ true → (blocks ≡ []) ⊎ (is_based blocks ≡ true) → is_based blocks ≡ true
+open_left [] blocks some nests was = absurd (omega (arith, some))
+open_left (s ∷ body) blocks some nests (inr based) = based
+open_left (s ∷ body) blocks some nests (inl none) = absurd (true≢false (none_left s body (ap (λ (bs : List Block). are_nested bs (role_of s ∷ map role_of body)) (sym none) ∙ nests)))
+
+-- the blocks that are open before a statement
+record OpenAt (body : List Stmt) (i : ℕ) : Type 0 where
+  left : List Block
+  nested : are_nested left (map role_of (drop i body)) ≡ true
+  based : is_based left ≡ true
+
+open_at : (blocks : List Block) (body : List Stmt) (i : ℕ) → is_based blocks ≡ true → are_nested blocks (map role_of body) ≡ true → i < length body → OpenAt body i
+unfolding are_nested
+open_at blocks [] i based nests within = absurd (omega (arith, within))
+open_at blocks (s ∷ body) zero based nests within = record { left = blocks; nested = nests; based = based }
+open_at [] (s ∷ body) (suc i) based nests within = absurd (false≢true based)
+open_at (b ∷ blocks) (s ∷ body) (suc i) based nests within =
+    let after = after_role b blocks (role_of s) (map role_of body) (inner_is s) based nests in
+    let rest = open_at after.left body i (open_left body after.left (omega (arith, within)) after.nested after.based) after.nested (omega (arith, within)) in
+    record { left = rest.left; nested = rest.nested; based = rest.based }
+
+pub get-drop : {X : Type 0} (xs : List X) (i k : ℕ) → slice_get (drop i xs) k ≡ slice_get xs (i + k)
+get-drop xs zero k = let same : k ≡ 0 + k = omega arith in ap (slice_get xs) same
+get-drop [] (suc i) k = refl
+get-drop (x ∷ xs) (suc i) k = let same : suc (i + k) ≡ suc i + k = omega arith in get-drop xs i k ∙ ap (slice_get (x ∷ xs)) same
+
+-- ---- the first index that passes
+
+-- the first index is found at or before an index that passes
+pub record FoundBy (test : ℕ → Bool) (a j : ℕ) (o : Option ℕ) : Type 0 where
+  pub found : ℕ
+  pub is : o ≡ Some found
+  pub low : a ≤ found
+  pub high : found ≤ j
+  pub passes : test found ≡ true
+
+found_later : (test : ℕ → Bool) (a j : ℕ) (o : Option ℕ) → test a ≡ false → test j ≡ true → (a < j → false ≡ false → FoundBy test (a + 1) j o) → (a ≡ j) ⊎ (a < j) → FoundBy test a j o
+found_later test a j o is passes later (inl same) = absurd (true≢false (sym passes ∙ ap test (sym same) ∙ is))
+found_later test a j o is passes later (inr above) =
+    let rest = later above refl in
+    record { found = rest.found; is = rest.is; low = omega (arith, rest.low); high = rest.high; passes = rest.passes }
+
+found_here : (test : ℕ → Bool) (a j : ℕ) (b : Bool) (o : Option ℕ) → test a ≡ b → a ≤ j → test j ≡ true → (a < j → b ≡ false → FoundBy test (a + 1) j o) → FoundBy test a j (cond b (Some a) o)
+found_here test a j true o is low passes later = record { found = a; is = refl; low = omega arith; high = low; passes = is }
+found_here test a j false o is low passes later = found_later test a j o is passes later (eq-or-lt_of_le low)
+
+pub found_by : (test : ℕ → Bool) (a n j : ℕ) → a ≤ j → j < a + n → test j ≡ true → FoundBy test a j (find test (range_with_len a n))
+found_by test a zero j low high passes = absurd (omega (arith, low, high))
+found_by test a (suc n) j low high passes =
+    found_here test a j (test a) (find test (range_with_len (a + 1) n)) refl low passes (λ above fails. found_by test (a + 1) n j (omega (arith, above)) (omega (arith, high)) passes)
+
+-- after an opening statement there is an `end`, up to which there is one `end` more than blocks that begin
+record Ending (body : List Stmt) (i : ℕ) : Type 0 where
+  at : ℕ
+  within : suc i + at < length body
+  more : suc (suc i + at) < length body
+  is : holds body is_end (suc i + at) ≡ true
+  count : count_by is_end (take (suc at) (drop (suc i) body)) ≡ count_by begins_block (take (suc at) (drop (suc i) body)) + 1
+
+ending_by : (body : List Stmt) (i : ℕ) (left : List Block) (m : ℕ) → depth left ≡ m + 1 → 0 < m → i < length body → Falls (drop (suc i) body) (depth left) m → Ending body i
+ending_by body i left m deep above within falls =
+    let long = length-drop (suc i) body in
+    record {
+      at = falls.at;
+      within = omega (arith, long, falls.within, within);
+      more = omega (arith, long, falls.more above, within);
+      is = sym (ap (λ o. option_map_or is_end o false) (get-drop body (suc i) falls.at)) ∙ falls.is;
+      count = omega (arith, falls.count, deep);
+    }
+
+ending : (body : List Stmt) (i : ℕ) (s : Stmt) → are_nested (block.Function ∷ []) (map role_of body) ≡ true → i < length body → get_or body i s ≡ s → opens_block s ≡ true → Ending body i
+ending body i s nests within is opens =
+    let prefix = open_at (block.Function ∷ []) body i refl nests within in
+    let next : i + 1 ≡ suc i = omega arith in
+    let split : drop i body ≡ s ∷ drop (suc i) body = drop_more body i s within ∙ ap (λ x. x ∷ drop (i + 1) body) is ∙ ap (λ k. s ∷ drop k body) next in
+    let nested : are_nested prefix.left (role_of s ∷ map role_of (drop (suc i) body)) ≡ true = ap (λ ss. are_nested prefix.left (map role_of ss)) (sym split) ∙ prefix.nested in
+    let after = opened s prefix.left (map role_of (drop (suc i) body)) opens prefix.based nested in
+    let deep : depth after.left ≡ depth after.left - 1 + 1 = omega (arith, after.deep) in
+    ending_by body i after.left (depth after.left - 1) deep (omega (arith, after.deep)) within (falls (drop (suc i) body) after.left (depth after.left - 1) (omega (arith, after.deep)) after.based after.nested)
+
+-- the block of a statement closes after it, and before the last statement
+pub record ClosesWithin (body : List Stmt) (i : ℕ) (o : Option ℕ) : Type 0 where
+  pub close : ℕ
+  pub is : o ≡ Some close
+  pub after : i < close
+  pub before : suc close < length body
+
+closes_by_test : (body : List Stmt) (i : ℕ) (test : ℕ → Bool) (e : Ending body i) → test (suc i + e.at) ≡ true → ClosesWithin body i (first_later body test i)
+closes_by_test body i test e passes =
+    let first = found_by test (suc i) (length body - suc i) (suc i + e.at) (omega arith) (omega (arith, e.within)) passes in
+    record { close = first.found; is = first.is; after = omega (arith, first.low); before = omega (arith, first.high, e.more) }
+
+-- that `end` closes an `else`
+ends_else : (body : List Stmt) (i : ℕ) (e : Ending body i) → closes_else body i (suc i + e.at) ≡ true
+ends_else body i e =
+    let j = suc i + e.at in
+    let span : suc j - suc i ≡ suc e.at = omega arith in
+    eq-eqb (ends body (suc i) j) (begins body (suc i) j + 1) (ap (λ n. count_by is_end (take n (drop (suc i) body))) span ∙ e.count ∙ ap (λ n. count_by begins_block (take n (drop (suc i) body)) + 1) (sym span))
+
+or_first : (a b : Bool) → a ≡ true → a || b ≡ true
+or_first true b is = refl
+or_first false b is = absurd (false≢true is)
+
+both : (a b : Bool) → a ≡ true → b ≡ true → a && b ≡ true
+both true b is also = also
+both false b is also = absurd (false≢true is)
+
+-- that `end` closes an `if` or a `while`
+ends_block : (body : List Stmt) (i : ℕ) (s : Stmt) → i < length body → get_or body i s ≡ s → is_end s ≡ false → begins_block s ≡ true → (e : Ending body i) → closes body i (suc i + e.at) ≡ true
+ends_block body i s within is other begun e =
+    let j = suc i + e.at in
+    let next : i + 1 ≡ suc i = omega arith in
+    let split : drop i body ≡ s ∷ drop (suc i) body = drop_more body i s within ∙ ap (λ x. x ∷ drop (i + 1) body) is ∙ ap (λ k. s ∷ drop k body) next in
+    let span : suc j - i ≡ suc (suc e.at) = omega arith in
+    let prefix : slice_range body i (suc j) ≡ s ∷ take (suc e.at) (drop (suc i) body) = ap (λ n. take n (drop i body)) span ∙ ap (take (suc (suc e.at))) split in
+    let rest = take (suc e.at) (drop (suc i) body) in
+    let ended : ends body i j ≡ 0 + count_by is_end rest = ap (count_by is_end) prefix ∙ count-cons is_end s rest ∙ ap (λ b. cond b 1 0 + count_by is_end rest) other in
+    let begins_are : begins body i j ≡ 1 + count_by begins_block rest = ap (count_by begins_block) prefix ∙ count-cons begins_block s rest ∙ ap (λ b. cond b 1 0 + count_by begins_block rest) begun in
+    or_first _ _ (both _ _ e.is (eq-eqb (ends body i j) (begins body i j) (omega (arith, ended, begins_are, e.count))))
+
+closes_opening : (body : List Stmt) (i : ℕ) (s : Stmt) → are_nested (block.Function ∷ []) (map role_of body) ≡ true → i < length body → get_or body i s ≡ s → opens_block s ≡ true → ClosesWithin body i (closing body i s)
+closes_opening body i (statement.If v) nests within is opens =
+    let e = ending body i (statement.If v) nests within is opens in
+    closes_by_test body i (closes body i) e (ends_block body i (statement.If v) within is refl refl e)
+closes_opening body i (statement.While v) nests within is opens =
+    let e = ending body i (statement.While v) nests within is opens in
+    closes_by_test body i (closes body i) e (ends_block body i (statement.While v) within is refl refl e)
+closes_opening body i statement.Else nests within is opens =
+    let e = ending body i statement.Else nests within is opens in
+    closes_by_test body i (closes_else body i) e (ends_else body i e)
+closes_opening body i _ nests within is opens = absurd (false≢true opens)
+
+closes_by : (body : List Stmt) (i : ℕ) → are_nested (block.Function ∷ []) (map role_of body) ≡ true → holds body opens_block i ≡ true → (((s : Stmt) × (i < length body) × (slice_get body i ≡ Some s) × (get_or body i s ≡ s)) ⊎ ((length body ≤ i) × (slice_get body i ≡ None))) → ClosesWithin body i (close_of body i)
+unfolding close_of
+closes_by body i nests opens (inl here) =
+    let opens_here = sym (ap (λ o. option_map_or opens_block o false) here.2) ∙ opens in
+    let found = closes_opening body i here.0 nests here.1 here.3 opens_here in
+    record { close = found.close; is = ap (λ o. option_map_or (closing body i) o None) here.2 ∙ found.is; after = found.after; before = found.before }
+closes_by body i nests opens (inr past) = absurd (false≢true (sym (ap (λ o. option_map_or opens_block o false) past.1) ∙ opens))
+
+-- the block of an `if`, an `else` or a `while` closes before the last statement
+pub closes_within : (body : List Stmt) (i : ℕ) → are_nested (block.Function ∷ []) (map role_of body) ≡ true → holds body opens_block i ≡ true → ClosesWithin body i (close_of body i)
+closes_within body i nests opens = closes_by body i nests opens (slice_get_cases body i).1
+
+-- an `if`, an `else` or a `while` is closed
+pub is_closed : (body : List Stmt) (i : ℕ) → are_nested (block.Function ∷ []) (map role_of body) ≡ true → holds body opens_block i ≡ true → is_some (close_of body i) ≡ true
+is_closed body i nests opens = ap is_some (closes_within body i nests opens).is

@@ -1,0 +1,15 @@
+use Rattle.std.proofs.Common.{◌≡◌, suc, ◌<◌, ◌≤◌, ◌||◌, length}
+use Rattle.std.specs.Prelude.{slice_range}
+use Rattle.std.specs.List.{count_by}
+use Rattle.pct_model.specs.Jumps.{is_if, is_while, is_end, first_later, closes_else}
+use Rattle.pct_jumps.proofs.Closing.{find_from}
+use Rattle.pct_jumps.proofs.jump_table.close_of_else.Given as goal
+
+abbrev pub invariant-loop-pc : goal.invariant-loop-pc
+invariant-loop-pc l = record {
+  after : l.opening < l.pc;
+  few : (l.begins ≤ l.pc) × (l.ends ≤ l.pc);
+  begun : l.begins ≡ count_by (λ s. is_if s || is_while s) (slice_range l.body (suc l.opening) l.pc);
+  ended : l.ends ≡ count_by is_end (slice_range l.body (suc l.opening) l.pc);
+  found : first_later l.body (closes_else l.body l.opening) l.opening ≡ find_from (closes_else l.body l.opening) l.pc (length l.body);
+}

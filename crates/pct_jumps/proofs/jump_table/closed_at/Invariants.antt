@@ -1,0 +1,10 @@
+use Rattle.std.proofs.Common.{◌≡◌, false, length, nat_eq, slice_index_or, None}
+use Rattle.std.specs.Option.{option_map_or}
+use Rattle.pct_jumps.proofs.Closing.{find_from}
+use Rattle.pct_jumps.proofs.jump_table.closed_at.Given as goal
+
+abbrev pub invariant-loop-opening : goal.invariant-loop-opening
+invariant-loop-opening l = record {
+  found : find_from (λ i. option_map_or (nat_eq l.pc) (slice_index_or l.closes i None) false) 0 (length l.closes)
+      ≡ find_from (λ i. option_map_or (nat_eq l.pc) (slice_index_or l.closes i None) false) l.opening (length l.closes);
+}

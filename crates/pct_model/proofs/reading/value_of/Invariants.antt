@@ -1,6 +1,0 @@
-use Rattle.std.proofs.Common.{◌≡◌, drop}
-use Rattle.pct_model.specs.Reading.{value_from}
-use Rattle.pct_model.proofs.reading.value_of.Given as goal
-
-abbrev pub invariant-loop-digit : goal.invariant-loop-digit
-invariant-loop-digit l = value_from l.value (drop l.digit-index l.word) ≡ value_from 0 l.word

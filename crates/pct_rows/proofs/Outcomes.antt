@@ -1,0 +1,114 @@
+-- The outcomes of two example scripts: the lines of each text, the script that it spells, and its run.
+use Rattle.std.proofs.Common.{◌≡◌, ℕ, true, List, [], ◌∷◌, map, replicate, refl, sym, subst, arith}
+use Rattle.std.specs.Prelude.{codes, is_some, unwrap_or}
+use Rattle.std.specs.List.{list_all}
+use Rattle.std.specs.Fmt.{digits}
+use Rattle.pct_model.specs.declared.line_kind.LineKind.{LineKind}
+use Rattle.pct_model.specs.declared.line_kind.LineKind.TheVariants as line_kind
+use Rattle.pct_model.specs.declared.line_kind.SymbolKind.{SymbolKind}
+use Rattle.pct_model.specs.declared.line_kind.SymbolKind.TheVariants as kind
+use Rattle.pct_model.specs.declared.parsed_line.Token.{Token}
+use Rattle.pct_model.specs.declared.parsed_line.Token.TheVariants as token
+use Rattle.pct_model.specs.declared.script.Script.{Script}
+use Rattle.pct_model.specs.Keywords.{keyword_text}
+use Rattle.pct_model.specs.Names.{is_name, name_at, main_of}
+use Rattle.pct_model.specs.Lines.{lines_of}
+use Rattle.pct_model.specs.Points.{points, point_of, point_name}
+use Rattle.pct_model.specs.LineKinds.{declaration_syntax, syntax_of, line_kinds, point_statement, line_kind_of}
+use Rattle.pct_model.specs.LineParsing.{words_in, spelled_lines, numeral, token_at, tokens_at, parsed_words, parsed}
+use Rattle.pct_model.specs.Statements.{encode}
+use Rattle.pct_model.specs.Contents.{resolve_name, resolve, resolve_all}
+use Rattle.pct_model.specs.Sections.{parsed_lines, split_sections, Line, declaring}
+use Rattle.pct_model.specs.Spells.{declarations, contents_of, AreContents, SpellsContents}
+use Rattle.pct_model.specs.Jumps.{close_of, open_of}
+use Rattle.pct_model.specs.World.{statement_at, value_of, opening}
+use Rattle.pct_model.specs.Alternatives.{stops, emits, pushes, pops, exits, returns_by, ends_at, ends_process, running_at}
+use Rattle.pct_model.specs.Step.{step}
+use Rattle.pct_model.specs.Run.{Run, run_step, run_from, run, verdict_of}
+use Rattle.pct_model.specs.Report.{stop_words, event_words, thread_text, event_line, alt_words, entry_line, header_line, end_line, schedule_lines, verdict_words, verdict_line, title_line, report_lines, report}
+use Rattle.pct_model.specs.Outcome.{is_asked, code_of_verdict, default_config, first_goes, Runs}
+use Rattle.pct_rows.specs.Examples.{smallest_text, smallest_report, cleanup_text, cleanup_report}
+use Rattle.pct_rows.proofs.Rows.{smallest, cleanup}
+
+-- a parsed line with its number
+abbrev line : ℕ → LineKind → List Token → Line
+line n f words = (n, record { line_kind = f; tokens = words })
+
+-- the arguments of `fn`: a name, and the parameter `x`
+abbrev with_x : List ℕ → List Token
+with_x name = token.Name name ∷ token.Name (codes "x") ∷ []
+
+-- the state of a run, if there is one
+abbrev end_of : Script → ℕ → Run
+end_of script n = unwrap_or (run script default_config (replicate n first_goes)) (record { world = opening script; events = [] })
+
+-- ---- the script that returns at once
+
+abbrev smallest_lines : List Line
+smallest_lines = line 1 (line_kind.Declares kind.Function) (with_x (codes "main")) ∷ line 2 line_kind.Return (token.Number 0 ∷ []) ∷ line 3 line_kind.End [] ∷ []
+
+smallest_declared : (k : SymbolKind) → map (λ l. l.1.tokens) (declaring k smallest_lines) ≡ declarations (contents_of smallest) k
+unfolding declaration_syntax syntax_of declarations
+smallest_declared kind.Global = refl
+smallest_declared kind.Mutex = refl
+smallest_declared kind.Cond = refl
+smallest_declared kind.Sem = refl
+smallest_declared kind.Function = refl
+
+smallest_are_contents : AreContents smallest_lines (contents_of smallest)
+unfolding is_name points point_name declaration_syntax syntax_of encode resolve_name resolve resolve_all split_sections declarations
+smallest_are_contents = record { declared = smallest_declared; bodies = (refl, tt); in_functions = refl }
+
+smallest_parsed : parsed_lines smallest_text ≡ smallest_lines
+unfolding is_name lines_of points point_of point_name declaration_syntax syntax_of line_kinds point_statement line_kind_of words_in spelled_lines numeral token_at tokens_at parsed_words parsed parsed_lines
+smallest_parsed = refl
+
+smallest_each : list_all (λ l. is_some (parsed l.1)) (spelled_lines smallest_text) ≡ true
+unfolding is_name lines_of points point_of point_name declaration_syntax syntax_of line_kinds point_statement line_kind_of words_in spelled_lines numeral token_at tokens_at parsed_words parsed
+smallest_each = refl
+
+-- the text spells the script
+smallest_spelled : SpellsContents smallest_text (contents_of smallest)
+smallest_spelled = record { each_says = smallest_each; are_contents = subst (λ (lines : List Line). AreContents lines (contents_of smallest)) (sym smallest_parsed) smallest_are_contents }
+
+-- the outcome of `run`
+pub smallest_runs : Runs (codes "run" ∷ []) smallest_text (replicate 2 first_goes) 0 smallest_report
+unfolding is_asked code_of_verdict main_of keyword_text statement_at value_of opening stops emits pushes pops exits returns_by ends_at ends_process running_at close_of open_of step run_step run_from run verdict_of digits name_at stop_words event_words thread_text event_line alt_words entry_line header_line end_line schedule_lines verdict_words verdict_line title_line report_lines report
+smallest_runs = record { accepted = refl; fits = omega arith; script = smallest; spelled = smallest_spelled; after = end_of smallest 2; is_run = refl; code_is = refl; text_is = refl }
+
+-- ---- the script with a cleanup handler
+
+abbrev cleanup_lines : List Line
+cleanup_lines =
+    line 1 (line_kind.Declares kind.Function) (with_x (codes "h")) ∷ line 2 line_kind.Emit (token.Name (codes "x") ∷ []) ∷ line 3 line_kind.End []
+    ∷ line 4 (line_kind.Declares kind.Function) (with_x (codes "main")) ∷ line 5 line_kind.Push (token.Name (codes "h") ∷ token.Number 1 ∷ []) ∷ line 6 line_kind.Emit (token.Number 5 ∷ [])
+    ∷ line 7 line_kind.Pop (token.Number 1 ∷ []) ∷ line 8 line_kind.Return (token.Number 0 ∷ []) ∷ line 9 line_kind.End [] ∷ []
+
+cleanup_declared : (k : SymbolKind) → map (λ l. l.1.tokens) (declaring k cleanup_lines) ≡ declarations (contents_of cleanup) k
+unfolding declaration_syntax syntax_of declarations
+cleanup_declared kind.Global = refl
+cleanup_declared kind.Mutex = refl
+cleanup_declared kind.Cond = refl
+cleanup_declared kind.Sem = refl
+cleanup_declared kind.Function = refl
+
+cleanup_are_contents : AreContents cleanup_lines (contents_of cleanup)
+unfolding is_name points point_name declaration_syntax syntax_of encode resolve_name resolve resolve_all split_sections declarations
+cleanup_are_contents = record { declared = cleanup_declared; bodies = (refl, (refl, tt)); in_functions = refl }
+
+cleanup_parsed : parsed_lines cleanup_text ≡ cleanup_lines
+unfolding is_name lines_of points point_of point_name declaration_syntax syntax_of line_kinds point_statement line_kind_of words_in spelled_lines numeral token_at tokens_at parsed_words parsed parsed_lines
+cleanup_parsed = refl
+
+cleanup_each : list_all (λ l. is_some (parsed l.1)) (spelled_lines cleanup_text) ≡ true
+unfolding is_name lines_of points point_of point_name declaration_syntax syntax_of line_kinds point_statement line_kind_of words_in spelled_lines numeral token_at tokens_at parsed_words parsed
+cleanup_each = refl
+
+-- the text spells the script
+cleanup_spelled : SpellsContents cleanup_text (contents_of cleanup)
+cleanup_spelled = record { each_says = cleanup_each; are_contents = subst (λ (lines : List Line). AreContents lines (contents_of cleanup)) (sym cleanup_parsed) cleanup_are_contents }
+
+-- the outcome of `run`
+pub cleanup_runs : Runs (codes "run" ∷ []) cleanup_text (replicate 7 first_goes) 0 cleanup_report
+unfolding is_asked code_of_verdict main_of keyword_text statement_at value_of opening stops emits pushes pops exits returns_by ends_at ends_process running_at close_of open_of step run_step run_from run verdict_of digits name_at stop_words event_words thread_text event_line alt_words entry_line header_line end_line schedule_lines verdict_words verdict_line title_line report_lines report
+cleanup_runs = record { accepted = refl; fits = omega arith; script = cleanup; spelled = cleanup_spelled; after = end_of cleanup 7; is_run = refl; code_is = refl; text_is = refl }

@@ -1,0 +1,85 @@
+-- Reading with the list of entries so far gives the schedule of a text.
+use Rattle.std.proofs.Common.{◌≡◌, ℕ, ◌+◌, Bool, true, false, cond, List, [], ◌∷◌, ◌++◌, Option, Some, None, Ok, Err, length, map, refl, sym, ap, ◌∙◌, append_assoc, append-nil, length-append, nat_lt}
+use Rattle.pct_model.specs.declared.schedule.Config.{Config}
+use Rattle.pct_model.specs.declared.schedule.Entry.{Entry}
+use Rattle.pct_model.specs.declared.refusal.ScheduleWhy.TheVariants as why
+use Rattle.pct_model.specs.declared.keyword.Keyword.TheVariants as keyword
+use Rattle.pct_model.specs.Keywords.{keyword_text}
+use Rattle.pct_model.specs.Lines.{lines_of, strip_cr}
+use Rattle.pct_model.specs.Schedule.{Read, Schedule, begins, header_of, entry_of, is_end, read_entry, nothing_after, read_end, prepend_entry, entries_from, with_config, schedule_at, schedule_from, sched_of}
+use Rattle.pct_schedule.specs.Reader.{ended, with_entry, entries_in, with_header, schedule_in}
+
+-- a schedule of these entries and the entries that are read after them
+abbrev after_these : Config → List Entry → Read (List Entry) → Schedule
+after_these config prefix (Ok entries) = Ok (config, prefix ++ entries)
+after_these config prefix (Err fault) = Err fault
+
+end_same : (n : ℕ) (config : Config) (prefix : List Entry) (lines : List (List ℕ)) (is : Bool)
+    → cond is (ended (n + 1) config prefix lines) (Err (n, why.BadEnd)) ≡ after_these config prefix (cond is (nothing_after n (map strip_cr lines)) (Err (n, why.BadEnd)))
+end_same n config prefix [] true = ap (λ (es : List Entry). Ok (config, es)) (sym (append-nil prefix))
+end_same n config prefix [] false = refl
+end_same n config prefix (line ∷ lines) true = refl
+end_same n config prefix (line ∷ lines) false = refl
+
+prefix_same : (config : Config) (prefix : List Entry) (e : Entry) (rest : Read (List Entry)) → after_these config (prefix ++ e ∷ []) rest ≡ after_these config prefix (prepend_entry (Ok e) rest)
+prefix_same config prefix e (Ok entries) = ap (λ (es : List Entry). Ok (config, es)) (append_assoc prefix (e ∷ []) entries)
+prefix_same config prefix e (Err fault) = refl
+
+budget_same : (n : ℕ) (config : Config) (prefix : List Entry) (e : Entry) (within : Bool) (later : Schedule) (rest : Read (List Entry)) → later ≡ after_these config (prefix ++ e ∷ []) rest
+    → cond within later (Err (n, why.TooMany)) ≡ after_these config prefix (prepend_entry (cond within (Ok e) (Err (n, why.TooMany))) rest)
+budget_same n config prefix e true later rest same = same ∙ prefix_same config prefix e rest
+budget_same n config prefix e false later rest same = refl
+
+entry_same : (n k : ℕ) (config : Config) (prefix : List Entry) (o : Option Entry) (go : Entry → Schedule) (rest : Read (List Entry)) → ((e : Entry) → go e ≡ after_these config (prefix ++ e ∷ []) rest)
+    → with_entry n config k o go ≡ after_these config prefix (prepend_entry (read_entry n config.budget k o) rest)
+entry_same n k config prefix None go rest same = refl
+entry_same n k config prefix (Some e) go rest same = budget_same n config prefix e (nat_lt k config.budget) (go e) rest (same e)
+
+either_same : (config : Config) (prefix : List Entry) (t : Bool) (a b : Schedule) (x y : Read (List Entry)) → a ≡ after_these config prefix x → b ≡ after_these config prefix y
+    → cond t a b ≡ after_these config prefix (cond t x y)
+either_same config prefix true a b x y e f = e
+either_same config prefix false a b x y e f = f
+
+entries_same : (n : ℕ) (config : Config) (prefix : List Entry) (lines : List (List ℕ))
+    → entries_in n config prefix lines ≡ after_these config prefix (entries_from n config.budget (length prefix) (map strip_cr lines))
+unfolding entries_in entries_from
+entries_same n config prefix [] = refl
+entries_same n config prefix (line ∷ lines) =
+    let read = strip_cr line in
+    let after = map strip_cr lines in
+    let go : Entry → Schedule = λ e. entries_in (n + 1) config (prefix ++ e ∷ []) lines in
+    let rest = entries_from (n + 1) config.budget (length prefix + 1) after in
+    either_same config prefix (begins (keyword_text keyword.End) read)
+    (cond (is_end (length prefix) read) (ended (n + 1) config prefix lines) (Err (n, why.BadEnd)))
+    (with_entry n config (length prefix) (entry_of read) go)
+    (read_end n (length prefix) read after)
+    (prepend_entry (read_entry n config.budget (length prefix) (entry_of read)) rest)
+    (end_same n config prefix lines (is_end (length prefix) read))
+    (entry_same n (length prefix) config prefix (entry_of read) go rest
+    (λ e. entries_same (n + 1) config (prefix ++ e ∷ []) lines
+    ∙ ap (λ (k : ℕ). after_these config (prefix ++ e ∷ []) (entries_from (n + 1) config.budget k after)) (length-append prefix (e ∷ []))))
+
+none_before : (config : Config) (read : Read (List Entry)) → after_these config [] read ≡ with_config config read
+none_before config (Ok entries) = refl
+none_before config (Err fault) = refl
+
+header_same : (n : ℕ) (o : Option Config) (lines : List (List ℕ)) → with_header n o lines ≡ schedule_at n o (map strip_cr lines)
+header_same n None lines = refl
+header_same n (Some config) lines = entries_same (n + 1) config [] lines ∙ none_before config (entries_from (n + 1) config.budget 0 (map strip_cr lines))
+
+both_same : (t : Bool) (a b x y : Schedule) → a ≡ x → b ≡ y → cond t a b ≡ cond t x y
+both_same true a b x y e f = e
+both_same false a b x y e f = f
+
+lines_same : (n : ℕ) (lines : List (List ℕ)) → schedule_in n lines ≡ schedule_from n (map strip_cr lines)
+unfolding schedule_in schedule_from
+lines_same n [] = refl
+lines_same n (line ∷ lines) =
+    let read = strip_cr line in
+    both_same (begins (keyword_text keyword.Schedule) read) (with_header n (header_of read) lines) (schedule_in (n + 1) lines) (schedule_at n (header_of read) (map strip_cr lines)) (schedule_from (n + 1) (map strip_cr lines))
+    (header_same n (header_of read) lines) (lines_same (n + 1) lines)
+
+-- the schedule of a text, read line by line
+pub by_lines : (text : List ℕ) → sched_of text ≡ schedule_in 1 (lines_of text)
+unfolding sched_of
+by_lines text = sym (lines_same 1 (lines_of text))

@@ -1,0 +1,226 @@
+-- Splitting a line at one space after the other gives what its words give.
+use Rattle.std.proofs.Common.{◌≡◌, ℕ, ◌<◌, Bool, true, false, ◌&&◌, cond, List, [], ◌∷◌, Option, Some, None, length, refl, sym, ap, ◌∙◌, arith, nat_eq, nat_le, eq-eqb, eqb-true, ne_eqb, bytes_eq, option_map, true≢false}
+use Rattle.std.specs.Prelude.{codes}
+use Rattle.std.specs.Option.{option_map_or}
+use Rattle.pct_model.specs.declared.schedule.Alt.{Alt}
+use Rattle.pct_model.specs.declared.schedule.Config.{Config}
+use Rattle.pct_model.specs.declared.keyword.Keyword.TheVariants as keyword
+use Rattle.pct_model.specs.Keywords.{keyword_text}
+use Rattle.pct_model.specs.Lines.{◌>>=◌, split_once, words_of, number_of}
+use Rattle.pct_model.specs.Run.{is_config}
+use Rattle.pct_model.specs.Schedule.{begins, config_of, header_of_words, header_of, numbered_choice, choice_of, entry_of_parts, entry_of_words, entry_of, is_number, is_end_of_words, is_end}
+use Rattle.pct_text.proofs.SplitOnce.{lacks-uncons}
+use Rattle.pct_text.proofs.Numbers.{number_lacks}
+use Rattle.pct_text.proofs.Lines.{words_of-split_once, words_of-last, words_of-some}
+use Rattle.pct_schedule.specs.Reader.{begins_with, config_in, header_in, choice_in, entry_in, end_in}
+
+and_false : (b : Bool) → (b && false) ≡ false
+and_false true = refl
+and_false false = refl
+
+or_none : {A : Type 0} (b : Bool) → cond b (let none : Option A = None in none) None ≡ None
+or_none true = refl
+or_none false = refl
+
+eq_flip : (a b : ℕ) (t : Bool) → nat_eq a b ≡ t → t ≡ nat_eq b a
+eq_flip a b true e = sym (eq-eqb b a (sym (eqb-true a b e)))
+eq_flip a b false e = sym (ne_eqb b a (λ (same : b ≡ a). true≢false (sym (eq-eqb a b (sym same)) ∙ e)))
+
+-- ---- the first word
+
+abbrev first_is : List ℕ → Option (List ℕ × List ℕ) → Bool
+first_is keyword o = option_map_or (λ parts. bytes_eq parts.0 keyword) o false
+
+abbrev with_first : ℕ → List ℕ → Bool → Option (List ℕ × List ℕ) → Option (List ℕ × List ℕ)
+with_first b bs blank later = cond blank (Some ([], bs)) (option_map (λ p. (b ∷ p.0, p.1)) later)
+
+begins_end : (blank other : Bool) (b : ℕ) (bs : List ℕ) (later : Option (List ℕ × List ℕ)) → other ≡ blank → (other && true) ≡ first_is [] (with_first b bs blank later)
+begins_end true other b bs later e = ap (λ x. x && true) e
+begins_end false other b bs None e = ap (λ x. x && true) e
+begins_end false other b bs (Some parts) e = ap (λ x. x && true) e
+
+begins_more : (blank : Bool) (b c : ℕ) (bs cs : List ℕ) (later : Option (List ℕ × List ℕ)) (rest : Bool) → (blank ≡ true → nat_eq c b ≡ false) → nat_eq c b ≡ nat_eq b c
+    → rest ≡ first_is cs later → (nat_eq c b && rest) ≡ first_is (c ∷ cs) (with_first b bs blank later)
+begins_more true b c bs cs later rest lacks flipped e = ap (λ x. x && rest) (lacks refl)
+begins_more false b c bs cs None rest lacks flipped e = ap (λ r. nat_eq c b && r) e ∙ and_false (nat_eq c b)
+begins_more false b c bs cs (Some parts) rest lacks flipped e = ap (λ x. x && rest) flipped ∙ ap (λ r. nat_eq b c && r) e
+
+-- a line begins with a word and a space where the word is before the first space
+begins_by_split : (keyword line : List ℕ) → split_once 32 keyword ≡ None → begins keyword line ≡ first_is keyword (split_once 32 line)
+unfolding split_once
+begins_by_split [] [] lacks = refl
+begins_by_split [] (b ∷ bs) lacks = begins_end (nat_eq b 32) (nat_eq 32 b) b bs (split_once 32 bs) (eq_flip 32 b (nat_eq 32 b) refl)
+begins_by_split (c ∷ cs) [] lacks = refl
+begins_by_split (c ∷ cs) (b ∷ bs) lacks =
+    let parts = lacks-uncons 32 c cs lacks in
+    begins_more (nat_eq b 32) b c bs cs (split_once 32 bs) (begins cs bs)
+    (λ (blank : nat_eq b 32 ≡ true). ap (nat_eq c) (eqb-true b 32 blank) ∙ parts.0) (eq_flip c b (nat_eq c b) refl) (begins_by_split cs bs parts.1)
+
+pub begins-schedule : (line : List ℕ) → begins_with (keyword_text keyword.Schedule) line ≡ begins (keyword_text keyword.Schedule) line
+unfolding begins_with keyword_text split_once
+begins-schedule line = sym (begins_by_split (keyword_text keyword.Schedule) line refl)
+
+pub begins-end : (line : List ℕ) → begins_with (keyword_text keyword.End) line ≡ begins (keyword_text keyword.End) line
+unfolding begins_with keyword_text split_once
+begins-end line = sym (begins_by_split (keyword_text keyword.End) line refl)
+
+-- ---- the last word
+
+-- a word with a space in it is not a number
+no_number : (o : Option ℕ) (w : List ℕ) (parts : List ℕ × List ℕ) → number_of w ≡ o → split_once 32 w ≡ Some parts → o ≡ None
+no_number None w parts e is = refl
+no_number (Some n) w parts e is = absurd (none_is_none parts (sym (number_lacks 32 w n refl e) ∙ is))
+  where
+    none_is_none : (parts : List ℕ × List ℕ) → None ≡ Some parts → ⊥
+    none_is_none parts e = cc
+
+-- ---- headers
+
+bind_config : (a b c : Option ℕ) → (a >>= λ most. b >>= λ over. c >>= λ slots. cond (is_config (record { budget = most; passes = over; slots = slots })) (Some (record { budget = most; passes = over; slots = slots })) None) ≡ config_of a b c
+bind_config None b c = refl
+bind_config (Some most) None c = refl
+bind_config (Some most) (Some over) None = refl
+bind_config (Some most) (Some over) (Some slots) = refl
+
+no_config : (a b : Option ℕ) → config_of a b None ≡ None
+no_config None b = refl
+no_config (Some most) None = refl
+no_config (Some most) (Some over) = refl
+
+-- the header with these words after its first two
+abbrev of_numbers : List ℕ → List ℕ → List (List ℕ) → Option Config
+of_numbers title format words = header_of_words (title ∷ format ∷ words)
+
+abbrev if_title : List ℕ → List ℕ → Option Config → Option Config
+if_title title format o = cond (bytes_eq title (keyword_text keyword.Schedule) && bytes_eq format (codes "1")) o None
+
+too_many_words : (title format a b c : List ℕ) (words : List (List ℕ)) → 0 < length words → of_numbers title format (a ∷ b ∷ c ∷ words) ≡ None
+too_many_words title format a b c [] some = absurd (omega arith)
+too_many_words title format a b c (word ∷ words) some = refl
+
+last_number : (title format budget passes slots : List ℕ) (o : Option (List ℕ × List ℕ)) → split_once 32 slots ≡ o
+    → if_title title format (config_of (number_of budget) (number_of passes) (number_of slots)) ≡ of_numbers title format (budget ∷ passes ∷ words_of slots)
+last_number title format budget passes slots None e = rw (words_of-last slots e) refl
+last_number title format budget passes slots (Some parts) e =
+    ap (λ (o : Option ℕ). if_title title format (config_of (number_of budget) (number_of passes) o)) (no_number (number_of slots) slots parts refl e)
+    ∙ ap (if_title title format) (no_config (number_of budget) (number_of passes))
+    ∙ or_none (bytes_eq title (keyword_text keyword.Schedule) && bytes_eq format (codes "1"))
+    ∙ sym (too_many_words title format budget passes parts.0 (words_of parts.1) (words_of-some parts.1))
+    ∙ ap (λ (words : List (List ℕ)). of_numbers title format (budget ∷ passes ∷ words)) (sym (words_of-split_once slots parts e))
+
+-- the three words after the first two
+numbers_by_splits : (title format numbers : List ℕ) (o : Option (List ℕ × List ℕ)) → split_once 32 numbers ≡ o
+    → ((parts : List ℕ × List ℕ) → o ≡ Some parts → (p : Option (List ℕ × List ℕ)) → split_once 32 parts.1 ≡ p → if_title title format (config_in numbers) ≡ of_numbers title format (words_of numbers))
+    → if_title title format (config_in numbers) ≡ of_numbers title format (words_of numbers)
+unfolding config_in
+numbers_by_splits title format numbers None e more =
+    rw (e, words_of-last numbers e) (or_none (bytes_eq title (keyword_text keyword.Schedule) && bytes_eq format (codes "1")))
+numbers_by_splits title format numbers (Some parts) e more = more parts refl (split_once 32 parts.1) refl
+
+numbers_by_two : (title format numbers : List ℕ) (parts : List ℕ × List ℕ) (p : Option (List ℕ × List ℕ)) → split_once 32 numbers ≡ Some parts → split_once 32 parts.1 ≡ p
+    → if_title title format (config_in numbers) ≡ of_numbers title format (words_of numbers)
+unfolding config_in
+numbers_by_two title format numbers parts None e f =
+    rw (words_of-split_once numbers parts e, words_of-last parts.1 f, e, f) (or_none (bytes_eq title (keyword_text keyword.Schedule) && bytes_eq format (codes "1")))
+numbers_by_two title format numbers parts (Some last) e f =
+    rw (words_of-split_once numbers parts e, words_of-split_once parts.1 last f, e, f)
+    (ap (if_title title format) (bind_config (number_of parts.0) (number_of last.0) (number_of last.1)) ∙ last_number title format parts.0 last.0 last.1 (split_once 32 last.1) refl)
+
+numbers_same : (title format numbers : List ℕ) → if_title title format (config_in numbers) ≡ of_numbers title format (words_of numbers)
+numbers_same title format numbers =
+    numbers_by_splits title format numbers (split_once 32 numbers) refl (λ parts e p f. numbers_by_two title format numbers parts p e f)
+
+header_by_two : (line : List ℕ) (title : List ℕ × List ℕ) (o : Option (List ℕ × List ℕ)) → split_once 32 line ≡ Some title → split_once 32 title.1 ≡ o → header_in line ≡ header_of_words (words_of line)
+unfolding header_in
+header_by_two line title None e f = rw (words_of-split_once line title e, words_of-last title.1 f, e, f) refl
+header_by_two line title (Some format) e f = rw (words_of-split_once line title e, words_of-split_once title.1 format f, e, f) (numbers_same title.0 format.0 format.1)
+
+header_by_one : (line : List ℕ) (o : Option (List ℕ × List ℕ)) → split_once 32 line ≡ o → header_in line ≡ header_of_words (words_of line)
+unfolding header_in
+header_by_one line None e = rw (words_of-last line e, e) refl
+header_by_one line (Some title) e = header_by_two line title (split_once 32 title.1) e refl
+
+pub header_same : (line : List ℕ) → header_in line ≡ header_of line
+unfolding header_of
+header_same line = header_by_one line (split_once 32 line) refl
+
+-- ---- entries
+
+bind_parts : (a b c : Option ℕ) (d : Option Alt)
+    → (a >>= λ worker. b >>= λ pid. c >>= λ tid. d >>= λ choice. cond (nat_le worker 16) (Some (record { worker = worker; pid = pid; tid = tid; alt = choice })) None) ≡ entry_of_parts a b c d
+bind_parts None b c d = refl
+bind_parts (Some worker) None c d = refl
+bind_parts (Some worker) (Some pid) None d = refl
+bind_parts (Some worker) (Some pid) (Some tid) None = refl
+bind_parts (Some worker) (Some pid) (Some tid) (Some choice) = refl
+
+no_choice : (a b c : Option ℕ) → entry_of_parts a b c None ≡ None
+no_choice None b c = refl
+no_choice (Some worker) None c = refl
+no_choice (Some worker) (Some pid) None = refl
+no_choice (Some worker) (Some pid) (Some tid) = refl
+
+many_words : (a b : List ℕ) (words : List (List ℕ)) → 0 < length words → choice_of (a ∷ b ∷ words) ≡ None
+many_words a b [] some = absurd (omega arith)
+many_words a b (word ∷ words) some = refl
+
+numbered_same : (kind number : List ℕ) (o : Option (List ℕ × List ℕ)) → split_once 32 number ≡ o → (number_of number >>= λ n. numbered_choice kind n) ≡ choice_of (kind ∷ words_of number)
+numbered_same kind number None e = rw (words_of-last number e) refl
+numbered_same kind number (Some parts) e =
+    ap (λ (o : Option ℕ). o >>= λ n. numbered_choice kind n) (no_number (number_of number) number parts refl e)
+    ∙ sym (many_words kind parts.0 (words_of parts.1) (words_of-some parts.1)) ∙ ap (λ (words : List (List ℕ)). choice_of (kind ∷ words)) (sym (words_of-split_once number parts e))
+
+choice_by_split : (words : List ℕ) (o : Option (List ℕ × List ℕ)) → split_once 32 words ≡ o → choice_in words ≡ choice_of (words_of words)
+unfolding choice_in
+choice_by_split words None e = rw (words_of-last words e, e) refl
+choice_by_split words (Some parts) e = rw (words_of-split_once words parts e, e) (numbered_same parts.0 parts.1 (split_once 32 parts.1) refl)
+
+choice_same : (words : List ℕ) → choice_in words ≡ choice_of (words_of words)
+choice_same words = choice_by_split words (split_once 32 words) refl
+
+entry_by_three : (line : List ℕ) (first second : List ℕ × List ℕ) (o : Option (List ℕ × List ℕ)) → split_once 32 line ≡ Some first → split_once 32 first.1 ≡ Some second → split_once 32 second.1 ≡ o
+    → entry_in line ≡ entry_of_words (words_of line)
+unfolding entry_in
+entry_by_three line first second None e f g =
+    rw (words_of-split_once line first e, words_of-split_once first.1 second f, words_of-last second.1 g, e, f, g) (sym (no_choice (number_of first.0) (number_of second.0) (number_of second.1)))
+entry_by_three line first second (Some third) e f g =
+    rw (words_of-split_once line first e, words_of-split_once first.1 second f, words_of-split_once second.1 third g, e, f, g)
+    (bind_parts (number_of first.0) (number_of second.0) (number_of third.0) (choice_in third.1)
+    ∙ ap (entry_of_parts (number_of first.0) (number_of second.0) (number_of third.0)) (choice_same third.1))
+
+entry_by_two : (line : List ℕ) (first : List ℕ × List ℕ) (o : Option (List ℕ × List ℕ)) → split_once 32 line ≡ Some first → split_once 32 first.1 ≡ o → entry_in line ≡ entry_of_words (words_of line)
+unfolding entry_in
+entry_by_two line first None e f = rw (words_of-split_once line first e, words_of-last first.1 f, e, f) refl
+entry_by_two line first (Some second) e f = entry_by_three line first second (split_once 32 second.1) e f refl
+
+entry_by_one : (line : List ℕ) (o : Option (List ℕ × List ℕ)) → split_once 32 line ≡ o → entry_in line ≡ entry_of_words (words_of line)
+unfolding entry_in
+entry_by_one line None e = rw (words_of-last line e, e) refl
+entry_by_one line (Some first) e = entry_by_two line first (split_once 32 first.1) e refl
+
+pub entry_same : (line : List ℕ) → entry_in line ≡ entry_of line
+unfolding entry_of
+entry_same line = entry_by_one line (split_once 32 line) refl
+
+-- ---- ends
+
+many_end_words : (n : ℕ) (a b : List ℕ) (words : List (List ℕ)) → 0 < length words → is_end_of_words n (a ∷ b ∷ words) ≡ false
+many_end_words n a b [] some = absurd (omega arith)
+many_end_words n a b (word ∷ words) some = refl
+
+end_number : (n : ℕ) (title number : List ℕ) (o : Option (List ℕ × List ℕ)) → split_once 32 number ≡ o
+    → (bytes_eq title (keyword_text keyword.End) && is_number n (number_of number)) ≡ is_end_of_words n (title ∷ words_of number)
+end_number n title number None e = rw (words_of-last number e) refl
+end_number n title number (Some parts) e =
+    ap (λ (o : Option ℕ). bytes_eq title (keyword_text keyword.End) && is_number n o) (no_number (number_of number) number parts refl e)
+    ∙ and_false (bytes_eq title (keyword_text keyword.End))
+    ∙ sym (many_end_words n title parts.0 (words_of parts.1) (words_of-some parts.1)) ∙ ap (λ (words : List (List ℕ)). is_end_of_words n (title ∷ words)) (sym (words_of-split_once number parts e))
+
+end_by_one : (n : ℕ) (line : List ℕ) (o : Option (List ℕ × List ℕ)) → split_once 32 line ≡ o → end_in n line ≡ is_end_of_words n (words_of line)
+unfolding end_in
+end_by_one n line None e = rw (words_of-last line e, e) refl
+end_by_one n line (Some parts) e = rw (words_of-split_once line parts e, e) (end_number n parts.0 parts.1 (split_once 32 parts.1) refl)
+
+pub end_same : (n : ℕ) (line : List ℕ) → end_in n line ≡ is_end n line
+unfolding is_end
+end_same n line = end_by_one n line (split_once 32 line) refl

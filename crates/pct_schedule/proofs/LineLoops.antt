@@ -1,0 +1,175 @@
+-- The loop over the lines of a schedule's text.
+use Rattle.std.proofs.Common.{◌≡◌, ℕ, zero, suc, ◌+◌, ◌<◌, arith, Bool, true, false, not, ◌&&◌, cond, List, [], ◌∷◌, ◌++◌, Option, Some, None, Result, Ok, Err, length, refl, sym, ap, ◌∙◌, nat_lt}
+use Rattle.std.specs.Prelude.{is_some}
+use Rattle.std.specs.Option.{option_map_or}
+use Rattle.pct_model.specs.declared.schedule.Config.{Config}
+use Rattle.pct_model.specs.declared.schedule.Entry.{Entry}
+use Rattle.pct_model.specs.declared.refusal.ScheduleWhy.{ScheduleWhy}
+use Rattle.pct_model.specs.declared.refusal.ScheduleWhy.TheVariants as why
+use Rattle.pct_model.specs.declared.keyword.Keyword.TheVariants as keyword
+use Rattle.pct_model.specs.Keywords.{keyword_text}
+use Rattle.pct_model.specs.Lines.{lines_of, strip_cr}
+use Rattle.pct_model.specs.Schedule.{Schedule, begins, header_of, entry_of, is_end, sched_of}
+use Rattle.pct_text.specs.FirstLine.{IsFirstLine}
+use Rattle.pct_text.proofs.Lines.{lines_of-nil}
+use Rattle.pct_text.proofs.FirstLines.{has_a_line}
+use Rattle.pct_schedule.specs.declared.fault.ScheduleFault.{ScheduleFault}
+use Rattle.pct_schedule.specs.declared.fault.ScheduleFault.TheVariants as fault
+use Rattle.pct_schedule.specs.Gives.{Fails, Refuses}
+use Rattle.pct_schedule.specs.Memory.{entry_is_first, has_entry_after, stores_an_entry}
+use Rattle.pct_schedule.specs.Reader.{begins_with, ended, with_entry, entries_in, schedule_in, header_line, from_header, entry_at, nothing_after, end_at}
+use Rattle.pct_schedule.proofs.BySplits.{begins-schedule, begins-end}
+use Rattle.pct_schedule.proofs.ByEntries.{by_lines}
+
+-- the first line of a text, without its CR
+pub record ReadsLine (text line after : List ℕ) : Type 0 where
+  pub raw : List ℕ
+  pub first : IsFirstLine text raw after
+  pub read : strip_cr raw ≡ line
+
+pub reads_line : (text raw line after : List ℕ) → IsFirstLine text raw after → line ≡ strip_cr raw → ReadsLine text line after
+reads_line text raw line after first e = record { raw = raw; first = first; read = sym e }
+
+no_lines : (text : List ℕ) → text ≡ [] → lines_of text ≡ []
+no_lines text e = ap lines_of e ∙ lines_of-nil
+
+-- ---- the header
+
+abbrev Header : Type 0
+Header = Option (ℕ × List ℕ × List (List ℕ))
+
+abbrev at_line : ℕ → List (List ℕ) → List ℕ → Bool → Header
+at_line n lines line found = cond found (Some (n, line, lines)) (header_line (n + 1) lines)
+
+by_first_line : (n : ℕ) (rest line after : List ℕ) (found : Bool) → ReadsLine rest line after → begins_with (keyword_text keyword.Schedule) line ≡ found
+    → header_line n (lines_of rest) ≡ at_line n (lines_of after) line found
+unfolding header_line
+by_first_line n rest line after found reads is =
+    ap (header_line n) reads.first.lines
+    ∙ ap (λ (l : List ℕ). at_line n (lines_of after) l (begins (keyword_text keyword.Schedule) l)) reads.read
+    ∙ ap (at_line n (lines_of after) line) (sym (begins-schedule line) ∙ is)
+
+pub header_found : (n : ℕ) (rest line after : List ℕ) (all : Header) → ReadsLine rest line after → begins_with (keyword_text keyword.Schedule) line ≡ true
+    → all ≡ header_line n (lines_of rest) → all ≡ Some (n, line, lines_of after)
+header_found n rest line after all reads is so_far = so_far ∙ by_first_line n rest line after true reads is
+
+pub header_later : (n : ℕ) (rest line after : List ℕ) (all : Header) → ReadsLine rest line after → begins_with (keyword_text keyword.Schedule) line ≡ false
+    → all ≡ header_line n (lines_of rest) → all ≡ header_line (n + 1) (lines_of after)
+header_later n rest line after all reads is so_far = so_far ∙ by_first_line n rest line after false reads is
+
+pub no_header : (n : ℕ) (rest : List ℕ) (all : Header) → rest ≡ [] → all ≡ header_line n (lines_of rest) → all ≡ None
+unfolding header_line
+no_header n rest all e so_far = so_far ∙ ap (header_line n) (no_lines rest e)
+
+header_step : (found : Bool) (n : ℕ) (line : List ℕ) (lines : List (List ℕ)) (rest : Schedule) → rest ≡ from_header (header_line (n + 1) lines)
+    → cond found (from_header (Some (n, line, lines))) rest ≡ from_header (at_line n lines line found)
+header_step true n line lines rest e = refl
+header_step false n line lines rest e = e
+
+by_header : (n : ℕ) (lines : List (List ℕ)) → schedule_in n lines ≡ from_header (header_line n lines)
+unfolding schedule_in header_line
+by_header n [] = refl
+by_header n (line ∷ lines) = header_step (begins (keyword_text keyword.Schedule) (strip_cr line)) n (strip_cr line) lines (schedule_in (n + 1) lines) (by_header (n + 1) lines)
+
+-- the schedule of a text is that of its header and the lines after it
+pub from_its_header : (text : List ℕ) (header : Header) → header_line 1 (lines_of text) ≡ header → sched_of text ≡ from_header header
+from_its_header text header e = by_lines text ∙ by_header 1 (lines_of text) ∙ ap from_header e
+
+-- ---- the entries
+
+-- a value that is read is passed on, and a fault is the schedule's
+abbrev and_then : {X : Type 0} → Result X (ℕ × ScheduleWhy) → (X → Schedule) → Schedule
+and_then (Ok x) go = go x
+and_then (Err e) go = Err e
+
+abbrev at_entry : ℕ → Config → List Entry → List (List ℕ) → List ℕ → Bool → Schedule
+at_entry n config entries lines line last =
+    cond last (cond (is_end (length entries) line) (ended (n + 1) config entries lines) (Err (n, why.BadEnd)))
+    (with_entry n config (length entries) (entry_of line) (λ e. entries_in (n + 1) config (entries ++ e ∷ []) lines))
+
+by_entry_line : (n : ℕ) (config : Config) (entries : List Entry) (rest line after : List ℕ) (last : Bool) → ReadsLine rest line after
+    → begins_with (keyword_text keyword.End) line ≡ last → entries_in n config entries (lines_of rest) ≡ at_entry n config entries (lines_of after) line last
+unfolding entries_in
+by_entry_line n config entries rest line after last reads is =
+    ap (entries_in n config entries) reads.first.lines
+    ∙ ap (λ (l : List ℕ). at_entry n config entries (lines_of after) l (begins (keyword_text keyword.End) l)) reads.read
+    ∙ ap (at_entry n config entries (lines_of after) line) (sym (begins-end line) ∙ is)
+
+ended_at : (n : ℕ) (config : Config) (entries : List Entry) (after : List ℕ) → ended (n + 1) config entries (lines_of after) ≡ and_then (nothing_after n after) (λ _. Ok (config, entries))
+ended_at n config entries [] = ap (ended (n + 1) config entries) lines_of-nil
+ended_at n config entries (b ∷ bytes) = ap (ended (n + 1) config entries) (has_a_line b bytes).2.lines
+
+by_end : (n : ℕ) (config : Config) (entries : List Entry) (after : List ℕ) (is : Bool)
+    → cond is (ended (n + 1) config entries (lines_of after)) (Err (n, why.BadEnd)) ≡ and_then (cond is (nothing_after n after) (Err (n, why.BadEnd))) (λ _. Ok (config, entries))
+by_end n config entries after true = ended_at n config entries after
+by_end n config entries after false = refl
+
+if_in_budget : (n : ℕ) (e : Entry) (go : Entry → Schedule) (fits : Bool) → cond fits (go e) (Err (n, why.TooMany)) ≡ and_then (cond fits (Ok e) (Err (n, why.TooMany))) go
+if_in_budget n e go true = refl
+if_in_budget n e go false = refl
+
+by_entry : (n : ℕ) (config : Config) (count : ℕ) (o : Option Entry) (go : Entry → Schedule)
+    → with_entry n config count o go ≡ and_then (option_map_or (λ e. cond (nat_lt count config.budget) (Ok e) (Err (n, why.TooMany))) o (Err (n, why.BadEntry))) go
+by_entry n config count None go = refl
+by_entry n config count (Some e) go = if_in_budget n e go (nat_lt count config.budget)
+
+pub at_last_line : (n count : ℕ) (config : Config) (entries : List Entry) (rest line after : List ℕ) (all : Schedule) → ReadsLine rest line after
+    → begins_with (keyword_text keyword.End) line ≡ true → all ≡ entries_in n config entries (lines_of rest)
+    → count ≡ length entries → all ≡ and_then (end_at n count line after) (λ _. Ok (config, entries))
+at_last_line n count config entries rest line after all reads is so_far many =
+    so_far ∙ by_entry_line n config entries rest line after true reads is ∙ by_end n config entries after (is_end (length entries) line)
+    ∙ ap (λ (k : ℕ). and_then (end_at n k line after) (λ _. Ok (config, entries))) (sym many)
+
+pub at_entry_line : (n count : ℕ) (config : Config) (entries : List Entry) (rest line after : List ℕ) (all : Schedule) → ReadsLine rest line after
+    → begins_with (keyword_text keyword.End) line ≡ false → all ≡ entries_in n config entries (lines_of rest)
+    → count ≡ length entries → all ≡ and_then (entry_at n config.budget count line) (λ e. entries_in (n + 1) config (entries ++ e ∷ []) (lines_of after))
+at_entry_line n count config entries rest line after all reads is so_far many =
+    so_far ∙ by_entry_line n config entries rest line after false reads is
+    ∙ by_entry n config (length entries) (entry_of line) (λ e. entries_in (n + 1) config (entries ++ e ∷ []) (lines_of after))
+    ∙ ap (λ (k : ℕ). and_then (entry_at n config.budget k line) (λ e. entries_in (n + 1) config (entries ++ e ∷ []) (lines_of after))) (sym many)
+
+pub no_end : (n : ℕ) (config : Config) (entries : List Entry) (rest : List ℕ) (all : Schedule) → rest ≡ [] → all ≡ entries_in n config entries (lines_of rest) → all ≡ Err (n, why.BadEnd)
+unfolding entries_in
+no_end n config entries rest all e so_far = so_far ∙ ap (entries_in n config entries) (no_lines rest e)
+
+-- what follows a value that is read
+pub goes_on : {X : Type 0} (all : Schedule) (read : Result X (ℕ × ScheduleWhy)) (x : X) (go : X → Schedule) → all ≡ and_then read go → read ≡ Ok x → all ≡ go x
+goes_on all read x go e is = e ∙ ap (λ r. and_then r go) is
+
+-- a fault of one line is the text's
+pub stays_failed : {X : Type 0} (failed : ScheduleFault) (all : Schedule) (read : Result X (ℕ × ScheduleWhy)) (go : X → Schedule) → all ≡ and_then read go → Refuses failed read → Fails failed all
+stays_failed fault.NoMemory all read go e is = tt
+stays_failed (fault.Refused line w) all read go e is = e ∙ ap (λ r. and_then r go) is
+
+-- ---- memory
+
+abbrev entry_of_line : ℕ → ℕ → ℕ → Option Entry → Result Entry (ℕ × ScheduleWhy)
+entry_of_line n budget count o = option_map_or (λ e. cond (nat_lt count budget) (Ok e) (Err (n, why.TooMany))) o (Err (n, why.BadEntry))
+
+read_is_some : (n budget count : ℕ) (o : Option Entry) (e : Entry) → entry_of_line n budget count o ≡ Ok e → is_some o ≡ true
+read_is_some n budget count None e h = absurd cc
+read_is_some n budget count (Some other) e h = refl
+
+abbrev first_by : List ℕ → Bool
+first_by line = not (begins (keyword_text keyword.End) line) && is_some (entry_of line)
+
+-- the line of an entry that is read is an entry
+pub first_is_entry : (n budget count : ℕ) (text line after : List ℕ) (e : Entry) → ReadsLine text line after → begins_with (keyword_text keyword.End) line ≡ false
+    → entry_at n budget count line ≡ Ok e → entry_is_first (lines_of text) ≡ true
+unfolding entry_is_first
+first_is_entry n budget count text line after e reads other is =
+    let some : is_some (entry_of line) ≡ true = read_is_some n budget count (entry_of line) e is in
+    let begins : begins (keyword_text keyword.End) line ≡ false = sym (begins-end line) ∙ other in
+    ap entry_is_first reads.first.lines ∙ ap first_by reads.read ∙ ap (λ t. not t && is_some (entry_of line)) begins ∙ some
+
+-- an entry after a header with legal numbers is stored
+pub stored_after : (text : List ℕ) (n : ℕ) (line : List ℕ) (lines : List (List ℕ)) → header_line 1 (lines_of text) ≡ Some (n, line, lines) → is_some (header_of line) ≡ true → entry_is_first lines ≡ true
+    → stores_an_entry text ≡ true
+unfolding stores_an_entry
+stored_after text n line lines e legal first = ap has_entry_after e ∙ ap (λ t. t && entry_is_first lines) legal ∙ first
+
+-- the entry of the line at hand is the first, or an entry was stored before it
+pub first_stays : (count : ℕ) (text rest : List ℕ) → (count ≡ 0 → rest ≡ text) → (0 < count → entry_is_first (lines_of text) ≡ true) → entry_is_first (lines_of rest) ≡ true
+    → entry_is_first (lines_of text) ≡ true
+first_stays zero text rest start stored here = ap (λ (t : List ℕ). entry_is_first (lines_of t)) (sym (start refl)) ∙ here
+first_stays (suc count) text rest start stored here = stored (omega arith)

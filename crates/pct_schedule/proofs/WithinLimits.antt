@@ -1,0 +1,213 @@
+-- A schedule that is read is within its limits, and the sections of an input are in the input.
+use Rattle.std.proofs.Common.{◌≡◌, ℕ, ◌+◌, ◌≤◌, ◌<◌, Bool, true, false, ◌&&◌, cond, List, [], ◌∷◌, ◌++◌, Option, Some, None, Ok, Err, length, refl, sym, ◌∙◌, subst, arith, nat_eq, nat_lt, nat_le, ltb-true, leb-true, bytes_eq, decimal, length-append, suc}
+use Rattle.std.specs.Prelude.{IfSome}
+use Rattle.std.specs.List.{list_all, slice_split, onto_first}
+use Rattle.std.specs.Str.Parse.{digits_value}
+use Rattle.std.proofs.lemmas.Bool.{and_parts, and_from, cond_both}
+use Rattle.std.proofs.lemmas.List.Folds.{list_all-append}
+use Rattle.std.proofs.lemmas.List.Splits.{length-slice_split}
+use Rattle.pct_model.specs.declared.schedule.Alt.{Alt}
+use Rattle.pct_model.specs.declared.schedule.Alt.TheVariants as alt
+use Rattle.pct_model.specs.declared.schedule.Config.{Config}
+use Rattle.pct_model.specs.declared.schedule.Entry.{Entry}
+use Rattle.pct_model.specs.declared.refusal.ScheduleWhy.TheVariants as why
+use Rattle.pct_model.specs.declared.keyword.Keyword.TheVariants as keyword
+use Rattle.pct_model.specs.Keywords.{keyword_text}
+use Rattle.pct_model.specs.Lines.{◌>>=◌, lines_of, without_empty_last, strip_cr, words_of, number_of}
+use Rattle.pct_model.specs.Run.{is_config}
+use Rattle.pct_model.specs.Schedule.{Schedule, begins, config_of, header_of_words, header_of, numbered_choice, choice_of, entry_of_parts, entry_of_words, entry_of, is_end, sched_of, is_marker, marker_in, split_at_marker, replay_parts}
+use Rattle.pct_schedule.specs.Schedules.{fits, is_choice, is_entry, IsSchedule}
+use Rattle.pct_schedule.specs.Reader.{ended, with_entry, entries_in, with_header, schedule_in}
+use Rattle.pct_schedule.proofs.ByEntries.{by_lines}
+
+-- ---- values that pass a test
+
+-- the value, if there is one, passes the test
+abbrev Passes : {X : Type 0} → (X → Bool) → Option X → Type 0
+Passes test o = IfSome o (λ x. test x ≡ true)
+
+bind_passes : {X Y : Type 0} (some : X → Bool) (test : Y → Bool) (o : Option X) (f : X → Option Y) → Passes some o → ((x : X) → some x ≡ true → Passes test (f x)) → Passes test (o >>= f)
+bind_passes some test None f passes each = tt
+bind_passes some test (Some x) f passes each = each x passes
+
+if_passes : {X : Type 0} (test : X → Bool) (b : Bool) (x y : Option X) → (b ≡ true → Passes test x) → Passes test y → Passes test (cond b x y)
+if_passes test b x y here otherwise = cond_both b x y (Passes test) here (λ _. otherwise)
+
+-- ---- numbers
+
+number_fits : (word : List ℕ) → Passes fits (number_of word)
+unfolding number_of
+number_fits word =
+    let n = digits_value 10 word in
+    let printed = bytes_eq (decimal n) word in
+    if_passes fits (printed && nat_le n 4294967295) (Some n) None (λ e. (and_parts printed (nat_le n 4294967295) e).1) tt
+
+-- ---- entries
+
+numbered_is_choice : (kind : List ℕ) (n : ℕ) → fits n ≡ true → Passes is_choice (numbered_choice kind n)
+numbered_is_choice kind n fit =
+    let dtor = cond (bytes_eq kind (keyword_text keyword.Dtor)) (Some (alt.Dtor n)) None in
+    let pick = cond (bytes_eq kind (keyword_text keyword.Pick)) (Some (alt.Pick n)) dtor in
+    let new = cond (bytes_eq kind (keyword_text keyword.New)) (Some (alt.New n)) pick in
+    if_passes is_choice (bytes_eq kind (keyword_text keyword.Act)) (Some (alt.Act n)) new (λ _. fit)
+    (if_passes is_choice (bytes_eq kind (keyword_text keyword.New)) (Some (alt.New n)) pick (λ _. fit)
+    (if_passes is_choice (bytes_eq kind (keyword_text keyword.Pick)) (Some (alt.Pick n)) dtor (λ _. fit)
+    (if_passes is_choice (bytes_eq kind (keyword_text keyword.Dtor)) (Some (alt.Dtor n)) None (λ _. fit) tt)))
+
+words_are_choice : (words : List (List ℕ)) → Passes is_choice (choice_of words)
+words_are_choice [] = tt
+words_are_choice (kind ∷ []) = if_passes is_choice (bytes_eq kind (keyword_text keyword.Go)) (Some alt.Go) None (λ _. refl) tt
+words_are_choice (kind ∷ number ∷ []) = bind_passes fits is_choice (number_of number) (numbered_choice kind) (number_fits number) (numbered_is_choice kind)
+words_are_choice (kind ∷ number ∷ next ∷ words) = tt
+
+parts_are_entry : (worker pid tid : Option ℕ) (choice : Option Alt) → Passes fits pid → Passes fits tid → Passes is_choice choice → Passes is_entry (entry_of_parts worker pid tid choice)
+parts_are_entry None pid tid choice p t c = tt
+parts_are_entry (Some worker) None tid choice p t c = tt
+parts_are_entry (Some worker) (Some pid) None choice p t c = tt
+parts_are_entry (Some worker) (Some pid) (Some tid) None p t c = tt
+parts_are_entry (Some worker) (Some pid) (Some tid) (Some choice) p t c =
+    if_passes is_entry (nat_le worker 16) (Some (record { worker = worker; pid = pid; tid = tid; alt = choice })) None
+    (λ few. and_from (nat_le worker 16 && fits pid && fits tid) (is_choice choice) (and_from (nat_le worker 16 && fits pid) (fits tid) (and_from (nat_le worker 16) (fits pid) few p) t) c) tt
+
+words_are_entry : (words : List (List ℕ)) → Passes is_entry (entry_of_words words)
+words_are_entry [] = tt
+words_are_entry (worker ∷ []) = tt
+words_are_entry (worker ∷ pid ∷ []) = tt
+words_are_entry (worker ∷ pid ∷ tid ∷ choice) = parts_are_entry (number_of worker) (number_of pid) (number_of tid) (choice_of choice) (number_fits pid) (number_fits tid) (words_are_choice choice)
+
+line_is_entry : (line : List ℕ) → Passes is_entry (entry_of line)
+unfolding entry_of
+line_is_entry line = words_are_entry (words_of line)
+
+-- ---- the header
+
+numbers_are_config : (budget passes slots : Option ℕ) → Passes is_config (config_of budget passes slots)
+numbers_are_config None passes slots = tt
+numbers_are_config (Some budget) None slots = tt
+numbers_are_config (Some budget) (Some passes) None = tt
+numbers_are_config (Some budget) (Some passes) (Some slots) =
+    let config : Config = record { budget = budget; passes = passes; slots = slots } in
+    if_passes is_config (is_config config) (Some config) None (λ is. is) tt
+
+words_are_config : (words : List (List ℕ)) → Passes is_config (header_of_words words)
+words_are_config [] = tt
+words_are_config (a ∷ []) = tt
+words_are_config (a ∷ b ∷ []) = tt
+words_are_config (a ∷ b ∷ c ∷ []) = tt
+words_are_config (a ∷ b ∷ c ∷ d ∷ []) = tt
+words_are_config (title ∷ format ∷ budget ∷ passes ∷ slots ∷ []) =
+    if_passes is_config _ (config_of (number_of budget) (number_of passes) (number_of slots)) None (λ _. numbers_are_config (number_of budget) (number_of passes) (number_of slots)) tt
+words_are_config (a ∷ b ∷ c ∷ d ∷ e ∷ next ∷ words) = tt
+
+line_is_config : (line : List ℕ) → Passes is_config (header_of line)
+unfolding header_of
+line_is_config line = words_are_config (words_of line)
+
+-- ---- schedules
+
+-- a schedule that is read is within its limits
+abbrev Within : Schedule → Type 0
+Within (Ok schedule) = IsSchedule schedule.0 schedule.1
+Within (Err e) = Unit {0}
+
+if_within : (b : Bool) (x y : Schedule) → Within x → Within y → Within (cond b x y)
+if_within b x y here otherwise = cond_both b x y Within (λ _. here) (λ _. otherwise)
+
+ended_within : (n : ℕ) (config : Config) (entries : List Entry) (lines : List (List ℕ)) → IsSchedule config entries → Within (ended n config entries lines)
+ended_within n config entries [] is = is
+ended_within n config entries (line ∷ lines) is = tt
+
+more_within : (config : Config) (entries : List Entry) (e : Entry) → IsSchedule config entries → length entries < config.budget → is_entry e ≡ true → IsSchedule config (entries ++ e ∷ [])
+more_within config entries e is within fit =
+    record {
+      config_fits = is.config_fits;
+      few = omega (arith, length-append entries (e ∷ []), within);
+      each = list_all-append is_entry entries (e ∷ []) ∙ and_from (list_all is_entry entries) (list_all is_entry (e ∷ [])) is.each (and_from (is_entry e) true fit refl);
+    }
+
+entry_within : (n : ℕ) (config : Config) (entries : List Entry) (o : Option Entry) (go : Entry → Schedule) → IsSchedule config entries → Passes is_entry o
+    → ((e : Entry) → IsSchedule config (entries ++ e ∷ []) → Within (go e)) → Within (with_entry n config (length entries) o go)
+entry_within n config entries None go is passes more = tt
+entry_within n config entries (Some e) go is passes more =
+    cond_both (nat_lt (length entries) config.budget) (go e) (Err (n, why.TooMany)) Within
+    (λ within. more e (more_within config entries e is (ltb-true (length entries) config.budget within) passes)) (λ _. tt)
+
+entries_within : (n : ℕ) (config : Config) (entries : List Entry) (lines : List (List ℕ)) → IsSchedule config entries → Within (entries_in n config entries lines)
+unfolding entries_in
+entries_within n config entries [] is = tt
+entries_within n config entries (line ∷ lines) is =
+    if_within (begins (keyword_text keyword.End) (strip_cr line))
+    (cond (is_end (length entries) (strip_cr line)) (ended (n + 1) config entries lines) (Err (n, why.BadEnd)))
+    (with_entry n config (length entries) (entry_of (strip_cr line)) (λ e. entries_in (n + 1) config (entries ++ e ∷ []) lines))
+    (if_within (is_end (length entries) (strip_cr line)) (ended (n + 1) config entries lines) (Err (n, why.BadEnd)) (ended_within (n + 1) config entries lines is) tt)
+    (entry_within n config entries (entry_of (strip_cr line)) (λ e. entries_in (n + 1) config (entries ++ e ∷ []) lines) is (line_is_entry (strip_cr line))
+    (λ e more. entries_within (n + 1) config (entries ++ e ∷ []) lines more))
+
+header_within : (n : ℕ) (o : Option Config) (lines : List (List ℕ)) → Passes is_config o → Within (with_header n o lines)
+header_within n None lines passes = tt
+header_within n (Some config) lines passes = entries_within (n + 1) config [] lines (record { config_fits = passes; few = omega arith; each = refl })
+
+lines_within : (n : ℕ) (lines : List (List ℕ)) → Within (schedule_in n lines)
+unfolding schedule_in
+lines_within n [] = tt
+lines_within n (line ∷ lines) =
+    if_within (begins (keyword_text keyword.Schedule) (strip_cr line)) (with_header n (header_of (strip_cr line)) lines) (schedule_in (n + 1) lines)
+    (header_within n (header_of (strip_cr line)) lines (line_is_config (strip_cr line))) (lines_within (n + 1) lines)
+
+-- the schedule that a text gives is within its limits
+pub sched_within : (text : List ℕ) (config : Config) (entries : List Entry) → sched_of text ≡ Ok (config, entries) → IsSchedule config entries
+sched_within text config entries e = subst Within (sym (by_lines text) ∙ e) (lines_within 1 (lines_of text))
+
+-- ---- the sections of an input
+
+-- the bytes of lines, with an LF after each
+lines_size : List (List ℕ) → ℕ
+lines_size [] = 0
+lines_size (line ∷ lines) = length line + 1 + lines_size lines
+
+onto_first_size : (b : ℕ) (lines : List (List ℕ)) → 0 < length lines → lines_size (onto_first b lines) ≡ lines_size lines + 1
+unfolding lines_size
+onto_first_size b [] some = absurd (omega arith)
+onto_first_size b (line ∷ lines) some = omega arith
+
+split_step_size : (ends : Bool) (b : ℕ) (size : ℕ) (lines : List (List ℕ)) → 0 < length lines → lines_size lines ≡ size + 1 → lines_size (cond ends ([] ∷ lines) (onto_first b lines)) ≡ suc size + 1
+unfolding lines_size
+split_step_size true b size lines some e = omega (arith, e)
+split_step_size false b size lines some e = omega (arith, e, onto_first_size b lines some)
+
+-- the pieces of a text, with an LF after each, are the text with one more LF
+split_size : (text : List ℕ) → lines_size (slice_split (λ b. nat_eq b 10) text) ≡ length text + 1
+unfolding lines_size
+split_size [] = refl
+split_size (b ∷ bytes) =
+    let lines = slice_split (λ x. nat_eq x 10) bytes in
+    split_step_size (nat_eq b 10) b (length bytes) lines (omega (arith, length-slice_split (λ x. nat_eq x 10) bytes)) (split_size bytes)
+
+without_last_size : (lines : List (List ℕ)) → lines_size (without_empty_last lines) ≤ lines_size lines
+unfolding lines_size
+without_last_size [] = omega arith
+without_last_size ([] ∷ []) = omega arith
+without_last_size ((b ∷ bs) ∷ []) = omega arith
+without_last_size ([] ∷ next ∷ lines) = omega (arith, without_last_size (next ∷ lines))
+without_last_size ((b ∷ bs) ∷ next ∷ lines) = omega (arith, without_last_size (next ∷ lines))
+
+-- a marker among the lines begins before their last LF
+marker_within : (size offset : ℕ) (lines : List (List ℕ)) → offset + lines_size lines ≤ size + 1 → IfSome (marker_in offset lines) (λ offsets. offsets.0 ≤ size)
+unfolding marker_in lines_size
+marker_within size offset [] most = tt
+marker_within size offset (line ∷ lines) most =
+    cond_both (is_marker line) (Some (offset, offset + length line + 1)) (marker_in (offset + length line + 1) lines) (λ o. IfSome o (λ offsets. offsets.0 ≤ size))
+    (λ _. omega arith) (λ _. marker_within size (offset + length line + 1) lines (omega arith))
+
+offsets_within : (size : ℕ) (o : Option (ℕ × ℕ)) → IfSome o (λ offsets. offsets.0 ≤ size) → ((split_at_marker size o).0 ≤ size) × ((split_at_marker size o).1 ≤ size)
+offsets_within size None most = (omega arith, omega arith)
+offsets_within size (Some offsets) most =
+    (most, cond_both (nat_le offsets.1 size) offsets.1 size (λ n. n ≤ size) (λ e. leb-true offsets.1 size e) (λ _. omega arith))
+
+-- the sections of an input begin and end in it
+pub parts_within : (input : List ℕ) → ((replay_parts input).0 ≤ length input) × ((replay_parts input).1 ≤ length input)
+unfolding replay_parts lines_of
+parts_within input =
+    let pieces = slice_split (λ b. nat_eq b 10) input in
+    offsets_within (length input) (marker_in 0 (lines_of input))
+    (marker_within (length input) 0 (without_empty_last pieces) (omega (arith, without_last_size pieces, split_size input)))

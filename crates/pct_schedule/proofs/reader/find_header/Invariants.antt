@@ -1,0 +1,10 @@
+use Rattle.std.proofs.Common.{◌≡◌, ◌+◌, ◌≤◌, length}
+use Rattle.pct_model.specs.Lines.{lines_of}
+use Rattle.pct_schedule.specs.Reader.{header_line}
+use Rattle.pct_schedule.proofs.reader.find_header.Given as goal
+
+abbrev pub invariant-loop-raw : goal.invariant-loop-raw
+invariant-loop-raw l = record { found : header_line 1 (lines_of l.text) ≡ header_line l.number (lines_of l.rest); bound : l.number + length l.rest ≤ 16777217 }
+
+abbrev pub decreases-loop-raw : goal.decreases-loop-raw
+decreases-loop-raw l = length l.rest

@@ -1,0 +1,4 @@
+pub mod Gives
+pub mod Memory
+pub mod Reader
+pub mod Schedules

@@ -1,0 +1,18 @@
+//! The text of a schedule: `read_schedule` reads it, which may be part of a whole report, `write_schedule` writes it, and
+//! `split_replay` finds it in an input of `replay`.
+#![tactic(auto)]
+
+mod fault;
+mod line;
+mod reader;
+mod splitter;
+mod writer;
+
+pub use fault::ScheduleFault;
+pub use pct_model::ScheduleWhy;
+pub use reader::{Entries, read_schedule};
+pub use splitter::split_replay;
+pub use writer::write_schedule;
+
+#[cfg(test)]
+mod tests;

@@ -1,0 +1,145 @@
+//! The lines of a schedule: its header, its entries and its last line.
+
+ghost use Rattle.std.specs.Prelude.{◌≡◌};
+ghost use Rattle.pct_model.specs.Keywords.{keyword_text};
+ghost use Rattle.pct_model.specs.Lines.{number_of};
+ghost use Rattle.pct_model.specs.Run.{is_config};
+ghost use Rattle.pct_model.specs.Schedule.{numbered_choice, is_number};
+ghost use Rattle.pct_schedule.specs.Reader.{begins_with, config_in, header_in, choice_in, entry_in, end_in};
+
+use pct_model::{
+    Alt, Config, Entry, Keyword, MAX_BUDGET, MAX_PASSES, MAX_SLOTS, MAX_WORKER, MIN_PASSES,
+};
+use pct_text::{number_of, split_once};
+
+/// Whether a line begins with the keyword and a space.
+#[tactic(auto, unfolding(crate::specs::Reader::begins_with))]
+pub fn begins_with(line: &[u8], keyword: Keyword) -> bool
+    ensures { result ≡ begins_with (keyword_text keyword) line.now }
+{
+    match split_once(line, b' ') {
+        Some((word, _)) => word == keyword.text(),
+        None => false,
+    }
+}
+
+// `BUDGET PASSES SLOTS`, a configuration within the limits.
+#[tactic(auto, unfolding(crate::specs::Reader::config_in))]
+fn config_of(words: &[u8]) -> Option<Config>
+    ensures { result ≡ config_in words.now }
+{
+    let (budget, words) = split_once(words, b' ')?;
+    let (passes, slots) = split_once(words, b' ')?;
+    let config = Config {
+        budget: number_of(budget)?,
+        passes: number_of(passes)?,
+        slots: number_of(slots)?,
+    };
+    if is_config(config) {
+        Some(config)
+    } else {
+        None
+    }
+}
+
+// Whether a run may go under these numbers.
+fn is_config(config: Config) -> bool
+    ensures { result ≡ is_config config }
+{
+    1 <= config.budget
+        && config.budget <= MAX_BUDGET
+        && MIN_PASSES <= config.passes
+        && config.passes <= MAX_PASSES
+        && 1 <= config.slots
+        && config.slots <= MAX_SLOTS
+}
+
+/// The configuration in a header, `schedule 1 BUDGET PASSES SLOTS`, if it is within the limits.
+#[tactic(auto, unfolding(crate::specs::Reader::header_in))]
+pub fn header_of(line: &[u8]) -> Option<Config>
+    ensures { result ≡ header_in line.now }
+{
+    let (title, words) = split_once(line, b' ')?;
+    let (format, numbers) = split_once(words, b' ')?;
+    if title == Keyword::Schedule.text() && format == b"1".as_slice() {
+        config_of(numbers)
+    } else {
+        None
+    }
+}
+
+// The alternative of a keyword that takes a number.
+fn numbered_choice(kind: &[u8], number: u32) -> Option<Alt>
+    ensures { result ≡ numbered_choice kind.now number }
+{
+    if kind == Keyword::Act.text() {
+        Some(Alt::Act(number))
+    } else if kind == Keyword::New.text() {
+        Some(Alt::New(number))
+    } else if kind == Keyword::Pick.text() {
+        Some(Alt::Pick(number))
+    } else if kind == Keyword::Dtor.text() {
+        Some(Alt::Dtor(number))
+    } else {
+        None
+    }
+}
+
+// An alternative: `go`, or a keyword and a number.
+#[tactic(auto, unfolding(crate::specs::Reader::choice_in))]
+fn choice_of(words: &[u8]) -> Option<Alt>
+    ensures { result ≡ choice_in words.now }
+{
+    match split_once(words, b' ') {
+        Some((kind, number)) => numbered_choice(kind, number_of(number)?),
+        None => {
+            if words == Keyword::Go.text() {
+                Some(Alt::Go)
+            } else {
+                None
+            }
+        }
+    }
+}
+
+/// The entry of a line: worker, process, thread and alternative.
+#[tactic(auto, unfolding(crate::specs::Reader::entry_in))]
+pub fn entry_of(line: &[u8]) -> Option<Entry>
+    ensures { result ≡ entry_in line.now }
+{
+    let (worker, words) = split_once(line, b' ')?;
+    let (pid, words) = split_once(words, b' ')?;
+    let (tid, words) = split_once(words, b' ')?;
+    let entry = Entry {
+        worker: number_of(worker)?,
+        pid: number_of(pid)?,
+        tid: number_of(tid)?,
+        alt: choice_of(words)?,
+    };
+    if entry.worker <= MAX_WORKER {
+        Some(entry)
+    } else {
+        None
+    }
+}
+
+/// Whether a line is `end N` with this N.
+#[tactic(auto, unfolding(crate::specs::Reader::end_in))]
+pub fn is_end(count: usize, line: &[u8]) -> bool
+    ensures { result ≡ end_in count line.now }
+{
+    match split_once(line, b' ') {
+        Some((title, number)) => title == Keyword::End.text() && is_number(count, number),
+        None => false,
+    }
+}
+
+// Whether a word is the number in decimal.
+fn is_number(count: usize, word: &[u8]) -> bool
+    ensures { result ≡ is_number count (number_of word.now) }
+{
+    match number_of(word) {
+        Some(number) => number as usize == count,
+        None => false,
+    }
+}

@@ -1,0 +1,98 @@
+-- The `fn` lines of a text that exceeds no limit have a name and at most 8 locals.
+use Rattle.std.proofs.Common.{◌≡◌, ℕ, ◌≤◌, Bool, true, false, not, ◌&&◌, ◌||◌, cond, List, [], ◌∷◌, Option, Some, None, length, refl, ap, arith, nat_le, nat_lt, le-leb, filter, filter_map, suc}
+use Rattle.std.specs.List.{list_all, cons_option, slice_split, onto_first, enumerate_from}
+use Rattle.std.proofs.lemmas.Bool.{and_from, ltb-false}
+use Rattle.std.proofs.lemmas.List.FromFn.{length-enumerate_from}
+use Rattle.pct_model.specs.declared.line_kind.SymbolKind.TheVariants as kind
+use Rattle.pct_model.specs.declared.refusal.ParseWhy.TheVariants.{TooMany}
+use Rattle.pct_model.specs.declared.parsed_line.ParsedLine.{ParsedLine}
+use Rattle.pct_model.specs.Lines.{without_empty_last, lines_of}
+use Rattle.pct_model.specs.LineParsing.{words_in, spell_something, spelled_lines}
+use Rattle.pct_model.specs.Sections.{Line, parsed_numbered, declares, locals_of, parsed_lines}
+use Rattle.pct_model.specs.Checks.{first_wrong, has_many_locals, exceeds_limit, too_many, fault_at_line}
+use Rattle.pct_script.specs.SectionSteps.{begins_with_name, is_ready}
+use Rattle.pct_grammar.proofs.SharedWords.{IsParsed, EachParsed}
+use Rattle.pct_grammar.proofs.ParsedFromWords.{DeclaresFunction, line_declares}
+
+not_wrong : (t : Bool) (n : ℕ) (others : Option ℕ) → cond t (Some n) others ≡ None → (t ≡ false) × (others ≡ None)
+not_wrong true n others e = absurd cc
+not_wrong false n others e = (refl, e)
+
+last_false : (a b : Bool) → (a || b) ≡ false → b ≡ false
+last_false true b e = absurd cc
+last_false false b e = e
+
+few_enough : (n : ℕ) → nat_lt 8 n ≡ false → nat_le n 8 ≡ true
+few_enough n e = le-leb n 8 (ltb-false 8 n e)
+
+ready_or : (l : Line) (d : Bool) → declares kind.Function l.1 ≡ d → IsParsed l.1 → (d && nat_lt 8 (length (locals_of l.1))) ≡ false
+    → (not d || begins_with_name l.1.tokens && nat_le (length (locals_of l.1)) 8) ≡ true
+ready_or l false e from few = refl
+ready_or l true e from few =
+    let parsed : DeclaresFunction l.1.tokens = line_declares kind.Function l.1 from e in
+    and_from (begins_with_name l.1.tokens) (nat_le (length (locals_of l.1)) 8) (ap begins_with_name parsed.same) (few_enough (length (locals_of l.1)) few)
+
+not_many : (before : List ParsedLine) (line : ParsedLine) → exceeds_limit before line ≡ false → has_many_locals line ≡ false
+unfolding exceeds_limit
+not_many before line e = last_false _ (has_many_locals line) e
+
+each_ready : (before : List ParsedLine) (lines : List Line) → EachParsed lines → first_wrong exceeds_limit before lines ≡ None → list_all is_ready lines ≡ true
+unfolding first_wrong
+each_ready before [] from none = refl
+each_ready before (l ∷ lines) from none =
+    let sections = not_wrong (exceeds_limit before l.1) l.0 (first_wrong exceeds_limit (l.1 ∷ before) lines) none in
+    and_from (is_ready l) (list_all is_ready lines) (ready_or l (declares kind.Function l.1) refl from.0 (not_many before l.1 sections.0)) (each_ready (l.1 ∷ before) lines from.1 sections.1)
+
+no_fault : (o : Option ℕ) → fault_at_line TooMany o ≡ None → o ≡ None
+no_fault None e = refl
+no_fault (Some n) e = absurd cc
+
+-- parsed lines that exceed no limit are ready
+pub are_ready : (lines : List Line) → EachParsed lines → too_many lines ≡ None → list_all is_ready lines ≡ true
+unfolding too_many
+are_ready lines from few = each_ready [] lines from (no_fault (first_wrong exceeds_limit [] lines) few)
+
+-- ---- how many there are
+
+few_passed : {A : Type 0} (p : A → Bool) (a : A) (kept : List A) (n : ℕ) (t : Bool) → length kept ≤ n → length (cond t (a ∷ kept) kept) ≤ suc n
+few_passed p a kept n true le = omega arith
+few_passed p a kept n false le = omega arith
+
+fewer_filtered : {A : Type 0} (p : A → Bool) (xs : List A) → length (filter p xs) ≤ length xs
+fewer_filtered p [] = omega arith
+fewer_filtered p (x ∷ xs) = few_passed p x (filter p xs) (length xs) (p x) (fewer_filtered p xs)
+
+few_given : {B : Type 0} (o : Option B) (kept : List B) (n : ℕ) → length kept ≤ n → length (cons_option o kept) ≤ suc n
+few_given None kept n le = omega arith
+few_given (Some b) kept n le = omega arith
+
+fewer_given : {A B : Type 0} (f : A → Option B) (xs : List A) → length (filter_map f xs) ≤ length xs
+fewer_given f [] = omega arith
+fewer_given f (x ∷ xs) = few_given (f x) (filter_map f xs) (length xs) (fewer_given f xs)
+
+few_after : (t : Bool) (b n : ℕ) (pieces : List (List ℕ)) → length (without_empty_last pieces) ≤ n → length (without_empty_last (cond t ([] ∷ pieces) (onto_first b pieces))) ≤ suc n
+few_after true b n [] le = omega arith
+few_after true b n (w ∷ ws) le = omega (arith, le)
+few_after false b n [] le = omega arith
+few_after false b n ([] ∷ []) le = omega arith
+few_after false b n ([] ∷ x ∷ xs) le = omega (arith, le)
+few_after false b n ((c ∷ w) ∷ []) le = omega arith
+few_after false b n ((c ∷ w) ∷ x ∷ xs) le = omega (arith, le)
+
+few_pieces : (p : ℕ → Bool) (bytes : List ℕ) → length (without_empty_last (slice_split p bytes)) ≤ length bytes
+few_pieces p [] = omega arith
+few_pieces p (b ∷ bytes) = few_after (p b) b (length bytes) (slice_split p bytes) (few_pieces p bytes)
+
+few_of_text : (text : List ℕ) → length (lines_of text) ≤ length text
+unfolding lines_of
+few_of_text text = few_pieces _ text
+
+few_spelled : (text : List ℕ) → length (spelled_lines text) ≤ length text
+unfolding spelled_lines
+few_spelled text =
+    omega (arith, fewer_filtered (λ l. spell_something (words_in l.1)) (enumerate_from 1 (lines_of text)), length-enumerate_from 1 (lines_of text), few_of_text text)
+
+-- a text has at most as many parsed lines as bytes
+pub few_lines : (text : List ℕ) → length (parsed_lines text) ≤ length text
+unfolding parsed_lines
+few_lines text = omega (arith, fewer_given parsed_numbered (spelled_lines text), few_spelled text)

@@ -1,0 +1,130 @@
+-- Resolving the tokens of a statement, token by token.
+use Rattle.std.proofs.Common.{◌≡◌, ◌⊎◌, inl, inr, ℕ, suc, ◌-◌, ◌<◌, ◌≤◌, Bool, true, false, not, List, [], ◌∷◌, ◌++◌, Option, Some, None, length, drop, min, replicate, refl, sym, ap, ◌∙◌, arith, get_or, option_map, append_assoc, append-nil}
+use Rattle.std.specs.Prelude.{slice_get}
+use Rattle.std.proofs.Math.Seq.{drop-cons}
+use Rattle.std.proofs.lemmas.List.{drop_all, length-append, length-replicate}
+use Rattle.std.proofs.lemmas.Option.{slice_get_within, get_or_from_slice_get, slice_get_cases}
+use Rattle.pct_model.specs.declared.line_kind.LineKind.{LineKind}
+use Rattle.pct_model.specs.declared.line_kind.LineKind.TheVariants as line_kind
+use Rattle.pct_model.specs.declared.line_kind.SymbolKind.{SymbolKind}
+use Rattle.pct_model.specs.declared.line_kind.SymbolKind.TheVariants as kind
+use Rattle.pct_model.specs.declared.line_kind.ArgumentKind.{ArgumentKind}
+use Rattle.pct_model.specs.declared.line_kind.ArgumentKind.TheVariants as argument_kind
+use Rattle.pct_model.specs.declared.parsed_line.Argument.{Argument}
+use Rattle.pct_model.specs.declared.parsed_line.ParsedLine.{ParsedLine}
+use Rattle.pct_model.specs.declared.parsed_line.Token.{Token}
+use Rattle.pct_model.specs.Lines.{◌>>=◌}
+use Rattle.pct_model.specs.Contents.{resolve, resolve_all}
+use Rattle.pct_model.specs.LineKinds.{syntax_of, declaration_syntax}
+use Rattle.pct_model.specs.Sections.{is_declaration, is_statement, role_in, argument_kinds_in}
+
+-- what was resolved, and then what is left to resolve
+abbrev pub onto : {A : Type 0} → List A → Option (List A) → Option (List A)
+onto prefix read = option_map (λ others. prefix ++ others) read
+
+-- one more item is resolved
+pub regroup : {A : Type 0} (prefix : List A) (a : A) (read : Option (List A)) → onto prefix (option_map (λ others. a ∷ others) read) ≡ onto (prefix ++ a ∷ []) read
+regroup prefix a None = refl
+regroup prefix a (Some others) = ap (λ xs. Some xs) (sym (append_assoc prefix (a ∷ []) others))
+
+-- ---- argument kinds
+
+argument_kind_first : (argument_kinds : List ArgumentKind) (at : ℕ) (p : ArgumentKind) → slice_get argument_kinds at ≡ Some p → drop at argument_kinds ≡ p ∷ drop (suc at) argument_kinds
+argument_kind_first argument_kinds at p here =
+    drop-cons argument_kinds at p (slice_get_within argument_kinds at p here) ∙ ap (λ q. q ∷ drop (suc at) argument_kinds) (get_or_from_slice_get argument_kinds at p p here)
+
+past : (argument_kinds : List ArgumentKind) (at : ℕ) → slice_get argument_kinds at ≡ None
+    → ((p : ArgumentKind) × (at < length argument_kinds) × (slice_get argument_kinds at ≡ Some p) × (get_or argument_kinds at p ≡ p)) ⊎ ((length argument_kinds ≤ at) × (slice_get argument_kinds at ≡ None)) → drop at argument_kinds ≡ []
+past argument_kinds at none (inl h) = absurd (cc)
+past argument_kinds at none (inr h) = drop_all at argument_kinds h.0
+
+few_detached : (n : ℕ) (p : ArgumentKind) → length (replicate (min 1 (n - 4)) p) ≤ 1
+few_detached n p = omega (arith, length-replicate (min 1 (n - 4)) p)
+
+-- a statement has at most 5 argument kinds
+few_kinds : (f : LineKind) (n : ℕ) → is_declaration (syntax_of f).role ≡ false → length ((syntax_of f).argument_kinds n) ≤ 5
+unfolding syntax_of declaration_syntax
+few_kinds (line_kind.Declares kind.Global) n other = absurd cc
+few_kinds (line_kind.Declares kind.Mutex) n other = absurd cc
+few_kinds (line_kind.Declares kind.Cond) n other = absurd cc
+few_kinds (line_kind.Declares kind.Sem) n other = absurd cc
+few_kinds (line_kind.Declares kind.Function) n other = absurd cc
+few_kinds line_kind.Create n other = omega (arith, few_detached n argument_kind.Detached)
+few_kinds _ n other = omega arith
+
+not_true : (t : Bool) → not t ≡ true → t ≡ false
+not_true false h = refl
+not_true true h = absurd cc
+
+-- if there is an argument kind for one more argument, there are fewer than 5 arguments
+pub room_left : (line : ParsedLine) (n : ℕ) (p : ArgumentKind) → is_statement line ≡ true → slice_get (argument_kinds_in line) n ≡ Some p → n < 5
+room_left line n p is here =
+    omega (arith, slice_get_within (argument_kinds_in line) n p here, few_kinds line.line_kind (length line.tokens) (not_true (is_declaration (role_in line)) is))
+
+-- the argument kind of the next token
+pub the_argument_kind : (line : ParsedLine) (words : List Token) (n m : ℕ) (o : Option ArgumentKind) → words ≡ line.tokens → n ≡ m → o ≡ slice_get ((syntax_of line.line_kind).argument_kinds (length words)) n → slice_get (argument_kinds_in line) m ≡ o
+the_argument_kind line words n m o same at here =
+    sym (ap (λ ws. slice_get ((syntax_of line.line_kind).argument_kinds (length ws)) m) same) ∙ sym (ap (λ k. slice_get ((syntax_of line.line_kind).argument_kinds (length words)) k) at) ∙ sym here
+
+-- ---- tokens
+
+-- an argument and those after it
+abbrev with_others : Option Argument → Option (List Argument) → Option (List Argument)
+with_others o read = o >>= λ first. option_map (λ others. first ∷ others) read
+
+no_argument_kinds : (names : SymbolKind → List (List ℕ)) (locals : List (List ℕ)) (w : Token) (words : List Token) → resolve_all names locals [] (w ∷ words) ≡ None
+unfolding resolve_all
+no_argument_kinds names locals w words = refl
+
+one_kind : (names : SymbolKind → List (List ℕ)) (locals : List (List ℕ)) (p : ArgumentKind) (argument_kinds : List ArgumentKind) (w : Token) (words : List Token)
+    → resolve_all names locals (p ∷ argument_kinds) (w ∷ words) ≡ with_others (resolve names locals p w) (resolve_all names locals argument_kinds words)
+unfolding resolve_all
+one_kind names locals p argument_kinds w words = refl
+
+no_words : (names : SymbolKind → List (List ℕ)) (locals : List (List ℕ)) (argument_kinds : List ArgumentKind) → resolve_all names locals argument_kinds [] ≡ Some []
+unfolding resolve_all
+no_words names locals argument_kinds = refl
+
+module _ (names : SymbolKind → List (List ℕ)) (locals : List (List ℕ)) (argument_kinds : List ArgumentKind) where
+  -- the arguments so far, and those of the tokens that are left
+  abbrev pub replaced_from : List Argument → List Token → Option (List Argument)
+  replaced_from prefix words = onto prefix (resolve_all names locals (drop (length prefix) argument_kinds) words)
+
+  at_index : (prefix : List Argument) (p : ArgumentKind) (w : Token) (words rest : List Token) → slice_get argument_kinds (length prefix) ≡ Some p → rest ≡ w ∷ words
+      → replaced_from prefix rest ≡ onto prefix (with_others (resolve names locals p w) (resolve_all names locals (drop (suc (length prefix)) argument_kinds) words))
+  at_index prefix p w words rest here first =
+      ap (λ ws. onto prefix (resolve_all names locals (drop (length prefix) argument_kinds) ws)) first
+      ∙ ap (λ ps. onto prefix (resolve_all names locals ps (w ∷ words))) (argument_kind_first argument_kinds (length prefix) p here)
+      ∙ ap (onto prefix) (one_kind names locals p (drop (suc (length prefix)) argument_kinds) w words)
+
+  -- a token that resolves
+  pub word_replaced : (prefix : List Argument) (p : ArgumentKind) (w : Token) (a : Argument) (words rest : List Token) (all : Option (List Argument)) → slice_get argument_kinds (length prefix) ≡ Some p
+      → resolve names locals p w ≡ Some a → rest ≡ w ∷ words → replaced_from prefix rest ≡ all → replaced_from (prefix ++ a ∷ []) words ≡ all
+  word_replaced prefix p w a words rest all here is first so_far =
+      let more = λ (n : ℕ). resolve_all names locals (drop n argument_kinds) words in
+      let n : length (prefix ++ a ∷ []) ≡ suc (length prefix) = omega (arith, length-append prefix (a ∷ [])) in
+      ap (λ k. onto (prefix ++ a ∷ []) (more k)) n
+      ∙ sym (regroup prefix a (more (suc (length prefix))))
+      ∙ sym (ap (λ o. onto prefix (with_others o (more (suc (length prefix))))) is)
+      ∙ sym (at_index prefix p w words rest here first) ∙ so_far
+
+  -- a token that does not
+  pub word_unknown : (prefix : List Argument) (p : ArgumentKind) (w : Token) (words rest : List Token) (all : Option (List Argument)) → slice_get argument_kinds (length prefix) ≡ Some p
+      → resolve names locals p w ≡ None → rest ≡ w ∷ words → replaced_from prefix rest ≡ all → all ≡ None
+  word_unknown prefix p w words rest all here is first so_far =
+      sym so_far ∙ at_index prefix p w words rest here first
+      ∙ ap (λ o. onto prefix (with_others o (resolve_all names locals (drop (suc (length prefix)) argument_kinds) words))) is
+
+  -- a token past the last argument kind
+  pub word_without_kind : (prefix : List Argument) (w : Token) (words rest : List Token) (all : Option (List Argument)) → slice_get argument_kinds (length prefix) ≡ None → rest ≡ w ∷ words
+      → replaced_from prefix rest ≡ all → all ≡ None
+  word_without_kind prefix w words rest all none first so_far =
+      sym so_far ∙ ap (λ ws. onto prefix (resolve_all names locals (drop (length prefix) argument_kinds) ws)) first
+      ∙ ap (λ ps. onto prefix (resolve_all names locals ps (w ∷ words))) (past argument_kinds (length prefix) none (slice_get_cases argument_kinds (length prefix)).1)
+      ∙ ap (onto prefix) (no_argument_kinds names locals w words)
+
+  -- after the last token
+  pub words_end : (prefix : List Argument) (rest : List Token) (all : Option (List Argument)) → rest ≡ [] → replaced_from prefix rest ≡ all → Some prefix ≡ all
+  words_end prefix rest all none so_far =
+      sym (ap (λ xs. Some xs) (append-nil prefix)) ∙ sym (ap (onto prefix) (no_words names locals (drop (length prefix) argument_kinds)))
+      ∙ sym (ap (λ ws. onto prefix (resolve_all names locals (drop (length prefix) argument_kinds) ws)) none) ∙ so_far

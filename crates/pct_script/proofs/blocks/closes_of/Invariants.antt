@@ -1,9 +1,0 @@
-use Rattle.std.proofs.Common.{◌≡◌, map}
-use Rattle.std.specs.List.{range_with_len}
-use Rattle.pct_model.specs.Jumps.{close_of}
-use Rattle.pct_script.proofs.blocks.closes_of.Given as goal
-
-abbrev pub invariant-loop-place : goal.invariant-loop-place
-invariant-loop-place l = record {
-  so_far : l.closes.items ≡ map (close_of l.body) (range_with_len 0 l.place);
-}

@@ -1,0 +1,12 @@
+use Rattle.std.proofs.Common.{◌≡◌, length}
+use Rattle.std.proofs.Common.{◌+◌, ◌≤◌, take, drop}
+use Rattle.pct_model.specs.declared.refusal.ParseWhy.TheVariants.{NameTwice}
+use Rattle.pct_model.specs.Checks.{fault_at_line, name_twice}
+use Rattle.pct_script.specs.DeclaredBefore.{first_twice}
+use Rattle.pct_script.proofs.duplicates.name_twice.Given as goal
+
+abbrev pub invariant-loop-line : goal.invariant-loop-line
+invariant-loop-line l = record { found : fault_at_line NameTwice (first_twice (take l.at l.lines) l.rest) ≡ name_twice l.lines; whole : drop l.at l.lines ≡ l.rest; few : l.at + length l.rest ≤ length l.lines }
+
+abbrev pub decreases-loop-line : goal.decreases-loop-line
+decreases-loop-line l = length l.rest

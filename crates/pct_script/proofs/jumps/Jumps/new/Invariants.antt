@@ -1,8 +1,0 @@
-use Rattle.std.proofs.Common.{◌≡◌, take}
-use Rattle.pct_script.specs.Jumping.{jumps_of}
-use Rattle.pct_script.proofs.jumps.Jumps.new.Given as goal
-
-abbrev pub invariant-loop-func : goal.invariant-loop-func
-invariant-loop-func l = record {
-  so_far : l.bodies.items ≡ jumps_of (take l.func-index l.funcs);
-}

@@ -1,0 +1,21 @@
+use Rattle.std.proofs.Common.{sym, ap, ◌∙◌, length, arith}
+use Rattle.std.specs.List.{list_all}
+use Rattle.std.proofs.lemmas.Option.{same_Some}
+use Rattle.pct_model.specs.Sections.{parsed_lines, are_in_functions}
+use Rattle.pct_script.specs.SectionSteps.{is_ready}
+use Rattle.pct_script.proofs.CheckOrder.{is_checked}
+use Rattle.pct_script.proofs.LimitsMakeReady.{few_lines}
+use Rattle.pct_script.proofs.EmptyTexts.{spelled_unless}
+use Rattle.pct_script.proofs.parser.read_checked.Goals as goal
+
+pub read_lines-requires-clause-few : goal.read_lines-requires-clause-few
+read_lines-requires-clause-few c = omega (arith, few_lines c.args.text.now, ap length (c.deref.ensures.value ∙ sym (same_Some (parsed_lines c.args.text.now) c.in_ok-lines.lines.items c.in_ok-lines.ensures.parsed.1)), c.requires)
+
+pub read_lines-requires-clause-in_functions : goal.read_lines-requires-clause-in_functions
+read_lines-requires-clause-in_functions c = ap are_in_functions (c.deref.ensures.value ∙ sym (same_Some (parsed_lines c.args.text.now) c.in_ok-lines.lines.items c.in_ok-lines.ensures.parsed.1)) ∙ (is_checked c.args.text.now c.in_ok-lines.ensures.parsed.0).in_functions
+
+pub read_lines-requires-clause-ready : goal.read_lines-requires-clause-ready
+read_lines-requires-clause-ready c = ap (list_all is_ready) (c.deref.ensures.value ∙ sym (same_Some (parsed_lines c.args.text.now) c.in_ok-lines.lines.items c.in_ok-lines.ensures.parsed.1)) ∙ (is_checked c.args.text.now c.in_ok-lines.ensures.parsed.0).ready
+
+pub returns-clause-memory : goal.returns-clause-memory
+returns-clause-memory c = spelled_unless c.args.text.now c.read_lines.result c.in_ok-lines.ensures.parsed.0

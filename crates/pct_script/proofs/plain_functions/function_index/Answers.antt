@@ -1,0 +1,12 @@
+use Rattle.std.proofs.Common.{ℕ, List, sym, arith}
+use Rattle.std.specs.Prelude.{bytes_eq}
+use Rattle.std.proofs.lemmas.Iterator.Adapters.{position_from-zero}
+use Rattle.pct_model.specs.declared.line_kind.SymbolKind.TheVariants.{Function}
+use Rattle.pct_model.specs.Sections.{names_declared}
+use Rattle.pct_script.proofs.plain_functions.function_index.Goals as goal
+
+pub loop-declared-init : goal.loop-declared-init
+loop-declared-init c = record {
+  found = sym (position_from-zero (λ (n : List ℕ). bytes_eq n c.args.name.now) (names_declared c.args.lines.now Function));
+  few = omega arith;
+}

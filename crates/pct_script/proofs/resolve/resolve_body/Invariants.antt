@@ -1,0 +1,18 @@
+use Rattle.std.proofs.Common.{◌≡◌, true, length}
+use Rattle.std.specs.List.{list_all}
+use Rattle.pct_model.specs.Sections.{is_statement}
+use Rattle.pct_script.specs.Symbols.{symbols_of}
+use Rattle.pct_grammar.specs.Resolving.{resolve_body}
+use Rattle.pct_script.specs.UnknownNames.{unknown_in_body}
+use Rattle.pct_script.proofs.ResolvingTokens.{onto}
+use Rattle.pct_script.proofs.resolve.resolve_body.Given as goal
+
+abbrev pub invariant-loop-line : goal.invariant-loop-line
+invariant-loop-line l = record {
+  read : onto l.stmts.items (resolve_body (symbols_of l.symbols) l.locals l.rest) ≡ resolve_body (symbols_of l.symbols) l.locals l.body;
+  unknown : unknown_in_body (symbols_of l.symbols) l.locals l.rest ≡ unknown_in_body (symbols_of l.symbols) l.locals l.body;
+  statements : list_all (λ m. is_statement m.1) l.rest ≡ true;
+}
+
+abbrev pub decreases-loop-line : goal.decreases-loop-line
+decreases-loop-line l = length l.rest

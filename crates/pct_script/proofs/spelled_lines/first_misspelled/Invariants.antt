@@ -1,9 +1,0 @@
-use Rattle.std.proofs.Common.{◌≡◌, length}
-use Rattle.pct_model.specs.Spelling.{spelling}
-use Rattle.pct_script.proofs.spelled_lines.first_misspelled.Given as goal
-
-abbrev pub invariant-loop-number : goal.invariant-loop-number
-invariant-loop-number l = spelling l.fn.spelled ≡ spelling l.lines
-
-abbrev pub decreases-loop-number : goal.decreases-loop-number
-decreases-loop-number l = length l.lines

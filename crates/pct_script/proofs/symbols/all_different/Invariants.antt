@@ -1,0 +1,10 @@
+use Rattle.std.proofs.Common.{◌≡◌, length}
+use Rattle.pct_model.specs.Names.{all_different}
+use Rattle.pct_model.specs.Sections.{names_in}
+use Rattle.pct_script.proofs.symbols.all_different.Given as goal
+
+abbrev pub invariant-loop-name : goal.invariant-loop-name
+invariant-loop-name l = all_different (names_in l.rest) ≡ all_different (names_in l.words)
+
+abbrev pub decreases-loop-name : goal.decreases-loop-name
+decreases-loop-name l = length l.rest

@@ -1,0 +1,11 @@
+use Rattle.std.proofs.Common.{◌≡◌, length}
+use Rattle.std.specs.Prelude.{bytes_eq}
+use Rattle.std.specs.List.{list_any}
+use Rattle.pct_model.specs.Sections.{names_in}
+use Rattle.pct_script.proofs.symbols.is_among.Given as goal
+
+abbrev pub invariant-loop-other : goal.invariant-loop-other
+invariant-loop-other l = list_any (bytes_eq l.name) (names_in l.rest) ≡ list_any (bytes_eq l.name) (names_in l.words)
+
+abbrev pub decreases-loop-other : goal.decreases-loop-other
+decreases-loop-other l = length l.rest

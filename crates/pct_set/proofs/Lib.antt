@@ -1,0 +1,2 @@
+pub mod SlotLemmas
+mod BitLemmas

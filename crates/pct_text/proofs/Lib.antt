@@ -1,0 +1,6 @@
+pub mod SplitOnce
+pub mod Lines
+pub mod FirstLines
+pub mod Numbers
+pub mod Numerals
+pub mod WordsIn
