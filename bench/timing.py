@@ -14,7 +14,7 @@ ROOT = pathlib.Path(__file__).resolve().parent.parent
 RUNS = 5
 
 
-# An input is a list of parts: a text, and how often it stands there. They are written in pieces of some kilobytes, so
+# An input is a list of parts: a text, and how often it is repeated. They are written in pieces of some kilobytes, so
 # that the script stays small.
 def write_input(path, parts):
     with open(path, "w") as out:
