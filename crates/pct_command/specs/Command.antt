@@ -23,7 +23,8 @@ pub record Outside : Type 0 where
   pub written : Option (List ℕ)
   pub write_errors : ℕ
 
--- one error was recorded if and only if the answer is the status of a failed call; the count stops at its last value
+-- below the last value of the count: one error was recorded if and only if the answer is the status of a failed call; a count at
+-- its last value stays there
 pub record Records (failed s : Status) (before after : ℕ) : Type 0 where
   pub error : s ≡ failed → Rose before after
   pub no_error : s ≢ failed → after ≡ before
@@ -128,12 +129,12 @@ pub record IsValid (words : List (List ℕ)) (input : List ℕ) : Type 0 where
   pub spelled : Spells (script_part words input) script
   pub schedule : is_asked keyword.Replay words ≡ true → HasLegalSchedule script input
 
--- if no error was recorded, the outcome of all that the source had left was written whole, or memory ran out; accepted words
--- and a valid input are not refused
+-- if the source reports its bytes and no call failed, the outcome of all that it had left was written whole, or memory ran out;
+-- with accepted words a valid input is not refused
 abbrev pub IsComplete : List (List ℕ) → Outside → Outside → Status → Type 0
 IsComplete words before after s =
     (input : List ℕ) → before.left ≡ Some input
-    → ¬ Rose before.read_errors after.read_errors → ¬ Rose before.write_errors after.write_errors
+    → s ≢ status.ReadFault → s ≢ status.WriteFault
     → (s ≡ status.NoMemory) ⊎ (WroteAll words input before.written after.written (code_of s) × (is_accepted words ≡ true → IsValid words input → code_of s < 5))
 
 -- words, an input and a schedule have at most one outcome

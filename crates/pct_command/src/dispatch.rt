@@ -35,8 +35,8 @@ use std::thread::Threads;
 /// - `Complete`, `Deadlock`, `Budget`, `Undefined` or `Open`: the report of a run with this verdict was written. `run` never
 ///   answers `Open`.
 ///
-/// Except for `Usage` and `TooLong` the input was read to its end. `replay` of a report that was written gives the same
-/// bytes again, if the script and the report have at most 16,777,216 bytes together.
+/// With the other answers of this list the input was read to its end. `replay` of a report that was written gives the same
+/// bytes again, if the script, the line `%%` and the report have at most 16,777,216 bytes together.
 ///
 /// - `ReadFault` comes only with accepted words, and only if the source recorded an error in this call. The sink is
 ///   unchanged.
@@ -55,7 +55,7 @@ pub fn command<R: Threads + Sync, S: Source, K: Sink, G: Gate>(
         (record { left = S.left source.new; read_errors = S.errors source.new; written = K.written sink.new; write_errors = K.errors sink.new })
         result }
 
-    // If no error was recorded and memory did not run out, the whole outcome was written. A valid input is not refused.
+    // Unless a call failed or memory ran out, the whole outcome was written. With accepted words a valid input is not refused.
     ensures complete { IsComplete (map string_bytes words.now)
         (record { left = S.left source.old; read_errors = S.errors source.old; written = K.written sink.old; write_errors = K.errors sink.old })
         (record { left = S.left source.new; read_errors = S.errors source.new; written = K.written sink.new; write_errors = K.errors sink.new })

@@ -1,5 +1,5 @@
-//! The laws of schedules: the schedule of a report is read back from the report's text, and what was run can be
-//! replayed. The reader and the writer of schedules are those of `pct_schedule`.
+//! The laws of schedules: the schedule of a report is read back from the report's text, and a script and a schedule have
+//! an input of `replay`. The reader and the writer of schedules are those of `pct_schedule`.
 #![tactic(auto)]
 
 mod law;

@@ -1,4 +1,5 @@
--- Reading a schedule as the code does: line by line, and word by word.
+-- Reading a schedule as the code does: line by line, and word by word. Of this file only `header_line` is in a clause of a
+-- public call.
 use Rattle.std.specs.Prelude.{ℕ, ◌+◌, Bool, false, ◌&&◌, if◌then◌else◌, List, [], ◌∷◌, ◌++◌, length, Option, Some, None, Result, Ok, Err, nat_lt, nat_le, bytes_eq, codes}
 use Rattle.std.specs.Option.{option_map_or}
 use Rattle.pct_model.specs.declared.schedule.Alt.{Alt}

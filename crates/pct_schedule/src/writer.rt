@@ -10,7 +10,8 @@ use pct_io::{Failed, Field, Sink, write_line};
 use pct_model::{Alt, Config, Entry, Keyword};
 
 /// Writes the schedule: the numbers under which the run goes, its entries, and the number of entries. `read_schedule`
-/// reads it back where the entries are at most as many as the budget and their workers at most 16.
+/// reads it back where the numbers are within the limits, the entries at most as many as the budget and their workers at
+/// most 16.
 ///
 /// At `Failed` the sink recorded an error, and it took a prefix of the text. The call allocates no memory.
 pub fn write_schedule<K: Sink>(
