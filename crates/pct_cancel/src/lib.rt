@@ -8,6 +8,3 @@ mod point;
 pub use cancel::Cancel;
 pub use pct_model::{Mode, Point, PointKind, PointWait, State};
 pub use point::{POINT_COUNT, point_of, write_point};
-
-#[cfg(test)]
-mod tests;

@@ -27,6 +27,3 @@ pub use dispatch::command;
 pub use law::outcomes_are_one;
 pub use status::Status;
 pub use words::{Job, RunOptions, Usage, read_words};
-
-#[cfg(test)]
-mod tests;

@@ -2,9 +2,8 @@
 
 ghost use Rattle.pct_grammar.specs.Laws.{SpelledTextsAreFaultless, FaultlessTextsAreSpelled, ScriptsAreOne, CanonSpells};
 
-/// An empty function whose contract states the theorems. A text has no fault if and only if it spells a script; every value
-/// of type `Script` passes all checks, each of which is stated of the script itself. A text spells at most one script, and
-/// the canonical text of a script spells it.
+/// An empty function whose contract states the theorems. A text has no fault if and only if it spells a script. A text spells
+/// at most one script, and the canonical text of a script spells it.
 pub fn texts_spell_scripts()
     ensures faultless { SpelledTextsAreFaultless }
     ensures spelled { FaultlessTextsAreSpelled }

@@ -8,6 +8,3 @@ pub use law::{replay_inputs_exist, reports_are_read_back};
 pub use pct_schedule::{
     Entries, ScheduleFault, ScheduleWhy, read_schedule, split_replay, write_schedule,
 };
-
-#[cfg(test)]
-mod tests;

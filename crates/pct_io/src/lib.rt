@@ -23,6 +23,3 @@ pub use read_write::{read_all, write_all, write_parts};
 pub use sink::Sink;
 pub use source::Source;
 pub use std_streams::{StdSink, StdSource};
-
-#[cfg(test)]
-mod tests;

@@ -13,9 +13,8 @@ use std::alloc::Global;
 // The size of the read buffer in bytes.
 const CHUNK: usize = 65536;
 
-/// Reads all bytes up to the end of the input. `TooLong` is returned as soon as more than `limit` bytes were read.
-/// `Failed` is returned where a read failed before that. `NoMemory` is returned only after at least one byte was
-/// read.
+/// Reads all bytes up to the end of the input. `TooLong` is returned only if more than `limit` bytes were read, and `Failed`
+/// only if a read failed after at most `limit` bytes. `NoMemory` is returned only after at least one byte was read.
 pub fn read_all<S: Source>(alloc: Global, source: &mut S, limit: u32) -> Result<Vec<u8>, ReadEnd>
     ensures { ReadsAll S.left S.errors source.old source.new limit result }
 {
@@ -33,8 +32,8 @@ pub fn read_all<S: Source>(alloc: Global, source: &mut S, limit: u32) -> Result<
     }
 }
 
-/// Writes the whole piece. An empty piece needs no call of the sink. `Failed` means that a prefix of the piece was
-/// written and that the sink recorded one error. It allocates no memory.
+/// Writes the whole piece. `Failed` means that a prefix of the piece was written and that the sink recorded one error.
+/// It allocates no memory.
 pub fn write_all<K: Sink>(sink: &mut K, piece: &[u8]) -> Result<(), Failed>
     ensures { Writes K.written K.errors K.inners sink.old sink.new piece.now result }
 {

@@ -20,7 +20,7 @@ pub trait Sink {
     ghost inners: { Self → List Inner };
 
     /// Writes a prefix of `piece` and returns its length, which is at least 1 unless `piece` is empty. `Failed` means
-    /// that nothing was written and that the sink recorded one error.
+    /// that the sink recorded one error and that, of the bytes that it reports, none was written.
     fn write(&mut self, piece: &[u8]) -> Result<usize, Failed>
         ensures bound { IfOk result (λ n. Accepts n piece.now) }
         ensures bytes { WriteAppends (written self.old) (written self.new) result piece.now }

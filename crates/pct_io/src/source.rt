@@ -15,8 +15,8 @@ pub trait Source {
     ghost errors: { Self → ℕ };
 
     /// Reads the next bytes into the start of `buf` and returns how many were read. The result is 0 only at the end of
-    /// the input or where `buf` is empty. `Failed` means that no byte was consumed and that the source recorded one
-    /// error.
+    /// the input or where `buf` is empty. `Failed` means that the source recorded one error and that, of the bytes
+    /// that it reports, none was consumed.
     fn read(&mut self, buf: &mut [u8]) -> Result<usize, Failed>
         ensures bound { ReadsAtMost result buf.new }
         ensures bytes { ReadConsumes (left self.old) (left self.new) result buf.new }

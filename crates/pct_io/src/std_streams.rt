@@ -10,7 +10,8 @@ ghost use Rattle.pct_io.specs.Sinks.{AppendsPrefix, Accepts};
 use crate::{Failed, Sink, Source};
 use std::io::{Read, Write};
 
-/// A source over a reader of std. Each error of the reader is recorded as one error.
+/// A source over a reader of std. Each error of the reader is answered with `Failed`, which no clause states; each `Failed`
+/// is recorded as one error.
 #[derive(Drop)]
 pub struct StdSource<R> {
     reader: R,
@@ -47,9 +48,9 @@ impl<R: Read> Source for StdSource<R> {
     }
 }
 
-/// A sink over a writer of std. It flushes the writer after each write. A failed write, a failed flush, and a write that
-/// accepts no byte of a non-empty piece are each recorded as one error. After a failed flush the writer may already have
-/// accepted a prefix of the piece.
+/// A sink over a writer of std. It flushes the writer after each write, and answers a failed write, a failed flush, and a
+/// write that accepts no byte of a non-empty piece with `Failed`; no clause states either. Each `Failed` is recorded as one
+/// error. After it the writer may have accepted a prefix of the piece.
 #[derive(Drop)]
 pub struct StdSink<W> {
     writer: W,

@@ -2,4 +2,3 @@ pub mod Closing
 pub mod NestedBodies
 pub mod OpenBlocks
 pub mod JumpTableFacts
-pub mod SmallScript

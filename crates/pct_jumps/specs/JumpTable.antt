@@ -25,7 +25,7 @@ opens_block s = is_if s || is_else s || is_while s
 pub record IsOpening (jumps : List Blocks) (func pc : ℕ) : Type 0 where
   pub script : Script
   pub made : jumps ≡ jumps_of script.funcs
-  -- and where the block that an `end` closes opens
+  -- the statement at the program counter is an `if`, an `else` or a `while`
   pub opening : holds (body_of script func) opens_block pc ≡ true
 
 -- where the block that a statement opens closes, by the table

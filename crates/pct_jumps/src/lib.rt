@@ -4,6 +4,3 @@
 mod jump_table;
 
 pub use jump_table::Jumps;
-
-#[cfg(test)]
-mod tests;

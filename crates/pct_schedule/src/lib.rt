@@ -13,6 +13,3 @@ pub use pct_model::ScheduleWhy;
 pub use reader::{Entries, read_schedule};
 pub use splitter::split_replay;
 pub use writer::write_schedule;
-
-#[cfg(test)]
-mod tests;

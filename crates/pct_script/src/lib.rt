@@ -33,8 +33,3 @@ pub use pct_grammar::texts_spell_scripts;
 pub use pct_jumps::Jumps;
 pub use pct_model::ParseWhy;
 pub use printer::print;
-
-#[cfg(test)]
-mod spelling_tests;
-#[cfg(test)]
-mod tests;

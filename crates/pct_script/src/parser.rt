@@ -85,8 +85,8 @@ fn read(alloc: Global, text: &[u8]) -> Result<ScriptContents, ParseFault>
 /// 7. a handler of `fork` or `atexit` that is not a plain function (`NotPlain`);
 /// 8. no function with the name `main` (`NoMain`, at line 1).
 ///
-/// `NoMemory` is returned if an allocation fails. The check of spelling needs no memory: a misspelled line is reported in
-/// any case, and so is a text without a line that spells something.
+/// `NoMemory` is returned if an allocation fails, and only for a text of which a line spells something and no line is
+/// misspelled. The check of spelling needs no memory.
 pub fn parse(alloc: Global, text: &[u8]) -> Result<Script, ParseFault>
     requires { length text.now ≤ MAX_INPUT }
 

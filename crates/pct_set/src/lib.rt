@@ -1,9 +1,6 @@
-//! Sets of stack slots. No call allocates.
+//! Sets of slots. No call allocates memory.
 #![tactic(auto)]
 
 mod slot_set;
 
 pub use slot_set::SlotSet;
-
-#[cfg(test)]
-mod tests;

@@ -9,6 +9,3 @@ mod tokens;
 pub use line::{first_line, split_once, strip_cr};
 pub use number::{is_digit, number_of, numeral};
 pub use tokens::{are_allowed, count_words, next_word, spells_something};
-
-#[cfg(test)]
-mod tests;

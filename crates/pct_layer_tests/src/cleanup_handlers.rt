@@ -1,6 +1,6 @@
 //! The order and the limit of a stack of handlers.
 
-use super::*;
+use pct_cleanup::{Full, Handlers};
 use std::test::*;
 
 // 32 handlers fit, the 33rd does not, and they come back in reverse order.

@@ -1,6 +1,6 @@
 //! Whole calls of `command`, over memory. The expected bytes are worked by hand from the rules of the machine.
 
-use crate::{Status, command};
+use pct_command::{Status, command};
 use pct_io::{MemSink, MemSource, NoGate};
 use std::alloc::{AllocError, Global};
 use std::test::Fail;

@@ -1,8 +1,8 @@
 //! The expected answers are worked out by hand from the rules of schedule texts.
 
-use super::*;
 use pct_io::{Failed, MemSink};
 use pct_model::{Alt, Config, Entry, ScheduleWhy};
+use pct_schedule::{ScheduleFault, read_schedule, split_replay, write_schedule};
 use std::alloc::Global;
 use std::test::Fail;
 

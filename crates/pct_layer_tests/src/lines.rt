@@ -1,6 +1,9 @@
 //! The expected answers are worked out by hand.
 
-use super::*;
+use pct_text::{
+    are_allowed, count_words, first_line, next_word, number_of, numeral, spells_something,
+    split_once, strip_cr,
+};
 use std::test::*;
 
 #[test]

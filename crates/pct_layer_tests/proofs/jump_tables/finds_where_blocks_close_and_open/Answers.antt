@@ -1,6 +1,6 @@
 use Rattle.std.proofs.Common.{◌∙◌}
-use Rattle.pct_jumps.proofs.SmallScript.{static_by, funcs_by}
-use Rattle.pct_jumps.proofs.tests.finds_where_blocks_close_and_open.Goals as goal
+use Rattle.pct_layer_tests.proofs.SmallScript.{static_by, funcs_by}
+use Rattle.pct_layer_tests.proofs.jump_tables.finds_where_blocks_close_and_open.Goals as goal
 
 pub invariant_of-script : goal.invariant_of-script
 invariant_of-script g c = record {

@@ -1,4 +1,9 @@
-use super::*;
+//! Whole reads and writes, buffered output, lines, and the sources and sinks over memory and over std's streams.
+
+use pct_io::{
+    BufferedSink, Failed, Field, Gate, MemSink, MemSource, NoGate, ReadEnd, StdSink, StdSource,
+    read_all, write_all, write_buffered, write_line, write_parts,
+};
 use std::io;
 use std::io::{Read, Write};
 use std::test::Fail;

@@ -1,6 +1,6 @@
 //! The jump table of a small script. The expected table is worked out by hand.
 
-use super::*;
+use pct_jumps::Jumps;
 use pct_model::{Func, Name, Operand, Script, Sequence, Stmt};
 use std::alloc::AllocError;
 use std::test::*;

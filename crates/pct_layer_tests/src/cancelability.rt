@@ -1,12 +1,13 @@
 //! The expected values come from the two lists of cancellation points (XSH 2.9.5.2), this host's choice of waits, and
 //! the rules of cancelability (XSH 2.9.5).
 
-use super::*;
-use crate::Mode::{Asynchronous, Deferred};
-use crate::PointKind::{Optional, Required};
-use crate::PointWait::{Inside, Never, NoWait, Outside};
-use crate::State::{Disable, Enable};
+use pct_cancel::{Cancel, point_of, write_point};
 use pct_io::{Failed, MemSink};
+use pct_model::Mode::{Asynchronous, Deferred};
+use pct_model::PointKind::{Optional, Required};
+use pct_model::PointWait::{Inside, Never, NoWait, Outside};
+use pct_model::State::{Disable, Enable};
+use pct_model::{Point, PointKind, PointWait};
 use std::test::Fail;
 
 // The points, in the order of their indexes.

@@ -1,8 +1,8 @@
 //! Texts and their results. The expected results are worked out by hand from the rules of script texts.
 
-use super::*;
 use pct_io::MemSink;
 use pct_model::{Dest, Operand, ParseWhy, Stmt};
+use pct_script::{ParseFault, parse, print};
 use std::alloc::{AllocError, Global};
 use std::test::*;
 

@@ -1,6 +1,6 @@
 //! All slots, a sparse set, and two sets that overlap.
 
-use super::*;
+use pct_set::SlotSet;
 use std::test::*;
 
 #[test]

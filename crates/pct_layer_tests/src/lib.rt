@@ -1,0 +1,24 @@
+//! The tests of the crates below the command, through their public calls. They stand in a crate of their own, since the
+//! tests of a crate prove it a second time.
+#![tactic(auto)]
+
+#[cfg(test)]
+mod cancelability;
+#[cfg(test)]
+mod cleanup_handlers;
+#[cfg(test)]
+mod input_output;
+#[cfg(test)]
+mod jump_tables;
+#[cfg(test)]
+mod laws;
+#[cfg(test)]
+mod lines;
+#[cfg(test)]
+mod schedules;
+#[cfg(test)]
+mod scripts;
+#[cfg(test)]
+mod slot_sets;
+#[cfg(test)]
+mod spelling;
