@@ -1,10 +1,10 @@
 -- The table in the code is equal to the table in the definitions.
-use Rattle.std.proofs.Common.{◌≡◌, ℕ, ◌+◌, Bool, not, List, [], ◌∷◌, length, map, cond, Option, Some, None, refl, sym, ap, ◌∙◌, position, nat_lt, option_map}
+use Rattle.std.proofs.Common.{◌≡◌, ℕ, ◌+◌, ◌≤◌, Bool, not, List, [], ◌∷◌, length, map, cond, Option, Some, None, refl, sym, ap, ◌∙◌, position, nat_lt, option_map}
 use Rattle.std.specs.Prelude.{bytes_eq, slice_get, option_and_then}
 use Rattle.std.specs.Option.{option_map_or}
 use Rattle.std.specs.List.{position_or_len}
 use Rattle.std.proofs.lemmas.List.{length-map}
-use Rattle.std.proofs.lemmas.Option.{slice_get-map}
+use Rattle.std.proofs.lemmas.Option.{slice_get-map, slice_get_past}
 use Rattle.pct_model.specs.declared.point.PointKind.{PointKind}
 use Rattle.pct_model.specs.declared.point.PointWait.{PointWait}
 use Rattle.pct_model.specs.Points.{Row, points, point_at, point_of, point_name}
@@ -59,3 +59,8 @@ not_found name nowhere = sym (ap (option_and_then point_at) (index_is name ∙ s
 pub name_in_row : (index : ℕ) (r : Call × PointKind × PointWait) → slice_get POINTS index ≡ Some r → call_name r.0 ≡ point_name index
 unfolding point_name
 name_in_row index r at = sym (ap (λ row. option_map_or (λ row. row.name) row []) (row_is index r at))
+
+-- an index that is not in the table
+pub past_the_table : (index : ℕ) → 58 ≤ index → [] ≡ point_name index
+unfolding points point_name
+past_the_table index past = sym (ap (λ row. option_map_or (λ r. r.name) row []) (slice_get_past points index past))

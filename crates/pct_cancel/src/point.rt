@@ -100,6 +100,17 @@ pub fn write_point<K: Sink>(index: u32, sink: &mut K) -> Result<(), Failed>
     write_all(sink, row_at(index as usize).0.name())
 }
 
+/// The name of the point with this index, or the empty name if the index is not in the table.
+pub fn point_name(index: u32) -> &'static [u8]
+    ensures { result.now ≡ point_name index }
+{
+    if (index as usize) < POINT_COUNT {
+        row_at(index as usize).0.name()
+    } else {
+        &[]
+    }
+}
+
 // The index of the first row with this name.
 fn index_of(name: &[u8]) -> Option<usize>
     ensures { result ≡ position (λ row. bytes_eq (call_name row.0) name.now) POINTS }

@@ -1,6 +1,6 @@
 //! A stack of cleanup handlers. A contract sees the list of its pairs (function, argument), newest first.
 
-ghost use Rattle.std.specs.Prelude.{◌≡◌, ◌<◌, ◌≤◌, ◌↔◌, [], ◌∷◌, length, IsOk, OnOk, OnErr, IfSome, IfNone};
+ghost use Rattle.std.specs.Prelude.{◌≡◌, ◌<◌, ◌≤◌, ◌↔◌, [], ◌∷◌, length, IsOk, OnOk, OnErr, IfSome, IfNone, slice_get};
 ghost use Rattle.pct_model.specs.declared.limits.TheConstants.{MAX_HANDLERS};
 
 use arrayvec::ArrayVec;
@@ -44,6 +44,13 @@ impl Handlers {
         ensures fits { result ≤ MAX_HANDLERS }
     {
         self.items.len() as u32
+    }
+
+    /// The newest handler. `None` exactly if there are no handlers.
+    pub fn newest(&self) -> Option<(u32, u32)>
+        ensures { result ≡ slice_get self.now 0 }
+    {
+        self.items.as_slice().last().copied()
     }
 
     /// Pushes a handler (pthread_cleanup_push). Returns `Full` exactly if there are MAX_HANDLERS handlers, and then changes

@@ -1,14 +1,8 @@
 pub mod AskedWords
 pub mod Scripts
-pub mod OnlyGo
-pub mod NotLegal
-pub mod StepEffects
-pub mod OneReading
-pub mod Openings
-pub mod ReplayedEntries
-pub mod Texts
+pub mod SeededRuns
+pub mod SeededEntries
 pub mod Outcomes
-pub mod WrittenAnswers
 pub mod CompleteOutcomes
 pub mod OneOutcome
 mod NonEmptyTexts

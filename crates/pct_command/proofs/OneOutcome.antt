@@ -1,29 +1,30 @@
 -- Words, an input and a schedule have one outcome at the most.
-use Rattle.std.proofs.Common.{◌≡◌, ℕ, suc, Bool, true, false, ◌&&◌, cond, List, [], ◌∷◌, length, Option, Some, None, refl, sym, ap, ◌∙◌, arith}
-use Rattle.std.specs.Prelude.{nat_le, option_and_then, option_map}
+use Rattle.std.proofs.Common.{◌≡◌, ℕ, suc, ◌≤◌, Bool, true, false, ◌&&◌, cond, List, [], ◌∷◌, length, Option, Some, None, Ok, Err, refl, sym, ap, ◌∙◌, subst}
+use Rattle.std.specs.Prelude.{nat_le, nat_lt, option_and_then, option_map}
 use Rattle.std.specs.Option.{option_map_or}
-use Rattle.std.proofs.lemmas.Bool.{true≢false}
-use Rattle.std.proofs.lemmas.Option.{none-some, same_Some}
+use Rattle.std.proofs.lemmas.Bool.{le-ltb, lt-ltb}
+use Rattle.std.proofs.lemmas.Option.{none-some, some_pair_parts}
 use Rattle.pct_model.specs.declared.script.Script.{Script}
 use Rattle.pct_model.specs.declared.schedule.Config.{Config}
 use Rattle.pct_model.specs.declared.schedule.Entry.{Entry}
-use Rattle.pct_model.specs.declared.refusal.ScheduleWhy.{ScheduleWhy}
 use Rattle.pct_model.specs.Keywords.{line_text}
 use Rattle.pct_model.specs.World.{opening}
-use Rattle.pct_model.specs.Schedule.{sched_of}
+use Rattle.pct_model.specs.Schedule.{Schedule, sched_of}
 use Rattle.pct_model.specs.Run.{Run, run_step, run_from, illegal_in, first_illegal, is_config, run, verdict_of}
 use Rattle.pct_model.specs.Report.{report}
 use Rattle.pct_model.specs.Spelling.{Fault}
+use Rattle.pct_model.specs.Checks.{first_fault}
+use Rattle.pct_model.specs.Spells.{Spells}
 use Rattle.pct_model.specs.Canon.{canon}
-use Rattle.pct_model.specs.Outcome.{schedule_part, default_config, refused_script, refused_schedule, refused_entry, code_of_verdict, Outcome, RefusesScript, RefusesSchedule, RefusesEntry, Replays, Runs, Checks}
+use Rattle.pct_model.specs.Outcome.{is_accepted, script_part, schedule_part, default_config, refused_words, refused_input, refused_script, refused_schedule, refused_entry, code_of_verdict, Outcome}
 use Rattle.pct_model.specs.Outcome as outcome
-use Rattle.pct_grammar.proofs.Scripts.{spells_one_script}
-use Rattle.pct_command.proofs.Scripts.{spelled_or_fault, spells_part}
-use Rattle.pct_command.proofs.OneReading.{same_given, same_fault, given_or_fault}
-use Rattle.pct_command.proofs.AskedWords.{asks_run_alone, run_asks_no_check, replay_asks_no_check, check_asks_no_replay, check_asks_no_run, run_is_accepted, replay_is_accepted, check_is_accepted, part_of_run, part_of_check}
+use Rattle.pct_grammar.proofs.Scripts.{spelled_is_faultless, spells_one_script}
+use Rattle.pct_command.specs.declared.words.Job.{Job}
+use Rattle.pct_command.specs.declared.words.Job.TheVariants as job
+use Rattle.pct_command.specs.Words.{Asks, default_options, job_asked}
+use Rattle.pct_command.proofs.AskedWords.{names_job, job_is_accepted, part_of_run, part_of_check}
 
-abbrev Same : ℕ → ℕ → List ℕ → List ℕ → Type 0
-Same code other text read_back = (code ≡ other) × (text ≡ read_back)
+-- ---- legal runs
 
 -- a legal step followed by a legal run
 after_step : (script : Script) (config : Config) (after : Run) (entries : List Entry) → ((next : Run) → run_from script config next entries ≡ Some after → illegal_in script config next entries ≡ None)
@@ -45,113 +46,110 @@ run_is_legal : (script : Script) (config : Config) (after : Run) (entries : List
 unfolding run
 run_is_legal script config after entries ran = legal_run script config (record { world = opening script; events = [] }) after entries (from_cond (is_config config && nat_le (length entries) config.budget) _ after ran)
 
-two_faults : (words : List (List ℕ)) (input : List ℕ) (code other : ℕ) (text read_back : List ℕ) → RefusesScript words input code text → RefusesScript words input other read_back → Same code other text read_back
-two_faults words input code other text read_back a b =
-    (a.code_is ∙ sym b.code_is, a.text_is ∙ ap (λ (f : Fault). line_text (refused_script f.0 f.1)) (same_Some (a.line, a.why) (b.line, b.why) (sym a.first ∙ b.first)) ∙ sym b.text_is)
+-- ---- the code and the text, by the order of the checks
 
-two_schedule_faults : (words : List (List ℕ)) (input : List ℕ) (code other : ℕ) (text read_back : List ℕ) → RefusesSchedule words input code text → RefusesSchedule words input other read_back → Same code other text read_back
-two_schedule_faults words input code other text read_back a b =
-    (a.code_is ∙ sym b.code_is, a.text_is ∙ ap (λ (f : ℕ × ScheduleWhy). line_text (refused_schedule f.0 f.1)) (same_fault (sched_of (schedule_part input)) (a.line, a.why) (b.line, b.why) a.first b.first) ∙ sym b.text_is)
+-- before the script is known
+abbrev by_checks : Bool → Bool → Option Fault → Option (ℕ × List ℕ)
+by_checks false too_long fault = Some (5, line_text refused_words)
+by_checks true true fault = Some (8, line_text refused_input)
+by_checks true false fault = option_map (λ f. (6, line_text (refused_script f.0 f.1))) fault
 
-two_entries : (words : List (List ℕ)) (input : List ℕ) (code other : ℕ) (text read_back : List ℕ) → RefusesEntry words input code text → RefusesEntry words input other read_back → Same code other text read_back
-two_entries words input code other text read_back a b =
-    let given = same_given (sched_of (schedule_part input)) (a.config, a.entries) (b.config, b.entries) a.read b.read in
-    let script = spells_one_script _ a.script b.script a.spelled b.spelled in
-    let moved = ap (λ (g : Config × List Entry). first_illegal b.script g.0 g.1) (sym given) ∙ ap (λ (s : Script). first_illegal s a.config a.entries) (sym script) ∙ a.illegal in
-    (a.code_is ∙ sym b.code_is, a.text_is ∙ ap (λ (n : ℕ). line_text (refused_entry n)) (same_Some a.entry_number b.entry_number (sym moved ∙ b.illegal)) ∙ sym b.text_is)
+abbrev refused_of : List (List ℕ) → List ℕ → Option (ℕ × List ℕ)
+refused_of words input = by_checks (is_accepted words) (nat_lt 16777216 (length input)) (first_fault (script_part words input))
 
-entry_and_replay : (words : List (List ℕ)) (input : List ℕ) (code other : ℕ) (text read_back : List ℕ) → RefusesEntry words input code text → Replays words input other read_back → ⊥
-entry_and_replay words input code other text read_back a b =
-    let given = same_given (sched_of (schedule_part input)) (a.config, a.entries) (b.config, b.entries) a.read b.read in
-    let script = spells_one_script _ a.script b.script a.spelled b.spelled in
-    let moved = ap (λ (g : Config × List Entry). first_illegal b.script g.0 g.1) (sym given) ∙ ap (λ (s : Script). first_illegal s a.config a.entries) (sym script) ∙ a.illegal in
-    none-some a.entry_number (sym (run_is_legal b.script b.config b.after b.entries b.is_run) ∙ moved)
+-- of a run
+abbrev by_run : Script → Config → List Entry → Option Run → Option (List ℕ) → Option (ℕ × List ℕ)
+by_run script config entries after None = None
+by_run script config entries None (Some text) = None
+by_run script config entries (Some after) (Some text) = Some (code_of_verdict (verdict_of script config after.world (length entries)), text)
 
-two_replays : (words : List (List ℕ)) (input : List ℕ) (code other : ℕ) (text read_back : List ℕ) → Replays words input code text → Replays words input other read_back → Same code other text read_back
-two_replays words input code other text read_back a b =
-    let given = same_given (sched_of (schedule_part input)) (a.config, a.entries) (b.config, b.entries) a.read b.read in
-    let script = spells_one_script _ a.script b.script a.spelled b.spelled in
-    let moved = ap (λ (g : Config × List Entry). run b.script g.0 g.1) (sym given) ∙ ap (λ (s : Script). run s a.config a.entries) (sym script) ∙ a.is_run in
-    let after = same_Some a.after b.after (sym moved ∙ b.is_run) in
-    let reported = ap (λ (g : Config × List Entry). report b.script g.0 g.1) (sym given) ∙ ap (λ (s : Script). report s a.config a.entries) (sym script) ∙ a.text_is in (
-      a.code_is ∙ ap (λ (s : Script). code_of_verdict (verdict_of s a.config a.after.world (length a.entries))) script ∙ ap (λ (g : Config × List Entry). code_of_verdict (verdict_of b.script g.0 a.after.world (length g.1))) given ∙ ap (λ (r : Run). code_of_verdict (verdict_of b.script b.config r.world (length b.entries))) after ∙ sym b.code_is,
-      same_Some text read_back (sym reported ∙ b.text_is),
-    )
+abbrev run_of : Script → Config → List Entry → Option (ℕ × List ℕ)
+run_of script config entries = by_run script config entries (run script config entries) (report script config entries)
 
-two_runs : (words : List (List ℕ)) (input : List ℕ) (schedule : List Entry) (code other : ℕ) (text read_back : List ℕ) → Runs words input schedule code text → Runs words input schedule other read_back → Same code other text read_back
-two_runs words input schedule code other text read_back a b =
-    let script = spells_one_script _ a.script b.script a.spelled b.spelled in
-    let after = same_Some a.after b.after (sym a.is_run ∙ ap (λ (s : Script). run s default_config schedule) script ∙ b.is_run) in (
-      a.code_is ∙ ap (λ (s : Script). code_of_verdict (verdict_of s default_config a.after.world (length schedule))) script ∙ ap (λ (r : Run). code_of_verdict (verdict_of b.script default_config r.world (length schedule))) after ∙ sym b.code_is,
-      same_Some text read_back (sym a.text_is ∙ ap (λ (s : Script). report s default_config schedule) script ∙ b.text_is),
-    )
+-- of a schedule
+abbrev by_illegal : Option ℕ → Option (ℕ × List ℕ) → Option (ℕ × List ℕ)
+by_illegal (Some entry_number) ran = Some (7, line_text (refused_entry entry_number))
+by_illegal None ran = ran
 
-two_checks : (words : List (List ℕ)) (input : List ℕ) (code other : ℕ) (text read_back : List ℕ) → Checks words input code text → Checks words input other read_back → Same code other text read_back
-two_checks words input code other text read_back a b =
-    (a.code_is ∙ sym b.code_is, a.text_is ∙ ap (λ (s : Script). canon s) (spells_one_script _ a.script b.script a.spelled b.spelled) ∙ sym b.text_is)
+abbrev by_schedule : Script → Schedule → Option (ℕ × List ℕ)
+by_schedule script (Err fault) = Some (7, line_text (refused_schedule fault.0 fault.1))
+by_schedule script (Ok given) = by_illegal (first_illegal script given.0 given.1) (run_of script given.0 given.1)
 
-pub outcome_is_one : (words : List (List ℕ)) (input : List ℕ) (schedule : List Entry) (code other : ℕ) (text read_back : List ℕ) → Outcome words input schedule code text → Outcome words input schedule other read_back → Same code other text read_back
-outcome_is_one words input schedule code other text read_back (outcome.WordsRefused a) (outcome.WordsRefused b) = (a.code_is ∙ sym b.code_is, a.text_is ∙ sym b.text_is)
-outcome_is_one words input schedule code other text read_back (outcome.WordsRefused a) (outcome.InputRefused b) = absurd (true≢false (sym (b.accepted) ∙ a.refused))
-outcome_is_one words input schedule code other text read_back (outcome.WordsRefused a) (outcome.ScriptRefused b) = absurd (true≢false (sym (b.accepted) ∙ a.refused))
-outcome_is_one words input schedule code other text read_back (outcome.WordsRefused a) (outcome.ScheduleRefused b) = absurd (true≢false (sym (replay_is_accepted words b.accepted) ∙ a.refused))
-outcome_is_one words input schedule code other text read_back (outcome.WordsRefused a) (outcome.EntryRefused b) = absurd (true≢false (sym (replay_is_accepted words b.accepted) ∙ a.refused))
-outcome_is_one words input schedule code other text read_back (outcome.WordsRefused a) (outcome.Replayed b) = absurd (true≢false (sym (replay_is_accepted words b.accepted) ∙ a.refused))
-outcome_is_one words input schedule code other text read_back (outcome.WordsRefused a) (outcome.Ran b) = absurd (true≢false (sym (run_is_accepted words b.accepted) ∙ a.refused))
-outcome_is_one words input schedule code other text read_back (outcome.WordsRefused a) (outcome.Checked b) = absurd (true≢false (sym (check_is_accepted words b.accepted) ∙ a.refused))
-outcome_is_one words input schedule code other text read_back (outcome.InputRefused a) (outcome.WordsRefused b) = absurd (true≢false (sym (a.accepted) ∙ b.refused))
-outcome_is_one words input schedule code other text read_back (outcome.InputRefused a) (outcome.InputRefused b) = (a.code_is ∙ sym b.code_is, a.text_is ∙ sym b.text_is)
-outcome_is_one words input schedule code other text read_back (outcome.InputRefused a) (outcome.ScriptRefused b) = absurd (omega (arith, a.too_long, b.fits))
-outcome_is_one words input schedule code other text read_back (outcome.InputRefused a) (outcome.ScheduleRefused b) = absurd (omega (arith, a.too_long, b.fits))
-outcome_is_one words input schedule code other text read_back (outcome.InputRefused a) (outcome.EntryRefused b) = absurd (omega (arith, a.too_long, b.fits))
-outcome_is_one words input schedule code other text read_back (outcome.InputRefused a) (outcome.Replayed b) = absurd (omega (arith, a.too_long, b.fits))
-outcome_is_one words input schedule code other text read_back (outcome.InputRefused a) (outcome.Ran b) = absurd (omega (arith, a.too_long, b.fits))
-outcome_is_one words input schedule code other text read_back (outcome.InputRefused a) (outcome.Checked b) = absurd (omega (arith, a.too_long, b.fits))
-outcome_is_one words input schedule code other text read_back (outcome.ScriptRefused a) (outcome.WordsRefused b) = absurd (true≢false (sym (a.accepted) ∙ b.refused))
-outcome_is_one words input schedule code other text read_back (outcome.ScriptRefused a) (outcome.InputRefused b) = absurd (omega (arith, b.too_long, a.fits))
-outcome_is_one words input schedule code other text read_back (outcome.ScriptRefused a) (outcome.ScriptRefused b) = two_faults words input code other text read_back a b
-outcome_is_one words input schedule code other text read_back (outcome.ScriptRefused a) (outcome.ScheduleRefused b) = absurd (spelled_or_fault _ b.script a.line a.why b.spelled a.first)
-outcome_is_one words input schedule code other text read_back (outcome.ScriptRefused a) (outcome.EntryRefused b) = absurd (spelled_or_fault _ b.script a.line a.why b.spelled a.first)
-outcome_is_one words input schedule code other text read_back (outcome.ScriptRefused a) (outcome.Replayed b) = absurd (spelled_or_fault _ b.script a.line a.why b.spelled a.first)
-outcome_is_one words input schedule code other text read_back (outcome.ScriptRefused a) (outcome.Ran b) = absurd (spelled_or_fault _ b.script a.line a.why (spells_part input _ b.script (sym (part_of_run words input b.accepted)) b.spelled) a.first)
-outcome_is_one words input schedule code other text read_back (outcome.ScriptRefused a) (outcome.Checked b) = absurd (spelled_or_fault _ b.script a.line a.why (spells_part input _ b.script (sym (part_of_check words input b.accepted)) b.spelled) a.first)
-outcome_is_one words input schedule code other text read_back (outcome.ScheduleRefused a) (outcome.WordsRefused b) = absurd (true≢false (sym (replay_is_accepted words a.accepted) ∙ b.refused))
-outcome_is_one words input schedule code other text read_back (outcome.ScheduleRefused a) (outcome.InputRefused b) = absurd (omega (arith, b.too_long, a.fits))
-outcome_is_one words input schedule code other text read_back (outcome.ScheduleRefused a) (outcome.ScriptRefused b) = absurd (spelled_or_fault _ a.script b.line b.why a.spelled b.first)
-outcome_is_one words input schedule code other text read_back (outcome.ScheduleRefused a) (outcome.ScheduleRefused b) = two_schedule_faults words input code other text read_back a b
-outcome_is_one words input schedule code other text read_back (outcome.ScheduleRefused a) (outcome.EntryRefused b) = absurd (given_or_fault (sched_of (schedule_part input)) (b.config, b.entries) (a.line, a.why) b.read a.first)
-outcome_is_one words input schedule code other text read_back (outcome.ScheduleRefused a) (outcome.Replayed b) = absurd (given_or_fault (sched_of (schedule_part input)) (b.config, b.entries) (a.line, a.why) b.read a.first)
-outcome_is_one words input schedule code other text read_back (outcome.ScheduleRefused a) (outcome.Ran b) = absurd (true≢false (sym a.accepted ∙ asks_run_alone words b.accepted))
-outcome_is_one words input schedule code other text read_back (outcome.ScheduleRefused a) (outcome.Checked b) = absurd (true≢false (sym b.accepted ∙ replay_asks_no_check words a.accepted))
-outcome_is_one words input schedule code other text read_back (outcome.EntryRefused a) (outcome.WordsRefused b) = absurd (true≢false (sym (replay_is_accepted words a.accepted) ∙ b.refused))
-outcome_is_one words input schedule code other text read_back (outcome.EntryRefused a) (outcome.InputRefused b) = absurd (omega (arith, b.too_long, a.fits))
-outcome_is_one words input schedule code other text read_back (outcome.EntryRefused a) (outcome.ScriptRefused b) = absurd (spelled_or_fault _ a.script b.line b.why a.spelled b.first)
-outcome_is_one words input schedule code other text read_back (outcome.EntryRefused a) (outcome.ScheduleRefused b) = absurd (given_or_fault (sched_of (schedule_part input)) (a.config, a.entries) (b.line, b.why) a.read b.first)
-outcome_is_one words input schedule code other text read_back (outcome.EntryRefused a) (outcome.EntryRefused b) = two_entries words input code other text read_back a b
-outcome_is_one words input schedule code other text read_back (outcome.EntryRefused a) (outcome.Replayed b) = absurd (entry_and_replay words input code other text read_back a b)
-outcome_is_one words input schedule code other text read_back (outcome.EntryRefused a) (outcome.Ran b) = absurd (true≢false (sym a.accepted ∙ asks_run_alone words b.accepted))
-outcome_is_one words input schedule code other text read_back (outcome.EntryRefused a) (outcome.Checked b) = absurd (true≢false (sym b.accepted ∙ replay_asks_no_check words a.accepted))
-outcome_is_one words input schedule code other text read_back (outcome.Replayed a) (outcome.WordsRefused b) = absurd (true≢false (sym (replay_is_accepted words a.accepted) ∙ b.refused))
-outcome_is_one words input schedule code other text read_back (outcome.Replayed a) (outcome.InputRefused b) = absurd (omega (arith, b.too_long, a.fits))
-outcome_is_one words input schedule code other text read_back (outcome.Replayed a) (outcome.ScriptRefused b) = absurd (spelled_or_fault _ a.script b.line b.why a.spelled b.first)
-outcome_is_one words input schedule code other text read_back (outcome.Replayed a) (outcome.ScheduleRefused b) = absurd (given_or_fault (sched_of (schedule_part input)) (a.config, a.entries) (b.line, b.why) a.read b.first)
-outcome_is_one words input schedule code other text read_back (outcome.Replayed a) (outcome.EntryRefused b) = absurd (entry_and_replay words input other code read_back text b a)
-outcome_is_one words input schedule code other text read_back (outcome.Replayed a) (outcome.Replayed b) = two_replays words input code other text read_back a b
-outcome_is_one words input schedule code other text read_back (outcome.Replayed a) (outcome.Ran b) = absurd (true≢false (sym a.accepted ∙ asks_run_alone words b.accepted))
-outcome_is_one words input schedule code other text read_back (outcome.Replayed a) (outcome.Checked b) = absurd (true≢false (sym b.accepted ∙ replay_asks_no_check words a.accepted))
-outcome_is_one words input schedule code other text read_back (outcome.Ran a) (outcome.WordsRefused b) = absurd (true≢false (sym (run_is_accepted words a.accepted) ∙ b.refused))
-outcome_is_one words input schedule code other text read_back (outcome.Ran a) (outcome.InputRefused b) = absurd (omega (arith, b.too_long, a.fits))
-outcome_is_one words input schedule code other text read_back (outcome.Ran a) (outcome.ScriptRefused b) = absurd (spelled_or_fault _ a.script b.line b.why (spells_part input _ a.script (sym (part_of_run words input a.accepted)) a.spelled) b.first)
-outcome_is_one words input schedule code other text read_back (outcome.Ran a) (outcome.ScheduleRefused b) = absurd (true≢false (sym b.accepted ∙ asks_run_alone words a.accepted))
-outcome_is_one words input schedule code other text read_back (outcome.Ran a) (outcome.EntryRefused b) = absurd (true≢false (sym b.accepted ∙ asks_run_alone words a.accepted))
-outcome_is_one words input schedule code other text read_back (outcome.Ran a) (outcome.Replayed b) = absurd (true≢false (sym b.accepted ∙ asks_run_alone words a.accepted))
-outcome_is_one words input schedule code other text read_back (outcome.Ran a) (outcome.Ran b) = two_runs words input schedule code other text read_back a b
-outcome_is_one words input schedule code other text read_back (outcome.Ran a) (outcome.Checked b) = absurd (true≢false (sym b.accepted ∙ run_asks_no_check words a.accepted))
-outcome_is_one words input schedule code other text read_back (outcome.Checked a) (outcome.WordsRefused b) = absurd (true≢false (sym (check_is_accepted words a.accepted) ∙ b.refused))
-outcome_is_one words input schedule code other text read_back (outcome.Checked a) (outcome.InputRefused b) = absurd (omega (arith, b.too_long, a.fits))
-outcome_is_one words input schedule code other text read_back (outcome.Checked a) (outcome.ScriptRefused b) = absurd (spelled_or_fault _ a.script b.line b.why (spells_part input _ a.script (sym (part_of_check words input a.accepted)) a.spelled) b.first)
-outcome_is_one words input schedule code other text read_back (outcome.Checked a) (outcome.ScheduleRefused b) = absurd (true≢false (sym b.accepted ∙ check_asks_no_replay words a.accepted))
-outcome_is_one words input schedule code other text read_back (outcome.Checked a) (outcome.EntryRefused b) = absurd (true≢false (sym b.accepted ∙ check_asks_no_replay words a.accepted))
-outcome_is_one words input schedule code other text read_back (outcome.Checked a) (outcome.Replayed b) = absurd (true≢false (sym b.accepted ∙ check_asks_no_replay words a.accepted))
-outcome_is_one words input schedule code other text read_back (outcome.Checked a) (outcome.Ran b) = absurd (true≢false (sym b.accepted ∙ check_asks_no_run words a.accepted))
-outcome_is_one words input schedule code other text read_back (outcome.Checked a) (outcome.Checked b) = two_checks words input code other text read_back a b
+-- of a script, by the job that the words name
+abbrev by_job : Option Job → List ℕ → List Entry → Script → Option (ℕ × List ℕ)
+by_job (Some (job.Run options)) input schedule script = run_of script default_config schedule
+by_job (Some job.Replay) input schedule script = by_schedule script (sched_of (schedule_part input))
+by_job (Some job.Check) input schedule script = Some (0, canon script)
+by_job None input schedule script = None
+
+-- the code and the text are these
+data Found (words : List (List ℕ)) (input : List ℕ) (schedule : List Entry) (code : ℕ) (text : List ℕ) : Type 0 where
+  Refused : refused_of words input ≡ Some (code, text) → Found words input schedule code text
+  Spelled : refused_of words input ≡ None → (script : Script) → Spells (script_part words input) script → by_job (job_asked words) input schedule script ≡ Some (code, text) → Found words input schedule code text
+
+-- ---- every outcome is found
+
+these : (c code : ℕ) (t text : List ℕ) → code ≡ c → text ≡ t → ◌≡◌ {A = Option (ℕ × List ℕ)} (Some (c, t)) (Some (code, text))
+these c code t text code_is text_is = ap (λ (x : ℕ). Some (x, t)) (sym code_is) ∙ ap (λ (x : List ℕ). Some (code, x)) (sym text_is)
+
+-- an input within the limit is refused for its script alone
+fitting : (words : List (List ℕ)) (input : List ℕ) (fault : Option Fault) → is_accepted words ≡ true → length input ≤ 16777216 → first_fault (script_part words input) ≡ fault → refused_of words input ≡ by_checks true false fault
+fitting words input fault accepted fits first =
+    ap (λ (b : Bool). by_checks b (nat_lt 16777216 (length input)) (first_fault (script_part words input))) accepted
+    ∙ ap (λ (b : Bool). by_checks true b (first_fault (script_part words input))) (le-ltb 16777216 (length input) fits)
+    ∙ ap (λ (f : Option Fault). by_checks true false f) first
+
+spelled : (words : List (List ℕ)) (named : Job) (input : List ℕ) (schedule : List Entry) (script : Script) (code : ℕ) (text : List ℕ)
+    → Asks words named → length input ≤ 16777216 → Spells (script_part words input) script → by_job (Some named) input schedule script ≡ Some (code, text) → Found words input schedule code text
+spelled words named input schedule script code text asks fits spells is =
+    Spelled (fitting words input None (job_is_accepted words named asks) fits (spelled_is_faultless _ script spells)) script spells
+    (ap (λ (o : Option Job). by_job o input schedule script) (names_job words named asks) ∙ is)
+
+ran : (script : Script) (config : Config) (entries : List Entry) (after : Run) (code : ℕ) (text : List ℕ) → run script config entries ≡ Some after → report script config entries ≡ Some text
+    → code ≡ code_of_verdict (verdict_of script config after.world (length entries)) → run_of script config entries ≡ Some (code, text)
+ran script config entries after code text is_run text_is code_is =
+    ap (λ (o : Option Run). by_run script config entries o (report script config entries)) is_run
+    ∙ ap (λ (o : Option (List ℕ)). by_run script config entries (Some after) o) text_is
+    ∙ these _ code text text code_is refl
+
+found : (words : List (List ℕ)) (input : List ℕ) (schedule : List Entry) (code : ℕ) (text : List ℕ) → Outcome words input schedule code text → Found words input schedule code text
+found words input schedule code text (outcome.WordsRefused o) =
+    Refused (ap (λ (b : Bool). by_checks b (nat_lt 16777216 (length input)) (first_fault (script_part words input))) o.refused ∙ these 5 code _ text o.code_is o.text_is)
+found words input schedule code text (outcome.InputRefused o) =
+    Refused (ap (λ (b : Bool). by_checks b (nat_lt 16777216 (length input)) (first_fault (script_part words input))) o.accepted
+    ∙ ap (λ (b : Bool). by_checks true b (first_fault (script_part words input))) (lt-ltb 16777216 (length input) o.too_long) ∙ these 8 code _ text o.code_is o.text_is)
+found words input schedule code text (outcome.ScriptRefused o) =
+    Refused (fitting words input (Some (o.line, o.why)) o.accepted o.fits o.first ∙ these 6 code _ text o.code_is o.text_is)
+found words input schedule code text (outcome.ScheduleRefused o) =
+    spelled words job.Replay input schedule o.script code text o.accepted o.fits o.spelled
+    (ap (λ (s : Schedule). by_schedule o.script s) o.first ∙ these 7 code _ text o.code_is o.text_is)
+found words input schedule code text (outcome.EntryRefused o) =
+    spelled words job.Replay input schedule o.script code text o.accepted o.fits o.spelled
+    (ap (λ (s : Schedule). by_schedule o.script s) o.read
+    ∙ ap (λ (n : Option ℕ). by_illegal n (run_of o.script o.config o.entries)) o.illegal ∙ these 7 code _ text o.code_is o.text_is)
+found words input schedule code text (outcome.Replayed o) =
+    spelled words job.Replay input schedule o.script code text o.accepted o.fits o.spelled
+    (ap (λ (s : Schedule). by_schedule o.script s) o.read
+    ∙ ap (λ (n : Option ℕ). by_illegal n (run_of o.script o.config o.entries)) (run_is_legal o.script o.config o.after o.entries o.is_run)
+    ∙ ran o.script o.config o.entries o.after code text o.is_run o.text_is o.code_is)
+found words input schedule code text (outcome.Ran o) =
+    spelled words (job.Run default_options) input schedule o.script code text (o.accepted, refl) o.fits
+    (subst (λ (part : List ℕ). Spells part o.script) (sym (part_of_run words input o.accepted)) o.spelled)
+    (ran o.script default_config schedule o.after code text o.is_run o.text_is o.code_is)
+found words input schedule code text (outcome.Checked o) =
+    spelled words job.Check input schedule o.script code text o.accepted o.fits
+    (subst (λ (part : List ℕ). Spells part o.script) (sym (part_of_check words input o.accepted)) o.spelled)
+    (these 0 code _ text o.code_is o.text_is)
+
+-- ---- and only one
+
+found_once : (words : List (List ℕ)) (input : List ℕ) (schedule : List Entry) (code other : ℕ) (text told : List ℕ) → Found words input schedule code text → Found words input schedule other told → (code ≡ other) × (text ≡ told)
+found_once words input schedule code other text told (Refused a) (Refused b) = some_pair_parts code other text told (sym a ∙ b)
+found_once words input schedule code other text told (Refused a) (Spelled none script spells b) = absurd (none-some (code, text) (sym none ∙ a))
+found_once words input schedule code other text told (Spelled none script spells a) (Refused b) = absurd (none-some (other, told) (sym none ∙ b))
+found_once words input schedule code other text told (Spelled none script spells a) (Spelled _ another also b) =
+    some_pair_parts code other text told (sym a ∙ ap (λ (s : Script). by_job (job_asked words) input schedule s) (spells_one_script _ script another spells also) ∙ b)
+
+pub outcome_is_one : (words : List (List ℕ)) (input : List ℕ) (schedule : List Entry) (code other : ℕ) (text told : List ℕ) → Outcome words input schedule code text → Outcome words input schedule other told → (code ≡ other) × (text ≡ told)
+outcome_is_one words input schedule code other text told a b =
+    found_once words input schedule code other text told (found words input schedule code text a) (found words input schedule other told b)

@@ -1,170 +1,208 @@
 -- What is answered is an outcome.
-use Rattle.std.proofs.Common.{◌≡◌, ◌≢◌, ℕ, zero, suc, ◌<◌, ◌≤◌, true, false, List, [], ◌∷◌, length, replicate, reverse, Some, Ok, Err, refl, sym, ap, ◌∙◌, subst, arith}
+use Rattle.std.proofs.Common.{◌≡◌, ◌≢◌, ℕ, ◌<◌, ◌≤◌, true, false, List, [], ◌∷◌, length, Option, Some, Ok, Err, refl, sym, ap, ◌∙◌, subst, arith}
 use Rattle.std.specs.Prelude.{option_map}
-use Rattle.std.specs.List.{list_all}
-use Rattle.std.proofs.lemmas.List.{reverse-reverse}
-use Rattle.std.proofs.lemmas.Bool.{true≢false}
+use Rattle.std.specs.Option.{option_map_or}
 use Rattle.pct_model.specs.declared.script.Script.{Script}
 use Rattle.pct_model.specs.declared.schedule.Config.{Config}
 use Rattle.pct_model.specs.declared.schedule.Entry.{Entry}
-use Rattle.pct_model.specs.declared.event.Event.{Event}
 use Rattle.pct_model.specs.declared.refusal.ParseWhy.{ParseWhy}
 use Rattle.pct_model.specs.declared.refusal.ScheduleWhy.{ScheduleWhy}
 use Rattle.pct_model.specs.declared.stop.Verdict.{Verdict}
 use Rattle.pct_model.specs.declared.stop.Verdict.TheVariants as verdict
 use Rattle.pct_model.specs.declared.keyword.Keyword.TheVariants as keyword
-use Rattle.pct_model.specs.Keywords.{keyword_text, line_text, text_of}
+use Rattle.pct_model.specs.Keywords.{keyword_text, line_text}
 use Rattle.pct_model.specs.Checks.{FirstFault}
 use Rattle.pct_model.specs.Spells.{Spells}
 use Rattle.pct_model.specs.Canon.{canon}
 use Rattle.pct_model.specs.Schedule.{sched_of}
-use Rattle.pct_model.specs.Run.{first_illegal, verdict_of}
-use Rattle.pct_model.specs.Report.{report_lines, report_of, report}
-use Rattle.pct_model.specs.Outcome.{is_asked, is_accepted, script_part, schedule_part, default_config, first_goes, FirstGoesAlone, refused_words, refused_input, refused_script, refused_schedule, refused_entry, code_of_verdict, Outcome}
+use Rattle.pct_model.specs.Run.{Run, first_illegal, verdict_of}
+use Rattle.pct_model.specs.Report.{report_of, report}
+use Rattle.pct_model.specs.Outcome.{is_asked, is_accepted, script_part, schedule_part, default_config, refused_words, refused_input, refused_script, refused_schedule, refused_entry, code_of_verdict, Outcome}
 use Rattle.pct_model.specs.Outcome as outcome
-use Rattle.pct_schedule.specs.Schedules.{is_entry, IsSchedule}
-use Rattle.pct_history.proofs.ReadBack.{report_again}
+use Rattle.pct_schedule.specs.Schedules.{IsSchedule}
+use Rattle.pct_schedule_laws.proofs.ReadBack.{report_is_read_back}
 use Rattle.pct_schedule.proofs.WithinLimits.{sched_within}
-use Rattle.pct_command.specs.Runs.{IsRunOf}
-use Rattle.pct_command.specs.Command.{IsReplayed, Answer}
-use Rattle.pct_command.proofs.AskedWords.{asks_run_alone, check_asks_no_run, check_asks_no_replay, part_of_run, replay_asks_replay}
 use Rattle.pct_grammar.proofs.Scripts.{spells_one_script}
-use Rattle.pct_command.proofs.Scripts.{spells_part}
-
--- ---- the schedule of a report
-
--- entries that let the first thread go on are entries that a text can represent
-goes-are_entries : (n : ℕ) → list_all is_entry (replicate n first_goes) ≡ true
-goes-are_entries zero = refl
-goes-are_entries (suc n) = goes-are_entries n
-
-alone-is_schedule : (entries : List Entry) → FirstGoesAlone entries → length entries ≤ 10000 → IsSchedule default_config entries
-alone-is_schedule entries alone few = record { config_fits = refl; few = few; each = ap (list_all is_entry) alone ∙ goes-are_entries (length entries) }
+use Rattle.pct_engine.specs.EngineStates.{EngineValue, IsRunOf}
+use Rattle.pct_command.specs.declared.answer.Answer.TheVariants as answer
+use Rattle.pct_command.specs.declared.words.RunOptions.{RunOptions}
+use Rattle.pct_command.specs.declared.words.Job.{Job}
+use Rattle.pct_command.specs.declared.words.Job.TheVariants.{Run as run_job, Replay, Check}
+use Rattle.pct_command.specs.SeedSchedule.{SeedSchedule, IsSeededRun}
+use Rattle.pct_command.specs.Status.{code_of}
+use Rattle.pct_command.specs.Words.{Asks, default_options, job_asked}
+use Rattle.pct_command.specs.Command.{IsClosedRun, IsReplayed, IsReportOf, IsAnswer}
+use Rattle.pct_command.specs.Answer.{HasScript, status_of_verdict, verdict_of_run, text_of_run, code_of_answer}
+use Rattle.pct_command.proofs.AskedWords.{names_job, part_of_run, part_of_check, replay_asks_replay}
 
 -- ---- reports
 
--- the text of the report
-abbrev pub read_back : Script → Config → List Event → Verdict → List Entry → List ℕ
-read_back script config events v entries = text_of (report_lines script config events v entries)
+-- the verdict and the report of an engine that has this run
+pub run-verdict : (engine : EngineValue) (after : Run) → IsRunOf engine after → verdict_of_run engine ≡ verdict_of engine.script engine.config after.world (length engine.history)
+run-verdict engine after is_run = ap (λ (o : Option Run). option_map_or (λ r. verdict_of engine.script engine.config r.world (length engine.history)) o verdict.Open) is_run
 
-report-is : (script : Script) (config : Config) (events : List Event) (entries : List Entry) (v : Verdict) → IsRunOf script config events entries v → report script config entries ≡ Some (read_back script config events v entries)
+pub run-text : (engine : EngineValue) (after : Run) → IsRunOf engine after → text_of_run engine ≡ report_of engine.script engine.config engine.history after
+run-text engine after is_run = ap (λ (o : Option Run). option_map_or (report_of engine.script engine.config engine.history) o []) is_run
+
+run-report : (engine : EngineValue) (after : Run) → IsRunOf engine after → report engine.script engine.config engine.history ≡ Some (text_of_run engine)
 unfolding report
-report-is script config events entries v ran =
-    ap (option_map (report_of script config entries)) ran.is_run
-    ∙ ap (λ (es : List Event). Some (text_of (report_lines script config es (verdict_of script config ran.world (length entries)) entries))) (reverse-reverse events)
-    ∙ ap (λ (x : Verdict). Some (text_of (report_lines script config events x entries))) (sym ran.verdict_is)
+run-report engine after is_run =
+    ap (option_map (report_of engine.script engine.config engine.history)) is_run
+    ∙ ap (λ (text : List ℕ). Some text) (sym (run-text engine after is_run))
+
+-- the code of a verdict
+abbrev pub code_by : Verdict → ℕ
+code_by v = code_of (status_of_verdict v)
+
+code-is : (v : Verdict) → code_by v ≡ code_of_verdict v
+unfolding code_of_verdict
+code-is verdict.Complete = refl
+code-is verdict.Deadlock = refl
+code-is verdict.Budget = refl
+code-is (verdict.Undefined why) = refl
+code-is verdict.Open = refl
+
+run-code : (engine : EngineValue) (after : Run) → IsRunOf engine after → code_of_answer (answer.Ran engine) ≡ code_of_verdict (verdict_of engine.script engine.config after.world (length engine.history))
+run-code engine after is_run = code-is (verdict_of_run engine) ∙ ap code_of_verdict (run-verdict engine after is_run)
 
 -- the run of a schedule that is read from an input is the outcome of `replay`
-replay-outcome : (words : List (List ℕ)) (input : List ℕ) (schedule : List Entry) (script : Script) (config : Config) (events : List Event) (entries : List Entry) (v : Verdict)
-    → is_asked keyword.Replay words ≡ true → length input ≤ 16777216 → Spells (script_part words input) script → sched_of (schedule_part input) ≡ Ok (config, entries) → IsRunOf script config events entries v
-    → Outcome words input schedule (code_of_verdict v) (read_back script config events v entries)
-replay-outcome words input schedule script config events entries v asked fits spelled read ran =
+replay-outcome : (words : List (List ℕ)) (input : List ℕ) (schedule : List Entry) (engine : EngineValue) (after : Run)
+    → is_asked keyword.Replay words ≡ true → HasScript words input engine.script → sched_of (schedule_part input) ≡ Ok (engine.config, engine.history) → IsRunOf engine after
+    → Outcome words input schedule (code_of_answer (answer.Ran engine)) (text_of_run engine)
+replay-outcome words input schedule engine after asked has read is_run =
     outcome.Replayed (record {
       accepted = asked;
-      fits = fits;
-      script = script;
-      spelled = spelled;
-      config = config;
-      entries = entries;
+      fits = has.fits;
+      script = engine.script;
+      spelled = has.spelled;
+      config = engine.config;
+      entries = engine.history;
       read = read;
-      after = record { world = ran.world; events = reverse events };
-      is_run = ran.is_run;
-      code_is = ap code_of_verdict ran.verdict_is;
-      text_is = report-is script config events entries v ran;
+      after = after;
+      is_run = is_run;
+      code_is = run-code engine after is_run;
+      text_is = run-report engine after is_run;
     })
 
-run-outcome : (words : List (List ℕ)) (input : List ℕ) (script : Script) (events : List Event) (entries : List Entry) (v : Verdict)
-    → is_asked keyword.Run words ≡ true → length input ≤ 16777216 → Spells input script → IsRunOf script default_config events entries v
-    → Outcome words input entries (code_of_verdict v) (read_back script default_config events v entries)
-run-outcome words input script events entries v asked fits spelled ran =
+-- an engine with the configuration of `run`
+abbrev pub by_default : Script → List Entry → EngineValue
+by_default script entries = record { script = script; config = default_config; history = entries }
+
+run-outcome : (words : List (List ℕ)) (input : List ℕ) (script : Script) (entries : List Entry) (after : Run)
+    → is_asked keyword.Run words ≡ true → HasScript words input script → IsRunOf (by_default script entries) after
+    → Outcome words input entries (code_of_answer (answer.Ran (by_default script entries))) (text_of_run (by_default script entries))
+run-outcome words input script entries after asked has is_run =
     outcome.Ran (record {
       accepted = asked;
-      fits = fits;
+      fits = has.fits;
       script = script;
-      spelled = spelled;
-      after = record { world = ran.world; events = reverse events };
-      is_run = ran.is_run;
-      code_is = ap code_of_verdict ran.verdict_is;
-      text_is = report-is script default_config events entries v ran;
+      spelled = subst (λ (part : List ℕ). Spells part script) (part_of_run words input asked) has.spelled;
+      after = after;
+      is_run = is_run;
+      code_is = run-code (by_default script entries) after is_run;
+      text_is = run-report (by_default script entries) after is_run;
     })
 
--- the schedule of a text is replayed from any input that has it
-is-replayed : (words : List (List ℕ)) (input : List ℕ) (script : Script) (config : Config) (events : List Event) (entries : List Entry) (v : Verdict)
-    → Spells (script_part words input) script → sched_of (read_back script config events v entries) ≡ Ok (config, entries) → IsRunOf script config events entries v
-    → IsReplayed words input (code_of_verdict v) (read_back script config events v entries)
-is-replayed words input script config events entries v spelled is_told ran = λ other again same_part part same fits.
-    replay-outcome (keyword_text keyword.Replay ∷ []) again [] script config events entries v replay_asks_replay fits
-    (subst (λ (s : Script). Spells (script_part (keyword_text keyword.Replay ∷ []) again) s) (spells_one_script _ other script same_part spelled) part) (same ∙ is_told) ran
+-- the schedule of a report is replayed from any input that has it
+is-replayed : (words : List (List ℕ)) (input : List ℕ) (engine : EngineValue) (after : Run)
+    → HasScript words input engine.script → sched_of (text_of_run engine) ≡ Ok (engine.config, engine.history) → IsRunOf engine after
+    → IsReplayed words input (code_of_answer (answer.Ran engine)) (text_of_run engine)
+is-replayed words input engine after has read_back is_run = λ other again same_part part same fits.
+    let spelled = subst (λ (s : Script). Spells (script_part (keyword_text keyword.Replay ∷ []) again) s) (spells_one_script _ other engine.script same_part has.spelled) part in
+    replay-outcome (keyword_text keyword.Replay ∷ []) again [] engine after replay_asks_replay (record { fits = fits; spelled = spelled }) (same ∙ read_back) is_run
+
+-- the schedule of a report is read back
+read-back : (engine : EngineValue) (after : Run) → IsRunOf engine after → IsSchedule engine.config engine.history → sched_of (text_of_run engine) ≡ Ok (engine.config, engine.history)
+read-back engine after is_run within = report_is_read_back engine.script engine.config engine.history (text_of_run engine) (run-report engine after is_run) within
 
 -- ---- answers
 
+-- what holds of the report of the job that the words name
+of-job : (words : List (List ℕ)) (job : Job) (input : List ℕ) (schedule : List Entry) (code : ℕ) (text : List ℕ) → Asks words job → IsReportOf (Some job) words input schedule code text → IsReportOf (job_asked words) words input schedule code text
+of-job words job input schedule code text asks holds = subst (λ (named : Option Job). IsReportOf named words input schedule code text) (sym (names_job words job asks)) holds
+
 -- a run that is not open has another code
-closed_code : (v : Verdict) → v ≢ verdict.Open → code_of_verdict v ≢ 4
-unfolding code_of_verdict
+closed_code : (v : Verdict) → ¬ (v ≡ verdict.Open) → code_by v ≢ 4
 closed_code verdict.Complete closed e = absurd (omega (arith, e))
 closed_code verdict.Deadlock closed e = absurd (omega (arith, e))
 closed_code verdict.Budget closed e = absurd (omega (arith, e))
 closed_code (verdict.Undefined why) closed e = absurd (omega (arith, e))
 closed_code verdict.Open closed e = closed refl
 
-pub run-answer : (words : List (List ℕ)) (input : List ℕ) (script : Script) (events : List Event) (entries : List Entry) (v : Verdict)
-    → is_asked keyword.Run words ≡ true → length input ≤ 16777216 → Spells (script_part words input) script → IsRunOf script default_config events entries v → FirstGoesAlone entries → v ≢ verdict.Open → length entries ≤ 10000
-    → Answer words input (code_of_verdict v) (read_back script default_config events v entries)
-run-answer words input script events entries v asked fits spelled ran alone closed few =
-    let is_told = report_again script default_config events v entries (alone-is_schedule entries alone few) in
+run-by_default : (words : List (List ℕ)) (input : List ℕ) (script : Script) (entries : List Entry)
+    → is_asked keyword.Run words ≡ true → HasScript words input script → SeedSchedule script default_config 1 entries → IsSchedule default_config entries
+    → IsAnswer words input (code_of_answer (answer.Ran (by_default script entries))) (text_of_run (by_default script entries))
+run-by_default words input script entries asked has seeded within =
+    let engine : EngineValue = by_default script entries in
+    let read_back = read-back engine seeded.after seeded.is_run within in
+    let closed : ¬ (verdict_of_run engine ≡ verdict.Open) = λ is_open. seeded.is_closed (sym (run-verdict engine seeded.after seeded.is_run) ∙ is_open) in
+    let closed_run : IsClosedRun words input entries (code_of_answer (answer.Ran engine)) (text_of_run engine) = record { read_back = read_back; script = script; spelled = has.spelled; seeded = seeded; closed = closed_code (verdict_of_run engine) closed } in
     record {
       schedule = entries;
-      is_outcome = run-outcome words input script events entries v asked fits (spells_part (script_part words input) input script (part_of_run words input asked) spelled) ran;
-      run = λ yes below. record { read_back = is_told; alone = alone; closed = closed_code v closed };
-      replay = λ yes below. absurd (true≢false (sym yes ∙ asks_run_alone words asked));
-      replayed = λ other below. is-replayed words input script default_config events entries v spelled is_told ran;
+      is_outcome = run-outcome words input script entries seeded.after asked has seeded.is_run;
+      is_report = λ below. of-job words (run_job default_options) input entries _ _ (asked, refl) (closed_run, is-replayed words input engine seeded.after has read_back seeded.is_run);
     }
 
-pub replay-answer : (words : List (List ℕ)) (input : List ℕ) (script : Script) (config : Config) (events : List Event) (entries : List Entry) (v : Verdict)
-    → is_asked keyword.Replay words ≡ true → length input ≤ 16777216 → Spells (script_part words input) script → sched_of (schedule_part input) ≡ Ok (config, entries) → IsRunOf script config events entries v
-    → Answer words input (code_of_verdict v) (read_back script config events v entries)
-replay-answer words input script config events entries v asked fits spelled read ran =
-    let is_told = report_again script config events v entries (sched_within (schedule_part input) config entries read) in
+pub run-answer : (words : List (List ℕ)) (input : List ℕ) (script : Script) (options : RunOptions) (engine : EngineValue)
+    → is_asked keyword.Run words ≡ true → HasScript words input script → options ≡ default_options → IsSeededRun script options.config options.seed engine → IsSchedule options.config engine.history
+    → IsAnswer words input (code_of_answer (answer.Ran engine)) (text_of_run engine)
+run-answer words input script options engine asked has default ran within =
+    let of_default : IsSeededRun script default_config 1 engine = subst (λ (o : RunOptions). IsSeededRun script o.config o.seed engine) default ran in
+    let same : by_default script engine.history ≡ engine =
+    ap (λ (s : Script). record engine { script = s; config = default_config }) (sym of_default.script_is)
+    ∙ ap (λ (c : Config). record engine { config = c }) (sym of_default.config_is) in
+    subst (λ (e : EngineValue). IsAnswer words input (code_of_answer (answer.Ran e)) (text_of_run e)) same
+    (run-by_default words input script engine.history asked has of_default.schedule_is (subst (λ (o : RunOptions). IsSchedule o.config engine.history) default within))
+
+replay-read : (words : List (List ℕ)) (input : List ℕ) (engine : EngineValue) (after : Run)
+    → is_asked keyword.Replay words ≡ true → HasScript words input engine.script → sched_of (schedule_part input) ≡ Ok (engine.config, engine.history) → IsRunOf engine after
+    → IsAnswer words input (code_of_answer (answer.Ran engine)) (text_of_run engine)
+replay-read words input engine after asked has read is_run =
+    let read_back = read-back engine after is_run (sched_within (schedule_part input) engine.config engine.history read) in
     record {
       schedule = [];
-      is_outcome = replay-outcome words input [] script config events entries v asked fits spelled read ran;
-      run = λ yes below. absurd (true≢false (sym asked ∙ asks_run_alone words yes));
-      replay = λ yes below. is_told ∙ sym read;
-      replayed = λ other below. is-replayed words input script config events entries v spelled is_told ran;
+      is_outcome = replay-outcome words input [] engine after asked has read is_run;
+      is_report = λ below. of-job words Replay input [] _ _ asked (read_back ∙ sym read, is-replayed words input engine after has read_back is_run);
     }
 
--- the canonical text is the outcome of `check`
-pub check-answer : (words : List (List ℕ)) (input : List ℕ) (script : Script) → is_asked keyword.Check words ≡ true → length input ≤ 16777216 → Spells input script → Answer words input 0 (canon script)
-check-answer words input script asked fits spelled = record {
+pub replay-answer : (words : List (List ℕ)) (input : List ℕ) (script : Script) (config : Config) (entries : List Entry) (engine : EngineValue)
+    → is_asked keyword.Replay words ≡ true → HasScript words input script → sched_of (schedule_part input) ≡ Ok (config, entries) → engine ≡ record { script = script; config = config; history = entries } → (after : Run) × IsRunOf engine after
+    → IsAnswer words input (code_of_answer (answer.Ran engine)) (text_of_run engine)
+replay-answer words input script config entries engine asked has read same runs =
+    subst (λ (e : EngineValue). (after : Run) → IsRunOf e after → IsAnswer words input (code_of_answer (answer.Ran e)) (text_of_run e)) (sym same)
+    (λ after is_run. replay-read words input (record { script = script; config = config; history = entries }) after asked has read is_run)
+    runs.0 runs.1
+
+-- the canonical text is the answer of `check`
+pub check-answer : (words : List (List ℕ)) (input : List ℕ) (script : Script) → is_asked keyword.Check words ≡ true → HasScript words input script → IsAnswer words input 0 (canon script)
+check-answer words input script asked has = record {
   schedule = [];
-  is_outcome = outcome.Checked (record { accepted = asked; fits = fits; script = script; spelled = spelled; code_is = refl; text_is = refl });
-  run = λ yes below. absurd (true≢false (sym yes ∙ check_asks_no_run words asked));
-  replay = λ yes below. absurd (true≢false (sym yes ∙ check_asks_no_replay words asked));
-  replayed = λ other below. absurd (true≢false (sym asked ∙ other));
+  is_outcome = outcome.Checked (record { accepted = asked; fits = has.fits; script = script; spelled = subst (λ (part : List ℕ). Spells part script) (part_of_check words input asked) has.spelled; code_is = refl; text_is = refl });
+  is_report = λ below. of-job words Check input [] _ _ asked tt;
 }
 
 -- ---- refusals
 
--- a refusal reports no run
-refusal : (words : List (List ℕ)) (input : List ℕ) (code : ℕ) (text : List ℕ) → 4 < code → Outcome words input [] code text → Answer words input code text
-refusal words input code text above is_outcome = record { schedule = []; is_outcome = is_outcome; run = λ yes below. absurd (omega (arith, above, below)); replay = λ yes below. absurd (omega (arith, above, below)); replayed = λ other below. absurd (omega (arith, above, below)) }
+-- a refusal is no report
+refusal : (words : List (List ℕ)) (input : List ℕ) (code : ℕ) (text : List ℕ) → 4 < code → Outcome words input [] code text → IsAnswer words input code text
+refusal words input code text above is_outcome = record { schedule = []; is_outcome = is_outcome; is_report = λ below. absurd (omega (arith, above, below)) }
 
-pub words-answer : (words : List (List ℕ)) (input : List ℕ) → is_accepted words ≡ false → Answer words input 5 (line_text refused_words)
+pub words-answer : (words : List (List ℕ)) (input : List ℕ) → is_accepted words ≡ false → IsAnswer words input 5 (line_text refused_words)
 words-answer words input refused = refusal words input 5 _ (omega arith) (outcome.WordsRefused (record { refused = refused; code_is = refl; text_is = refl }))
 
-pub input-answer : (words : List (List ℕ)) (input : List ℕ) → is_accepted words ≡ true → 16777216 < length input → Answer words input 8 (line_text refused_input)
+pub input-answer : (words : List (List ℕ)) (input : List ℕ) → is_accepted words ≡ true → 16777216 < length input → IsAnswer words input 8 (line_text refused_input)
 input-answer words input accepted too_long = refusal words input 8 _ (omega arith) (outcome.InputRefused (record { accepted = accepted; too_long = too_long; code_is = refl; text_is = refl }))
 
-pub script-answer : (words : List (List ℕ)) (input : List ℕ) (line : ℕ) (why : ParseWhy) → is_accepted words ≡ true → length input ≤ 16777216 → FirstFault (script_part words input) line why → Answer words input 6 (line_text (refused_script line why))
+pub script-answer : (words : List (List ℕ)) (input : List ℕ) (line : ℕ) (why : ParseWhy) → is_accepted words ≡ true → length input ≤ 16777216 → FirstFault (script_part words input) line why → IsAnswer words input 6 (line_text (refused_script line why))
 script-answer words input line why accepted fits first =
     refusal words input 6 _ (omega arith) (outcome.ScriptRefused (record { accepted = accepted; fits = fits; line = line; why = why; first = first; code_is = refl; text_is = refl }))
 
-pub schedule-answer : (words : List (List ℕ)) (input : List ℕ) (script : Script) (line : ℕ) (why : ScheduleWhy) → is_asked keyword.Replay words ≡ true → length input ≤ 16777216 → Spells (script_part words input) script
-    → sched_of (schedule_part input) ≡ Err (line, why) → Answer words input 7 (line_text (refused_schedule line why))
-schedule-answer words input script line why asked fits spelled first =
-    refusal words input 7 _ (omega arith) (outcome.ScheduleRefused (record { accepted = asked; fits = fits; script = script; spelled = spelled; line = line; why = why; first = first; code_is = refl; text_is = refl }))
+pub schedule-answer : (words : List (List ℕ)) (input : List ℕ) (script : Script) (line : ℕ) (why : ScheduleWhy) → is_asked keyword.Replay words ≡ true → HasScript words input script
+    → sched_of (schedule_part input) ≡ Err (line, why) → IsAnswer words input 7 (line_text (refused_schedule line why))
+schedule-answer words input script line why asked has first =
+    refusal words input 7 _ (omega arith) (outcome.ScheduleRefused (record { accepted = asked; fits = has.fits; script = script; spelled = has.spelled; line = line; why = why; first = first; code_is = refl; text_is = refl }))
 
-pub entry-answer : (words : List (List ℕ)) (input : List ℕ) (script : Script) (config : Config) (entries : List Entry) (entry_number : ℕ) → is_asked keyword.Replay words ≡ true → length input ≤ 16777216 → Spells (script_part words input) script
-    → sched_of (schedule_part input) ≡ Ok (config, entries) → first_illegal script config entries ≡ Some entry_number → Answer words input 7 (line_text (refused_entry entry_number))
-entry-answer words input script config entries entry_number asked fits spelled read illegal =
-    refusal words input 7 _ (omega arith) (outcome.EntryRefused (record { accepted = asked; fits = fits; script = script; spelled = spelled; config = config; entries = entries; read = read; entry_number = entry_number; illegal = illegal; code_is = refl; text_is = refl }))
+pub entry-answer : (words : List (List ℕ)) (input : List ℕ) (script : Script) (config : Config) (entries : List Entry) (entry_number : ℕ) → is_asked keyword.Replay words ≡ true → HasScript words input script
+    → sched_of (schedule_part input) ≡ Ok (config, entries) → first_illegal script config entries ≡ Some entry_number → IsAnswer words input 7 (line_text (refused_entry entry_number))
+entry-answer words input script config entries entry_number asked has read illegal =
+    refusal words input 7 _ (omega arith) (outcome.EntryRefused (record { accepted = asked; fits = has.fits; script = script; spelled = has.spelled; config = config; entries = entries; read = read; entry_number = entry_number; illegal = illegal; code_is = refl; text_is = refl }))

@@ -1,5 +1,5 @@
 -- What `command` promises, by its answer.
-use Rattle.std.specs.Prelude.{◌≡◌, ◌≢◌, ◌⊎◌, ℕ, ◌<◌, ◌≤◌, true, false, List, [], ◌∷◌, length, Option, Some, None, Ok}
+use Rattle.std.specs.Prelude.{◌≡◌, ◌≢◌, ◌⊎◌, ℕ, ◌<◌, ◌≤◌, true, List, [], ◌∷◌, length, Option, Some, None, Ok}
 use Rattle.std.specs.Io.KnownBytes.{Appends, Consumes, IsAtEnd, Keeps}
 use Rattle.pct_io.specs.ErrorCounts.{Rose}
 use Rattle.pct_io.specs.Sinks.{AppendsPrefix}
@@ -11,10 +11,14 @@ use Rattle.pct_model.specs.Keywords.{keyword_text}
 use Rattle.pct_model.specs.Spells.{Spells}
 use Rattle.pct_model.specs.Schedule.{sched_of}
 use Rattle.pct_model.specs.Run.{first_illegal}
-use Rattle.pct_model.specs.Outcome.{is_asked, is_accepted, script_part, schedule_part, default_config, FirstGoesAlone, Outcome}
+use Rattle.pct_model.specs.Outcome.{is_asked, is_accepted, script_part, schedule_part, default_config, Outcome}
 use Rattle.pct_command.specs.declared.status.Status.{Status}
 use Rattle.pct_command.specs.declared.status.Status.TheVariants as status
+use Rattle.pct_command.specs.declared.words.Job.{Job}
+use Rattle.pct_command.specs.declared.words.Job.TheVariants as job
+use Rattle.pct_command.specs.SeedSchedule.{SeedSchedule}
 use Rattle.pct_command.specs.Status.{code_of}
+use Rattle.pct_command.specs.Words.{job_asked}
 
 -- the source and the sink: the bytes that are left and those that were written, if they are known, and the counts of errors
 pub record Outside : Type 0 where
@@ -31,11 +35,13 @@ pub record Records (failed s : Status) (before after : ℕ) : Type 0 where
 
 -- ---- what is written
 
--- the report of a `run`: its schedule is read back from the text, each step is one of the first thread of the first process,
--- and the verdict is not `Open`
-pub record IsClosedRun (schedule : List Entry) (code : ℕ) (text : List ℕ) : Type 0 where
+-- the report of a `run`: its schedule is read back from the text and is that of seed 1 for the script of the input, and the
+-- verdict is not `Open`
+pub record IsClosedRun (words : List (List ℕ)) (input : List ℕ) (schedule : List Entry) (code : ℕ) (text : List ℕ) : Type 0 where
   pub read_back : sched_of text ≡ Ok (default_config, schedule)
-  pub alone : FirstGoesAlone schedule
+  pub script : Script
+  pub spelled : Spells (script_part words input) script
+  pub seeded : SeedSchedule script default_config 1 schedule
   pub closed : code ≢ 4
 
 -- `replay` of any input with the same script and the schedule of the text has this outcome
@@ -46,47 +52,51 @@ IsReplayed words input code text =
     → sched_of (schedule_part again) ≡ sched_of text → length again ≤ 16777216
     → Outcome (keyword_text keyword.Replay ∷ []) again [] code text
 
--- the code and the text are the outcome of the words and the input; the schedule of a report is read back from it, and its
--- replay gives the same again
-pub record Answer (words : List (List ℕ)) (input : List ℕ) (code : ℕ) (text : List ℕ) : Type 0 where
+-- what holds of a report, by the job that the words name: the schedule of a `replay` is that of the input; both are replayed
+abbrev pub IsReportOf : Option Job → List (List ℕ) → List ℕ → List Entry → ℕ → List ℕ → Type 0
+IsReportOf (Some (job.Run options)) words input schedule code text = IsClosedRun words input schedule code text × IsReplayed words input code text
+IsReportOf (Some job.Replay) words input schedule code text = (sched_of text ≡ sched_of (schedule_part input)) × IsReplayed words input code text
+IsReportOf (Some job.Check) words input schedule code text = Unit {0}
+IsReportOf None words input schedule code text = Unit {0}
+
+-- the code and the text are the outcome of the words and the input, and a report is that of the job that the words name
+pub record IsAnswer (words : List (List ℕ)) (input : List ℕ) (code : ℕ) (text : List ℕ) : Type 0 where
   pub schedule : List Entry
   pub is_outcome : Outcome words input schedule code text
-  pub run : is_asked keyword.Run words ≡ true → code < 5 → IsClosedRun schedule code text
-  pub replay : is_asked keyword.Replay words ≡ true → code < 5 → sched_of text ≡ sched_of (schedule_part input)
-  pub replayed : is_asked keyword.Check words ≡ false → code < 5 → IsReplayed words input code text
+  pub is_report : code < 5 → IsReportOf (job_asked words) words input schedule code text
 
 -- the whole text was written
 pub record WroteAll (words : List (List ℕ)) (input : List ℕ) (before after : Option (List ℕ)) (code : ℕ) : Type 0 where
   pub text : List ℕ
-  pub answer : Answer words input code text
+  pub answer : IsAnswer words input code text
   pub wrote : Appends before after text
 
 -- a write failed: the sink recorded the error, and a prefix of the text was written
 pub record WrotePrefix (words : List (List ℕ)) (input : List ℕ) (before after : Option (List ℕ)) (errors_before errors_after : ℕ) : Type 0 where
   pub code : ℕ
   pub text : List ℕ
-  pub answer : Answer words input code text
+  pub answer : IsAnswer words input code text
   pub wrote : AppendsPrefix before after text
   pub cause : Rose errors_before errors_after
 
 -- ---- the answers
 
--- what was read is a prefix of what the source had left, and all of it unless the words are refused or it is too long
-pub record Reads (before after : Option (List ℕ)) (input : List ℕ) (code : ℕ) : Type 0 where
+-- what was read is a prefix of what the source had left, and all of it if the words are accepted, unless it is too long
+pub record Reads (words : List (List ℕ)) (before after : Option (List ℕ)) (input : List ℕ) (code : ℕ) : Type 0 where
   pub prefix : Consumes before after input
-  pub to_end : code ≢ 5 → code ≢ 8 → IsAtEnd after
+  pub to_end : is_accepted words ≡ true → code ≢ 8 → IsAtEnd after
 
 -- the input that was read, and the whole answer to it was written
 pub record Decides (words : List (List ℕ)) (before after : Outside) (code : ℕ) : Type 0 where
   pub input : List ℕ
-  pub read : Reads before.left after.left input code
+  pub read : Reads words before.left after.left input code
   pub output : WroteAll words input before.written after.written code
 
 -- the input that was read, and a prefix of the answer to it was written
 pub record FailsToWrite (words : List (List ℕ)) (before after : Outside) : Type 0 where
   pub input : List ℕ
   pub output : WrotePrefix words input before.written after.written before.write_errors after.write_errors
-  pub read : Reads before.left after.left input output.code
+  pub read : Reads words before.left after.left input output.code
 
 -- nothing was written, and what was taken is a prefix of what the source had left
 pub record Takes (words : List (List ℕ)) (before after : Outside) : Type 0 where

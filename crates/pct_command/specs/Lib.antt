@@ -1,6 +1,5 @@
-pub mod OneThread
-pub mod Runs
+pub mod SeedSchedule
 pub mod Status
 pub mod Words
 pub mod Command
-pub mod Texts
+pub mod Answer

@@ -1,5 +1,5 @@
 -- The codes of statuses.
-use Rattle.std.specs.Prelude.{ℕ}
+use Rattle.std.specs.Prelude.{◌≢◌, ℕ}
 use Rattle.pct_command.specs.declared.status.Status.{Status}
 use Rattle.pct_command.specs.declared.status.Status.TheVariants as status
 
@@ -17,3 +17,9 @@ code_of status.TooLong = 8
 code_of status.ReadFault = 9
 code_of status.WriteFault = 10
 code_of status.NoMemory = 11
+
+-- the status of an answer: no call failed, and memory did not run out
+pub record IsAnswered (s : Status) : Type 0 where
+  pub no_read_fault : s ≢ status.ReadFault
+  pub no_write_fault : s ≢ status.WriteFault
+  pub some_memory : s ≢ status.NoMemory

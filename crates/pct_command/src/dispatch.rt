@@ -1,29 +1,28 @@
-//! The top call: which command the words name, and the input.
+//! The top call: which command the words name, the input, and the answer.
 
-ghost use Rattle.std.specs.Prelude.{◌≡◌, ◌⊎◌, ◌≢◌, ◌≤◌, List, ℕ, false, length, map, string_bytes, ◌<◌};
+ghost use Rattle.std.specs.Prelude.{◌≡◌, ◌⊎◌, List, ℕ, true, false, map, string_bytes, IfOk, IfErr};
 ghost use Rattle.pct_model.specs.Outcome.{is_accepted};
 ghost use Rattle.pct_io.specs.Inners.{KeepsInners};
+ghost use Rattle.pct_command.specs.Answer.{AnswersRead, ReadsInput};
 ghost use Rattle.pct_command.specs.Command.{Answers, HasRead, IsComplete, Records};
-ghost use Rattle.pct_command.specs.Texts.{TextAnswers};
 ghost use Rattle.pct_command.specs.Words.{Asks, HasDefaults};
 
-use crate::check_command::check_text;
-use crate::refusals::{refuse_input, refuse_words};
-use crate::replay_command::replay_text;
-use crate::run_command::run_text;
+use crate::answer::{Answer, Refusal, Unanswered};
+use crate::answer_writer::write_answer;
+use crate::answering::answer_of;
 use crate::status::Status;
 use crate::words::{Job, Usage, read_words};
-use pct_io::{Failed, Gate, ReadEnd, Sink, Source, read_all};
+use pct_io::{Failed, Gate, NoMemory, ReadEnd, Sink, Source, read_all};
 use pct_model::MAX_INPUT;
 use std::alloc::Global;
 use std::thread::Threads;
 
 /// Performs the command that the words name on the bytes of the source, and writes the answer to the sink.
 ///
-/// The words are `run`, `replay` or `check`, without any further word. `run` reads a script and runs it. `replay` reads a
-/// script, a line `%%`, and a schedule or a whole report, and runs the script under that schedule. Both write a report.
-/// `check` reads a script and writes its canonical text. A refusal is one line that names the reason. `rt` and `gate` are
-/// not used yet.
+/// The words are `run`, `replay` or `check`, without any further word. `run` reads a script and runs it: worker 1 makes each
+/// step, which two words of its random stream choose under seed 1. `replay` reads a script, a line `%%`, and a schedule or a
+/// whole report, and runs the script under that schedule. Both write a report. `check` reads a script and writes its
+/// canonical text. A refusal is one line that names the reason. `rt` and `gate` are not used yet.
 ///
 /// The answer is the first of these that holds, unless it is `ReadFault`, `WriteFault` or `NoMemory`:
 ///
@@ -77,54 +76,46 @@ pub fn command<R: Threads + Sync, S: Source, K: Sink, G: Gate>(
     // The sink still writes through the same sinks, and each of them has only grown.
     ensures inners { KeepsInners (K.inners sink.old) (K.inners sink.new) }
 {
-    match read_words(words) {
-        Err(Usage) => match refuse_words(sink) {
-            Ok(()) => Status::Usage,
+    match answer_words(alloc, words, source) {
+        Ok(answer) => match write_answer(&answer, sink) {
+            Ok(()) => answer.status(),
             Err(Failed) => Status::WriteFault,
         },
-        Ok(job) => answer_input(alloc, job, source, sink),
+        Err(Unanswered::ReadFault) => Status::ReadFault,
+        Err(Unanswered::NoMemory) => Status::NoMemory,
     }
 }
 
-// Performs a job on the bytes of the source.
-fn answer_input<S: Source, K: Sink>(alloc: Global, job: Job, source: &mut S, sink: &mut K) -> Status
+// The answer to the words, and to the bytes of the source if the words are accepted.
+fn answer_words<S: Source>(
+    alloc: Global,
+    words: &[String],
+    source: &mut S,
+) -> Result<Answer, Unanswered>
+    ensures answer { IfOk result (λ answer. AnswersRead (map string_bytes words.now) (S.left source.old) (S.left source.new) answer) }
+    ensures accepted { IfErr result (λ _. is_accepted (map string_bytes words.now) ≡ true) }
+    ensures usage { is_accepted (map string_bytes words.now) ≡ false → (source.new ≡ source.old) × IfOk result (λ answer. answer ≡ Answer.Refused Refusal.Words) }
+    ensures reads { ReadsInput S.left S.errors source.old source.new result }
+{
+    match read_words(words) {
+        Err(Usage) => Ok(Answer::Refused(Refusal::Words)),
+        Ok(job) => answer_input(alloc, job, source),
+    }
+}
+
+// The answer of a job to the bytes of the source.
+fn answer_input<S: Source>(alloc: Global, job: Job, source: &mut S) -> Result<Answer, Unanswered>
     requires { HasDefaults job }
-    ensures answers { (words : List (List ℕ)) → Asks words job → Answers words
-        (record { left = S.left source.old; read_errors = S.errors source.old; written = K.written sink.old; write_errors = K.errors sink.old })
-        (record { left = S.left source.new; read_errors = S.errors source.new; written = K.written sink.new; write_errors = K.errors sink.new })
-        result }
-    ensures memory { result ≡ Status.NoMemory → HasRead (S.left source.old) (S.left source.new) }
-    ensures untouched { (result ≡ Status.ReadFault) ⊎ (result ≡ Status.NoMemory) → sink.new ≡ sink.old }
-    ensures read_errors { Records Status.ReadFault result (S.errors source.old) (S.errors source.new) }
-    ensures write_errors { Records Status.WriteFault result (K.errors sink.old) (K.errors sink.new) }
-    ensures inners { KeepsInners (K.inners sink.old) (K.inners sink.new) }
+    ensures answer { (words : List (List ℕ)) → Asks words job → IfOk result (λ answer. AnswersRead words (S.left source.old) (S.left source.new) answer) }
+    ensures reads { ReadsInput S.left S.errors source.old source.new result }
 {
     match read_all(alloc, source, MAX_INPUT) {
-        Ok(text) => answer_text(alloc, job, &text, sink),
-        Err(ReadEnd::Failed) => Status::ReadFault,
-        Err(ReadEnd::NoMemory) => Status::NoMemory,
-        Err(ReadEnd::TooLong) => match refuse_input(sink) {
-            Ok(()) => Status::TooLong,
-            Err(Failed) => Status::WriteFault,
+        Ok(text) => match answer_of(alloc, job, &text) {
+            Ok(answer) => Ok(answer),
+            Err(NoMemory) => Err(Unanswered::NoMemory),
         },
-    }
-}
-
-// Performs a job on a text.
-fn answer_text<K: Sink>(alloc: Global, job: Job, text: &[u8], sink: &mut K) -> Status
-    requires fits { length text.now ≤ 16777216 }
-    requires defaults { HasDefaults job }
-    ensures answers { (words : List (List ℕ)) → Asks words job
-        → TextAnswers words text.now (K.written sink.old) (K.written sink.new) (K.errors sink.old) (K.errors sink.new) result }
-    ensures no_read { result ≢ Status.ReadFault }
-    ensures memory { result ≡ Status.NoMemory → 0 < length text.now }
-    ensures untouched { result ≡ Status.NoMemory → sink.new ≡ sink.old }
-    ensures write_errors { Records Status.WriteFault result (K.errors sink.old) (K.errors sink.new) }
-    ensures inners { KeepsInners (K.inners sink.old) (K.inners sink.new) }
-{
-    match job {
-        Job::Run(options) => run_text(alloc, options, text, sink),
-        Job::Replay => replay_text(alloc, text, sink),
-        Job::Check => check_text(alloc, text, sink),
+        Err(ReadEnd::TooLong) => Ok(Answer::Refused(Refusal::Input)),
+        Err(ReadEnd::Failed) => Err(Unanswered::ReadFault),
+        Err(ReadEnd::NoMemory) => Err(Unanswered::NoMemory),
     }
 }

@@ -2,25 +2,15 @@
 //! its canonical text.
 #![tactic(auto)]
 
-mod calls;
-mod check_command;
-mod cleanup;
+mod answer;
+mod answer_writer;
+mod answering;
 mod dispatch;
-mod events;
-mod go;
-mod jumping;
 mod law;
-mod one_thread;
-mod process;
-mod refusals;
-mod replay;
 mod replay_command;
-mod report;
-mod returns;
 mod run_command;
-mod stack;
+mod seeded_run;
 mod status;
-mod variables;
 mod words;
 
 pub use dispatch::command;

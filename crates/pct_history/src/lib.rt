@@ -1,10 +1,13 @@
-//! The laws of schedules: the schedule of a report is read back from the report's text, and a script and a schedule have
-//! an input of `replay`. The reader and the writer of schedules are those of `pct_schedule`.
+//! The schedules of runs: `read_schedule` reads one from a text, `write_schedule` writes one, `split_replay` finds one in an
+//! input of `replay`, and `replay` runs a script under one.
 #![tactic(auto)]
 
-mod law;
+mod replay_fault;
+mod replaying;
 
-pub use law::{replay_inputs_exist, reports_are_read_back};
 pub use pct_schedule::{
     Entries, ScheduleFault, ScheduleWhy, read_schedule, split_replay, write_schedule,
 };
+pub use pct_schedule_laws::{replay_inputs_exist, reports_are_read_back};
+pub use replay_fault::ReplayFault;
+pub use replaying::replay;

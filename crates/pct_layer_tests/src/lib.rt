@@ -15,6 +15,8 @@ mod laws;
 #[cfg(test)]
 mod lines;
 #[cfg(test)]
+mod scanning;
+#[cfg(test)]
 mod schedules;
 #[cfg(test)]
 mod scripts;
@@ -22,3 +24,5 @@ mod scripts;
 mod slot_sets;
 #[cfg(test)]
 mod spelling;
+#[cfg(test)]
+mod thread_tables;

@@ -19,8 +19,9 @@ is_asynchronous Enable Asynchronous = true
 is_asynchronous Enable Deferred = false
 is_asynchronous Disable mode = false
 
--- the cancelability state of a thread that begins to end, by a request or by pthread_exit (XSH 2.9.5.3, pthread_exit);
--- it stays disabled, and that a pending request stays pending is a choice of this host
+-- the cancelability state of a thread that begins to end, by a request or by pthread_exit (XSH 2.9.5.3, pthread_exit); it
+-- stays disabled. That a pending request stays pending is a choice of this host, and so is that a thread which begins to exit
+-- its process gets this state.
 abbrev pub ending_state : State
 ending_state = Disable
 

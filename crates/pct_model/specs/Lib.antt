@@ -1,3 +1,4 @@
+pub mod ThreeItems
 pub mod Keywords
 pub mod Names
 pub mod Points
@@ -16,9 +17,20 @@ pub mod Spells
 pub mod Canon
 pub mod Jumps
 pub mod World
-pub mod Alternatives
+pub mod ThreadSlots
+pub mod Transitions
+pub mod ScriptStatements
+pub mod CleanupHandlers
+pub mod ProcessExit
+pub mod StopTable
+pub mod ChoiceTable
+pub mod TransitionTable
+pub mod Actions
 pub mod Step
 pub mod Run
+pub mod Chosen
+pub mod StopTexts
+pub mod EventTexts
 pub mod Report
 pub mod Schedule
 pub mod Outcome

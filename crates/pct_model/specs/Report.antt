@@ -1,86 +1,20 @@
 -- The report of a run: its trace, its verdict and its schedule, as text.
-use Rattle.std.specs.Prelude.{ℕ, List, [], ◌∷◌, ◌++◌, length, map, reverse, Option, decimal, option_map, Bool, true, false}
+use Rattle.std.specs.Prelude.{ℕ, List, [], ◌∷◌, ◌++◌, length, map, reverse, Option, decimal, option_map}
 use Rattle.pct_model.specs.declared.script.Script.{Script}
 use Rattle.pct_model.specs.declared.schedule.Alt.{Alt}
 use Rattle.pct_model.specs.declared.schedule.Alt.TheVariants as alt
 use Rattle.pct_model.specs.declared.schedule.Config.{Config}
 use Rattle.pct_model.specs.declared.schedule.Entry.{Entry}
 use Rattle.pct_model.specs.declared.event.Event.{Event}
-use Rattle.pct_model.specs.declared.event.What.{What}
-use Rattle.pct_model.specs.declared.event.What.TheVariants as what
-use Rattle.pct_model.specs.declared.stop.Why.{Why}
-use Rattle.pct_model.specs.declared.stop.Why.TheVariants as why
 use Rattle.pct_model.specs.declared.stop.Verdict.{Verdict}
 use Rattle.pct_model.specs.declared.stop.Verdict.TheVariants as verdict
-use Rattle.pct_model.specs.declared.keyword.Keyword.{Keyword}
 use Rattle.pct_model.specs.declared.keyword.Keyword.TheVariants as keyword
 use Rattle.pct_model.specs.Keywords.{keyword_text, text_of}
-use Rattle.pct_model.specs.Names.{names_of}
-use Rattle.pct_model.specs.Names.{name_at}
 use Rattle.pct_model.specs.Run.{Run, run, verdict_of}
-
--- ---- stops
-
--- POSIX leaves the behavior undefined, or this host's profile of POSIX excludes it
-abbrev pub class_of_stop : Why → Keyword
-class_of_stop why.Unbuilt = keyword.Profile
-class_of_stop why.ForkChildCall = keyword.Profile
-class_of_stop why.ForkInEnding = keyword.Profile
-class_of_stop why.StackFull = keyword.Profile
-class_of_stop why.CleanupFull = keyword.Profile
-class_of_stop why.AsyncCall = keyword.Undefined
-class_of_stop why.EnableInHandler = keyword.Undefined
-class_of_stop why.ExitInEnding = keyword.Undefined
-class_of_stop why.ThreadId = keyword.Undefined
-class_of_stop why.JoinSelf = keyword.Undefined
-class_of_stop why.NotJoinable = keyword.Undefined
-class_of_stop why.JoinTwice = keyword.Undefined
-class_of_stop why.DetachJoined = keyword.Undefined
-class_of_stop why.KeyId = keyword.Undefined
-class_of_stop why.NotOwner = keyword.Undefined
-class_of_stop why.CondTwoMutexes = keyword.Undefined
-class_of_stop why.ExitTwice = keyword.Undefined
-
--- the word for each stop
-abbrev pub name_of_stop : Why → Keyword
-name_of_stop why.Unbuilt = keyword.Unbuilt
-name_of_stop why.ForkChildCall = keyword.ForkChildCall
-name_of_stop why.AsyncCall = keyword.AsyncCall
-name_of_stop why.EnableInHandler = keyword.EnableInHandler
-name_of_stop why.ExitInEnding = keyword.ExitInEnding
-name_of_stop why.ThreadId = keyword.ThreadId
-name_of_stop why.JoinSelf = keyword.JoinSelf
-name_of_stop why.NotJoinable = keyword.NotJoinable
-name_of_stop why.JoinTwice = keyword.JoinTwice
-name_of_stop why.DetachJoined = keyword.DetachJoined
-name_of_stop why.KeyId = keyword.KeyId
-name_of_stop why.NotOwner = keyword.NotOwner
-name_of_stop why.CondTwoMutexes = keyword.CondTwoMutexes
-name_of_stop why.ExitTwice = keyword.ExitTwice
-name_of_stop why.ForkInEnding = keyword.ForkInEnding
-name_of_stop why.StackFull = keyword.StackFull
-name_of_stop why.CleanupFull = keyword.CleanupFull
-
--- the text of a stop
-unfoldable pub stop_words : Why → List (List ℕ)
-stop_words w = keyword_text (class_of_stop w) ∷ keyword_text (name_of_stop w) ∷ []
+use Rattle.pct_model.specs.StopTexts.{stop_words}
+use Rattle.pct_model.specs.EventTexts.{event_words}
 
 -- ---- events
-
--- whether a pop ran its handler or dropped it
-abbrev pub run_or_drop : Bool → Keyword
-run_or_drop true = keyword.Run
-run_or_drop false = keyword.Drop
-
--- the text of each event; events of statements that are not built have none yet
-unfoldable pub event_words : Script → What → List (List ℕ)
-event_words script (what.Emit v) = keyword_text keyword.Emit ∷ decimal v ∷ []
-event_words script (what.Pushed f a) = keyword_text keyword.Push ∷ name_at (names_of script.funcs) f ∷ decimal a ∷ []
-event_words script (what.Popped f a run) = keyword_text keyword.Pop ∷ name_at (names_of script.funcs) f ∷ decimal a ∷ keyword_text (run_or_drop run) ∷ []
-event_words script (what.ExitBegun v) = keyword_text keyword.Exit ∷ decimal v ∷ []
-event_words script (what.ProcessEnded n) = keyword_text keyword.ProcessEnd ∷ decimal n ∷ []
-event_words script (what.Stopped w) = stop_words w
-event_words script _ = []
 
 -- the process id and the thread id, separated by a dot
 unfoldable pub thread_text : ℕ → ℕ → List ℕ

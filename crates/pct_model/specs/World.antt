@@ -1,7 +1,7 @@
 -- The state of the machine: processes, their threads, and the state of each (XSH 2.9, pthread_create, fork). Frames,
 -- cleanup handlers and exit functions are listed newest first; processes, threads, keys and fork handlers in the order
 -- in which they were created or registered. Entries are never removed from the lists of processes, threads and keys.
-use Rattle.std.specs.Prelude.{ℕ, Bool, false, List, [], ◌∷◌, length, map, replicate, Option, None, slice_get, slice_index, option_and_then, find, nat_eq}
+use Rattle.std.specs.Prelude.{ℕ, Bool, false, List, [], ◌∷◌, length, map, replicate, Option, None, slice_get, slice_index, option_and_then}
 use Rattle.std.specs.Option.{option_map_or}
 use Rattle.pct_model.specs.declared.script.Script.{Script}
 use Rattle.pct_model.specs.declared.statement.Stmt.{Stmt}
@@ -60,6 +60,19 @@ pub record ForkHandlers : Type 0 where
   pub parent : Option ℕ
   pub child : Option ℕ
 
+-- the state that the threads of a process share
+pub record SharedState : Type 0 where
+  pub globals : List ℕ
+  -- the thread id of each mutex's owner, 0 if there is none
+  pub owners : List ℕ
+  -- the count of each semaphore
+  pub counts : List ℕ
+  pub keys : List Key
+  pub fork_handlers : List ForkHandlers
+  pub exit_functions : List ℕ
+  -- the value with which exit began
+  pub exit_value : Option ℕ
+
 -- a process (XSH fork)
 pub record Process : Type 0 where
   pub pid : ℕ
@@ -69,19 +82,10 @@ pub record Process : Type 0 where
   pub restricted : Bool
   -- the exit status of a process that has ended
   pub ended : Option ℕ
-  -- the process has ended, and its status was taken or no process will take it
+  -- the process has ended, and its status was collected by waitpid, or it has no parent that could
   pub reaped : Bool
-  pub globals : List ℕ
-  -- the thread id of each mutex's owner, 0 if there is none
-  pub owners : List ℕ
-  -- the count of each semaphore
-  pub counts : List ℕ
   pub threads : List Thread
-  pub keys : List Key
-  pub fork_handlers : List ForkHandlers
-  pub exit_functions : List ℕ
-  -- the value that exit was called with
-  pub exit_value : Option ℕ
+  pub shared : SharedState
 
 -- the state of the machine: all processes, ended ones included
 pub record World : Type 0 where
@@ -90,14 +94,6 @@ pub record World : Type 0 where
   pub stop : Option Why
 
 -- ---- lookup
-
--- the thread with an id
-abbrev pub with_id : ℕ → List Thread → Option Thread
-with_id id threads = find (λ t. nat_eq t.id id) threads
-
--- the process with a process id
-abbrev pub with_pid : ℕ → List Process → Option Process
-with_pid pid processes = find (λ p. nat_eq p.pid pid) processes
 
 -- the body of the function at an index
 abbrev pub body_of : Script → ℕ → List Stmt
@@ -123,9 +119,13 @@ new_frame func arg kind = record { func = func; pc = 0; locals = arg ∷ 0 ∷ 0
 abbrev pub new_thread : ℕ → Bool → Frame → Thread
 new_thread id detached frame = record { id = id; detached = detached; joined = false; status = Running; ended = false; frames = frame ∷ []; state = Enable; mode = Deferred; pending = false; handlers = []; reason = reason.None; pass = 0; keys_left = []; specific = []; kept = None; gone = false }
 
+-- the shared state at the start of a script
+abbrev pub new_shared : Script → SharedState
+new_shared script = record { globals = replicate (length script.globals) 0; owners = replicate (length script.mutexes) 0; counts = map (λ d. d.count) script.sems; keys = []; fork_handlers = []; exit_functions = []; exit_value = None }
+
 -- process 1, with thread 1 in `main`
 abbrev pub first_process : Script → Process
-first_process script = record { pid = 1; parent = 0; restricted = false; ended = None; reaped = false; globals = replicate (length script.globals) 0; owners = replicate (length script.mutexes) 0; counts = map (λ d. d.count) script.sems; threads = new_thread 1 false (new_frame (main_of (names_of script.funcs)) 0 kind.Main) ∷ []; keys = []; fork_handlers = []; exit_functions = []; exit_value = None }
+first_process script = record { pid = 1; parent = 0; restricted = false; ended = None; reaped = false; threads = new_thread 1 false (new_frame (main_of (names_of script.funcs)) 0 kind.Main) ∷ []; shared = new_shared script }
 
 -- the initial state of a script
 unfoldable pub opening : Script → World

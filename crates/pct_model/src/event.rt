@@ -2,7 +2,7 @@
 
 use crate::stop::Why;
 
-/// A call that can return an error number, which is an event.
+/// A call whose failure is an event, with the error number.
 #[derive(Clone, Copy, Debug, PartialEq, Eq)]
 pub enum Caller {
     Create,

@@ -7,7 +7,7 @@ use crate::state::FrameKind;
 #[derive(Clone, Copy, Debug, Default, PartialEq, Eq)]
 pub struct Frame {
     pub func: u32,
-    pub pc: usize,
+    pub pc: u32,
     pub locals: [u32; 8],
     pub kind: FrameKind,
 }

@@ -21,6 +21,8 @@ mod state;
 mod statement;
 mod stop;
 mod syntax;
+mod transition;
+mod up_to_three;
 
 pub use event::{Caller, Event, What};
 pub use frame::Frame;
@@ -42,3 +44,5 @@ pub use state::{Cause, ForkAt, FrameKind, Mode, Phase, Reason, State, Status};
 pub use statement::{Dest, Operand, Stmt};
 pub use stop::{Verdict, Why};
 pub use syntax::line_kind_with;
+pub use transition::{Action, Transition};
+pub use up_to_three::UpToThree;

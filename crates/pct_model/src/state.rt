@@ -48,7 +48,7 @@ pub enum Status {
     Joining(u32),
     /// Suspended in sem_wait, for the semaphore with this index.
     InSem(u32),
-    /// Suspended in waitpid, for this process.
+    /// Suspended in waitpid, for the process with this id.
     InWaitPid(u32),
     /// Suspended in pthread_cond_wait, with the indexes of the condition variable and the mutex.
     Waiting(u32, u32),

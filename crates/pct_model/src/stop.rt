@@ -1,7 +1,7 @@
 //! The stops of a run, and its verdict.
 
 ghost use Rattle.std.specs.Prelude.{◌≡◌};
-ghost use Rattle.pct_model.specs.Report.{class_of_stop, name_of_stop};
+ghost use Rattle.pct_model.specs.StopTexts.{class_of_stop, name_of_stop};
 
 use crate::keyword::Keyword;
 

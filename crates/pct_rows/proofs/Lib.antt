@@ -4,5 +4,7 @@ mod ScriptRows
 mod StaticRows
 mod MachineRows
 mod Rows
+mod ChoiceRows
+mod EventRows
 mod ScheduleRows
 mod Outcomes

@@ -1,8 +1,7 @@
 -- The outcomes of two example scripts: the lines of each text, the script that it spells, and its run.
-use Rattle.std.proofs.Common.{◌≡◌, ℕ, true, List, [], ◌∷◌, map, replicate, refl, sym, subst, arith}
+use Rattle.std.proofs.Common.{◌≡◌, ℕ, true, List, [], ◌∷◌, Option, Some, None, map, replicate, refl, sym, subst, arith}
 use Rattle.std.specs.Prelude.{codes, is_some, unwrap_or}
 use Rattle.std.specs.List.{list_all}
-use Rattle.std.specs.Fmt.{digits}
 use Rattle.pct_model.specs.declared.line_kind.LineKind.{LineKind}
 use Rattle.pct_model.specs.declared.line_kind.LineKind.TheVariants as line_kind
 use Rattle.pct_model.specs.declared.line_kind.SymbolKind.{SymbolKind}
@@ -11,7 +10,7 @@ use Rattle.pct_model.specs.declared.parsed_line.Token.{Token}
 use Rattle.pct_model.specs.declared.parsed_line.Token.TheVariants as token
 use Rattle.pct_model.specs.declared.script.Script.{Script}
 use Rattle.pct_model.specs.Keywords.{keyword_text}
-use Rattle.pct_model.specs.Names.{is_name, name_at, main_of}
+use Rattle.pct_model.specs.Names.{is_name, main_of}
 use Rattle.pct_model.specs.Lines.{lines_of}
 use Rattle.pct_model.specs.Points.{points, point_of, point_name}
 use Rattle.pct_model.specs.LineKinds.{declaration_syntax, syntax_of, line_kinds, point_statement, line_kind_of}
@@ -22,13 +21,18 @@ use Rattle.pct_model.specs.Sections.{parsed_lines, split_sections, Line, declari
 use Rattle.pct_model.specs.Spells.{declarations, contents_of, AreContents, SpellsContents}
 use Rattle.pct_model.specs.Jumps.{close_of, open_of}
 use Rattle.pct_model.specs.World.{statement_at, value_of, opening}
-use Rattle.pct_model.specs.Alternatives.{stops, emits, pushes, pops, exits, returns_by, ends_at, ends_process, running_at}
+use Rattle.pct_model.specs.ScriptStatements.{jumps, emits, sets, variable_value, adds, calls}
+use Rattle.pct_model.specs.CleanupHandlers.{pushes, pops}
+use Rattle.pct_model.specs.ProcessExit.{exits, returns_by, ends_process}
+use Rattle.pct_model.specs.StopTable.{stops_of, stop_at}
+use Rattle.pct_model.specs.ChoiceTable.{running_choices, choices_at}
+use Rattle.pct_model.specs.TransitionTable.{runs, transition_at}
+use Rattle.pct_model.specs.Actions.{thread_at, thread_after, shared_after, process_after, other_process_after, stop_after, after_transition}
 use Rattle.pct_model.specs.Step.{step}
 use Rattle.pct_model.specs.Run.{Run, run_step, run_from, run, verdict_of}
-use Rattle.pct_model.specs.Report.{stop_words, event_words, thread_text, event_line, alt_words, entry_line, header_line, end_line, schedule_lines, verdict_words, verdict_line, title_line, report_lines, report}
 use Rattle.pct_model.specs.Outcome.{is_asked, code_of_verdict, default_config, first_goes, Runs}
 use Rattle.pct_rows.specs.Examples.{smallest_text, smallest_report, cleanup_text, cleanup_report}
-use Rattle.pct_rows.proofs.Rows.{smallest, cleanup}
+use Rattle.pct_rows.proofs.Rows.{smallest, smallest_reported, cleanup, cleanup_reported}
 
 -- a parsed line with its number
 abbrev line : ℕ → LineKind → List Token → Line
@@ -41,6 +45,10 @@ with_x name = token.Name name ∷ token.Name (codes "x") ∷ []
 -- the state of a run, if there is one
 abbrev end_of : Script → ℕ → Run
 end_of script n = unwrap_or (run script default_config (replicate n first_goes)) (record { world = opening script; events = [] })
+
+is_its_end : (o : Option Run) (other : Run) → is_some o ≡ true → o ≡ Some (unwrap_or o other)
+is_its_end None other is = absurd cc
+is_its_end (Some r) other is = refl
 
 -- ---- the script that returns at once
 
@@ -71,10 +79,18 @@ smallest_each = refl
 smallest_spelled : SpellsContents smallest_text (contents_of smallest)
 smallest_spelled = record { each_says = smallest_each; are_contents = subst (λ (lines : List Line). AreContents lines (contents_of smallest)) (sym smallest_parsed) smallest_are_contents }
 
+smallest_is_legal : is_some (run smallest default_config (replicate 2 first_goes)) ≡ true
+unfolding main_of keyword_text statement_at value_of opening jumps emits sets variable_value adds calls pushes pops exits returns_by ends_process stops_of stop_at running_choices choices_at runs transition_at thread_at thread_after shared_after process_after other_process_after stop_after after_transition close_of open_of step run_step run_from run verdict_of
+smallest_is_legal = refl
+
+smallest_completes : code_of_verdict (verdict_of smallest default_config (end_of smallest 2).world 2) ≡ 0
+unfolding code_of_verdict main_of keyword_text statement_at value_of opening jumps emits sets variable_value adds calls pushes pops exits returns_by ends_process stops_of stop_at running_choices choices_at runs transition_at thread_at thread_after shared_after process_after other_process_after stop_after after_transition close_of open_of step run_step run_from run verdict_of
+smallest_completes = refl
+
 -- the outcome of `run`
 pub smallest_runs : Runs (codes "run" ∷ []) smallest_text (replicate 2 first_goes) 0 smallest_report
-unfolding is_asked code_of_verdict main_of keyword_text statement_at value_of opening stops emits pushes pops exits returns_by ends_at ends_process running_at close_of open_of step run_step run_from run verdict_of digits name_at stop_words event_words thread_text event_line alt_words entry_line header_line end_line schedule_lines verdict_words verdict_line title_line report_lines report
-smallest_runs = record { accepted = refl; fits = omega arith; script = smallest; spelled = smallest_spelled; after = end_of smallest 2; is_run = refl; code_is = refl; text_is = refl }
+unfolding is_asked keyword_text
+smallest_runs = record { accepted = refl; fits = omega arith; script = smallest; spelled = smallest_spelled; after = end_of smallest 2; is_run = is_its_end (run smallest default_config (replicate 2 first_goes)) _ smallest_is_legal; code_is = sym smallest_completes; text_is = smallest_reported }
 
 -- ---- the script with a cleanup handler
 
@@ -108,7 +124,15 @@ cleanup_each = refl
 cleanup_spelled : SpellsContents cleanup_text (contents_of cleanup)
 cleanup_spelled = record { each_says = cleanup_each; are_contents = subst (λ (lines : List Line). AreContents lines (contents_of cleanup)) (sym cleanup_parsed) cleanup_are_contents }
 
+cleanup_is_legal : is_some (run cleanup default_config (replicate 7 first_goes)) ≡ true
+unfolding main_of keyword_text statement_at value_of opening jumps emits sets variable_value adds calls pushes pops exits returns_by ends_process stops_of stop_at running_choices choices_at runs transition_at thread_at thread_after shared_after process_after other_process_after stop_after after_transition close_of open_of step run_step run_from run verdict_of
+cleanup_is_legal = refl
+
+cleanup_completes : code_of_verdict (verdict_of cleanup default_config (end_of cleanup 7).world 7) ≡ 0
+unfolding code_of_verdict main_of keyword_text statement_at value_of opening jumps emits sets variable_value adds calls pushes pops exits returns_by ends_process stops_of stop_at running_choices choices_at runs transition_at thread_at thread_after shared_after process_after other_process_after stop_after after_transition close_of open_of step run_step run_from run verdict_of
+cleanup_completes = refl
+
 -- the outcome of `run`
 pub cleanup_runs : Runs (codes "run" ∷ []) cleanup_text (replicate 7 first_goes) 0 cleanup_report
-unfolding is_asked code_of_verdict main_of keyword_text statement_at value_of opening stops emits pushes pops exits returns_by ends_at ends_process running_at close_of open_of step run_step run_from run verdict_of digits name_at stop_words event_words thread_text event_line alt_words entry_line header_line end_line schedule_lines verdict_words verdict_line title_line report_lines report
-cleanup_runs = record { accepted = refl; fits = omega arith; script = cleanup; spelled = cleanup_spelled; after = end_of cleanup 7; is_run = refl; code_is = refl; text_is = refl }
+unfolding is_asked keyword_text
+cleanup_runs = record { accepted = refl; fits = omega arith; script = cleanup; spelled = cleanup_spelled; after = end_of cleanup 7; is_run = is_its_end (run cleanup default_config (replicate 7 first_goes)) _ cleanup_is_legal; code_is = sym cleanup_completes; text_is = cleanup_reported }

@@ -6,6 +6,7 @@ use Rattle.pct_model.specs.declared.script.Func.{Func}
 use Rattle.pct_model.specs.declared.script.Script.{Script}
 use Rattle.pct_model.specs.declared.statement.Stmt.{Stmt}
 use Rattle.pct_model.specs.declared.statement.Stmt.TheVariants as statement
+use Rattle.pct_model.specs.declared.statement.Dest.TheVariants as destination
 use Rattle.pct_model.specs.declared.statement.Operand.TheVariants as operand
 use Rattle.pct_model.specs.declared.event.Event.{Event}
 use Rattle.pct_model.specs.declared.event.What.{What}
@@ -17,10 +18,13 @@ use Rattle.pct_model.specs.declared.schedule.Alt.TheVariants as alt
 use Rattle.pct_model.specs.declared.schedule.Config.{Config}
 use Rattle.pct_model.specs.declared.schedule.Entry.{Entry}
 use Rattle.pct_model.specs.declared.state.FrameKind.TheVariants as kind
-use Rattle.pct_model.specs.declared.state.Status.TheVariants.{Ended}
+use Rattle.pct_model.specs.declared.state.Status.TheVariants.{Running, Ended}
 use Rattle.pct_model.specs.declared.stop.Verdict.{Verdict}
 use Rattle.pct_model.specs.declared.stop.Verdict.TheVariants as verdict
+use Rattle.pct_model.specs.declared.stop.Why.{Why}
 use Rattle.pct_model.specs.declared.stop.Why.TheVariants as why
+use Rattle.pct_model.specs.declared.transition.Action.TheVariants.{Stop, EndProcess}
+use Rattle.pct_model.specs.declared.transition.Transition.{Transition}
 use Rattle.pct_model.specs.Keywords.{keyword_text, line_text}
 use Rattle.pct_model.specs.Names.{is_name, all_different, name_at, main_of}
 use Rattle.pct_model.specs.Lines.{lines_of, strip_cr}
@@ -32,11 +36,20 @@ use Rattle.pct_model.specs.Checks.{none_wrong}
 use Rattle.pct_model.specs.Static.{has_word, have_words, has_first_word, has_line, has_lines, has_text, keeps_limits, has_each_name_once, names_plain, is_static}
 use Rattle.pct_model.specs.Jumps.{close_of, open_of}
 use Rattle.pct_model.specs.Canon.{argument_text, argument_texts, statement_words, function_lines, script_lines, canon}
-use Rattle.pct_model.specs.World.{Thread, Process, World, first_process, statement_at, value_of, new_frame, new_thread, opening}
-use Rattle.pct_model.specs.Alternatives.{stops, emits, pushes, pops, exits, returns_by, ends_at, ends_process, running_at}
-use Rattle.pct_model.specs.Step.{process_ends, step, is_legal}
+use Rattle.pct_model.specs.World.{Thread, SharedState, Process, World, first_process, new_shared, statement_at, value_of, new_frame, new_thread, opening}
+use Rattle.pct_model.specs.ScriptStatements.{jumps, emits, sets, variable_value, adds, calls}
+use Rattle.pct_model.specs.CleanupHandlers.{pushes, pops}
+use Rattle.pct_model.specs.ProcessExit.{exits, returns_by, ends_process}
+use Rattle.pct_model.specs.Transitions.{acts}
+use Rattle.pct_model.specs.StopTable.{stops_of, stop_at}
+use Rattle.pct_model.specs.ChoiceTable.{StatementIn, running_choices, choices_at}
+use Rattle.pct_model.specs.TransitionTable.{runs, transition_at}
+use Rattle.pct_model.specs.Actions.{moved, thread_at, thread_after, shared_after, process_after, other_process_after, stop_after, after_transition}
+use Rattle.pct_model.specs.Step.{step, is_legal}
 use Rattle.pct_model.specs.Run.{run_step, run_from, illegal_in, first_illegal, run, verdict_of}
-use Rattle.pct_model.specs.Report.{stop_words, event_words, thread_text, event_line, alt_words, entry_line, header_line, end_line, schedule_lines, verdict_words, verdict_line, title_line, report_lines, report}
+use Rattle.pct_model.specs.StopTexts.{stop_words}
+use Rattle.pct_model.specs.EventTexts.{event_words}
+use Rattle.pct_model.specs.Report.{thread_text, event_line, alt_words, entry_line, header_line, end_line, schedule_lines, verdict_words, verdict_line, title_line, report_lines, report}
 use Rattle.pct_model.specs.Schedule.{marker_in, replay_parts}
 use Rattle.pct_model.specs.Outcome.{is_asked, is_accepted, script_part, schedule_part, default_config, first_goes, refused_words, refused_input, refused_script, refused_schedule, refused_entry, code_of_verdict}
 
@@ -108,43 +121,43 @@ unfolding digits name_at declaration_syntax syntax_of encode argument_text argum
 smallest_text_length = refl
 
 -- the report of its run
-smallest_report : report smallest default_config (replicate 2 first_goes) ≡ Some (codes "report 1\n1.1 exit 0\n1.1 process_end 0\nverdict complete\nschedule 1 10000 4 64\n1 1 1 go\n1 1 1 go\nend 2\n")
-unfolding main_of keyword_text statement_at value_of opening stops emits pushes pops exits returns_by ends_at ends_process running_at close_of open_of step run_step run_from run verdict_of digits name_at stop_words event_words thread_text event_line alt_words entry_line header_line end_line schedule_lines verdict_words verdict_line title_line report_lines report
-smallest_report = refl
+pub smallest_reported : report smallest default_config (replicate 2 first_goes) ≡ Some (codes "report 1\n1.1 exit 0\n1.1 process_end 0\nverdict complete\nschedule 1 10000 4 64\n1 1 1 go\n1 1 1 go\nend 2\n")
+unfolding main_of keyword_text statement_at value_of opening jumps emits sets variable_value adds calls pushes pops exits returns_by ends_process stops_of stop_at running_choices choices_at runs transition_at thread_at thread_after shared_after process_after other_process_after stop_after after_transition close_of open_of step run_step run_from run verdict_of digits name_at stop_words event_words thread_text event_line alt_words entry_line header_line end_line schedule_lines verdict_words verdict_line title_line report_lines report
+smallest_reported = refl
 
 -- the length of the report
 smallest_report_length : option_map length (report smallest default_config (replicate 2 first_goes)) ≡ Some 101
-unfolding main_of keyword_text statement_at value_of opening stops emits pushes pops exits returns_by ends_at ends_process running_at close_of open_of step run_step run_from run verdict_of digits name_at stop_words event_words thread_text event_line alt_words entry_line header_line end_line schedule_lines verdict_words verdict_line title_line report_lines report
+unfolding main_of keyword_text statement_at value_of opening jumps emits sets variable_value adds calls pushes pops exits returns_by ends_process stops_of stop_at running_choices choices_at runs transition_at thread_at thread_after shared_after process_after other_process_after stop_after after_transition close_of open_of step run_step run_from run verdict_of digits name_at stop_words event_words thread_text event_line alt_words entry_line header_line end_line schedule_lines verdict_words verdict_line title_line report_lines report
 smallest_report_length = refl
 
 -- before the first entry and after it the run is open
 smallest_open : (verdict_after smallest default_config 0 ≡ Some verdict.Open) × (verdict_after smallest default_config 1 ≡ Some verdict.Open)
-unfolding main_of keyword_text statement_at value_of opening stops emits pushes pops exits returns_by ends_at ends_process running_at close_of open_of step run_step run_from run verdict_of
+unfolding main_of keyword_text statement_at value_of opening jumps emits sets variable_value adds calls pushes pops exits returns_by ends_process stops_of stop_at running_choices choices_at runs transition_at thread_at thread_after shared_after process_after other_process_after stop_after after_transition close_of open_of step run_step run_from run verdict_of
 smallest_open = (refl, refl)
 
 -- a run that completes with the last entry of its budget is complete
 smallest_at_budget : verdict_after smallest (with_budget 2) 2 ≡ Some verdict.Complete
-unfolding main_of keyword_text statement_at value_of opening stops emits pushes pops exits returns_by ends_at ends_process running_at close_of open_of step run_step run_from run verdict_of
+unfolding main_of keyword_text statement_at value_of opening jumps emits sets variable_value adds calls pushes pops exits returns_by ends_process stops_of stop_at running_choices choices_at runs transition_at thread_at thread_after shared_after process_after other_process_after stop_after after_transition close_of open_of step run_step run_from run verdict_of
 smallest_at_budget = refl
 
 -- a run of one entry with a budget of one
 smallest_cut : verdict_after smallest (with_budget 1) 1 ≡ Some verdict.Budget
-unfolding main_of keyword_text statement_at value_of opening stops emits pushes pops exits returns_by ends_at ends_process running_at close_of open_of step run_step run_from run verdict_of
+unfolding main_of keyword_text statement_at value_of opening jumps emits sets variable_value adds calls pushes pops exits returns_by ends_process stops_of stop_at running_choices choices_at runs transition_at thread_at thread_after shared_after process_after other_process_after stop_after after_transition close_of open_of step run_step run_from run verdict_of
 smallest_cut = refl
 
 -- no entry is legal after the process has ended
 smallest_ends : run smallest default_config (replicate 3 first_goes) ≡ None
-unfolding main_of keyword_text statement_at value_of opening stops emits pushes pops exits returns_by ends_at ends_process running_at close_of open_of step run_step run_from run verdict_of
+unfolding main_of keyword_text statement_at value_of opening jumps emits sets variable_value adds calls pushes pops exits returns_by ends_process stops_of stop_at running_choices choices_at runs transition_at thread_at thread_after shared_after process_after other_process_after stop_after after_transition close_of open_of step run_step run_from run verdict_of
 smallest_ends = refl
 
 -- there is no run past the budget
 smallest_past_budget : run smallest (with_budget 1) (replicate 2 first_goes) ≡ None
-unfolding main_of keyword_text statement_at value_of opening stops emits pushes pops exits returns_by ends_at ends_process running_at close_of open_of step run_step run_from run verdict_of
+unfolding main_of keyword_text statement_at value_of opening jumps emits sets variable_value adds calls pushes pops exits returns_by ends_process stops_of stop_at running_choices choices_at runs transition_at thread_at thread_after shared_after process_after other_process_after stop_after after_transition close_of open_of step run_step run_from run verdict_of
 smallest_past_budget = refl
 
 -- the first entry that is not legal: a third step, another thread, another process, another choice, worker 17
 smallest_illegal : (first_illegal smallest default_config (replicate 2 first_goes) ≡ None) × (first_illegal smallest default_config (replicate 4 first_goes) ≡ Some 3) × (first_illegal smallest default_config (record { worker = 1; pid = 1; tid = 2; alt = alt.Go } ∷ []) ≡ Some 1) × (first_illegal smallest default_config (first_goes ∷ record { worker = 1; pid = 2; tid = 1; alt = alt.Go } ∷ first_goes ∷ []) ≡ Some 2) × (first_illegal smallest default_config (record { worker = 1; pid = 1; tid = 1; alt = alt.Act 0 } ∷ first_goes ∷ []) ≡ Some 1) × (first_illegal smallest default_config (record { worker = 16; pid = 1; tid = 1; alt = alt.Go } ∷ record { worker = 0; pid = 1; tid = 1; alt = alt.Go } ∷ []) ≡ None) × (first_illegal smallest default_config (record { worker = 17; pid = 1; tid = 1; alt = alt.Go } ∷ []) ≡ Some 1)
-unfolding main_of keyword_text statement_at value_of opening stops emits pushes pops exits returns_by ends_at ends_process running_at close_of open_of step run_step illegal_in
+unfolding main_of keyword_text statement_at value_of opening jumps emits sets variable_value adds calls pushes pops exits returns_by ends_process stops_of stop_at running_choices choices_at runs transition_at thread_at thread_after shared_after process_after other_process_after stop_after after_transition close_of open_of step run_step illegal_in
 smallest_illegal = (refl, refl, refl, refl, refl, refl, refl)
 
 -- ---- a handler that a pop calls
@@ -172,32 +185,32 @@ cleanup_text_length = refl
 
 -- the events of its run
 cleanup_events : events_of cleanup default_config 7 ≡ Some (map event (what.Pushed 0 1 ∷ what.Emit 5 ∷ what.Popped 0 1 true ∷ what.Emit 1 ∷ what.ExitBegun 0 ∷ what.ProcessEnded 0 ∷ []))
-unfolding main_of keyword_text statement_at value_of opening stops emits pushes pops exits returns_by ends_at ends_process running_at close_of open_of step run_step run_from run verdict_of
+unfolding main_of keyword_text statement_at value_of opening jumps emits sets variable_value adds calls pushes pops exits returns_by ends_process stops_of stop_at running_choices choices_at runs transition_at thread_at thread_after shared_after process_after other_process_after stop_after after_transition close_of open_of step run_step run_from run verdict_of
 cleanup_events = refl
 
 -- the return of the handler is no event
 cleanup_silent : events_of cleanup default_config 5 ≡ events_of cleanup default_config 4
-unfolding main_of keyword_text statement_at value_of opening stops emits pushes pops exits returns_by ends_at ends_process running_at close_of open_of step run_step run_from run verdict_of
+unfolding main_of keyword_text statement_at value_of opening jumps emits sets variable_value adds calls pushes pops exits returns_by ends_process stops_of stop_at running_choices choices_at runs transition_at thread_at thread_after shared_after process_after other_process_after stop_after after_transition close_of open_of step run_step run_from run verdict_of
 cleanup_silent = refl
 
 -- the run is complete
 cleanup_complete : verdict_after cleanup default_config 7 ≡ Some verdict.Complete
-unfolding main_of keyword_text statement_at value_of opening stops emits pushes pops exits returns_by ends_at ends_process running_at close_of open_of step run_step run_from run verdict_of
+unfolding main_of keyword_text statement_at value_of opening jumps emits sets variable_value adds calls pushes pops exits returns_by ends_process stops_of stop_at running_choices choices_at runs transition_at thread_at thread_after shared_after process_after other_process_after stop_after after_transition close_of open_of step run_step run_from run verdict_of
 cleanup_complete = refl
 
 -- the report of the run
-cleanup_report : report cleanup default_config (replicate 7 first_goes) ≡ Some (codes "report 1\n1.1 push h 1\n1.1 emit 5\n1.1 pop h 1 run\n1.1 emit 1\n1.1 exit 0\n1.1 process_end 0\nverdict complete\nschedule 1 10000 4 64\n1 1 1 go\n1 1 1 go\n1 1 1 go\n1 1 1 go\n1 1 1 go\n1 1 1 go\n1 1 1 go\nend 7\n")
-unfolding main_of keyword_text statement_at value_of opening stops emits pushes pops exits returns_by ends_at ends_process running_at close_of open_of step run_step run_from run verdict_of digits name_at stop_words event_words thread_text event_line alt_words entry_line header_line end_line schedule_lines verdict_words verdict_line title_line report_lines report
-cleanup_report = refl
+pub cleanup_reported : report cleanup default_config (replicate 7 first_goes) ≡ Some (codes "report 1\n1.1 push h 1\n1.1 emit 5\n1.1 pop h 1 run\n1.1 emit 1\n1.1 exit 0\n1.1 process_end 0\nverdict complete\nschedule 1 10000 4 64\n1 1 1 go\n1 1 1 go\n1 1 1 go\n1 1 1 go\n1 1 1 go\n1 1 1 go\n1 1 1 go\nend 7\n")
+unfolding main_of keyword_text statement_at value_of opening jumps emits sets variable_value adds calls pushes pops exits returns_by ends_process stops_of stop_at running_choices choices_at runs transition_at thread_at thread_after shared_after process_after other_process_after stop_after after_transition close_of open_of step run_step run_from run verdict_of digits name_at stop_words event_words thread_text event_line alt_words entry_line header_line end_line schedule_lines verdict_words verdict_line title_line report_lines report
+cleanup_reported = refl
 
 -- with a smaller budget the verdict is that of the budget
 cleanup_cut : verdict_after cleanup (with_budget 3) 3 ≡ Some verdict.Budget
-unfolding main_of keyword_text statement_at value_of opening stops emits pushes pops exits returns_by ends_at ends_process running_at close_of open_of step run_step run_from run verdict_of
+unfolding main_of keyword_text statement_at value_of opening jumps emits sets variable_value adds calls pushes pops exits returns_by ends_process stops_of stop_at running_choices choices_at runs transition_at thread_at thread_after shared_after process_after other_process_after stop_after after_transition close_of open_of step run_step run_from run verdict_of
 cleanup_cut = refl
 
 -- the report of that run
 cleanup_cut_report : report cleanup (with_budget 3) (replicate 3 first_goes) ≡ Some (codes "report 1\n1.1 push h 1\n1.1 emit 5\n1.1 pop h 1 run\nverdict budget\nschedule 1 3 4 64\n1 1 1 go\n1 1 1 go\n1 1 1 go\nend 3\n")
-unfolding main_of keyword_text statement_at value_of opening stops emits pushes pops exits returns_by ends_at ends_process running_at close_of open_of step run_step run_from run verdict_of digits name_at stop_words event_words thread_text event_line alt_words entry_line header_line end_line schedule_lines verdict_words verdict_line title_line report_lines report
+unfolding main_of keyword_text statement_at value_of opening jumps emits sets variable_value adds calls pushes pops exits returns_by ends_process stops_of stop_at running_choices choices_at runs transition_at thread_at thread_after shared_after process_after other_process_after stop_after after_transition close_of open_of step run_step run_from run verdict_of digits name_at stop_words event_words thread_text event_line alt_words entry_line header_line end_line schedule_lines verdict_words verdict_line title_line report_lines report
 cleanup_cut_report = refl
 
 -- ---- other runs
@@ -215,7 +228,7 @@ dropped = record { globals = []; mutexes = []; conds = []; sems = []; funcs = dr
 
 -- the handler is dropped, and the closing `end` of `main` returns 0
 dropped_report : report dropped default_config (replicate 4 first_goes) ≡ Some (codes "report 1\n1.1 push h 1\n1.1 pop h 1 drop\n1.1 exit 0\n1.1 process_end 0\nverdict complete\nschedule 1 10000 4 64\n1 1 1 go\n1 1 1 go\n1 1 1 go\n1 1 1 go\nend 4\n")
-unfolding main_of keyword_text statement_at value_of opening stops emits pushes pops exits returns_by ends_at ends_process running_at close_of open_of step run_step run_from run verdict_of digits name_at stop_words event_words thread_text event_line alt_words entry_line header_line end_line schedule_lines verdict_words verdict_line title_line report_lines report
+unfolding main_of keyword_text statement_at value_of opening jumps emits sets variable_value adds calls pushes pops exits returns_by ends_process stops_of stop_at running_choices choices_at runs transition_at thread_at thread_after shared_after process_after other_process_after stop_after after_transition close_of open_of step run_step run_from run verdict_of digits name_at stop_words event_words thread_text event_line alt_words entry_line header_line end_line schedule_lines verdict_words verdict_line title_line report_lines report
 dropped_report = refl
 
 abbrev last_first_funcs : List Func
@@ -231,7 +244,7 @@ last_first = record { globals = []; mutexes = []; conds = []; sems = []; funcs =
 
 -- a pop removes the handler that was pushed last
 last_first_events : events_of last_first default_config 8 ≡ Some (map event (what.Pushed 0 1 ∷ what.Pushed 0 2 ∷ what.Popped 0 2 true ∷ what.Emit 2 ∷ what.Popped 0 1 false ∷ what.ExitBegun 0 ∷ what.ProcessEnded 0 ∷ []))
-unfolding main_of keyword_text statement_at value_of opening stops emits pushes pops exits returns_by ends_at ends_process running_at close_of open_of step run_step run_from run verdict_of
+unfolding main_of keyword_text statement_at value_of opening jumps emits sets variable_value adds calls pushes pops exits returns_by ends_process stops_of stop_at running_choices choices_at runs transition_at thread_at thread_after shared_after process_after other_process_after stop_after after_transition close_of open_of step run_step run_from run verdict_of
 last_first_events = refl
 
 abbrev large_value_funcs : List Func
@@ -247,7 +260,7 @@ large_value = record { globals = []; mutexes = []; conds = []; sems = []; funcs 
 
 -- the parameter of `main` is 0, and the exit status of a process is the exit value modulo 256
 large_value_events : events_of large_value default_config 3 ≡ Some (map event (what.Emit 0 ∷ what.ExitBegun 300 ∷ what.ProcessEnded 44 ∷ []))
-unfolding main_of keyword_text statement_at value_of opening stops emits pushes pops exits returns_by ends_at ends_process running_at close_of open_of step run_step run_from run verdict_of
+unfolding main_of keyword_text statement_at value_of opening jumps emits sets variable_value adds calls pushes pops exits returns_by ends_process stops_of stop_at running_choices choices_at runs transition_at thread_at thread_after shared_after process_after other_process_after stop_after after_transition close_of open_of step run_step run_from run verdict_of
 large_value_events = refl
 
 -- ---- stops and ends
@@ -259,35 +272,77 @@ main_frame = new_frame 1 0 kind.Main
 abbrev with_handlers : ℕ → Thread
 with_handlers n = record (new_thread 1 false main_frame) { handlers = replicate n (0, 0) }
 
--- a push with 32 handlers is a stop, and the thread is unchanged
-push_at_32 : pushes (with_handlers 32) main_frame [] 0 1 ≡ stops (with_handlers 32) why.CleanupFull
-unfolding pushes
-push_at_32 = refl
+-- a thread with n frames and a handler
+abbrev with_frames : ℕ → Thread
+with_frames n = record (with_handlers 1) { frames = replicate n main_frame }
 
--- a push with 31 handlers is the last one
-push_at_31 : map (λ a. length a.own.handlers) (pushes (with_handlers 31) main_frame [] 0 1) ≡ 32 ∷ []
-unfolding pushes
-push_at_31 = refl
+-- the stop of a thread at a statement
+abbrev stop_of : SharedState → Thread → Stmt → Option Why
+stop_of shared t s = stop_at (s ∷ []) shared t main_frame s
 
--- a pop that calls is a stop with 16 frames
-pop_at_16 : pops (with_handlers 1) main_frame (replicate 15 main_frame) 1 ((0, 0) ∷ []) ≡ stops (with_handlers 1) why.StackFull
-unfolding pops
-pop_at_16 = refl
+abbrev no_exit : SharedState
+no_exit = new_shared smallest
 
--- a pop that drops is not
-drop_at_16 : map (λ a. a.events) (pops (with_handlers 1) main_frame (replicate 15 main_frame) 0 ((0, 7) ∷ [])) ≡ (what.Popped 0 7 false ∷ []) ∷ []
-unfolding pops
-drop_at_16 = refl
+abbrev exit_begun : SharedState
+exit_begun = record no_exit { exit_value = Some 3 }
+
+-- a push with 32 handlers is a stop, with 31 handlers it is the last one
+push_at_32 : (stop_of no_exit (with_handlers 32) (push_h 1) ≡ Some why.CleanupFull) × (stop_of no_exit (with_handlers 31) (push_h 1) ≡ None) × (length (moved (pushes 1 0 1) (with_handlers 31)).handlers ≡ 32)
+unfolding stops_of stop_at value_of open_of close_of pushes thread_at thread_after
+push_at_32 = (refl, refl, refl)
+
+-- a pop that calls is a stop with 16 frames, with 15 frames it is not
+pop_at_16 : (stop_of no_exit (with_frames 16) (pop 1) ≡ Some why.StackFull) × (stop_of no_exit (with_frames 15) (pop 1) ≡ None)
+unfolding stops_of stop_at value_of open_of close_of
+pop_at_16 = (refl, refl)
+
+-- a pop that drops is no stop
+drop_at_16 : (stop_of no_exit (with_frames 16) (pop 0) ≡ None) × ((pops 1 0 ((0, 7) ∷ [])).events ≡ what.Popped 0 7 false ∷ [])
+unfolding stops_of stop_at value_of open_of close_of pops
+drop_at_16 = (refl, refl)
+
+-- a `do` with 16 frames is a stop, with 15 frames it is not
+do_at_16 : (stop_of no_exit (with_frames 16) (statement.Do 0 (operand.Num 1)) ≡ Some why.StackFull) × (stop_of no_exit (with_frames 15) (statement.Do 0 (operand.Num 1)) ≡ None)
+unfolding stops_of stop_at value_of open_of close_of
+do_at_16 = (refl, refl)
+
+-- a statement that is not implemented is a stop before all others
+unbuilt_first : (stop_of exit_begun (with_frames 16) statement.TestCancel ≡ Some why.Unbuilt) × (stop_of no_exit (with_handlers 32) (statement.Create destination.Drop destination.Drop 0 (operand.Num 0) false) ≡ Some why.Unbuilt)
+unfolding stops_of stop_at
+unbuilt_first = (refl, refl)
 
 -- the texts of all stops
 stop_texts : flat_map (λ w. line_text (stop_words w)) (why.Unbuilt ∷ why.ForkChildCall ∷ why.AsyncCall ∷ why.EnableInHandler ∷ why.ExitInEnding ∷ why.ThreadId ∷ why.JoinSelf ∷ why.NotJoinable ∷ why.JoinTwice ∷ why.DetachJoined ∷ why.KeyId ∷ why.NotOwner ∷ why.CondTwoMutexes ∷ why.ExitTwice ∷ why.ForkInEnding ∷ why.StackFull ∷ why.CleanupFull ∷ []) ≡ codes "profile unbuilt\nprofile fork_child_call\nundefined async_call\nundefined enable_in_handler\nundefined exit_in_ending\nundefined thread_id\nundefined join_self\nundefined not_joinable\nundefined join_twice\nundefined detach_joined\nundefined key_id\nundefined not_owner\nundefined cond_two_mutexes\nundefined exit_twice\nprofile fork_in_ending\nprofile stack_full\nprofile cleanup_full\n"
 unfolding stop_words keyword_text
 stop_texts = refl
 
--- a return of `main` after exit has begun is a stop
-second_exit : returns_by kind.Main (record (first_process smallest) { exit_value = Some 3 }) (with_handlers 0) [] 0 ≡ stops (with_handlers 0) why.ExitTwice
-unfolding returns_by
-second_exit = refl
+-- a return of `main` after exit has begun is a stop, by `return` and by the closing `end`
+second_exit : (stop_of exit_begun (with_handlers 0) returns_0 ≡ Some why.ExitTwice) × (stop_of exit_begun (with_handlers 0) statement.End ≡ Some why.ExitTwice) × (stop_of no_exit (with_handlers 0) returns_0 ≡ None) × (stop_of no_exit (with_handlers 0) statement.End ≡ None)
+unfolding stops_of stop_at value_of open_of close_of
+second_exit = (refl, refl, refl, refl)
+
+-- a return of a function that `do` calls is no stop
+second_exit_only_in_main : stop_at (returns_0 ∷ []) exit_begun (with_handlers 0) (new_frame 0 0 kind.Call) returns_0 ≡ None
+unfolding stops_of stop_at value_of open_of close_of
+second_exit_only_in_main = refl
+
+-- a stop changes nothing but the run
+stopped_by_second_exit : transition_at (returns_0 ∷ []) exit_begun (with_handlers 0) (StatementIn main_frame returns_0) Running ≡ record { next = None; actions = Stop why.ExitTwice ∷ []; events = what.Stopped why.ExitTwice ∷ [] }
+unfolding transition_at stops_of stop_at value_of open_of close_of
+stopped_by_second_exit = refl
+
+abbrev two_handlers : Thread
+two_handlers = record (with_handlers 0) { handlers = (0, 7) ∷ (2, 3) ∷ [] }
+
+-- a pop with 0 removes the newest handler
+pop_with_0 : moved (pops 1 0 two_handlers.handlers) two_handlers ≡ record two_handlers { frames = record main_frame { pc = 1 } ∷ []; handlers = (2, 3) ∷ [] }
+unfolding pops thread_at thread_after
+pop_with_0 = refl
+
+-- a pop with another value calls it too, and continues after the pop when it returns
+pop_with_5 : moved (pops 1 5 two_handlers.handlers) two_handlers ≡ record two_handlers { frames = new_frame 0 7 kind.PopHandler ∷ record main_frame { pc = 1 } ∷ []; handlers = (2, 3) ∷ [] }
+unfolding pops thread_at thread_after
+pop_with_5 = refl
 
 abbrev stopped : World
 stopped = record (opening smallest) { stop = Some why.StackFull }
@@ -301,26 +356,38 @@ all_ended = record { processes = record (first_process smallest) { ended = Some 
 
 -- no entry is legal after a stop
 nothing_after_a_stop : IsFalse (is_legal smallest default_config stopped first_goes)
-unfolding opening step
+unfolding opening step open_of close_of jumps emits sets variable_value adds calls pushes pops exits returns_by ends_process stops_of stop_at running_choices choices_at runs transition_at thread_at thread_after shared_after process_after other_process_after stop_after after_transition
 nothing_after_a_stop = refl
 
 -- a stop precedes complete, complete precedes deadlock, deadlock precedes budget
 verdict_order : (verdict_of smallest (with_budget 2) (record all_ended { stop = Some why.StackFull }) 2 ≡ verdict.Undefined why.StackFull) × (verdict_of smallest (with_budget 2) all_ended 2 ≡ verdict.Complete) × (verdict_of smallest (with_budget 2) deadlocked 2 ≡ verdict.Deadlock)
-unfolding verdict_of main_of keyword_text
+unfolding verdict_of main_of keyword_text statement_at running_choices choices_at
 verdict_order = (refl, refl, refl)
 
 -- a process with this id, parent and exit status
 abbrev child : ℕ → ℕ → Option ℕ → Process
 child pid parent status = record (first_process smallest) { pid = pid; parent = parent; ended = status }
 
-abbrev after_end : Process → ℕ × Option ℕ × Bool
-after_end p = let q : Process = process_ends 2 7 p in (q.parent, q.ended, q.reaped)
+abbrev family : World
+family = record { processes = child 1 0 None ∷ child 2 1 None ∷ child 3 2 (Some 5) ∷ child 4 2 None ∷ child 5 1 (Some 6) ∷ []; stop = None }
+
+abbrev ends_with_7 : Transition
+ends_with_7 = acts (EndProcess 7 ∷ []) []
+
+-- the parent and the exit status of a process, and whether it was reaped
+abbrev parent_and_end : Process → ℕ × Option ℕ × Bool
+parent_and_end p = (p.parent, p.ended, p.reaped)
 
 -- as a process ends, its ended children are reaped, its other children lose their parent, and other processes are
 -- unchanged
-end_of_a_process : map after_end (child 1 0 None ∷ child 2 1 None ∷ child 3 2 (Some 5) ∷ child 4 2 None ∷ child 5 1 (Some 6) ∷ []) ≡ (0, None, false) ∷ (1, Some 7, false) ∷ (2, Some 5, true) ∷ (0, None, false) ∷ (1, Some 6, false) ∷ []
-unfolding main_of keyword_text
+end_of_a_process : map parent_and_end (after_transition 2 1 ends_with_7 family).processes ≡ (0, None, false) ∷ (1, Some 7, false) ∷ (2, Some 5, true) ∷ (0, None, false) ∷ (1, Some 6, false) ∷ []
+unfolding main_of keyword_text after_transition thread_at thread_after shared_after process_after other_process_after stop_after
 end_of_a_process = refl
+
+-- a process without a parent is reaped as it ends
+end_of_the_first : map parent_and_end (after_transition 1 1 ends_with_7 family).processes ≡ (0, Some 7, true) ∷ (0, None, false) ∷ (2, Some 5, false) ∷ (2, None, false) ∷ (1, Some 6, true) ∷ []
+unfolding main_of keyword_text after_transition thread_at thread_after shared_after process_after other_process_after stop_after
+end_of_the_first = refl
 
 -- ---- entries
 
@@ -329,27 +396,27 @@ legal_at_start e = is_legal smallest default_config (opening smallest) e
 
 -- thread 1 may step, by any worker from 0 to 16
 first_workers : (IsTrue (legal_at_start (record first_goes { worker = 0 }))) × (IsTrue (legal_at_start first_goes)) × (IsTrue (legal_at_start (record first_goes { worker = 16 })))
-unfolding main_of keyword_text statement_at value_of opening stops exits returns_by running_at step
+unfolding main_of keyword_text statement_at value_of opening open_of close_of jumps emits sets variable_value adds calls pushes pops exits returns_by ends_process stops_of stop_at running_choices choices_at runs transition_at thread_at thread_after shared_after process_after other_process_after stop_after after_transition step
 first_workers = (refl, refl, refl)
 
 -- no worker is above 16
 no_worker_17 : IsFalse (legal_at_start (record first_goes { worker = 17 }))
-unfolding main_of keyword_text statement_at value_of opening stops exits returns_by running_at step
+unfolding main_of keyword_text statement_at value_of opening open_of close_of jumps emits sets variable_value adds calls pushes pops exits returns_by ends_process stops_of stop_at running_choices choices_at runs transition_at thread_at thread_after shared_after process_after other_process_after stop_after after_transition step
 no_worker_17 = refl
 
 -- there is no other process
 no_other_process : (IsFalse (legal_at_start (record first_goes { pid = 0 }))) × (IsFalse (legal_at_start (record first_goes { pid = 2 })))
-unfolding main_of keyword_text statement_at value_of opening stops exits returns_by running_at step
+unfolding main_of keyword_text statement_at value_of opening open_of close_of jumps emits sets variable_value adds calls pushes pops exits returns_by ends_process stops_of stop_at running_choices choices_at runs transition_at thread_at thread_after shared_after process_after other_process_after stop_after after_transition step
 no_other_process = (refl, refl)
 
 -- there is no other thread
 no_other_thread : (IsFalse (legal_at_start (record first_goes { tid = 0 }))) × (IsFalse (legal_at_start (record first_goes { tid = 2 })))
-unfolding main_of keyword_text statement_at value_of opening stops exits returns_by running_at step
+unfolding main_of keyword_text statement_at value_of opening open_of close_of jumps emits sets variable_value adds calls pushes pops exits returns_by ends_process stops_of stop_at running_choices choices_at runs transition_at thread_at thread_after shared_after process_after other_process_after stop_after after_transition step
 no_other_thread = (refl, refl)
 
 -- there is no other choice
 nothing_but_go : (IsFalse (legal_at_start (record first_goes { alt = alt.Act 0 }))) × (IsFalse (legal_at_start (record first_goes { alt = alt.New 2 }))) × (IsFalse (legal_at_start (record first_goes { alt = alt.Pick 1 }))) × (IsFalse (legal_at_start (record first_goes { alt = alt.Dtor 1 })))
-unfolding main_of keyword_text statement_at value_of opening stops exits returns_by running_at step
+unfolding main_of keyword_text statement_at value_of opening open_of close_of jumps emits sets variable_value adds calls pushes pops exits returns_by ends_process stops_of stop_at running_choices choices_at runs transition_at thread_at thread_after shared_after process_after other_process_after stop_after after_transition step
 nothing_but_go = (refl, refl, refl, refl)
 
 -- ---- names, and the limit on statement lines

@@ -16,9 +16,6 @@ use pct_text::{count_words, first_line, next_word, spells_something};
 use std::alloc::{AllocError, Global};
 use std::marker::Model;
 
-#[cfg(test)]
-mod tests;
-
 /// An iterator over the numbered lines of a text that spell something. Contracts see the list of the lines left.
 #[derive(Drop)]
 pub(crate) struct SpelledLines<'a> {

@@ -39,6 +39,7 @@ fn word_end(bytes: &[u8]) -> Option<usize>
 }
 
 /// The first word of the bytes, and the bytes after it. It is `None` where they have no word.
+#[inline]
 pub fn next_word(bytes: &[u8]) -> Option<(&[u8], &[u8])>
     ensures words { words_in bytes.now
         ≡ option_map_or (λ parts. parts.0.now ∷ words_in parts.1.now) result [] }
@@ -72,6 +73,7 @@ fn begins_comment(word: &[u8]) -> bool
 }
 
 /// Whether a line is neither blank nor a comment: it has a word, and its first word does not begin with `#`.
+#[inline]
 pub fn spells_something(line: &[u8]) -> bool
     ensures { result ≡ spell_something (words_in line.now) }
 {

@@ -1,36 +1,28 @@
-use Rattle.std.proofs.Common.{◌≡◌, Bool, true, false, [], refl, map}
+use Rattle.std.proofs.Common.{map}
 use Rattle.std.specs.Prelude.{string_bytes}
-use Rattle.std.proofs.lemmas.Bool.{false≢true}
-use Rattle.std.proofs.KnownBytes.{Consumes-nil}
-use Rattle.pct_model.specs.Outcome.{is_accepted}
-use Rattle.pct_command.specs.declared.status.Status.TheVariants as status
-use Rattle.pct_command.proofs.Outcomes.{words-answer}
-use Rattle.pct_command.proofs.WrittenAnswers.{output, tells_part}
+use Rattle.pct_io.proofs.Unchanged.{KeepsInners-refl}
+use Rattle.pct_command.specs.Command.{Outside}
+use Rattle.pct_command.specs.Answer.{code_of_answer, text_of_answer}
 use Rattle.pct_command.proofs.CompleteOutcomes.{complete}
 use Rattle.pct_command.proofs.dispatch.command.Goals as goal
 
--- words that the reader of words refused are not accepted
-refused : (b : Bool) → (b ≡ true → ⊥) → b ≡ false
-refused true h = absurd (h refl)
-refused false h = refl
-
-pub returns-in-Ok-refuse_words-clause-answers : goal.returns-in-Ok-refuse_words-clause-answers
-returns-in-Ok-refuse_words-clause-answers g c =
-    let words = map string_bytes c.args.words.now in
-    let no_words : is_accepted words ≡ false = refused (is_accepted words) (λ yes. false≢true (c.in-Err.ensures.accepted.1 yes)) in
-    record { input = []; read = record { prefix = Consumes-nil _; to_end = λ other too_long. absurd (other refl) }; output = output words [] 5 _ (words-answer words [] no_words) c.in-Ok-refuse_words.ensures.ok }
-
-pub returns-in-Err-refuse_words-clause-answers : goal.returns-in-Err-refuse_words-clause-answers
-returns-in-Err-refuse_words-clause-answers g c =
-    let words = map string_bytes c.args.words.now in
-    let no_words : is_accepted words ≡ false = refused (is_accepted words) (λ yes. false≢true (c.in-Err.ensures.accepted.1 yes)) in
-    record { input = []; output = tells_part words [] 5 _ (words-answer words [] no_words) c.in-Err-refuse_words.ensures.err c.in-Err-refuse_words.ensures.cause; read = record { prefix = Consumes-nil _; to_end = λ other too_long. absurd (other refl) } }
+pub returns-in-Ok-write_answer-clause-complete : goal.returns-in-Ok-write_answer-clause-complete
+returns-in-Ok-write_answer-clause-complete g c =
+    let before : Outside = record { left = g.S.Source.left c.args.source.now; read_errors = g.S.Source.errors c.args.source.now; written = g.K.Sink.written c.args.sink.now; write_errors = g.K.Sink.errors c.args.sink.now } in
+    let after : Outside = record { left = g.S.Source.left c.answer_words.new.source; read_errors = g.S.Source.errors c.answer_words.new.source; written = g.K.Sink.written c.write_answer.new.sink; write_errors = g.K.Sink.errors c.write_answer.new.sink } in
+    rw c.status.ensures.status (complete (map string_bytes c.args.words.now) before after c.in-Ok.answer c.in-Ok.ensures.answer c.in-Ok-write_answer.ensures.ok)
 
 pub returns-in-Ok-clause-answers : goal.returns-in-Ok-clause-answers
-returns-in-Ok-clause-answers g c = c.answer_input.ensures.answers (map string_bytes c.args.words.now) c.in-Ok.ensures.job
+returns-in-Ok-clause-answers g c =
+    let read = c.in-Ok.ensures.answer in
+    record {
+      input = read.input;
+      output = record { code = code_of_answer c.in-Ok.answer; text = text_of_answer c.in-Ok.answer; answer = read.is_answer; wrote = c.in-Err.ensures.err; cause = c.in-Err.ensures.cause };
+      read = read.read;
+    }
 
-pub returns-in-Ok-clause-complete : goal.returns-in-Ok-clause-complete
-returns-in-Ok-clause-complete g c = complete _ _ _ c.answer_input.result (returns-in-Ok-clause-answers g c)
+pub returns-in-Err-ReadFault-clause-inners : goal.returns-in-Err-ReadFault-clause-inners
+returns-in-Err-ReadFault-clause-inners g c = KeepsInners-refl _
 
-pub returns-in-Ok-refuse_words-clause-complete : goal.returns-in-Ok-refuse_words-clause-complete
-returns-in-Ok-refuse_words-clause-complete g c = complete _ _ _ status.Usage (returns-in-Ok-refuse_words-clause-answers g c)
+pub returns-clause-inners : goal.returns-clause-inners
+returns-clause-inners g c = KeepsInners-refl _

@@ -1,0 +1,189 @@
+-- Runs whose entries a generator of words chooses, an entry after the other.
+use Rattle.std.proofs.Common.{◌≡◌, ◌⊎◌, inl, inr, ℕ, zero, suc, ◌+◌, ◌*◌, ◌<◌, ◌≤◌, true, List, [], ◌∷◌, ◌++◌, Some, None, refl, sym, ap, ◌∙◌, subst, arith, length, take, length-append}
+use Rattle.std.specs.Prelude.{slice_get}
+use Rattle.std.proofs.Math.Nat.{eq-or-lt_of_le}
+use Rattle.std.proofs.Math.Seq.{take-append_seam, get_or-append_seam}
+use Rattle.std.proofs.lemmas.List.{take-append-le, get_or_append_left}
+use Rattle.std.proofs.lemmas.Option.{none-some, same_Some, slice_get-get_or}
+use Rattle.rand_pcg.specs.Lcg.{Lcg}
+use Rattle.rand_pcg.specs.Pcg.{pcg32}
+use Rattle.pct_model.specs.declared.script.Script.{Script}
+use Rattle.pct_model.specs.declared.schedule.Config.{Config}
+use Rattle.pct_model.specs.declared.schedule.Entry.{Entry}
+use Rattle.pct_model.specs.declared.stop.Verdict.{Verdict}
+use Rattle.pct_model.specs.declared.stop.Verdict.TheVariants as verdict
+use Rattle.pct_model.specs.World.{opening}
+use Rattle.pct_model.specs.Chosen.{chosen}
+use Rattle.pct_model.specs.Run.{Run, is_config, run, verdict_of}
+use Rattle.pct_engine.specs.EngineStates.{EngineValue, IsRunWith, IsChoice}
+use Rattle.pct_engine_laws.proofs.LongerRuns.{run_none, run_parts}
+use Rattle.pct_history.proofs.IllegalEntries.{has_value}
+use Rattle.pct_command.specs.SeedSchedule.{word_at, AreChosenBy, IsRunBy}
+
+-- pairs of equal parts are equal
+pair_of : {A B : Type 0} {a b : A} {c d : B} → a ≡ b → c ≡ d → ◌≡◌ {A = A × B} (a, c) (b, d)
+pair_of first second = cc
+
+-- ---- words
+
+-- the generator after some words
+pub generator_at : Lcg → ℕ → Lcg
+generator_at g zero = g
+generator_at g (suc k) = (pcg32 (generator_at g k)).1
+
+generator_at-next : (g : Lcg) (k : ℕ) → generator_at (pcg32 g).1 k ≡ generator_at g (suc k)
+unfolding generator_at
+generator_at-next g zero = refl
+generator_at-next g (suc k) = ap (λ (x : Lcg). (pcg32 x).1) (generator_at-next g k)
+
+-- a word is that of the generator after the words before it
+word_at-is : (g : Lcg) (k : ℕ) → word_at g k ≡ (pcg32 (generator_at g k)).0
+unfolding word_at generator_at
+word_at-is g zero = refl
+word_at-is g (suc k) = word_at-is (pcg32 g).1 k ∙ ap (λ (x : Lcg). (pcg32 x).0) (generator_at-next g k)
+
+generator_at-more : (g : Lcg) (k m : ℕ) → m ≡ suc k → (pcg32 (generator_at g k)).1 ≡ generator_at g m
+unfolding generator_at
+generator_at-more g k m more = ap (generator_at g) (sym more)
+
+-- the words of an entry
+pub first_word : (g now : Lcg) (n : ℕ) → now ≡ generator_at g (2 * n) → (pcg32 now).0 ≡ word_at g (2 * n)
+first_word g now n is = ap (λ (x : Lcg). (pcg32 x).0) is ∙ sym (word_at-is g (2 * n))
+
+pub second_word : (g now : Lcg) (n : ℕ) → now ≡ generator_at g (2 * n) → (pcg32 (pcg32 now).1).0 ≡ word_at g (2 * n + 1)
+second_word g now n is =
+    ap (λ (x : Lcg). (pcg32 (pcg32 x).1).0) is
+    ∙ ap (λ (x : Lcg). (pcg32 x).0) (generator_at-more g (2 * n) (2 * n + 1) (omega arith))
+    ∙ sym (word_at-is g (2 * n + 1))
+
+next_words : (g now : Lcg) (n m : ℕ) → now ≡ generator_at g (2 * n) → m ≡ n + 1 → (pcg32 (pcg32 now).1).1 ≡ generator_at g (2 * m)
+next_words g now n m is more =
+    ap (λ (x : Lcg). (pcg32 (pcg32 x).1).1) is
+    ∙ ap (λ (x : Lcg). (pcg32 x).1) (generator_at-more g (2 * n) (2 * n + 1) (omega arith))
+    ∙ generator_at-more g (2 * n + 1) (2 * m) (omega (arith, more))
+
+-- ---- runs
+
+-- a run whose entries so far the generator chose, and the generator as it is now
+pub record IsChosenSoFar (words : Lcg) (script : Script) (config : Config) (entries : List Entry) (now : Lcg) : Type 0 where
+  pub after : Run
+  pub is_run : run script config entries ≡ Some after
+  pub choices : AreChosenBy words script config entries
+  pub now_is : now ≡ generator_at words (2 * length entries)
+
+chosen-nothing : (words : Lcg) (script : Script) (config : Config) → is_config config ≡ true → IsChosenSoFar words script config [] words
+unfolding generator_at
+chosen-nothing words script config limits = record {
+  after = record { world = opening script; events = [] };
+  is_run = run_none script config limits;
+  choices = λ k before within is. absurd (omega arith);
+  now_is = refl;
+}
+
+-- the run of no entry
+pub chosen-none : (words : Lcg) (script : Script) (config : Config) (entries : List Entry) → is_config config ≡ true → entries ≡ [] → IsChosenSoFar words script config entries words
+chosen-none words script config entries limits none =
+    subst (λ (xs : List Entry). IsChosenSoFar words script config xs words) (sym none) (chosen-nothing words script config limits)
+
+open_or_not : (v : Verdict) → (v ≡ verdict.Open) ⊎ (v ≡ verdict.Open → ⊥)
+open_or_not verdict.Complete = inr (λ same. cc)
+open_or_not verdict.Deadlock = inr (λ same. cc)
+open_or_not verdict.Budget = inr (λ same. cc)
+open_or_not (verdict.Undefined why) = inr (λ same. cc)
+open_or_not verdict.Open = inl refl
+
+-- if there is a choice, the verdict is `Open`
+open_by : (engine : EngineValue) (after : Run) (a b : ℕ) (e : Entry) → IsChoice engine after 1 a b (Some e)
+    → (verdict_of engine.script engine.config after.world (length engine.history) ≡ verdict.Open) ⊎ (verdict_of engine.script engine.config after.world (length engine.history) ≡ verdict.Open → ⊥)
+    → verdict_of engine.script engine.config after.world (length engine.history) ≡ verdict.Open
+open_by engine after a b e choice (inl is_open) = is_open
+open_by engine after a b e choice (inr is_closed) = absurd (none-some e (sym (choice.closed is_closed)))
+
+pub is_open : (engine : EngineValue) (after : Run) (a b : ℕ) (e : Entry) → IsChoice engine after 1 a b (Some e) → verdict_of engine.script engine.config after.world (length engine.history) ≡ verdict.Open
+is_open engine after a b e choice = open_by engine after a b e choice (open_or_not (verdict_of engine.script engine.config after.world (length engine.history)))
+
+-- the entry that is chosen is legal
+pub chosen-legal : (engine : EngineValue) (after : Run) (a b : ℕ) (e : Entry) → IsChoice engine after 1 a b (Some e) → IsRunWith engine e
+chosen-legal engine after a b e choice = choice.legal (is_open engine after a b e choice)
+
+-- the entries before the last one, and the last one
+get-before : (entries : List Entry) (e : Entry) (k : ℕ) → k < length entries → slice_get (entries ++ e ∷ []) k ≡ slice_get entries k
+get-before entries e k within =
+    slice_get-get_or (entries ++ e ∷ []) k e (omega (arith, length-append entries (e ∷ [])))
+    ∙ ap (λ (x : Entry). Some x) (get_or_append_left entries (e ∷ []) e k within)
+    ∙ sym (slice_get-get_or entries k e within)
+
+get-last : (entries : List Entry) (e : Entry) → slice_get (entries ++ e ∷ []) (length entries) ≡ Some e
+get-last entries e =
+    slice_get-get_or (entries ++ e ∷ []) (length entries) e (omega (arith, length-append entries (e ∷ [])))
+    ∙ ap (λ (x : Entry). Some x) (get_or-append_seam entries e [] e)
+
+swapped : {A B : Type 0} → A ⊎ B → B ⊎ A
+swapped (inl a) = inr a
+swapped (inr b) = inl b
+
+earlier_or_last : (k n : ℕ) → k < n + 1 → (k < n) ⊎ (k ≡ n)
+earlier_or_last k n within = swapped (eq-or-lt_of_le {n = k} {m = n} (omega arith))
+
+choice_at : (words : Lcg) (script : Script) (config : Config) (entries : List Entry) (e : Entry) (after : Run) → run script config entries ≡ Some after → AreChosenBy words script config entries
+    → Some e ≡ chosen script config after.world 1 (word_at words (2 * length entries)) (word_at words (2 * length entries + 1))
+    → (k : ℕ) (before : Run) → run script config (take k (entries ++ e ∷ [])) ≡ Some before → (k < length entries) ⊎ (k ≡ length entries)
+    → slice_get (entries ++ e ∷ []) k ≡ chosen script config before.world 1 (word_at words (2 * k)) (word_at words (2 * k + 1))
+choice_at words script config entries e after is_run choices picked k before is (inl earlier) =
+    get-before entries e k earlier
+    ∙ choices k before earlier (ap (run script config) (sym (take-append-le k entries (e ∷ []) (omega arith))) ∙ is)
+choice_at words script config entries e after is_run choices picked k before is (inr last) =
+    let n = length entries in
+    let same : after ≡ before = same_Some after before (sym is_run ∙ ap (run script config) (sym (take-append_seam entries (e ∷ []))) ∙ ap (λ (m : ℕ). run script config (take m (entries ++ e ∷ []))) (sym last) ∙ is) in
+    ap (slice_get (entries ++ e ∷ [])) last
+    ∙ get-last entries e
+    ∙ picked
+    ∙ ap (λ (r : Run). chosen script config r.world 1 (word_at words (2 * n)) (word_at words (2 * n + 1))) same
+    ∙ ap (λ (m : ℕ). chosen script config before.world 1 (word_at words (2 * m)) (word_at words (2 * m + 1))) (sym last)
+
+-- a choice for each entry, and one for the next
+choices-more : (words : Lcg) (script : Script) (config : Config) (entries : List Entry) (e : Entry) (after : Run) → run script config entries ≡ Some after → AreChosenBy words script config entries
+    → Some e ≡ chosen script config after.world 1 (word_at words (2 * length entries)) (word_at words (2 * length entries + 1))
+    → AreChosenBy words script config (entries ++ e ∷ [])
+choices-more words script config entries e after is_run choices picked k before within is =
+    let more : length (entries ++ e ∷ []) ≡ length entries + 1 = length-append entries (e ∷ []) in
+    choice_at words script config entries e after is_run choices picked k before is (earlier_or_last k (length entries) (omega (arith, more)))
+
+-- one entry more
+pub chosen-more : (words now : Lcg) (engine : EngineValue) (e : Entry) (so_far : IsChosenSoFar words engine.script engine.config engine.history now)
+    → IsChoice engine so_far.after 1 (pcg32 now).0 (pcg32 (pcg32 now).1).0 (Some e)
+    → IsChosenSoFar words engine.script engine.config (engine.history ++ e ∷ []) (pcg32 (pcg32 now).1).1
+chosen-more words now engine e so_far choice =
+    let n = length engine.history in
+    let more = has_value (run engine.script engine.config (engine.history ++ e ∷ [])) (chosen-legal engine so_far.after (pcg32 now).0 (pcg32 (pcg32 now).1).0 e choice) in
+    let picked =
+    choice.scheduled (is_open engine so_far.after (pcg32 now).0 (pcg32 (pcg32 now).1).0 e choice)
+    ∙ ap (λ (a : ℕ). chosen engine.script engine.config so_far.after.world 1 a (pcg32 (pcg32 now).1).0) (first_word words now n so_far.now_is)
+    ∙ ap (λ (b : ℕ). chosen engine.script engine.config so_far.after.world 1 (word_at words (2 * n)) b) (second_word words now n so_far.now_is) in
+    record {
+      after = more.0;
+      is_run = more.1;
+      choices = choices-more words engine.script engine.config engine.history e so_far.after so_far.is_run so_far.choices picked;
+      now_is = next_words words now n (length (engine.history ++ e ∷ [])) so_far.now_is (length-append engine.history (e ∷ []));
+    }
+
+-- the engine after the step of the entry, and the generator after its words
+pub chosen-next : (words now then : Lcg) (engine new : EngineValue) (e : Entry) (so_far : IsChosenSoFar words engine.script engine.config engine.history now)
+    → IsChoice engine so_far.after 1 (pcg32 now).0 (pcg32 (pcg32 now).1).0 (Some e) → then ≡ (pcg32 (pcg32 now).1).1 → new ≡ record engine { history = engine.history ++ e ∷ [] }
+    → IsChosenSoFar words new.script new.config new.history then
+chosen-next words now then engine new e so_far choice drawn made =
+    subst (λ (x : EngineValue × Lcg). IsChosenSoFar words x.0.script x.0.config x.0.history x.1) (pair_of (sym made) (sym drawn)) (chosen-more words now engine e so_far choice)
+
+-- the run is within the budget
+pub chosen-within : (words : Lcg) (script : Script) (config : Config) (entries : List Entry) (now : Lcg) → IsChosenSoFar words script config entries now → length entries ≤ config.budget
+chosen-within words script config entries now so_far = (run_parts script config entries so_far.after so_far.is_run).within
+
+-- no entry is chosen
+pub chosen-all : (words now : Lcg) (engine : EngineValue) (a b : ℕ) (so_far : IsChosenSoFar words engine.script engine.config engine.history now)
+    → IsChoice engine so_far.after 1 a b None → IsRunBy words engine.script engine.config engine.history
+chosen-all words now engine a b so_far choice = record {
+  after = so_far.after;
+  is_run = so_far.is_run;
+  is_closed = λ is_open. choice.legal is_open;
+  choices = so_far.choices;
+}

@@ -1,0 +1,14 @@
+use Rattle.std.proofs.Common.{rules}
+use Rattle.std.proofs.lemmas.Result.{err_from_is_err_and}
+use Rattle.pct_io.proofs.BufferedWrites.{Writes-kept, Writes-through}
+use Rattle.pct_command.proofs.answer_writer.write_alone.Goals as goal
+
+pub returns-in_err-write_line : goal.returns-in_err-write_line
+returns-in_err-write_line g c =
+    let p = err_from_is_err_and c.from_residual.result c.from_residual.ensures.1 in
+    rw p.1 (Writes-through _ c.new-line.ensures.sink (search rules) c.new-line.ensures.buffer tt c.in_err-write_line.ensures)
+
+pub returns : goal.returns
+returns g c =
+    Writes-through c.flush.result c.new-line.ensures.sink (search rules) c.new-line.ensures.buffer c.flush.ensures.buffer
+    (Writes-kept c.flush.result c.in_ok-write_line.ensures c.flush.ensures.kept)

@@ -1,5 +1,0 @@
-use Rattle.pct_io.proofs.WritesInTurn.{Writes-then}
-use Rattle.pct_command.proofs.report.write_end.Goals as goal
-
-pub returns : goal.returns
-returns g c = Writes-then _ c.in_ok-write_verdict.ensures c.write_schedule.ensures

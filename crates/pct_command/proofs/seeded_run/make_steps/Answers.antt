@@ -1,0 +1,73 @@
+use Rattle.std.proofs.Common.{◌≡◌, ◌+◌, ◌≤◌, ◌++◌, ◌∷◌, [], refl, sym, ap, ◌∙◌, subst, arith, length, length-append}
+use Rattle.std.specs.List.{list_all}
+use Rattle.pct_schedule.specs.Schedules.{is_entry}
+use Rattle.pct_engine.specs.EngineStates.{EngineValue}
+use Rattle.pct_command.specs.SeedSchedule.{IsRunBy}
+use Rattle.pct_command.proofs.SeededRuns.{IsChosenSoFar, chosen-none, chosen-legal, chosen-next, chosen-within, chosen-all}
+use Rattle.pct_command.proofs.SeededEntries.{chosen-worker, entries-more}
+use Rattle.pct_command.proofs.seeded_run.make_steps.Goals as goal
+
+pub loop-entry-init : goal.loop-entry-init
+loop-entry-init c = record {
+  same = refl;
+  each = ap (list_all is_entry) c.requires.opened;
+  so_far = chosen-none c.args.words.now c.args.engine.now.script c.args.engine.now.config c.args.engine.now.history c.requires.config c.requires.opened;
+}
+
+pub unwrap-requires : goal.unwrap-requires
+unwrap-requires c =
+    let so_far = c.loop-entry.invariant.so_far in
+    c.step.ensures.legal.1 (chosen-legal c.loop-entry.engine so_far.after _ _ c.in-Some.entry (c.in-Some.ensures.chosen so_far.after so_far.is_run))
+
+-- what the step made
+made : (c : goal.After-unwrap) → c.step.new.self ≡ record c.loop-entry.engine { history = c.loop-entry.engine.history ++ c.in-Some.entry ∷ [] }
+made c = rw c.unwrap.ensures at c.step.ensures.made
+
+more : (c : goal.After-unwrap) → IsChosenSoFar c.args.words.now c.step.new.self.script c.step.new.self.config c.step.new.self.history c.next_entry.new.words
+more c =
+    let so_far = c.loop-entry.invariant.so_far in
+    chosen-next c.args.words.now c.loop-entry.words c.next_entry.new.words c.loop-entry.engine c.step.new.self c.in-Some.entry so_far (c.in-Some.ensures.chosen so_far.after so_far.is_run) c.in-Some.ensures.drawn (made c)
+
+-- the worker of the entry
+worker : (c : goal.After-unwrap) → c.in-Some.entry.worker ≡ 1
+worker c =
+    let so_far = c.loop-entry.invariant.so_far in
+    chosen-worker c.loop-entry.engine so_far.after _ _ c.in-Some.entry (c.in-Some.ensures.chosen so_far.after so_far.is_run)
+
+pub loop-entry-preserved : goal.loop-entry-preserved
+loop-entry-preserved c =
+    let opened = c.args.engine.now in
+    record {
+      same =
+          made c
+          ∙ ap (λ (engine : EngineValue). record engine { history = c.loop-entry.engine.history ++ c.in-Some.entry ∷ [] }) c.loop-entry.invariant.same
+          ∙ ap (λ (engine : EngineValue). record opened { history = engine.history }) (sym (made c));
+      each =
+          ap (λ (engine : EngineValue). list_all is_entry engine.history) (made c)
+          ∙ entries-more c.loop-entry.engine.history c.in-Some.entry c.loop-entry.invariant.each (c.in-Some.ensures.numbers (omega (arith, worker c)));
+      so_far = more c;
+    }
+
+pub loop-entry-smaller : goal.loop-entry-smaller
+loop-entry-smaller c =
+    let old = c.loop-entry.engine in
+    let new = c.step.new.self in
+    let longer : length new.history ≡ length old.history + 1 = ap (λ (engine : EngineValue). length engine.history) (made c) ∙ length-append old.history (c.in-Some.entry ∷ []) in
+    let same : new.config.budget ≡ old.config.budget = ap (λ (engine : EngineValue). engine.config.budget) (made c) in
+    let within : length new.history ≤ new.config.budget = chosen-within _ _ _ _ _ (more c) in
+    omega (arith, longer, same, within)
+
+pub returns-clause-run : goal.returns-clause-run
+returns-clause-run c =
+    let so_far = c.loop-entry.invariant.so_far in
+    subst (λ (engine : EngineValue). IsRunBy c.args.words.now engine.script engine.config engine.history) c.loop-entry.invariant.same
+    (chosen-all c.args.words.now c.loop-entry.words c.loop-entry.engine _ _ so_far (c.in_default.ensures.chosen so_far.after so_far.is_run))
+
+pub returns-clause-within : goal.returns-clause-within
+returns-clause-within c =
+    let so_far = c.loop-entry.invariant.so_far in
+    record {
+      config_fits = c.requires.config;
+      few = subst (λ (engine : EngineValue). length engine.history ≤ engine.config.budget) c.loop-entry.invariant.same (chosen-within _ _ _ _ _ so_far);
+      each = c.loop-entry.invariant.each;
+    }

@@ -1,0 +1,87 @@
+//! The answer to an input: a refusal, a run, or a script.
+
+ghost use Rattle.std.specs.Prelude.{◌≡◌};
+ghost use Rattle.pct_command.specs.Answer.{status_of_answer, status_of_refusal, status_of_verdict};
+ghost use Rattle.pct_command.specs.Status.{IsAnswered};
+
+use crate::status::Status;
+use pct_engine::Engine;
+use pct_model::{ParseWhy, ScheduleWhy, Script, Verdict};
+
+/// Why an input is refused.
+#[derive(Clone, Copy)]
+pub(crate) enum Refusal {
+    /// The words are not accepted.
+    Words,
+    /// The input has more than 16,777,216 bytes.
+    Input,
+    /// The text of the script has a fault: the first one, and the number of its line, counted from 1.
+    Script { line: u32, why: ParseWhy },
+    /// The text of the schedule has a fault: the first one, and the number of its line, counted from 1.
+    Schedule { line: u32, why: ScheduleWhy },
+    /// An entry of the schedule is not legal: the number of the first one, counted from 1.
+    Entry { entry_number: u32 },
+}
+
+/// What is written.
+#[derive(Drop)]
+pub(crate) enum Answer {
+    /// One line that names the reason.
+    Refused(Refusal),
+    /// The report of the run.
+    Ran(Engine),
+    /// The canonical text of the script.
+    Checked(Script),
+}
+
+/// Why there is no answer to an input.
+#[derive(Clone, Copy)]
+pub(crate) enum Unanswered {
+    /// A read failed.
+    ReadFault,
+    /// Memory ran out.
+    NoMemory,
+}
+
+impl Refusal {
+    // The status of the refusal.
+    fn status(&self) -> Status
+        ensures status { result ≡ status_of_refusal self.now }
+        ensures answered { IsAnswered result }
+    {
+        match self {
+            Refusal::Words => Status::Usage,
+            Refusal::Input => Status::TooLong,
+            Refusal::Script { .. } => Status::ScriptRefused,
+            Refusal::Schedule { .. } | Refusal::Entry { .. } => Status::ScheduleRefused,
+        }
+    }
+}
+
+impl Answer {
+    /// The status of the answer, if it is written whole.
+    pub(crate) fn status(&self) -> Status
+        ensures status { result ≡ status_of_answer self.now }
+        ensures answered { IsAnswered result }
+    {
+        match self {
+            Answer::Refused(refusal) => refusal.status(),
+            Answer::Ran(engine) => status_of(engine.verdict()),
+            Answer::Checked(_) => Status::Complete,
+        }
+    }
+}
+
+// The status of a verdict.
+fn status_of(verdict: Verdict) -> Status
+    ensures status { result ≡ status_of_verdict verdict }
+    ensures answered { IsAnswered result }
+{
+    match verdict {
+        Verdict::Complete => Status::Complete,
+        Verdict::Deadlock => Status::Deadlock,
+        Verdict::Budget => Status::Budget,
+        Verdict::Undefined(_) => Status::Undefined,
+        Verdict::Open => Status::Open,
+    }
+}

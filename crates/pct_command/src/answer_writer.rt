@@ -1,0 +1,79 @@
+//! Writing of an answer.
+
+ghost use Rattle.std.specs.Prelude.{[], ◌∷◌, ◌++◌, map};
+ghost use Rattle.std.specs.List.{join_with_byte};
+ghost use Rattle.pct_io.specs.Writes.{Writes};
+ghost use Rattle.pct_io.specs.Fields.{field_text};
+ghost use Rattle.pct_model.specs.Keywords.{line_text};
+ghost use Rattle.pct_command.specs.Answer.{line_of_refusal, text_of_answer};
+
+use crate::answer::{Answer, Refusal};
+use pct_io::{BufferedSink, Failed, Field, Sink, write_line};
+use pct_model::Keyword;
+use pct_report::write_report;
+use pct_script::print;
+
+/// Writes an answer: the line of a refusal, the report of a run, or the canonical text of a script.
+pub(crate) fn write_answer<K: Sink>(answer: &Answer, sink: &mut K) -> Result<(), Failed>
+    ensures { Writes K.written K.errors K.inners sink.old sink.new (text_of_answer answer.now) result }
+{
+    match answer {
+        Answer::Refused(refusal) => write_refusal(*refusal, sink),
+        Answer::Ran(engine) => write_report(engine, sink),
+        Answer::Checked(script) => print(script, sink),
+    }
+}
+
+// Writes the line of a refusal.
+#[tactic(auto, unfolding(pct_model::specs::Outcome::refused_words, pct_model::specs::Outcome::refused_input, pct_model::specs::Outcome::refused_script, pct_model::specs::Outcome::refused_schedule, pct_model::specs::Outcome::refused_entry))]
+fn write_refusal<K: Sink>(refusal: Refusal, sink: &mut K) -> Result<(), Failed>
+    ensures { Writes K.written K.errors K.inners sink.old sink.new (line_text (line_of_refusal refusal)) result }
+{
+    let title = Field::Text(Keyword::Refused.text());
+    match refusal {
+        Refusal::Words => write_alone(sink, &[title, Field::Text(Keyword::Words.text())]),
+        Refusal::Input => write_alone(
+            sink,
+            &[
+                title,
+                Field::Text(Keyword::Input.text()),
+                Field::Text(Keyword::TooLong.text()),
+            ],
+        ),
+        Refusal::Script { line, why } => write_alone(
+            sink,
+            &[
+                title,
+                Field::Text(Keyword::Script.text()),
+                Field::Number(line),
+                Field::Text(why.name().text()),
+            ],
+        ),
+        Refusal::Schedule { line, why } => write_alone(
+            sink,
+            &[
+                title,
+                Field::Text(Keyword::Schedule.text()),
+                Field::Number(line),
+                Field::Text(why.name().text()),
+            ],
+        ),
+        Refusal::Entry { entry_number } => write_alone(
+            sink,
+            &[
+                title,
+                Field::Text(Keyword::Entry.text()),
+                Field::Number(entry_number),
+            ],
+        ),
+    }
+}
+
+// Writes a line through a buffered sink.
+fn write_alone<K: Sink>(sink: &mut K, words: &[Field]) -> Result<(), Failed>
+    ensures { Writes K.written K.errors K.inners sink.old sink.new (join_with_byte 32 (map field_text words.now) ++ 10 ∷ []) result }
+{
+    let mut line = BufferedSink::new(sink);
+    write_line(&mut line, words)?;
+    line.flush()
+}

@@ -1,0 +1,61 @@
+//! The answer to a text.
+
+ghost use Rattle.std.specs.Prelude.{◌≡◌, ◌≤◌, ◌<◌, ℕ, List, length, IsErr};
+ghost use Rattle.pct_command.specs.Answer.{Answered, HasParts};
+ghost use Rattle.pct_command.specs.Words.{Asks, HasDefaults, parts_of_job};
+
+use crate::answer::{Answer, Refusal};
+use crate::replay_command::replay_script;
+use crate::run_command::run_script;
+use crate::words::Job;
+use pct_history::split_replay;
+use pct_io::NoMemory;
+use pct_model::Script;
+use pct_script::{ParseFault, parse};
+use std::alloc::Global;
+
+/// The answer of a job to a text. `NoMemory` comes only with a text that is not empty.
+pub(crate) fn answer_of(alloc: Global, job: Job, text: &[u8]) -> Result<Answer, NoMemory>
+    requires fits { length text.now ≤ 16777216 }
+    requires defaults { HasDefaults job }
+    ensures answer { (words : List (List ℕ)) → Asks words job → Answered words text.now result }
+    ensures memory { IsErr result → 0 < length text.now }
+{
+    let (end, start) = parts_of(job, text);
+    match parse(alloc, &text[..end]) {
+        Ok(script) => answer_script(alloc, job, script, &text[start..]),
+        Err(ParseFault::Refused { line, why }) => {
+            Ok(Answer::Refused(Refusal::Script { line, why }))
+        }
+        Err(ParseFault::NoMemory) => Err(NoMemory),
+    }
+}
+
+// The end of the script's part of a text, and the start of the schedule's part.
+fn parts_of(job: Job, text: &[u8]) -> (usize, usize)
+    ensures parts { result ≡ parts_of_job job text.now }
+    ensures within { (result.0 ≤ length text.now) × (result.1 ≤ length text.now) }
+{
+    match job {
+        Job::Run(_) | Job::Check => (text.len(), text.len()),
+        Job::Replay => split_replay(text),
+    }
+}
+
+// The answer of a job to a script and the text of a schedule.
+fn answer_script(
+    alloc: Global,
+    job: Job,
+    script: Script,
+    schedule: &[u8],
+) -> Result<Answer, NoMemory>
+    requires fits { length schedule.now ≤ 16777216 }
+    requires defaults { HasDefaults job }
+    ensures { (words : List (List ℕ)) (input : List ℕ) → Asks words job → HasParts words job input script schedule.now → Answered words input result }
+{
+    match job {
+        Job::Run(options) => run_script(alloc, options, script),
+        Job::Replay => replay_script(alloc, script, schedule),
+        Job::Check => Ok(Answer::Checked(script)),
+    }
+}

@@ -1,0 +1,71 @@
+//! The run whose choices are made by the words of a random generator.
+
+ghost use Rattle.std.specs.Prelude.{◌≡◌, ◌≤◌, true, [], IfOk, IfSome, IsTrue};
+ghost use Rattle.rand_pcg.specs.Pcg.{pcg32};
+ghost use Rattle.pct_model.specs.declared.limits.TheConstants.{MAX_WORKER};
+ghost use Rattle.pct_model.specs.Run.{Run, is_config};
+ghost use Rattle.pct_engine.specs.EngineStates.{IsRunOf, IsChoice};
+ghost use Rattle.pct_schedule.specs.Schedules.{IsSchedule, is_entry};
+ghost use Rattle.pct_command.specs.SeedSchedule.{IsRunBy, IsSeededRun, stream_of};
+
+use pct_engine::Engine;
+use pct_io::NoMemory;
+use pct_model::{Config, Entry, Script};
+use rand_core::utils::NextWord;
+use rand_pcg::Lcg64Xsh32;
+use std::alloc::Global;
+
+// The worker that makes every step of a seeded run. Its number is that of its stream of words.
+const WORKER: u32 = 1;
+
+/// Runs a script until the verdict is not `Open`. Worker 1 makes each step: two words of its stream choose the entry, and
+/// two new ones are drawn for the next.
+///
+/// `NoMemory` is returned if the run does not fit into memory; all memory is taken before the first step.
+pub(crate) fn run_seeded(
+    alloc: Global,
+    script: Script,
+    config: Config,
+    seed: u64,
+) -> Result<Engine, NoMemory>
+    requires { IsTrue (is_config config) }
+    ensures seeded { IfOk result (λ engine. IsSeededRun script config seed engine) }
+    ensures within { IfOk result (λ engine. IsSchedule config engine.history) }
+{
+    let mut engine = Engine::open(alloc, script, config)?;
+    let mut words = stream_of(seed, WORKER);
+    make_steps(&mut engine, &mut words);
+    Ok(engine)
+}
+
+// The generator of a worker's words.
+#[tactic(auto, unfolding(crate::specs::SeedSchedule::stream_of))]
+fn stream_of(seed: u64, worker: u32) -> Lcg64Xsh32
+    ensures { result ≡ stream_of seed worker }
+{
+    Lcg64Xsh32::new(seed, u64::from(worker))
+}
+
+// Makes the steps that the words choose, while the verdict is `Open`.
+fn make_steps(engine: &mut Engine, words: &mut Lcg64Xsh32)
+    requires opened { engine.old.history ≡ [] }
+    requires config { IsTrue (is_config engine.old.config) }
+    ensures same { engine.new ≡ record engine.old { history = engine.new.history } }
+    ensures run { IsRunBy words.old engine.old.script engine.old.config engine.new.history }
+    ensures within { IsSchedule engine.old.config engine.new.history }
+{
+    while let Some(entry) = next_entry(engine, words) {
+        engine.step(entry).unwrap();
+    }
+}
+
+// The entry that the next two words choose.
+fn next_entry(engine: &Engine, words: &mut Lcg64Xsh32) -> Option<Entry>
+    ensures chosen { (after : Run) → IsRunOf engine.now after → IsChoice engine.now after WORKER (pcg32 words.old).0 (pcg32 (pcg32 words.old).1).0 result }
+    ensures drawn { words.new ≡ (pcg32 (pcg32 words.old).1).1 }
+    ensures numbers { IfSome result (λ entry. entry.worker ≤ MAX_WORKER → is_entry entry ≡ true) }
+{
+    let a = words.next_word();
+    let b = words.next_word();
+    engine.choose(WORKER, a, b)
+}

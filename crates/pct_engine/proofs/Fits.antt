@@ -1,0 +1,174 @@
+-- Each transition fits the thread that makes it.
+use Rattle.std.proofs.Common.{◌≡◌, ℕ, suc, ◌+◌, ◌%◌, ◌<◌, ◌≤◌, Bool, true, false, cond, not, ◌&&◌, List, [], ◌∷◌, length, Option, Some, None, refl, arith, nat_eq, nat_lt}
+use Rattle.std.specs.Prelude.{unwrap_or}
+use Rattle.std.proofs.lemmas.Bool.{ltb-true}
+use Rattle.pct_model.specs.declared.frame.Frame.{Frame}
+use Rattle.pct_model.specs.declared.script.Script.{Script}
+use Rattle.pct_model.specs.declared.state.FrameKind.{FrameKind}
+use Rattle.pct_model.specs.declared.state.FrameKind.TheVariants as kind
+use Rattle.pct_model.specs.declared.state.Status.{Status}
+use Rattle.pct_model.specs.declared.state.Status.TheVariants as status
+use Rattle.pct_model.specs.declared.statement.Dest.{Dest}
+use Rattle.pct_model.specs.declared.statement.Dest.TheVariants as destination
+use Rattle.pct_model.specs.declared.statement.Stmt.{Stmt}
+use Rattle.pct_model.specs.declared.statement.Stmt.TheVariants as statement
+use Rattle.pct_model.specs.declared.stop.Why.{Why}
+use Rattle.pct_model.specs.declared.stop.Why.TheVariants as why
+use Rattle.pct_model.specs.declared.transition.Transition.{Transition}
+use Rattle.pct_model.specs.Jumps.{holds, is_while, close_of, open_of}
+use Rattle.pct_model.specs.World.{Thread, SharedState, body_of, statement_at, value_of}
+use Rattle.pct_model.specs.ScriptStatements.{jumps, emits, sets, adds, calls, after_block, after_test}
+use Rattle.pct_model.specs.CleanupHandlers.{pushes, pops}
+use Rattle.pct_model.specs.ProcessExit.{exits, returns_by, ends_process}
+use Rattle.pct_model.specs.StopTable.{first_stop, is_stack_full, is_built, stops_of, stop_at}
+use Rattle.pct_model.specs.ChoiceTable.{next_in, next_of}
+use Rattle.pct_model.specs.TransitionTable.{body_at, ends_block, runs, stops_or, transition_at}
+use Rattle.pct_jumps.proofs.JumpTableFacts.{closes_inside, opens_earlier}
+use Rattle.pct_engine.specs.Fitting.{TransitionFits}
+use Rattle.pct_engine.proofs.Bodies.{few_statements, pc_within}
+
+-- ---- program counters
+
+block_by : (script : Script) (func pc : ℕ) (o : Option ℕ) → close_of (body_of script func) pc ≡ o → pc < 2000 → suc (unwrap_or o pc) ≤ 2000
+block_by script func pc None is within = omega arith
+block_by script func pc (Some close) is within =
+    let few = few_statements script func in
+    let inside = closes_inside script func pc close is in
+    omega (arith, few, inside.1)
+
+block_within : (script : Script) (func pc : ℕ) → pc < 2000 → after_block (body_of script func) pc ≤ 2000
+block_within script func pc within = block_by script func pc (close_of (body_of script func) pc) refl within
+
+either_within : (b : Bool) (x y : ℕ) → x ≤ 2000 → y ≤ 2000 → cond b x y ≤ 2000
+either_within true x y first second = first
+either_within false x y first second = second
+
+test_within : (script : Script) (func pc v : ℕ) → pc < 2000 → after_test (body_of script func) pc v ≤ 2000
+test_within script func pc v within = either_within (nat_eq v 0) _ _ (block_within script func pc within) (omega (arith, within))
+
+-- ---- statements
+
+module _ (depth handlers : ℕ) where
+  jumps_fit : (next : ℕ) → next ≤ 2000 → TransitionFits depth handlers (jumps next)
+  unfolding jumps
+  jumps_fit next within = record { next = within; actions = tt }
+
+  emits_fit : (next v : ℕ) → next ≤ 2000 → TransitionFits depth handlers (emits next v)
+  unfolding emits
+  emits_fit next v within = record { next = within; actions = tt }
+
+  sets_fit : (next : ℕ) (d : Dest) (v : ℕ) → next ≤ 2000 → TransitionFits depth handlers (sets next d v)
+  unfolding sets
+  sets_fit next destination.Drop v within = record { next = within; actions = tt }
+  sets_fit next (destination.Local i) v within = record { next = within; actions = (tt, tt) }
+  sets_fit next (destination.Global i) v within = record { next = within; actions = (tt, tt) }
+
+  adds_fit : (next : ℕ) (d : Dest) (old v : ℕ) → next ≤ 2000 → TransitionFits depth handlers (adds next d old v)
+  unfolding adds
+  adds_fit next d old v within = sets_fit next d ((old + v) % 4294967296) within
+
+  calls_fit : (next f v : ℕ) → next ≤ 2000 → depth ≤ 16 → TransitionFits depth handlers (calls next f v)
+  unfolding calls
+  calls_fit next f v within room = record { next = within; actions = (room, tt) }
+
+  pushes_fit : (next f v : ℕ) → next ≤ 2000 → handlers < 32 → TransitionFits depth handlers (pushes next f v)
+  unfolding pushes
+  pushes_fit next f v within room = record { next = within; actions = (room, tt) }
+
+  either_fit : (b : Bool) (x y : Transition) → TransitionFits depth handlers x → (b ≡ false → TransitionFits depth handlers y) → TransitionFits depth handlers (cond b x y)
+  either_fit true x y first second = first
+  either_fit false x y first second = second refl
+
+  pops_fit : (next v : ℕ) (own : List (ℕ × ℕ)) → next ≤ 2000 → (nat_eq v 0 ≡ false → depth ≤ 16) → TransitionFits depth handlers (pops next v own)
+  unfolding pops
+  pops_fit next v [] within room = record { next = tt; actions = tt }
+  pops_fit next v ((f, a) ∷ below) within room =
+      either_fit (nat_eq v 0) _ _ (record { next = within; actions = (tt, tt) }) (λ called. record { next = within; actions = (tt, (room called, tt)) })
+
+  returns_fit : (k : FrameKind) (v : ℕ) → TransitionFits depth handlers (returns_by k v)
+  unfolding returns_by exits
+  returns_fit kind.Main v = record { next = tt; actions = (tt, tt) }
+  returns_fit kind.Call v = record { next = tt; actions = (refl, tt) }
+  returns_fit kind.PopHandler v = record { next = tt; actions = (refl, tt) }
+  returns_fit _ v = record { next = tt; actions = tt }
+
+  -- the end of a process fits each thread
+  pub ends_process_fit : (functions : List ℕ) (exit_value : Option ℕ) → TransitionFits depth handlers (ends_process functions exit_value)
+  unfolding ends_process
+  ends_process_fit [] (Some v) = record { next = tt; actions = (tt, tt) }
+  ends_process_fit _ _ = record { next = tt; actions = tt }
+
+  ends_fit : (script : Script) (frame : Frame) (o : Option ℕ) → open_of (body_of script frame.func) frame.pc ≡ o → frame.pc < 2000 → TransitionFits depth handlers (ends_block o (body_of script frame.func) frame)
+  ends_fit script frame None is within = returns_fit frame.kind 0
+  ends_fit script frame (Some opened) is within =
+      let earlier = (opens_earlier script frame.func frame.pc (Some opened) is).0 in
+      jumps_fit _ (either_within (holds (body_of script frame.func) is_while opened) opened (suc frame.pc) (omega (arith, earlier, within)) (omega (arith, within)))
+
+-- ---- stops
+
+-- a statement that does not stop is implemented, and none of its own guards holds
+own_guard : (b c : Bool) (first second : Why) → first_stop ((b, first) ∷ (c, second) ∷ []) ≡ None → c ≡ false
+own_guard true c first second none = absurd cc
+own_guard false true first second none = absurd cc
+own_guard false false first second none = refl
+
+flipped : (b : Bool) → not b ≡ false → b ≡ true
+flipped true is = refl
+flipped false is = absurd cc
+
+below_limit : (n limit : ℕ) → not (nat_lt n limit) ≡ false → n < limit
+below_limit n limit is = ltb-true n limit (flipped (nat_lt n limit) is)
+
+second_false : (a b : Bool) → not a && b ≡ false → a ≡ false → b ≡ false
+second_false false b is called = is
+second_false true b is called = absurd cc
+
+-- ---- the table
+
+module _ (script : Script) (shared : SharedState) (t : Thread) where
+  -- the transition fits the thread
+  abbrev FitsThread : Transition → Type 0
+  FitsThread o = TransitionFits (length t.frames) (length t.handlers) o
+
+  runs_fit : (frame : Frame) (s : Stmt) → frame.pc < 2000 → stop_at (body_of script frame.func) shared t frame s ≡ None → FitsThread (runs (body_of script frame.func) shared t frame s)
+  unfolding runs stop_at stops_of
+  runs_fit frame (statement.Emit v) within none = emits_fit _ _ _ _ (omega (arith, within))
+  runs_fit frame (statement.Set d v) within none = sets_fit _ _ _ d _ (omega (arith, within))
+  runs_fit frame (statement.Add d v) within none = adds_fit _ _ _ d _ _ (omega (arith, within))
+  runs_fit frame statement.Nop within none = jumps_fit _ _ _ (omega (arith, within))
+  runs_fit frame (statement.If v) within none = jumps_fit _ _ _ (test_within script frame.func frame.pc (value_of shared.globals frame v) within)
+  runs_fit frame statement.Else within none = jumps_fit _ _ _ (block_within script frame.func frame.pc within)
+  runs_fit frame (statement.While v) within none = jumps_fit _ _ _ (test_within script frame.func frame.pc (value_of shared.globals frame v) within)
+  runs_fit frame statement.End within none = ends_fit _ _ script frame _ refl within
+  runs_fit frame (statement.Do f v) within none =
+      let room = below_limit (length t.frames) 16 (own_guard (not (is_built (statement.Do f v))) _ why.Unbuilt why.StackFull none) in
+      calls_fit _ _ _ f _ (omega (arith, within)) (omega (arith, room))
+  runs_fit frame (statement.Return v) within none = returns_fit _ _ frame.kind _
+  runs_fit frame (statement.Push f v) within none = pushes_fit _ _ _ f _ (omega (arith, within)) (below_limit (length t.handlers) 32 (own_guard (not (is_built (statement.Push f v))) _ why.Unbuilt why.CleanupFull none))
+  runs_fit frame (statement.Pop v) within none =
+      pops_fit _ _ _ (value_of shared.globals frame v) t.handlers (omega (arith, within)) (λ called.
+      let room = below_limit (length t.frames) 16 (second_false (nat_eq (value_of shared.globals frame v) 0) (is_stack_full t.frames) (own_guard (not (is_built (statement.Pop v))) _ why.Unbuilt why.StackFull none) called) in
+      omega (arith, room))
+  runs_fit frame _ within none = record { next = tt; actions = tt }
+
+  stops_fit : (o : Option Why) (other : Transition) → (o ≡ None → FitsThread other) → FitsThread (stops_or o other)
+  stops_fit None other fits = fits refl
+  stops_fit (Some why) other fits = record { next = tt; actions = (tt, tt) }
+
+  next_fits : (frame : Frame) (o : Option Stmt) (s : Status) → statement_at script frame ≡ o → FitsThread (transition_at (body_of script frame.func) shared t (next_in frame o) s)
+  unfolding transition_at
+  next_fits frame None status.Exiting at = ends_process_fit _ _ shared.exit_functions shared.exit_value
+  next_fits frame None _ at = record { next = tt; actions = tt }
+  next_fits frame (Some s) status.Running at = stops_fit _ _ (runs_fit frame s (pc_within script frame s at))
+  next_fits frame (Some s) status.Exiting at = ends_process_fit _ _ shared.exit_functions shared.exit_value
+  next_fits frame (Some s) _ at = record { next = tt; actions = tt }
+
+  frames_fit : (frames : List Frame) (s : Status) → FitsThread (transition_at (body_at script frames) shared t (next_of script frames) s)
+  unfolding transition_at
+  frames_fit [] status.Exiting = ends_process_fit _ _ shared.exit_functions shared.exit_value
+  frames_fit [] _ = record { next = tt; actions = tt }
+  frames_fit (frame ∷ below) s = next_fits frame (statement_at script frame) s refl
+
+  -- each transition of a thread fits it
+  pub transition_fits : (s : Status) → FitsThread (transition_at (body_at script t.frames) shared t (next_of script t.frames) s)
+  transition_fits s = frames_fit t.frames s

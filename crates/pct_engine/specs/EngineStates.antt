@@ -1,0 +1,54 @@
+-- What an engine represents: the run of its script under its history.
+use Rattle.std.specs.Prelude.{◌≡◌, ℕ, ◌*◌, ◌≤◌, true, List, [], ◌∷◌, ◌++◌, length, reverse, Option, Some, None, is_some, IsSomeAnd}
+use Rattle.pct_model.specs.declared.script.Script.{Script}
+use Rattle.pct_model.specs.declared.schedule.Config.{Config}
+use Rattle.pct_model.specs.declared.schedule.Entry.{Entry}
+use Rattle.pct_model.specs.declared.event.Event.{Event}
+use Rattle.pct_model.specs.declared.stop.Verdict.TheVariants as verdict
+use Rattle.pct_model.specs.Chosen.{chosen}
+use Rattle.pct_model.specs.Run.{Run, run, verdict_of}
+use Rattle.pct_engine_laws.specs.Seen.{Seen, seen}
+use Rattle.pct_engine_laws.specs.RunLaws.{IsLegalWhileOpen}
+
+-- the value of an engine: a script, a configuration, and the entries of the run so far
+pub record EngineValue : Type 0 where
+  pub script : Script
+  pub config : Config
+  pub history : List Entry
+
+-- ---- what its parts are
+
+-- the run of the history is defined, the events are those of the run, and the parts are what is kept of its state
+pub record StandsFor (script : Script) (config : Config) (history : List Entry) (events : List Event) (parts : Seen) : Type 0 where
+  pub after : Run
+  pub is_run : run script config history ≡ Some after
+  pub events_are : reverse events ≡ after.events
+  pub parts_are : parts ≡ seen config.slots after.world
+
+-- the lengths and the capacities of the lists of entries and of events: there is room for `budget` entries, with three
+-- events each
+pub record HasRoom (budget entries entries_capacity events events_capacity : ℕ) : Type 0 where
+  pub entries_within : entries ≤ budget
+  pub entries_room : budget ≤ entries_capacity
+  pub events_within : events ≤ 3 * entries
+  pub events_room : 3 * budget ≤ events_capacity
+
+-- ---- what its calls promise
+
+-- the run of an engine
+abbrev pub IsRunOf : EngineValue → Run → Type 0
+IsRunOf engine after = run engine.script engine.config engine.history ≡ Some after
+
+-- the history with one entry more is a run
+abbrev pub IsRunWith : EngineValue → Entry → Type 0
+IsRunWith engine e = is_some (run engine.script engine.config (engine.history ++ e ∷ [])) ≡ true
+
+-- the verdict of the run is `Open`, and the entry is legal in the state after it
+abbrev pub IsAllowed : EngineValue → Run → Entry → Type 0
+IsAllowed engine after e = IsLegalWhileOpen engine.script engine.config engine.history after e
+
+-- the answer to a worker: the entry of the scheduler, which is legal, while the verdict is `Open`; else none
+pub record IsChoice (engine : EngineValue) (after : Run) (worker a b : ℕ) (answer : Option Entry) : Type 0 where
+  pub scheduled : verdict_of engine.script engine.config after.world (length engine.history) ≡ verdict.Open → answer ≡ chosen engine.script engine.config after.world worker a b
+  pub legal : verdict_of engine.script engine.config after.world (length engine.history) ≡ verdict.Open → IsSomeAnd answer (IsRunWith engine)
+  pub closed : ¬ (verdict_of engine.script engine.config after.world (length engine.history) ≡ verdict.Open) → answer ≡ None

@@ -1,0 +1,39 @@
+-- The limits that a transition keeps. An engine with tables of a fixed size makes the actions one after another and relies on
+-- these: where all of them fit, each one finds room in its turn, and no thread loses its slot before its last action.
+use Rattle.std.specs.Prelude.{◌≡◌, ℕ, suc, ◌-◌, ◌<◌, ◌≤◌, false, List, [], ◌∷◌, IfSome}
+use Rattle.pct_model.specs.declared.limits.TheConstants.{MAX_STATEMENTS, MAX_FRAMES, MAX_HANDLERS}
+use Rattle.pct_model.specs.declared.transition.Action.{Action}
+use Rattle.pct_model.specs.declared.transition.Action.TheVariants as action
+use Rattle.pct_model.specs.declared.transition.Transition.{Transition}
+use Rattle.pct_model.specs.ThreadSlots.{is_ended_status}
+
+-- a thread with these numbers of frames and of cleanup handlers has room for the action. A function that the host calls may
+-- be one frame above those that a script calls.
+abbrev pub Fits : ℕ → ℕ → Action → Type 0
+Fits depth handlers (action.Call f a kind) = depth ≤ MAX_FRAMES
+Fits depth handlers (action.PushHandler f a) = handlers < MAX_HANDLERS
+Fits depth handlers (action.Leave status) = is_ended_status status ≡ false
+Fits depth handlers _ = Unit {0}
+
+-- the number of frames after an action
+abbrev pub depth_after : Action → ℕ → ℕ
+depth_after (action.Call f a kind) depth = suc depth
+depth_after (action.Leave status) depth = depth - 1
+depth_after (action.BeginExit v) depth = 0
+depth_after _ depth = depth
+
+-- the number of cleanup handlers after an action
+abbrev pub handlers_after : Action → ℕ → ℕ
+handlers_after (action.PushHandler f a) handlers = suc handlers
+handlers_after action.PopHandler handlers = handlers - 1
+handlers_after _ handlers = handlers
+
+-- each of the actions fits, after those before it
+abbrev pub AllFit : ℕ → ℕ → List Action → Type 0
+AllFit depth handlers [] = Unit {0}
+AllFit depth handlers (a ∷ actions) = Fits depth handlers a × AllFit (depth_after a depth) (handlers_after a handlers) actions
+
+-- the transition fits a thread with these numbers of frames and of cleanup handlers
+pub record TransitionFits (depth handlers : ℕ) (o : Transition) : Type 0 where
+  pub next : IfSome o.next (λ pc. pc ≤ MAX_STATEMENTS)
+  pub actions : AllFit depth handlers o.actions

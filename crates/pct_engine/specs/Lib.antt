@@ -1,0 +1,9 @@
+pub mod Programs
+pub mod Positions
+pub mod Listed
+pub mod Fitting
+pub mod Views
+pub mod MachineChanges
+pub mod ReadyThreads
+pub mod Steps
+pub mod EngineStates

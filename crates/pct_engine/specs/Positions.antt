@@ -1,0 +1,31 @@
+-- What a step reads of a thread, and of the state that the threads of its process share.
+use Rattle.std.specs.Prelude.{◌≡◌, ℕ, List, [], length, Option, Some, None, IfSome, slice_get}
+use Rattle.pct_model.specs.declared.script.Script.{Script}
+use Rattle.pct_model.specs.declared.statement.Stmt.{Stmt}
+use Rattle.pct_model.specs.declared.frame.Frame.{Frame}
+use Rattle.pct_model.specs.World.{Thread, SharedState, statement_at}
+use Rattle.pct_model.specs.ChoiceTable.{NextStatement, NoStatement, StatementIn, next_of}
+use Rattle.pct_engine.specs.declared.position.Position.{Position}
+
+-- a frame and a statement as the next statement of a thread
+abbrev pub next_at : Option (Frame × Stmt) → NextStatement
+next_at None = NoStatement
+next_at (Some (frame, s)) = StatementIn frame s
+
+-- the statement is the one at the frame's pc
+abbrev pub IsDecoded : Script → Option (Frame × Stmt) → Type 0
+IsDecoded script next = IfSome next (λ n. statement_at script n.0 ≡ Some n.1)
+
+-- this is the position of the thread
+pub record IsPosition (script : Script) (position : Position) (t : Thread) : Type 0 where
+  pub next_is : next_at position.next ≡ next_of script t.frames
+  pub depth_is : position.depth ≡ length t.frames
+  pub newest_is : position.newest ≡ slice_get t.handlers 0
+  pub handlers_are : position.handlers ≡ length t.handlers
+  pub status_is : position.status ≡ t.status
+
+-- these are the globals and the value of exit of the shared state, in which no exit function is registered
+pub record AreShared (globals : List ℕ) (exit_value : Option ℕ) (shared : SharedState) : Type 0 where
+  pub globals_are : globals ≡ shared.globals
+  pub exit_value_is : exit_value ≡ shared.exit_value
+  pub no_exit_functions : shared.exit_functions ≡ []

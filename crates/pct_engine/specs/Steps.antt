@@ -1,0 +1,71 @@
+-- The steps of an engine: which entries it accepts, and what it then keeps of the state.
+use Rattle.std.specs.Prelude.{◌≡◌, ℕ, Bool, true, false, not, ◌&&◌, if◌then◌else◌, List, length, Option, Some, None, is_none, is_some, nat_eq, nat_le}
+use Rattle.pct_model.specs.declared.script.Script.{Script}
+use Rattle.pct_model.specs.declared.schedule.Config.{Config}
+use Rattle.pct_model.specs.declared.schedule.Entry.{Entry}
+use Rattle.pct_model.specs.declared.event.What.{What}
+use Rattle.pct_model.specs.declared.stop.Verdict.TheVariants.{Open}
+use Rattle.pct_model.specs.declared.limits.TheConstants.{MAX_WORKER}
+use Rattle.pct_model.specs.declared.transition.Transition.{Transition}
+use Rattle.pct_model.specs.World.{World}
+use Rattle.pct_model.specs.ThreadSlots.{slot_of, holds_slot}
+use Rattle.pct_model.specs.Step.{Successor, step}
+use Rattle.pct_threads.specs.Slots.{Held, Slot}
+use Rattle.pct_threads.specs.Tables.{held_at}
+use Rattle.pct_engine_laws.specs.Seen.{Seen, seen}
+use Rattle.pct_engine_laws.specs.SeenSteps.{seen_transition, seen_chosen, seen_verdict}
+use Rattle.pct_engine.specs.declared.machine.Machine.{Machine}
+use Rattle.pct_engine.specs.Fitting.{AllFit}
+use Rattle.pct_engine.specs.Views.{thread_of, machine_view}
+
+-- ---- legal entries
+
+-- the transition of an entry, if the entry is legal
+abbrev pub legal_transition : Script → Config → Seen → Entry → Option Transition
+legal_transition script config v e = if is_none v.stop && nat_le e.worker MAX_WORKER then seen_transition script config v e else None
+
+-- what an entry needs of a machine, whichever thread it names: the run was not stopped, the worker is within the limit, and
+-- the process is one that has not ended
+abbrev pub may_step : Machine → Entry → Bool
+may_step m e = is_none m.stop && nat_le e.worker MAX_WORKER && nat_eq e.pid 1 && not m.has_ended
+
+-- ---- the threads of a state that a run reaches
+
+-- each thread that holds a slot has an id of the slot, and has not been reclaimed
+pub record ArePlaced (slots : ℕ) (threads : List Slot) : Type 0 where
+  pub place : (slot : ℕ) (held : Held) → held_at threads slot ≡ Some held → slot_of slots held.id ≡ slot
+  pub holds : (slot : ℕ) (held : Held) → held_at threads slot ≡ Some held → holds_slot (thread_of held) ≡ true
+
+-- the same, while the process has not ended
+abbrev pub ArePlacedIn : ℕ → Machine → Type 0
+ArePlacedIn slots m = m.has_ended ≡ false → ArePlaced slots m.threads
+
+-- ---- a step
+
+-- the entry names the thread on this slot, and the thread has room for the actions of the transition
+pub record IsFound (m : Machine) (e : Entry) (slot : ℕ) (o : Transition) : Type 0 where
+  pub may : may_step m e ≡ true
+  pub held : Held
+  pub here : held_at m.threads slot ≡ Some held
+  pub named : held.id ≡ e.tid
+  pub fits : AllFit (length held.frames) (length held.thread.handlers) o.actions
+
+-- the step of a state to which the machine corresponds, with these events
+pub record IsStepOf (script : Script) (config : Config) (w : World) (new : Machine) (e : Entry) (events : List What) : Type 0 where
+  pub successor : Successor
+  pub is_step : step script config w e ≡ Some successor
+  pub events_are : events ≡ successor.events
+  pub view_is : machine_view script new ≡ seen config.slots successor.world
+
+-- a step, or none where the entry is not legal
+abbrev pub StepsBy : Script → Config → World → Machine → Machine → Entry → Option (List What) → Type 0
+StepsBy script config w old new e None = (step script config w e ≡ None) × (new ≡ old)
+StepsBy script config w old new e (Some events) = IsStepOf script config w new e events
+
+-- ---- the choice
+
+-- the answer to a worker in a run of n entries: the entry of the scheduler while the verdict is `Open`, else none
+pub record IsSeenChoice (script : Script) (config : Config) (v : Seen) (n worker a b : ℕ) (answer : Option Entry) : Type 0 where
+  pub chosen : seen_verdict script config v n ≡ Open → answer ≡ seen_chosen script v worker a b
+  pub some : seen_verdict script config v n ≡ Open → is_some answer ≡ true
+  pub closed : ¬ (seen_verdict script config v n ≡ Open) → answer ≡ None

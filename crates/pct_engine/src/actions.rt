@@ -1,0 +1,62 @@
+//! What a transition changes: in the thread that makes it, and in what the threads of its process share.
+
+ghost use Rattle.std.specs.Prelude.{◌≡◌, length, Some, true};
+ghost use Rattle.pct_model.specs.Actions.{for_each, stop_after};
+ghost use Rattle.pct_threads.specs.Slots.{Held};
+ghost use Rattle.pct_threads.specs.Tables.{held_at, is_occupied_at, on_held};
+ghost use Rattle.pct_engine.specs.Fitting.{Fits, AllFit};
+ghost use Rattle.pct_engine.specs.MachineChanges.{held_after, machine_after, machine_moved};
+
+use crate::machine::Machine;
+use crate::own_actions::{act_alone, go_on};
+use pct_model::{Action, Transition, UpToThree};
+
+/// Makes the changes of a transition of the thread on a slot, which has room for them.
+pub(crate) fn change(machine: &mut Machine, slot: u32, transition: &Transition)
+    requires occupied { is_occupied_at machine.old.threads slot ≡ true }
+    requires fits { (held : Held) → held_at machine.old.threads slot ≡ Some held → AllFit (length held.frames) (length held.thread.handlers) transition.now.actions }
+    ensures { machine.new ≡ machine_moved slot transition.now machine.old }
+{
+    go_on(&mut machine.threads, slot, transition.next);
+    act_all(machine, slot, &transition.actions);
+}
+
+// Makes the changes of actions, in order.
+fn act_all(machine: &mut Machine, slot: u32, actions: &UpToThree<Action>)
+    requires occupied { is_occupied_at machine.old.threads slot ≡ true }
+    requires fits { (held : Held) → held_at machine.old.threads slot ≡ Some held → AllFit (length held.frames) (length held.thread.handlers) actions.now }
+    ensures { machine.new ≡ for_each (machine_after slot) actions.now machine.old }
+{
+    if let Some((action, rest)) = actions.split_first() {
+        act(machine, slot, action);
+        act_all(machine, slot, &rest);
+    }
+}
+
+// Makes the changes of one action.
+fn act(machine: &mut Machine, slot: u32, action: Action)
+    requires occupied { is_occupied_at machine.old.threads slot ≡ true }
+    requires fits { (held : Held) → held_at machine.old.threads slot ≡ Some held → Fits (length held.frames) (length held.thread.handlers) action }
+    ensures { machine.new ≡ machine_after slot action machine.old }
+{
+    act_alone(&mut machine.threads, slot, action);
+    act_shared(machine, action);
+}
+
+// Makes the changes of one action in all but the thread.
+#[tactic(auto, unfolding(crate::specs::MachineChanges::globals_after, crate::specs::MachineChanges::exit_value_after, crate::specs::MachineChanges::has_ended_after, pct_model::specs::Actions::stop_after))]
+fn act_shared(machine: &mut Machine, action: Action)
+    ensures { machine.new ≡ record (machine_after 0 action machine.old) { threads = machine.old.threads } }
+{
+    match action {
+        Action::SetGlobal(i, value) => machine.globals.set(i, value),
+        Action::BeginExit(value) => machine.exit_value = Some(value),
+        Action::EndProcess(_) => machine.has_ended = true,
+        Action::Stop(why) => machine.stop = Some(why),
+        Action::SetLocal(_, _)
+        | Action::Call { .. }
+        | Action::Leave(_)
+        | Action::PushHandler(_, _)
+        | Action::PopHandler => {}
+    }
+}

@@ -1,0 +1,61 @@
+//! The transitions of pthread_cleanup_push and pthread_cleanup_pop. `next` is the program counter of the next statement.
+
+ghost use Rattle.std.specs.Prelude.{◌≡◌, ℕ, ◌∷◌, List, slice_get};
+ghost use Rattle.pct_model.specs.CleanupHandlers.{pushes, pops};
+
+use crate::transitions::{goes_on, no_change};
+use pct_model::{Action, FrameKind, Transition, UpToThree, What};
+
+/// pthread_cleanup_push: a function and its argument become the newest handler.
+#[tactic(auto, unfolding(pct_model::specs::CleanupHandlers::pushes))]
+pub(crate) fn pushes(next: u32, func: u32, arg: u32) -> Transition
+    ensures { result ≡ pushes next func arg }
+{
+    goes_on(
+        next,
+        UpToThree::one(Action::PushHandler(func, arg)),
+        UpToThree::one(What::Pushed(func, arg)),
+    )
+}
+
+/// pthread_cleanup_pop with a value, in a thread whose newest handler is this one: it is removed, and called if the value is
+/// not 0. Without a handler nothing changes.
+#[tactic(auto, unfolding(pct_model::specs::CleanupHandlers::pops))]
+pub(crate) fn pops(next: u32, value: u32, newest: Option<(u32, u32)>) -> Transition
+    ensures { (handlers : List (ℕ × ℕ)) → newest ≡ slice_get handlers 0 → result ≡ pops next value handlers }
+{
+    match newest {
+        None => no_change(),
+        Some((func, arg)) => pops_newest(next, value, func, arg),
+    }
+}
+
+// The newest handler is removed, and called if the value is not 0.
+#[tactic(auto, unfolding(pct_model::specs::CleanupHandlers::pops))]
+fn pops_newest(next: u32, value: u32, func: u32, arg: u32) -> Transition
+    ensures { (below : List (ℕ × ℕ)) → result ≡ pops next value ((func, arg) ∷ below) }
+{
+    let popped = What::Popped {
+        f: func,
+        a: arg,
+        run: value != 0,
+    };
+    if value == 0 {
+        goes_on(
+            next,
+            UpToThree::one(Action::PopHandler),
+            UpToThree::one(popped),
+        )
+    } else {
+        let call = Action::Call {
+            func,
+            arg,
+            kind: FrameKind::PopHandler,
+        };
+        goes_on(
+            next,
+            UpToThree::two(Action::PopHandler, call),
+            UpToThree::one(popped),
+        )
+    }
+}

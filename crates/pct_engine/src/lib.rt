@@ -1,0 +1,23 @@
+//! The engine: a run of a script, step by step.
+#![tactic(auto)]
+
+mod actions;
+mod choice_table;
+mod cleanup_handlers;
+mod current;
+mod engine;
+mod globals;
+mod machine;
+mod own_actions;
+mod position;
+mod process_exit;
+mod program;
+mod scheduler;
+mod script_statements;
+mod steps;
+mod stop_table;
+mod trace;
+mod transition_table;
+mod transitions;
+
+pub use engine::{Engine, NotLegal};

@@ -1,0 +1,18 @@
+//! The state of a run: the threads of its process, what they share, and whether the process has ended or the run was
+//! stopped.
+
+use crate::globals::Globals;
+use pct_model::Why;
+use pct_threads::Threads;
+
+/// The state of a run. There is one process so far, which has no parent.
+#[derive(Drop)]
+pub(crate) struct Machine {
+    pub(crate) threads: Threads,
+    pub(crate) globals: Globals,
+    /// The value with which exit began.
+    pub(crate) exit_value: Option<u32>,
+    pub(crate) has_ended: bool,
+    /// The reason of the stop, if the run was stopped.
+    pub(crate) stop: Option<Why>,
+}

@@ -1,0 +1,58 @@
+//! The transitions of returns from functions, and of the end of a process (XSH exit, pthread_create).
+
+ghost use Rattle.std.specs.Prelude.{◌≡◌, ◌%◌, [], ◌∷◌};
+ghost use Rattle.pct_model.specs.declared.transition.Action.TheVariants as action;
+ghost use Rattle.pct_model.specs.declared.state.Status.TheVariants as status;
+ghost use Rattle.pct_model.specs.Transitions.{acts};
+ghost use Rattle.pct_model.specs.ProcessExit.{exits, returns_by, ends_process};
+
+use crate::transitions::{acts, no_change};
+use pct_model::{Action, FrameKind, Status, Transition, UpToThree, What};
+
+/// A thread begins to exit its process with a value, as if it called exit (XSH exit).
+#[tactic(auto, unfolding(pct_model::specs::ProcessExit::exits))]
+pub(crate) fn exits(value: u32) -> Transition
+    ensures { result ≡ exits value }
+{
+    acts(Action::BeginExit(value), What::ExitBegun(value))
+}
+
+/// `return` of a value, by the kind of the top frame. A return from `main` in the initial thread acts as exit (XSH
+/// pthread_create).
+#[tactic(auto, unfolding(pct_model::specs::ProcessExit::returns_by))]
+pub(crate) fn returns_by(kind: FrameKind, value: u32) -> Transition
+    ensures { result ≡ returns_by kind value }
+{
+    match kind {
+        FrameKind::Main => exits(value),
+        FrameKind::Call => runs_below(),
+        FrameKind::PopHandler => runs_below(),
+        _ => no_change(),
+    }
+}
+
+/// A thread that exits its process, in which no function is registered with atexit, ends it, with the value of exit modulo
+/// 256 (XSH exit, _exit, atexit).
+#[tactic(auto, unfolding(pct_model::specs::ProcessExit::ends_process))]
+pub(crate) fn ends_process(exit_value: Option<u32>) -> Transition
+    ensures { result ≡ ends_process [] exit_value }
+{
+    match exit_value {
+        None => no_change(),
+        Some(value) => acts(
+            Action::EndProcess(value % 256),
+            What::ProcessEnded(value % 256),
+        ),
+    }
+}
+
+// The thread leaves its top frame, and runs on in the one below.
+fn runs_below() -> Transition
+    ensures { result ≡ acts (action.Leave status.Running ∷ []) [] }
+{
+    Transition {
+        next: None,
+        actions: UpToThree::one(Action::Leave(Status::Running)),
+        events: UpToThree::none(),
+    }
+}

@@ -1,0 +1,157 @@
+//! The threads that are ready, the entry that two numbers choose, and the verdict.
+
+ghost use Rattle.std.specs.Prelude.{◌≡◌, ◌<◌, ◌≤◌, length, Some, true, IfSome, is_some, option_and_then, slice_get};
+ghost use Rattle.pct_model.specs.declared.limits.TheConstants.{MAX_WORKER};
+ghost use Rattle.pct_model.specs.Chosen.{item_at, entry_for};
+ghost use Rattle.pct_threads.specs.Slots.{Held};
+ghost use Rattle.pct_threads.specs.Tables.{held_at, is_occupied_at};
+ghost use Rattle.pct_engine_laws.specs.SeenSteps.{seen_chosen, seen_verdict};
+ghost use Rattle.pct_engine.specs.Listed.{listed};
+ghost use Rattle.pct_engine.specs.Views.{machine_view};
+ghost use Rattle.pct_engine.specs.ReadyThreads.{choices_of_held, is_ready_on, ready_held, candidate_held};
+ghost use Rattle.pct_engine.specs.Steps.{legal_transition, ArePlacedIn, IsSeenChoice};
+
+use crate::choice_table::{Choices, choices_at};
+use crate::machine::Machine;
+use crate::program::Program;
+use crate::steps::position_of;
+use pct_model::{Entry, Verdict};
+use pct_threads::Threads;
+
+/// The verdict of a run of this many entries.
+pub(crate) fn verdict_after(program: &Program, machine: &Machine, count: usize) -> Verdict
+    ensures { result ≡ seen_verdict program.now.script program.now.config (machine_view program.now.script machine.now) count }
+{
+    if let Some(why) = machine.stop {
+        Verdict::Undefined(why)
+    } else if machine.has_ended {
+        Verdict::Complete
+    } else if ready_count(program, &machine.threads) == 0 {
+        Verdict::Deadlock
+    } else if count == program.config.budget as usize {
+        Verdict::Budget
+    } else {
+        Verdict::Open
+    }
+}
+
+/// The entry of a worker that two numbers choose in a run of this many entries: the first number chooses a thread that is
+/// ready, the second one of its choices. It is legal for a worker within the limit. `None` is returned exactly if the verdict is
+/// not `Open`.
+pub(crate) fn chosen(
+    program: &Program,
+    machine: &Machine,
+    count: usize,
+    worker: u32,
+    a: u32,
+    b: u32,
+) -> Option<Entry>
+    requires { count ≤ program.now.config.budget }
+    ensures choice { IsSeenChoice program.now.script program.now.config (machine_view program.now.script machine.now) count worker a b result }
+    ensures legal { ArePlacedIn program.now.config.slots machine.now → worker ≤ MAX_WORKER
+        → IfSome result (λ e. is_some (legal_transition program.now.script program.now.config (machine_view program.now.script machine.now) e) ≡ true) }
+{
+    if count < program.config.budget as usize {
+        chosen_in(program, machine, worker, a, b)
+    } else {
+        None
+    }
+}
+
+// The same, whether or not the budget is used up.
+fn chosen_in(program: &Program, machine: &Machine, worker: u32, a: u32, b: u32) -> Option<Entry>
+    ensures value { result ≡ seen_chosen program.now.script (machine_view program.now.script machine.now) worker a b }
+    ensures legal { ArePlacedIn program.now.config.slots machine.now → worker ≤ MAX_WORKER
+        → IfSome result (λ e. is_some (legal_transition program.now.script program.now.config (machine_view program.now.script machine.now) e) ≡ true) }
+{
+    if machine.stop.is_some() {
+        return None;
+    }
+    if machine.has_ended {
+        return None;
+    }
+    let Some(slot) = chosen_slot(program, &machine.threads, a) else {
+        return None;
+    };
+    entry_on(program, &machine.threads, slot, worker, b)
+}
+
+// The slot of the ready thread that a number chooses, if a thread is ready.
+fn chosen_slot(program: &Program, threads: &Threads, a: u32) -> Option<u32>
+    ensures value { option_and_then (held_at threads.now) result ≡ item_at (ready_held program.now.script threads.now) a }
+    ensures occupied { IfSome result (λ slot. is_occupied_at threads.now slot ≡ true) }
+{
+    let count = ready_count(program, threads);
+    if count == 0 {
+        return None;
+    }
+    nth_ready(program, threads, a % count)
+}
+
+// The entry of a worker for the thread on a slot, by a number that chooses one of its choices.
+fn entry_on(program: &Program, threads: &Threads, slot: u32, worker: u32, b: u32) -> Option<Entry>
+    requires { is_occupied_at threads.now slot ≡ true }
+    ensures { (held : Held) → held_at threads.now slot ≡ Some held → result ≡ entry_for worker b (candidate_held program.now.script held) }
+{
+    let choices = choices_on(program, threads, slot);
+    let count = choices.count();
+    if count == 0 {
+        return None;
+    }
+    let Some(alt) = choices.nth(b as usize % count) else {
+        return None;
+    };
+    Some(Entry {
+        worker,
+        pid: 1,
+        tid: threads.place(slot).id,
+        alt,
+    })
+}
+
+// The slot of the ready thread with this number, counted from 0 by rising slot.
+fn nth_ready(program: &Program, threads: &Threads, n: u32) -> Option<u32>
+    ensures value { option_and_then (held_at threads.now) result ≡ slice_get (ready_held program.now.script threads.now) n }
+    ensures occupied { IfSome result (λ slot. is_occupied_at threads.now slot ≡ true) }
+{
+    let slots = threads.slot_count();
+    let mut left = n;
+    for slot in 0..slots {
+        if is_ready(program, threads, slot) {
+            if left == 0 {
+                return Some(slot);
+            }
+            left -= 1;
+        }
+    }
+    None
+}
+
+// The number of threads that are ready.
+fn ready_count(program: &Program, threads: &Threads) -> u32
+    ensures { result ≡ length (ready_held program.now.script threads.now) }
+{
+    let mut count = 0;
+    for slot in 0..threads.slot_count() {
+        if is_ready(program, threads, slot) {
+            count += 1;
+        }
+    }
+    count
+}
+
+// The thread on a slot has a choice. A free slot has no thread.
+fn is_ready(program: &Program, threads: &Threads, slot: u32) -> bool
+    requires { slot < length threads.now }
+    ensures { result ≡ is_ready_on program.now.script threads.now slot }
+{
+    threads.is_occupied(slot) && choices_on(program, threads, slot).is_enabled()
+}
+
+// The choices of the thread on a slot.
+fn choices_on(program: &Program, threads: &Threads, slot: u32) -> Choices
+    requires { is_occupied_at threads.now slot ≡ true }
+    ensures { (held : Held) → held_at threads.now slot ≡ Some held → listed result ≡ choices_of_held program.now.script held }
+{
+    choices_at(&position_of(program, threads, slot))
+}

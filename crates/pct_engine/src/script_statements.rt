@@ -1,0 +1,123 @@
+//! The script language's own statements: the transition of each, and where it jumps to. `next` is the program counter of the
+//! next statement.
+
+ghost use Rattle.std.specs.Prelude.{◌≡◌, ◌+◌, ◌%◌, ◌<◌, Some, true};
+ghost use Rattle.pct_model.specs.declared.limits.TheConstants.{MAX_STATEMENTS};
+ghost use Rattle.pct_model.specs.Jumps.{holds, is_while, open_of};
+ghost use Rattle.pct_model.specs.World.{body_of, statement_at};
+ghost use Rattle.pct_model.specs.ScriptStatements.{jumps, emits, sets, adds, calls, after_block, after_test, after_end};
+ghost use Rattle.pct_model.specs.TransitionTable.{ends_block};
+ghost use Rattle.pct_jumps.specs.JumpTable.{opens_block};
+
+use crate::current::next_pc;
+use crate::process_exit::returns_by;
+use crate::program::Program;
+use crate::transitions::{goes_on, written};
+use pct_model::{Action, Dest, Frame, FrameKind, Script, Stmt, Transition, UpToThree, What};
+
+/// `nop`, and each statement that only goes to a program counter.
+#[tactic(auto, unfolding(pct_model::specs::ScriptStatements::jumps))]
+pub(crate) fn jumps(next: u32) -> Transition
+    ensures { result ≡ jumps next }
+{
+    goes_on(next, UpToThree::none(), UpToThree::none())
+}
+
+/// `emit`: the event has the value.
+#[tactic(auto, unfolding(pct_model::specs::ScriptStatements::emits))]
+pub(crate) fn emits(next: u32, value: u32) -> Transition
+    ensures { result ≡ emits next value }
+{
+    goes_on(next, UpToThree::none(), UpToThree::one(What::Emit(value)))
+}
+
+/// `set`: a variable gets a value.
+#[tactic(auto, unfolding(pct_model::specs::ScriptStatements::sets))]
+pub(crate) fn sets(next: u32, dest: Dest, value: u32) -> Transition
+    ensures { result ≡ sets next dest value }
+{
+    goes_on(next, written(dest, value), UpToThree::none())
+}
+
+/// `add`: a variable with the value `old` is increased by a value, modulo 2^32.
+#[tactic(auto, unfolding(pct_model::specs::ScriptStatements::adds))]
+pub(crate) fn adds(next: u32, dest: Dest, old: u32, value: u32) -> Transition
+    ensures { result ≡ adds next dest old value }
+{
+    sets(next, dest, old.wrapping_add(value))
+}
+
+/// `do`: a call of a function.
+#[tactic(auto, unfolding(pct_model::specs::ScriptStatements::calls))]
+pub(crate) fn calls(next: u32, func: u32, arg: u32) -> Transition
+    ensures { result ≡ calls next func arg }
+{
+    let call = Action::Call {
+        func,
+        arg,
+        kind: FrameKind::Call,
+    };
+    goes_on(next, UpToThree::one(call), UpToThree::none())
+}
+
+/// `end`: of a block, or of the function, which returns 0.
+pub(crate) fn ends_block(program: &Program, frame: &Frame) -> Transition
+    requires { frame.now.pc < MAX_STATEMENTS }
+    ensures { let body = body_of program.now.script frame.now.func in result ≡ ends_block (open_of body frame.now.pc) body frame.now }
+{
+    match program.jumps.open_of(frame.func, frame.pc) {
+        Some(opened) => jumps(after_end(&program.script, frame, opened)),
+        None => returns_by(frame.kind, 0),
+    }
+}
+
+// ---- jumps
+
+/// The program counter after the end of the block that a frame's statement opens.
+pub(crate) fn after_block(program: &Program, frame: &Frame, statement: Stmt) -> u32
+    requires at { statement_at program.now.script frame.now ≡ Some statement }
+    requires opens { opens_block statement ≡ true }
+    ensures { result ≡ after_block (body_of program.now.script frame.now.func) frame.now.pc }
+{
+    program.jumps.close_of(frame.func, frame.pc) + 1
+}
+
+/// The program counter after a frame's `if` or `while` with this value.
+pub(crate) fn after_test(program: &Program, frame: &Frame, statement: Stmt, value: u32) -> u32
+    requires at { statement_at program.now.script frame.now ≡ Some statement }
+    requires opens { opens_block statement ≡ true }
+    requires pc { frame.now.pc < MAX_STATEMENTS }
+    ensures { result ≡ after_test (body_of program.now.script frame.now.func) frame.now.pc value }
+{
+    if value == 0 {
+        after_block(program, frame, statement)
+    } else {
+        next_pc(frame)
+    }
+}
+
+/// The program counter after a frame's `end`, which closes the block that is opened at a program counter: of a `while`, that
+/// `while`.
+pub(crate) fn after_end(script: &Script, frame: &Frame, opened: u32) -> u32
+    requires { frame.now.pc < MAX_STATEMENTS }
+    ensures { result ≡ after_end (body_of script.now frame.now.func) frame.now.pc opened }
+{
+    if is_while_at(script, frame.func, opened) {
+        opened
+    } else {
+        next_pc(frame)
+    }
+}
+
+// Whether a function has a `while` at a program counter.
+fn is_while_at(script: &Script, func: u32, pc: u32) -> bool
+    ensures { result ≡ holds (body_of script.now func) is_while pc }
+{
+    match script.funcs.as_slice().get(func as usize) {
+        None => false,
+        Some(function) => match function.body.as_slice().get(pc as usize) {
+            None => false,
+            Some(statement) => matches!(statement, Stmt::While(_)),
+        },
+    }
+}

@@ -1,0 +1,126 @@
+//! The stops: where POSIX leaves the behavior undefined, or this host's profile of POSIX excludes it.
+
+ghost use Rattle.std.specs.Prelude.{◌≡◌, List, length, not, nat_lt, is_none};
+ghost use Rattle.pct_model.specs.declared.frame.Frame.{Frame as FrameRecord};
+ghost use Rattle.pct_model.specs.declared.limits.TheConstants.{MAX_HANDLERS};
+ghost use Rattle.pct_model.specs.Jumps.{open_of};
+ghost use Rattle.pct_model.specs.World.{Thread, SharedState, body_of};
+ghost use Rattle.pct_model.specs.StopTable.{stop_at, stops_of, first_stop, is_stack_full, exits_twice, is_built};
+ghost use Rattle.pct_engine.specs.Positions.{AreShared, IsPosition};
+
+use crate::current::value_of;
+use crate::position::Position;
+use crate::program::Program;
+use pct_model::{Frame, FrameKind, MAX_FRAMES, MAX_HANDLERS, Stmt, Why};
+
+/// The stop of a running thread at this statement of its top frame, in a process with these globals and this value of exit:
+/// whether the statement is implemented is tested first, and then the statement's own stops in their order. `None` if the
+/// statement does not stop.
+#[tactic(auto, unfolding(pct_model::specs::StopTable::stop_at))]
+pub(crate) fn stop_at(
+    program: &Program,
+    globals: &[u32],
+    exit_value: Option<u32>,
+    position: &Position,
+    frame: &Frame,
+    statement: Stmt,
+) -> Option<Why>
+    ensures { (shared : SharedState) (t : Thread) → AreShared globals.now exit_value shared → IsPosition program.now.script position.now t
+        → result ≡ stop_at (body_of program.now.script frame.now.func) shared t frame.now statement }
+{
+    if is_built(statement) {
+        own_stop(program, globals, exit_value, position, frame, statement)
+    } else {
+        Some(Why::Unbuilt)
+    }
+}
+
+// The first of a statement's own stops that applies.
+#[tactic(auto, unfolding(pct_model::specs::StopTable::stops_of))]
+fn own_stop(
+    program: &Program,
+    globals: &[u32],
+    exit_value: Option<u32>,
+    position: &Position,
+    frame: &Frame,
+    statement: Stmt,
+) -> Option<Why>
+    ensures { (shared : SharedState) (t : Thread) → AreShared globals.now exit_value shared → IsPosition program.now.script position.now t
+        → result ≡ first_stop (stops_of (body_of program.now.script frame.now.func) shared t frame.now statement) }
+{
+    match statement {
+        Stmt::Return(_) => first_stop(&[(exits_twice(frame.kind, exit_value), Why::ExitTwice)]),
+        Stmt::End => first_stop(&[(
+            closes_function(program, frame) && exits_twice(frame.kind, exit_value),
+            Why::ExitTwice,
+        )]),
+        Stmt::Do(_, _) => first_stop(&[(is_stack_full(position.depth), Why::StackFull)]),
+        Stmt::Pop(operand) => first_stop(&[(
+            value_of(globals, frame, operand) != 0 && is_stack_full(position.depth),
+            Why::StackFull,
+        )]),
+        Stmt::Push(_, _) => first_stop(&[(is_cleanup_full(position.handlers), Why::CleanupFull)]),
+        _ => None,
+    }
+}
+
+// The first stop whose guard holds.
+fn first_stop(guards: &[(bool, Why)]) -> Option<Why>
+    ensures { result ≡ first_stop guards.now }
+{
+    guards.iter().find(|guard| guard.0).map(|guard| guard.1)
+}
+
+// ---- conditions
+
+// Whether a call in a thread with this number of frames would need one frame more than the limit.
+fn is_stack_full(depth: u32) -> bool
+    ensures { (frames : List FrameRecord) → depth ≡ length frames → result ≡ is_stack_full frames }
+{
+    depth as usize >= MAX_FRAMES
+}
+
+// Whether a push in a thread with this number of cleanup handlers would need one handler more than the limit.
+fn is_cleanup_full(handlers: u32) -> bool
+    ensures { result ≡ not (nat_lt handlers MAX_HANDLERS) }
+{
+    handlers as usize >= MAX_HANDLERS
+}
+
+// Whether a return from a frame of this kind exits the process, where exit has begun before.
+fn exits_twice(kind: FrameKind, exit_value: Option<u32>) -> bool
+    ensures { (shared : SharedState) → exit_value ≡ shared.exit_value → result ≡ exits_twice kind shared }
+{
+    match kind {
+        FrameKind::Main => exit_value.is_some(),
+        _ => false,
+    }
+}
+
+// Whether no block is closed at the frame's program counter, as at the `end` of the function.
+fn closes_function(program: &Program, frame: &Frame) -> bool
+    ensures { result ≡ is_none (open_of (body_of program.now.script frame.now.func) frame.now.pc) }
+{
+    program.jumps.open_of(frame.func, frame.pc).is_none()
+}
+
+// Whether the statement is implemented.
+fn is_built(statement: Stmt) -> bool
+    ensures { result ≡ is_built statement }
+{
+    matches!(
+        statement,
+        Stmt::Emit(_)
+            | Stmt::Set(_, _)
+            | Stmt::Add(_, _)
+            | Stmt::Nop
+            | Stmt::If(_)
+            | Stmt::Else
+            | Stmt::While(_)
+            | Stmt::End
+            | Stmt::Do(_, _)
+            | Stmt::Return(_)
+            | Stmt::Push(_, _)
+            | Stmt::Pop(_)
+    )
+}

@@ -1,0 +1,42 @@
+//! The entries and the events of a run, in vectors that have room for them.
+
+ghost use Rattle.std.specs.Prelude.{◌≡◌, ◌+◌, ◌<◌, ◌≤◌, [], ◌∷◌, ◌++◌, length, map, vec_len, vec_capacity};
+ghost use Rattle.pct_model.specs.Run.{event_of};
+
+use pct_model::{Entry, Event, UpToThree, What};
+
+/// Records an entry.
+pub(crate) fn record_entry(history: &mut Vec<Entry>, entry: Entry)
+    requires { vec_len history.old < vec_capacity history.old }
+    ensures last { history.new.items ≡ history.old.items ++ entry ∷ [] }
+    ensures capacity { vec_capacity history.old ≤ vec_capacity history.new }
+{
+    history.push(entry).unwrap();
+}
+
+/// Records the events of the step of an entry.
+pub(crate) fn record_events(events: &mut Vec<Event>, entry: Entry, new_events: &UpToThree<What>)
+    requires { vec_len events.old + length new_events.now ≤ vec_capacity events.old }
+    ensures last { events.new.items ≡ events.old.items ++ map (event_of entry) new_events.now }
+    ensures capacity { vec_capacity events.old ≤ vec_capacity events.new }
+{
+    if let Some((what, rest)) = new_events.split_first() {
+        record_event(events, entry, what);
+        record_events(events, entry, &rest);
+    }
+}
+
+// Records one event of the step of an entry.
+fn record_event(events: &mut Vec<Event>, entry: Entry, what: What)
+    requires { vec_len events.old < vec_capacity events.old }
+    ensures last { events.new.items ≡ events.old.items ++ event_of entry what ∷ [] }
+    ensures capacity { vec_capacity events.old ≤ vec_capacity events.new }
+{
+    events
+        .push(Event {
+            pid: entry.pid,
+            tid: entry.tid,
+            what,
+        })
+        .unwrap();
+}

@@ -1,0 +1,12 @@
+pub mod ListFacts
+pub mod IndexedLists
+pub mod ThreadChanges
+pub mod AfterSeen
+pub mod TransitionSeen
+pub mod VerdictSeen
+pub mod ChosenSeen
+pub mod StepSeen
+pub mod OpeningSeen
+pub mod PlacedThreads
+pub mod LongerRuns
+pub mod OpenRuns

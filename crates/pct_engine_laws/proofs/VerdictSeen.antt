@@ -1,0 +1,84 @@
+-- The verdict depends only on what is kept of the state.
+use Rattle.std.proofs.Common.{◌≡◌, ℕ, ◌<◌, Bool, true, false, not, ◌&&◌, ◌||◌, cond, List, map, filter, Option, Some, None, is_some, nat_eq, refl, sym, ap, ◌∙◌}
+use Rattle.std.specs.List.{list_any, list_all, range_with_len}
+use Rattle.std.proofs.lemmas.List.Folds.{flat_map-map, list_all-map}
+use Rattle.pct_model.specs.declared.script.Script.{Script}
+use Rattle.pct_model.specs.declared.schedule.Config.{Config}
+use Rattle.pct_model.specs.declared.stop.Why.{Why}
+use Rattle.pct_model.specs.declared.stop.Verdict.{Verdict}
+use Rattle.pct_model.specs.declared.stop.Verdict.TheVariants.{Complete, Deadlock, Budget, Open}
+use Rattle.pct_model.specs.World.{Thread, Process, World}
+use Rattle.pct_model.specs.ThreadSlots.{holds_slot, slot_of, is_on}
+use Rattle.pct_model.specs.Actions.{has_ended}
+use Rattle.pct_model.specs.Run.{is_ready, has_ready, verdict_by, verdict_of}
+use Rattle.pct_model.specs.Chosen.{by_slot}
+use Rattle.pct_engine_laws.specs.Seen.{SeenProcess, seen_slot, seen_process, seen}
+use Rattle.pct_engine_laws.specs.SeenSteps.{threads_in, is_ready_in, has_ready_in, seen_verdict_by, seen_verdict}
+use Rattle.pct_engine_laws.proofs.ListFacts.{any_agree, all_agree, any-filter, all-filter, any-map, any-flat_map, any_swap, any_and}
+use Rattle.pct_engine_laws.proofs.IndexedLists.{index_among}
+use Rattle.pct_engine_laws.proofs.ThreadChanges.{slot_below}
+
+-- ---- the threads of a process
+
+-- the threads of a process, by rising slot
+pub threads_seen : (slots : ℕ) (p : Process) → threads_in (seen_process slots p) ≡ by_slot slots p.threads
+threads_seen slots p = flat_map-map (λ s. s.here) (seen_slot slots p.threads) (range_with_len 0 slots)
+
+on_some_slot : (slots : ℕ) (test : Thread → Bool) (t : Thread) → 0 < slots → list_any (λ s. (is_on slots s t && holds_slot t) && test t) (range_with_len 0 slots) ≡ (holds_slot t && test t)
+on_some_slot slots test t some =
+    any_and (λ s. is_on slots s t && holds_slot t) (test t) (range_with_len 0 slots)
+    ∙ ap (λ (b : Bool). b && test t)
+    (any_and (λ s. is_on slots s t) (holds_slot t) (range_with_len 0 slots) ∙ ap (λ (b : Bool). b && holds_slot t) (index_among (slot_of slots t.id) slots (slot_below slots t.id some)))
+
+-- a test that some thread on a slot passes
+pub any_by_slot : (slots : ℕ) (test : Thread → Bool) (threads : List Thread) → 0 < slots → list_any test (by_slot slots threads) ≡ list_any (λ t. holds_slot t && test t) threads
+any_by_slot slots test threads some =
+    any-flat_map test (λ s. filter (λ t. is_on slots s t && holds_slot t) threads) (range_with_len 0 slots)
+    ∙ any_agree (λ s. list_any test (filter (λ t. is_on slots s t && holds_slot t) threads)) (λ s. list_any (λ t. (is_on slots s t && holds_slot t) && test t) threads) (λ s. any-filter test (λ t. is_on slots s t && holds_slot t) threads) (range_with_len 0 slots)
+    ∙ any_swap (λ s t. (is_on slots s t && holds_slot t) && test t) (range_with_len 0 slots) threads
+    ∙ any_agree (λ t. list_any (λ s. (is_on slots s t && holds_slot t) && test t) (range_with_len 0 slots)) (λ t. holds_slot t && test t) (λ t. on_some_slot slots test t some) threads
+
+-- ---- processes
+
+ready_by : (reaped ended : Bool) (ready ready_in : Bool) → ready_in ≡ ready → (not reaped && (not ended && ready_in)) ≡ (not (reaped || ended) && ready)
+ready_by true ended ready ready_in e = refl
+ready_by false true ready ready_in e = refl
+ready_by false false ready ready_in e = e
+
+-- a process has a thread that is ready
+pub ready_seen : (script : Script) (config : Config) (p : Process) → 0 < config.slots → (not p.reaped && has_ready_in script (seen_process config.slots p)) ≡ has_ready script config p
+ready_seen script config p some =
+    ready_by p.reaped (is_some p.ended) (list_any (is_ready script config p) p.threads) (list_any (is_ready_in script) (threads_in (seen_process config.slots p)))
+    (ap (list_any (is_ready_in script)) (threads_seen config.slots p) ∙ any_by_slot config.slots (is_ready_in script) p.threads some)
+
+-- some process has a thread that is ready
+pub some_ready_seen : (script : Script) (config : Config) (ps : List Process) → 0 < config.slots → list_any (has_ready_in script) (map (seen_process config.slots) (filter (λ p. not p.reaped) ps)) ≡ list_any (has_ready script config) ps
+some_ready_seen script config ps some =
+    any-map (has_ready_in script) (seen_process config.slots) (filter (λ p. not p.reaped) ps)
+    ∙ any-filter (λ p. has_ready_in script (seen_process config.slots p)) (λ p. not p.reaped) ps
+    ∙ any_agree (λ p. not p.reaped && has_ready_in script (seen_process config.slots p)) (has_ready script config) (λ p. ready_seen script config p some) ps
+
+ended_by : (reaped ended : Bool) → (not (not reaped) || ended) ≡ (reaped || ended)
+ended_by true ended = refl
+ended_by false ended = refl
+
+-- each process has ended
+pub all_ended_seen : (slots : ℕ) (ps : List Process) → list_all (λ p. is_some p.ended) (map (seen_process slots) (filter (λ p. not p.reaped) ps)) ≡ list_all has_ended ps
+all_ended_seen slots ps =
+    list_all-map (λ (p : SeenProcess). is_some p.ended) (seen_process slots) (filter (λ p. not p.reaped) ps)
+    ∙ all-filter (λ (p : Process). is_some p.ended) (λ p. not p.reaped) ps
+    ∙ all_agree (λ p. not (not p.reaped) || is_some p.ended) has_ended (λ p. ended_by p.reaped (is_some p.ended)) ps
+
+-- ---- the verdict
+
+verdict_by_seen : (stop : Option Why) (script : Script) (config : Config) (w : World) (n : ℕ) → 0 < config.slots → verdict_by stop script config w n ≡ seen_verdict_by stop script config (seen config.slots w).processes n
+verdict_by_seen (Some why) script config w n some = refl
+verdict_by_seen None script config w n some =
+    let undecided : Bool → Verdict = λ ready. cond (not ready) Deadlock (cond (nat_eq n config.budget) Budget Open) in
+    ap (λ (ended : Bool). cond ended Complete (undecided (list_any (has_ready script config) w.processes))) (sym (all_ended_seen config.slots w.processes))
+    ∙ ap (λ (ready : Bool). cond (list_all (λ p. is_some p.ended) (seen config.slots w).processes) Complete (undecided ready)) (sym (some_ready_seen script config w.processes some))
+
+-- the verdict of a run with n entries
+pub verdict_is_seen : (script : Script) (config : Config) (w : World) (n : ℕ) → 0 < config.slots → verdict_of script config w n ≡ seen_verdict script config (seen config.slots w) n
+unfolding verdict_of seen_verdict
+verdict_is_seen script config w n some = verdict_by_seen w.stop script config w n some

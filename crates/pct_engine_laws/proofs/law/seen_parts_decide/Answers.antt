@@ -1,0 +1,21 @@
+use Rattle.pct_engine_laws.proofs.TransitionSeen.{transition_is_seen}
+use Rattle.pct_engine_laws.proofs.AfterSeen.{after_is_seen}
+use Rattle.pct_engine_laws.proofs.VerdictSeen.{verdict_is_seen}
+use Rattle.pct_engine_laws.proofs.ChosenSeen.{chosen_is_seen}
+use Rattle.pct_engine_laws.proofs.OpenRuns.{goes_on_while_open}
+use Rattle.pct_engine_laws.proofs.law.seen_parts_decide.Goals as goal
+
+pub returns-clause-transition : goal.returns-clause-transition
+returns-clause-transition c = transition_is_seen
+
+pub returns-clause-after : goal.returns-clause-after
+returns-clause-after c = after_is_seen
+
+pub returns-clause-verdict : goal.returns-clause-verdict
+returns-clause-verdict c = verdict_is_seen
+
+pub returns-clause-chosen : goal.returns-clause-chosen
+returns-clause-chosen c = chosen_is_seen
+
+pub returns-clause-open : goal.returns-clause-open
+returns-clause-open c = goes_on_while_open

@@ -1,0 +1,4 @@
+pub mod Seen
+pub mod SeenSteps
+pub mod SeenLaws
+pub mod RunLaws

@@ -1,0 +1,82 @@
+-- What an engine keeps of a state of the machine: the processes that are not reaped and, of each, the threads that hold a
+-- slot, slot by slot. As long as no process forks, legality, transitions, verdicts and the choices of the scheduler depend on
+-- nothing else.
+use Rattle.std.specs.Prelude.{ℕ, Bool, not, ◌&&◌, if◌then◌else◌, List, [], ◌∷◌, map, filter, flat_map, count_by, Option, Some, is_some, nat_eq, slice_get, slice_set}
+use Rattle.std.specs.Option.{option_map_or}
+use Rattle.std.specs.List.{range_with_len}
+use Rattle.pct_model.specs.declared.stop.Why.{Why}
+use Rattle.pct_model.specs.declared.transition.Action.{Action}
+use Rattle.pct_model.specs.declared.transition.Action.TheVariants as action
+use Rattle.pct_model.specs.declared.transition.Transition.{Transition}
+use Rattle.pct_model.specs.World.{Thread, SharedState, Process, World}
+use Rattle.pct_model.specs.ThreadSlots.{holds_slot, slot_of, is_on, is_live_thread}
+use Rattle.pct_model.specs.Actions.{shared_after, stop_after, for_each, moved}
+
+-- a slot: the number of threads ever made on it, and the thread that holds it
+pub record SeenSlot : Type 0 where
+  pub made : ℕ
+  pub here : List Thread
+
+-- a process that is not reaped
+pub record SeenProcess : Type 0 where
+  pub pid : ℕ
+  pub parent : ℕ
+  pub restricted : Bool
+  pub ended : Option ℕ
+  pub slots : List SeenSlot
+  pub shared : SharedState
+
+-- the part of a state that is kept
+pub record Seen : Type 0 where
+  pub processes : List SeenProcess
+  pub stop : Option Why
+
+-- ---- of a state
+
+-- slot s of a process with these threads
+abbrev pub seen_slot : ℕ → List Thread → ℕ → SeenSlot
+seen_slot slots threads s = record { made = count_by (is_on slots s) threads; here = filter (λ t. is_on slots s t && holds_slot t) threads }
+
+-- a process
+abbrev pub seen_process : ℕ → Process → SeenProcess
+seen_process slots p = record { pid = p.pid; parent = p.parent; restricted = p.restricted; ended = p.ended; slots = map (seen_slot slots p.threads) (range_with_len 0 slots); shared = p.shared }
+
+-- a state
+abbrev pub seen : ℕ → World → Seen
+seen slots w = record { processes = map (seen_process slots) (filter (λ p. not p.reaped) w.processes); stop = w.stop }
+
+-- ---- after a transition
+
+-- a slot after a transition of a thread
+abbrev pub slot_after : ℕ → Transition → SeenSlot → SeenSlot
+slot_after tid o s = record s { here = filter holds_slot (map (λ t. if is_live_thread tid t then moved o t else t) s.here) }
+
+-- the slots with a change of the one at an index
+abbrev pub on_slot : ℕ → (SeenSlot → SeenSlot) → List SeenSlot → List SeenSlot
+on_slot i f slots = option_map_or (λ s. slice_set slots i (f s)) (slice_get slots i) slots
+
+-- the process of the thread after an action: after its end it is kept only if it has a parent
+unfoldable pub own_kept : Action → SeenProcess → List SeenProcess
+own_kept (action.EndProcess n) p = if nat_eq p.parent 0 then [] else record p { ended = Some n } ∷ []
+own_kept _ p = p ∷ []
+
+-- another process after an action of a thread of process pid
+unfoldable pub other_kept : ℕ → Action → SeenProcess → List SeenProcess
+other_kept pid (action.EndProcess n) p = if nat_eq p.parent pid then if is_some p.ended then [] else record p { parent = 0 } ∷ [] else p ∷ []
+other_kept pid _ p = p ∷ []
+
+-- the process of the thread after the transition, with this number of slots
+abbrev pub own_process_seen : ℕ → ℕ → Transition → SeenProcess → List SeenProcess
+own_process_seen slots tid o p = for_each (λ a. flat_map (own_kept a)) o.actions (record p { slots = on_slot (slot_of slots tid) (slot_after tid o) p.slots; shared = for_each shared_after o.actions p.shared } ∷ [])
+
+-- another process after the transition
+abbrev pub other_process_seen : ℕ → Transition → SeenProcess → List SeenProcess
+other_process_seen pid o p = for_each (λ a. flat_map (other_kept pid a)) o.actions (p ∷ [])
+
+-- the process has this id and has not ended
+abbrev pub is_live_seen : ℕ → SeenProcess → Bool
+is_live_seen pid p = nat_eq p.pid pid && not (is_some p.ended)
+
+-- all after a transition of thread tid of process pid
+unfoldable pub seen_after : ℕ → ℕ → ℕ → Transition → Seen → Seen
+seen_after slots pid tid o v = record { processes = flat_map (λ p. if is_live_seen pid p then own_process_seen slots tid o p else other_process_seen pid o p) v.processes; stop = for_each stop_after o.actions v.stop }

@@ -1,0 +1,16 @@
+//! The theorems on what an engine keeps of a state of the machine, and on runs that go on.
+
+ghost use Rattle.pct_engine_laws.specs.SeenLaws.{TransitionIsSeen, AfterIsSeen, VerdictIsSeen, ChosenIsSeen};
+ghost use Rattle.pct_engine_laws.specs.RunLaws.{GoesOnWhileOpen};
+
+/// An empty function whose contract states the theorems. The processes that are not reaped, with the threads that hold a slot,
+/// decide which transition an entry takes, the verdict, and the choice of the scheduler. What is kept of a state after a
+/// transition depends only on what was kept before it. A run can go on by an entry exactly if its verdict is `Open` and the
+/// entry is legal in the state after the run.
+pub fn seen_parts_decide()
+    ensures transition { TransitionIsSeen }
+    ensures after { AfterIsSeen }
+    ensures verdict { VerdictIsSeen }
+    ensures chosen { ChosenIsSeen }
+    ensures open { GoesOnWhileOpen }
+{}

@@ -1,0 +1,67 @@
+-- The first entry of a schedule that is not legal.
+use Rattle.std.proofs.Common.{◌≡◌, ℕ, suc, ◌+◌, ◌<◌, ◌≤◌, true, List, [], ◌∷◌, ◌++◌, Option, Some, None, refl, sym, ap, ◌∙◌, subst, arith, length, get_or, take, drop, append_assoc}
+use Rattle.std.specs.Prelude.{is_some, option_map, option_and_then}
+use Rattle.std.specs.Option.{option_map_or}
+use Rattle.std.proofs.lemmas.List.{length-take-le, take-append-drop, take_more}
+use Rattle.std.proofs.lemmas.Option.{none-some, same_Some}
+use Rattle.pct_model.specs.declared.script.Script.{Script}
+use Rattle.pct_model.specs.declared.schedule.Config.{Config}
+use Rattle.pct_model.specs.declared.schedule.Entry.{Entry}
+use Rattle.pct_model.specs.World.{opening}
+use Rattle.pct_model.specs.Run.{Run, run_step, run_from, illegal_in, first_illegal, run}
+use Rattle.pct_engine.specs.EngineStates.{EngineValue, IsRunWith}
+use Rattle.pct_engine_laws.proofs.LongerRuns.{run_parts, run_more}
+
+-- ---- options
+
+-- the value of an option that has one
+pub has_value : {A : Type 0} (o : Option A) → is_some o ≡ true → (x : A) × (o ≡ Some x)
+has_value None is = absurd (cc)
+has_value (Some x) is = (x, refl)
+
+has_none : {A : Type 0} (o : Option A) → (is_some o ≡ true → ⊥) → o ≡ None
+has_none None is = refl
+has_none (Some x) is = absurd (is refl)
+
+-- ---- schedules
+
+-- the number of the first entry that is not legal, where the first entry leads to this run
+abbrev counted : Script → Config → List Entry → Option Run → Option ℕ
+counted script config entries o = option_map_or (λ next. option_map suc (illegal_in script config next entries)) o (Some 1)
+
+after_first : (script : Script) (config : Config) (r : Run) (before : List Entry) (e : Entry) (after : List Entry)
+    → ((next : Run) → run_from script config next before ≡ Some r → illegal_in script config next (before ++ e ∷ after) ≡ Some (suc (length before)))
+    → (o : Option Run) → option_and_then (λ next. run_from script config next before) o ≡ Some r → counted script config (before ++ e ∷ after) o ≡ Some (suc (suc (length before)))
+after_first script config r before e after each None ran = absurd (none-some r ran)
+after_first script config r before e after each (Some next) ran = ap (option_map suc) (each next ran)
+
+-- an entry that is not legal, after entries that are
+illegal-after : (script : Script) (config : Config) (from r : Run) (before : List Entry) (e : Entry) (after : List Entry) → run_from script config from before ≡ Some r → run_step script config r e ≡ None
+    → illegal_in script config from (before ++ e ∷ after) ≡ Some (suc (length before))
+unfolding run_from illegal_in
+illegal-after script config from r [] e after ran none = ap (counted script config after) (ap (λ x. run_step script config x e) (same_Some from r ran) ∙ none)
+illegal-after script config from r (x ∷ before) e after ran none =
+    after_first script config r before e after (λ next at. illegal-after script config next r before e after at none) (run_step script config from x) ran
+
+-- the entries are those before one, this one, and those after it
+around : (entries : List Entry) (i : ℕ) (d : Entry) → i < length entries → entries ≡ take i entries ++ get_or entries i d ∷ drop (i + 1) entries
+around entries i d within =
+    sym (take-append-drop (i + 1) entries)
+    ∙ ap (λ xs. xs ++ drop (i + 1) entries) (take_more entries i d within)
+    ∙ append_assoc (take i entries) (get_or entries i d ∷ []) (drop (i + 1) entries)
+
+-- an engine has made the steps of the entries before one, and with this one they are no run: it is the first that is not legal
+pub illegal-at : (engine : EngineValue) (script : Script) (config : Config) (entries : List Entry) (i : ℕ) (d : Entry) → engine ≡ record { script = script; config = config; history = take i entries } → i < length entries → length entries ≤ config.budget
+    → is_some (run script config (take i entries)) ≡ true → (IsRunWith engine (get_or entries i d) → ⊥)
+    → first_illegal script config entries ≡ Some (i + 1)
+illegal-at engine script config entries i d made within few legal illegal =
+    let before = take i entries in
+    let e = get_or entries i d in
+    let so_far = has_value (run script config before) legal in
+    let r = so_far.0 in
+    let count : length before ≡ i = length-take-le i entries (omega arith) in
+    let stopped : run script config (before ++ e ∷ []) ≡ None = has_none (run script config (before ++ e ∷ [])) (λ legal_too. illegal (subst (λ (v : EngineValue). IsRunWith v e) (sym made) legal_too)) in
+    let from : Run = record { world = opening script; events = [] } in
+    ap (illegal_in script config from) (around entries i d within)
+    ∙ illegal-after script config from r before e (drop (i + 1) entries) (run_parts script config before r so_far.1).ran (sym (run_more script config before e r so_far.1 (omega arith)) ∙ stopped)
+    ∙ ap (λ (n : ℕ). Some n) (omega (arith, count))

@@ -1,0 +1,31 @@
+use Rattle.std.proofs.Common.{Some, ℕ, ◌+◌, ap, ◌∙◌, sym, arith}
+use Rattle.std.specs.Prelude.{is_some}
+use Rattle.std.proofs.lemmas.Bool.{false≢true}
+use Rattle.pct_engine_laws.proofs.LongerRuns.{run_none}
+use Rattle.pct_model.specs.Run.{run}
+use Rattle.pct_engine.specs.EngineStates.{EngineValue}
+use Rattle.pct_history.proofs.IllegalEntries.{has_value, illegal-at}
+use Rattle.pct_history.proofs.replaying.make_steps.Goals as goal
+
+pub loop-entry-init : goal.loop-entry-init
+loop-entry-init c =
+    let engine = c.args.engine.now in
+    record {
+      entry_number = omega arith;
+      within = omega arith;
+      made = ap (λ history. record engine { history = history }) c.requires.opened;
+      legal = ap is_some (run_none engine.script engine.config c.requires.config);
+    }
+
+pub returns-in-Err-clause-first : goal.returns-in-Err-clause-first
+returns-in-Err-clause-first c =
+    let so_far = c.loop-entry.invariant in
+    let opened = c.args.engine.now in
+    illegal-at c.loop-entry.engine opened.script opened.config c.args.entries.now c.loop-entry.entry-index _ so_far.made (omega arith) c.requires.few so_far.legal (λ legal. false≢true (c.in-Err.ensures.legal.1 legal))
+    ∙ ap (λ (n : ℕ). Some (n + 1)) (sym so_far.entry_number)
+
+pub returns-clause-runs : goal.returns-clause-runs
+returns-clause-runs c =
+    let engine = c.loop-entry.engine in
+    let so_far = c.loop-entry.invariant in
+    has_value (run engine.script engine.config engine.history) (ap (λ (e : EngineValue). is_some (run e.script e.config e.history)) so_far.made ∙ so_far.legal)

@@ -1,0 +1,54 @@
+//! The run of a script under a given schedule.
+
+ghost use Rattle.std.specs.Prelude.{◌≡◌, ◌≤◌, true, [], length, is_some, Some, IfErr, IfNone, IfOk, IfSome, IsTrue};
+ghost use Rattle.pct_model.specs.Run.{Run, first_illegal, is_config};
+ghost use Rattle.pct_engine.specs.EngineStates.{IsRunOf};
+ghost use Rattle.pct_history.specs.Replays.{StopsReplay};
+
+use crate::replay_fault::ReplayFault;
+use pct_engine::{Engine, NotLegal};
+use pct_model::{Config, Entry, Script};
+use std::alloc::Global;
+
+/// Runs a script under a schedule: it makes the step of each entry in turn. The engine that is returned has made them all,
+/// and may make further steps.
+///
+/// `NotLegal` is returned if an entry is not legal at its turn, with the number of the first such entry, counted from 1.
+/// `NoMemory` is returned if the run does not fit into memory; all memory is taken before the first step.
+pub fn replay(
+    alloc: Global,
+    script: Script,
+    config: Config,
+    entries: &[Entry],
+) -> Result<Engine, ReplayFault>
+    requires config { IsTrue (is_config config) }
+    requires few { length entries.now ≤ config.budget }
+    ensures ran { IfOk result (λ engine. engine ≡ record { script = script; config = config; history = entries.now }) }
+    ensures runs { IfOk result (λ engine. (after : Run) × IsRunOf engine after) }
+    ensures stopped { IfErr result (λ fault. StopsReplay script config entries.now fault) }
+{
+    let mut engine = Engine::open(alloc, script, config)?;
+    match make_steps(&mut engine, entries) {
+        None => Ok(engine),
+        Some(entry_number) => Err(ReplayFault::NotLegal { entry_number }),
+    }
+}
+
+// Makes the steps of the entries up to the first that is not legal, and returns the number of that one, counted from 1.
+fn make_steps(engine: &mut Engine, entries: &[Entry]) -> Option<u32>
+    requires opened { engine.old.history ≡ [] }
+    requires config { IsTrue (is_config engine.old.config) }
+    requires few { length entries.now ≤ engine.old.config.budget }
+    ensures all { IfNone result (engine.new ≡ record engine.old { history = entries.now }) }
+    ensures runs { IfNone result ((after : Run) × IsRunOf engine.new after) }
+    ensures first { IfSome result (λ entry_number. first_illegal engine.old.script engine.old.config entries.now ≡ Some entry_number) }
+{
+    let mut entry_number = 0;
+    for entry in entries {
+        entry_number += 1;
+        if let Err(NotLegal) = engine.step(*entry) {
+            return Some(entry_number);
+        }
+    }
+    None
+}

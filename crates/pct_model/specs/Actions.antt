@@ -1,0 +1,100 @@
+-- What a transition changes: the thread that makes it, the state that the threads of its process share, the process, the
+-- other processes, and the run. The thread and its process are looked up once, before the first action.
+use Rattle.std.specs.Prelude.{ℕ, Bool, true, not, ◌&&◌, ◌||◌, if◌then◌else◌, List, [], ◌∷◌, map, Option, Some, None, is_some, nat_eq, slice_set}
+use Rattle.pct_model.specs.declared.frame.Frame.{Frame}
+use Rattle.pct_model.specs.declared.state.Status.TheVariants.{Running, Exiting}
+use Rattle.pct_model.specs.declared.stop.Why.{Why}
+use Rattle.pct_model.specs.declared.transition.Action.{Action}
+use Rattle.pct_model.specs.declared.transition.Action.TheVariants as action
+use Rattle.pct_model.specs.declared.transition.Transition.{Transition}
+use Rattle.pct_model.specs.Cancelability.{ending_state, ending_mode}
+use Rattle.pct_model.specs.World.{Thread, SharedState, Process, World, new_frame}
+use Rattle.pct_model.specs.ThreadSlots.{is_live_thread}
+
+-- ---- the thread
+
+-- the frames with the top one at a pc
+abbrev pub at_pc : ℕ → List Frame → List Frame
+at_pc pc [] = []
+at_pc pc (frame ∷ below) = record frame { pc = pc } ∷ below
+
+-- the frames with a new value of a local of the top one
+abbrev pub set_local : ℕ → ℕ → List Frame → List Frame
+set_local i v [] = []
+set_local i v (frame ∷ below) = record frame { locals = slice_set frame.locals i v } ∷ below
+
+-- a list without its first item
+abbrev pub without_first : {T : Type 0} → List T → List T
+without_first [] = []
+without_first (first ∷ rest) = rest
+
+-- the thread after it went on at a pc, if it does
+unfoldable pub thread_at : Option ℕ → Thread → Thread
+thread_at None t = t
+thread_at (Some pc) t = record t { status = Running; frames = at_pc pc t.frames }
+
+-- the thread after an action
+unfoldable pub thread_after : Action → Thread → Thread
+thread_after (action.SetLocal i v) t = record t { frames = set_local i v t.frames }
+thread_after (action.Call f a kind) t = record t { status = Running; frames = new_frame f a kind ∷ t.frames }
+thread_after (action.Leave status) t = record t { status = status; frames = without_first t.frames }
+thread_after (action.PushHandler f a) t = record t { handlers = (f, a) ∷ t.handlers }
+thread_after action.PopHandler t = record t { handlers = without_first t.handlers }
+thread_after (action.BeginExit v) t = record t { status = Exiting; frames = []; state = ending_state; mode = ending_mode }
+thread_after _ t = t
+
+-- ---- its process
+
+-- the shared state after an action
+unfoldable pub shared_after : Action → SharedState → SharedState
+shared_after (action.SetGlobal i v) s = record s { globals = slice_set s.globals i v }
+shared_after (action.BeginExit v) s = record s { exit_value = Some v }
+shared_after _ s = s
+
+-- the process after an action: EndProcess ends it, and one without a parent is reaped as it ends (XSH _exit)
+unfoldable pub process_after : Action → Process → Process
+process_after (action.EndProcess n) p = record p { ended = Some n; reaped = nat_eq p.parent 0 }
+process_after _ p = p
+
+-- ---- the other processes
+
+-- the process has ended. A process that was reaped counts as ended in every state, also in one that no run reaches: so the
+-- processes that are not reaped decide what may happen.
+abbrev pub has_ended : Process → Bool
+has_ended p = p.reaped || is_some p.ended
+
+-- another process after an action of a thread of process pid: the children of a process that ends lose their parent (XSH
+-- _exit). In this host no process inherits them, so an ended child is reaped then.
+unfoldable pub other_process_after : ℕ → Action → Process → Process
+other_process_after pid (action.EndProcess n) p = if nat_eq p.parent pid then if has_ended p then record p { reaped = true } else record p { parent = 0 } else p
+other_process_after pid _ p = p
+
+-- ---- the run
+
+-- the reason of the stop after an action
+unfoldable pub stop_after : Action → Option Why → Option Why
+stop_after (action.Stop why) stop = Some why
+stop_after _ stop = stop
+
+-- ---- transitions
+
+-- the result of a change for each action, in order
+abbrev pub for_each : {T : Type 0} → (Action → T → T) → List Action → T → T
+for_each change [] value = value
+for_each change (a ∷ actions) value = for_each change actions (change a value)
+
+-- the thread after its transition
+abbrev pub moved : Transition → Thread → Thread
+moved o t = for_each thread_after o.actions (thread_at o.next t)
+
+-- the process after a transition of its thread with an id
+abbrev pub changed : ℕ → Transition → Process → Process
+changed tid o p = for_each process_after o.actions (record p { threads = map (λ t. if is_live_thread tid t then moved o t else t) p.threads; shared = for_each shared_after o.actions p.shared })
+
+-- the process has this id and has not ended
+abbrev pub is_live_process : ℕ → Process → Bool
+is_live_process pid p = nat_eq p.pid pid && not (has_ended p)
+
+-- the state after a transition of thread tid of process pid
+unfoldable pub after_transition : ℕ → ℕ → Transition → World → World
+after_transition pid tid o w = record { processes = map (λ p. if is_live_process pid p then changed tid o p else for_each (other_process_after pid) o.actions p) w.processes; stop = for_each stop_after o.actions w.stop }

@@ -1,0 +1,33 @@
+-- Transitions: what a thread does in one step, as data. ScriptStatements.antt, CleanupHandlers.antt and ProcessExit.antt give
+-- the transition of each statement; Actions.antt gives what a transition changes.
+use Rattle.std.specs.Prelude.{ℕ, List, [], ◌∷◌, Some, None}
+use Rattle.pct_model.specs.declared.statement.Dest.{Dest}
+use Rattle.pct_model.specs.declared.statement.Dest.TheVariants as destination
+use Rattle.pct_model.specs.declared.event.What.{What}
+use Rattle.pct_model.specs.declared.event.What.TheVariants.{Stopped}
+use Rattle.pct_model.specs.declared.stop.Why.{Why}
+use Rattle.pct_model.specs.declared.transition.Action.{Action}
+use Rattle.pct_model.specs.declared.transition.Action.TheVariants.{SetLocal, SetGlobal, Stop}
+use Rattle.pct_model.specs.declared.transition.Transition.{Transition}
+
+-- the thread goes on at a pc, with these actions and events
+abbrev pub goes_on : ℕ → List Action → List What → Transition
+goes_on next actions events = record { next = Some next; actions = actions; events = events }
+
+-- the thread does not go on, and has these actions and events
+abbrev pub acts : List Action → List What → Transition
+acts actions events = record { next = None; actions = actions; events = events }
+
+-- a transition that changes nothing, for states that no run reaches
+abbrev pub no_change : Transition
+no_change = acts [] []
+
+-- a stop: nothing else changes
+abbrev pub stops : Why → Transition
+stops why = acts (Stop why ∷ []) (Stopped why ∷ [])
+
+-- the actions that write a value to a destination; `-` drops it
+abbrev pub written : Dest → ℕ → List Action
+written (destination.Local i) v = SetLocal i v ∷ []
+written (destination.Global i) v = SetGlobal i v ∷ []
+written destination.Drop v = []

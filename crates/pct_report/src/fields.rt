@@ -1,0 +1,39 @@
+//! The words of an event.
+
+ghost use Rattle.std.specs.Prelude.{◌∷◌};
+ghost use Rattle.pct_io.specs.Writes.{Writes};
+ghost use Rattle.pct_io.specs.Fields.{field_text};
+ghost use Rattle.pct_model.specs.Keywords.{line_text};
+ghost use Rattle.pct_report.specs.EventFields.{words_of};
+
+use pct_io::{Failed, Field, Sink, write_line};
+use pct_model::Keyword;
+
+/// The words of an event: a fixed word, and one to four fields.
+#[derive(Clone, Copy)]
+pub(crate) enum Fields<'a> {
+    One(Keyword, Field<'a>),
+    Two(Keyword, Field<'a>, Field<'a>),
+    Three(Keyword, Field<'a>, Field<'a>, Field<'a>),
+    Four(Keyword, Field<'a>, Field<'a>, Field<'a>, Field<'a>),
+}
+
+/// Writes the line of a thread and the words of its event.
+pub(crate) fn write_words<K: Sink>(
+    sink: &mut K,
+    thread: Field,
+    fields: Fields,
+) -> Result<(), Failed>
+    ensures { Writes K.written K.errors K.inners sink.old sink.new (line_text (field_text thread.entry ∷ words_of fields.entry)) result }
+{
+    match fields {
+        Fields::One(word, a) => write_line(sink, &[thread, Field::Text(word.text()), a]),
+        Fields::Two(word, a, b) => write_line(sink, &[thread, Field::Text(word.text()), a, b]),
+        Fields::Three(word, a, b, c) => {
+            write_line(sink, &[thread, Field::Text(word.text()), a, b, c])
+        }
+        Fields::Four(word, a, b, c, d) => {
+            write_line(sink, &[thread, Field::Text(word.text()), a, b, c, d])
+        }
+    }
+}

@@ -1,0 +1,140 @@
+//! The report of a run.
+
+ghost use Rattle.std.specs.Prelude.{◌++◌};
+ghost use Rattle.std.specs.List.{flat_map};
+ghost use Rattle.pct_io.specs.Writes.{Writes};
+ghost use Rattle.pct_model.specs.Keywords.{line_text, text_of};
+ghost use Rattle.pct_model.specs.Report.{event_line, verdict_line, report_lines, report_of, schedule_lines, title_line};
+ghost use Rattle.pct_model.specs.Run.{Run};
+ghost use Rattle.pct_engine.specs.EngineStates.{IsRunOf};
+
+use crate::event_fields::event_fields;
+use crate::fields::write_words;
+use pct_engine::Engine;
+use pct_io::{BufferedSink, Failed, Field, Sink, write_line};
+use pct_model::{Config, Entry, Event, Keyword, Script, Verdict};
+use pct_schedule::write_schedule;
+
+/// Writes the report of an engine's run: a title, the events in order, the verdict, and the schedule. The run may be
+/// continued, and then its verdict is `Open`.
+///
+/// `Failed` means that the sink recorded one error, and that a prefix of the report was written. The call allocates no
+/// memory.
+pub fn write_report<K: Sink>(engine: &Engine, sink: &mut K) -> Result<(), Failed>
+    ensures report { (after : Run) → IsRunOf engine.now after → Writes K.written K.errors K.inners sink.old sink.new (report_of engine.now.script engine.now.config engine.now.history after) result }
+    // The run of the entries is defined, for every engine.
+    ensures runs { (after : Run) × IsRunOf engine.now after }
+{
+    write_run_report(
+        engine.script(),
+        engine.config(),
+        engine.events(),
+        engine.verdict(),
+        engine.history(),
+        sink,
+    )
+}
+
+/// Writes the report of a run: a title, the events in order, the verdict, and the schedule. Bytes are collected before
+/// they are written to the sink.
+///
+/// `Failed` means that the sink recorded one error, and that a prefix of the report was written. The call allocates no
+/// memory.
+pub fn write_run_report<K: Sink>(
+    script: &Script,
+    config: Config,
+    events: &[Event],
+    verdict: Verdict,
+    entries: &[Entry],
+    sink: &mut K,
+) -> Result<(), Failed>
+    ensures { Writes K.written K.errors K.inners sink.old sink.new (text_of (report_lines script.now config events.now verdict entries.now)) result }
+{
+    let mut out = BufferedSink::new(sink);
+    write_parts(&mut out, script, config, events, verdict, entries)?;
+    out.flush()
+}
+
+fn write_parts<K: Sink>(
+    sink: &mut K,
+    script: &Script,
+    config: Config,
+    events: &[Event],
+    verdict: Verdict,
+    entries: &[Entry],
+) -> Result<(), Failed>
+    ensures { Writes K.written K.errors K.inners sink.old sink.new (text_of (report_lines script.now config events.now verdict entries.now)) result }
+{
+    write_run(sink, script, events)?;
+    write_end(sink, config, verdict, entries)
+}
+
+// The title and the events.
+fn write_run<K: Sink>(sink: &mut K, script: &Script, events: &[Event]) -> Result<(), Failed>
+    ensures { Writes K.written K.errors K.inners sink.old sink.new (line_text title_line ++ flat_map (λ e. line_text (event_line script.now e)) events.now) result }
+{
+    write_title(sink)?;
+    write_events(sink, script, events)
+}
+
+#[tactic(auto, unfolding(pct_model::specs::Report::title_line))]
+fn write_title<K: Sink>(sink: &mut K) -> Result<(), Failed>
+    ensures { Writes K.written K.errors K.inners sink.old sink.new (line_text title_line) result }
+{
+    write_line(
+        sink,
+        &[Field::Text(Keyword::Report.text()), Field::Number(1)],
+    )
+}
+
+fn write_events<K: Sink>(sink: &mut K, script: &Script, events: &[Event]) -> Result<(), Failed>
+    ensures { Writes K.written K.errors K.inners sink.old sink.new (flat_map (λ e. line_text (event_line script.now e)) events.now) result }
+{
+    for event in events {
+        write_event(sink, script, *event)?;
+    }
+    Ok(())
+}
+
+// The verdict and the schedule.
+fn write_end<K: Sink>(
+    sink: &mut K,
+    config: Config,
+    verdict: Verdict,
+    entries: &[Entry],
+) -> Result<(), Failed>
+    ensures { Writes K.written K.errors K.inners sink.old sink.new (line_text (verdict_line verdict) ++ text_of (schedule_lines config entries.now)) result }
+{
+    write_verdict(sink, verdict)?;
+    write_schedule(config, entries, sink)
+}
+
+#[tactic(auto, unfolding(pct_model::specs::Report::verdict_line, pct_model::specs::Report::verdict_words, pct_model::specs::StopTexts::stop_words))]
+fn write_verdict<K: Sink>(sink: &mut K, verdict: Verdict) -> Result<(), Failed>
+    ensures { Writes K.written K.errors K.inners sink.old sink.new (line_text (verdict_line verdict)) result }
+{
+    let title = Field::Text(Keyword::Verdict.text());
+    match verdict {
+        Verdict::Complete => write_line(sink, &[title, Field::Text(Keyword::Complete.text())]),
+        Verdict::Deadlock => write_line(sink, &[title, Field::Text(Keyword::Deadlock.text())]),
+        Verdict::Budget => write_line(sink, &[title, Field::Text(Keyword::Budget.text())]),
+        Verdict::Open => write_line(sink, &[title, Field::Text(Keyword::Open.text())]),
+        Verdict::Undefined(why) => write_line(
+            sink,
+            &[
+                title,
+                Field::Text(why.class().text()),
+                Field::Text(why.name().text()),
+            ],
+        ),
+    }
+}
+
+// The line of one event.
+#[tactic(auto, unfolding(pct_model::specs::Report::event_line, pct_model::specs::Report::thread_text))]
+fn write_event<K: Sink>(sink: &mut K, script: &Script, event: Event) -> Result<(), Failed>
+    ensures { Writes K.written K.errors K.inners sink.old sink.new (line_text (event_line script.now event)) result }
+{
+    let thread = Field::Dotted(event.pid, event.tid);
+    write_words(sink, thread, event_fields(script, event.what))
+}

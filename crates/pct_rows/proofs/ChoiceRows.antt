@@ -1,0 +1,86 @@
+-- The choices of the scheduler, and the order in which two numbers choose among them.
+use Rattle.std.proofs.Common.{◌≡◌, ℕ, true, false, List, [], ◌∷◌, map, Some, None, refl}
+use Rattle.std.specs.Prelude.{IsTrue, IsFalse}
+use Rattle.pct_model.specs.declared.schedule.Alt.{Alt}
+use Rattle.pct_model.specs.declared.schedule.Alt.TheVariants as alt
+use Rattle.pct_model.specs.declared.schedule.Config.{Config}
+use Rattle.pct_model.specs.declared.schedule.Entry.{Entry}
+use Rattle.pct_model.specs.declared.state.FrameKind.TheVariants as kind
+use Rattle.pct_model.specs.declared.state.Status.{Status}
+use Rattle.pct_model.specs.declared.state.Status.TheVariants as status
+use Rattle.pct_model.specs.declared.stop.Why.TheVariants as why
+use Rattle.pct_model.specs.Keywords.{keyword_text}
+use Rattle.pct_model.specs.Names.{main_of}
+use Rattle.pct_model.specs.World.{Thread, Process, World, first_process, statement_at, new_frame, new_thread}
+use Rattle.pct_model.specs.ThreadSlots.{slot_of}
+use Rattle.pct_model.specs.ChoiceTable.{running_choices, choices_at, offers, same_choice}
+use Rattle.pct_model.specs.Chosen.{by_slot, Candidate, candidates, chosen}
+use Rattle.pct_rows.proofs.Rows.{smallest}
+
+-- four thread slots
+abbrev config : Config
+config = record { budget = 100; passes = 4; slots = 4 }
+
+-- a thread at the first statement of `main`
+abbrev ready : ℕ → Thread
+ready id = new_thread id false (new_frame 0 0 kind.Start)
+
+-- a thread in a status
+abbrev in_status : ℕ → Status → Thread
+in_status id status = record (ready id) { status = status; frames = [] }
+
+-- a process with these threads
+abbrev process : ℕ → List Thread → Process
+process pid threads = record (first_process smallest) { pid = pid; threads = threads }
+
+-- the worker, process, thread and choice of an entry
+abbrev entry : ℕ → ℕ → ℕ → Entry
+entry worker pid tid = record { worker = worker; pid = pid; tid = tid; alt = alt.Go }
+
+-- ---- slots
+
+-- the slots of thread ids, with four slots
+slots_of_ids : map (slot_of 4) (1 ∷ 2 ∷ 3 ∷ 4 ∷ 5 ∷ 8 ∷ 9 ∷ []) ≡ 0 ∷ 1 ∷ 2 ∷ 3 ∷ 0 ∷ 3 ∷ 0 ∷ []
+slots_of_ids = refl
+
+-- threads by rising slot, whatever the order in which they were created; a thread that was reclaimed has no slot
+threads_by_slot : map (λ t. t.id) (by_slot 4 (ready 1 ∷ ready 4 ∷ ready 3 ∷ record (in_status 2 (status.Ended 0)) { joined = true } ∷ ready 6 ∷ [])) ≡ 1 ∷ 6 ∷ 3 ∷ 4 ∷ []
+threads_by_slot = refl
+
+-- an ended thread that is neither joined nor detached holds its slot; a thread that a child did not inherit has none
+ended_and_gone : map (λ t. t.id) (by_slot 4 (in_status 1 (status.Ended 0) ∷ record (ready 2) { gone = true } ∷ record (in_status 3 (status.Ended 0)) { detached = true } ∷ [])) ≡ 1 ∷ []
+ended_and_gone = refl
+
+-- ---- candidates
+
+-- two processes that have not ended, with one between them that has
+abbrev world : World
+world = record { processes = process 1 (ready 1 ∷ ready 3 ∷ ready 2 ∷ in_status 4 (status.Ended 0) ∷ []) ∷ record (process 2 (ready 1 ∷ [])) { ended = Some 0 } ∷ process 3 (ready 6 ∷ in_status 5 status.Exiting ∷ []) ∷ []; stop = None }
+
+abbrev fields_of : Candidate → ℕ × ℕ × List Alt
+fields_of c = (c.pid, c.tid, c.choices)
+
+-- by rising process id, then by rising slot; each has the choice `go`
+in_order : map fields_of (candidates smallest config world) ≡ (1, 1, alt.Go ∷ []) ∷ (1, 2, alt.Go ∷ []) ∷ (1, 3, alt.Go ∷ []) ∷ (3, 5, alt.Go ∷ []) ∷ (3, 6, alt.Go ∷ []) ∷ []
+unfolding main_of keyword_text statement_at running_choices choices_at candidates
+in_order = refl
+
+-- the first number chooses the thread, modulo the number of candidates; the second chooses among its choices
+first_number : (chosen smallest config world 5 0 0 ≡ Some (entry 5 1 1)) × (chosen smallest config world 5 1 7 ≡ Some (entry 5 1 2)) × (chosen smallest config world 5 2 0 ≡ Some (entry 5 1 3)) × (chosen smallest config world 5 3 0 ≡ Some (entry 5 3 5)) × (chosen smallest config world 5 4 0 ≡ Some (entry 5 3 6)) × (chosen smallest config world 5 5 0 ≡ Some (entry 5 1 1)) × (chosen smallest config world 5 4294967294 4294967295 ≡ Some (entry 5 3 6))
+unfolding main_of keyword_text statement_at running_choices choices_at candidates chosen
+first_number = (refl, refl, refl, refl, refl, refl, refl)
+
+-- without a thread that is ready there is no entry, and none after a stop
+nobody_ready : (chosen smallest config (record { processes = process 1 (in_status 1 (status.Ended 0) ∷ []) ∷ []; stop = None }) 1 0 0 ≡ None) × (chosen smallest config (record { processes = []; stop = None }) 1 0 0 ≡ None) × (chosen smallest config (record world { stop = Some why.StackFull }) 1 0 0 ≡ None)
+unfolding main_of keyword_text statement_at running_choices choices_at candidates chosen
+nobody_ready = (refl, refl, refl)
+
+-- ---- membership
+
+-- two choices are equal if their kinds and numbers are
+equal_choices : (IsTrue (same_choice alt.Go alt.Go)) × (IsTrue (same_choice (alt.Act 0) (alt.Act 0))) × (IsFalse (same_choice (alt.Act 0) (alt.Act 1))) × (IsFalse (same_choice (alt.New 1) (alt.Pick 1))) × (IsTrue (same_choice (alt.Pick 1) (alt.Pick 1))) × (IsFalse (same_choice (alt.Dtor 1) (alt.New 1))) × (IsFalse (same_choice alt.Go (alt.Dtor 0)))
+equal_choices = (refl, refl, refl, refl, refl, refl, refl)
+
+-- a choice is offered if it is in the list
+offered_choices : (IsTrue (offers (alt.Go ∷ alt.Act 3 ∷ []) (alt.Act 3))) × (IsFalse (offers (alt.Go ∷ alt.Act 3 ∷ []) (alt.Act 4))) × (IsFalse (offers [] alt.Go))
+offered_choices = (refl, refl, refl)

@@ -1,0 +1,187 @@
+-- The words of a report: none contains a byte up to the space (LF and CR among them).
+use Rattle.std.proofs.Common.{◌≡◌, ℕ, zero, suc, ◌≤◌, Bool, true, false, not, ◌&&◌, List, [], ◌∷◌, length, refl, sym, ◌∙◌, arith, nat_lt, nat_le, ltb-false, leb-true, lt-ltb, ne_eqb, decimal}
+use Rattle.std.specs.List.{list_all}
+use Rattle.std.proofs.lemmas.Bool.{and_parts, and_from, lt-leb}
+use Rattle.std.proofs.lemmas.List.Folds.{list_all-append}
+use Rattle.pct_model.specs.declared.script.Script.{Script}
+use Rattle.pct_model.specs.declared.line_kind.SymbolKind.{SymbolKind}
+use Rattle.pct_model.specs.declared.keyword.Keyword.{Keyword}
+use Rattle.pct_model.specs.declared.keyword.Keyword.TheVariants as keyword
+use Rattle.pct_model.specs.Keywords.{keyword_text}
+use Rattle.pct_model.specs.Names.{is_digit, is_name_byte, is_name, name_at}
+use Rattle.pct_model.specs.Contents.{names_of_kind}
+use Rattle.pct_model.specs.Spells.{contents_of}
+use Rattle.pct_model.specs.Report.{thread_text}
+use Rattle.pct_text.proofs.Numbers.{digits_of_decimal}
+use Rattle.pct_model.proofs.StaticFacts.{passes_all, text_parts, kinds_are_names}
+
+-- a byte above the space
+abbrev pub is_plain_byte : ℕ → Bool
+is_plain_byte b = nat_lt 32 b
+
+abbrev pub is_plain : List ℕ → Bool
+is_plain w = list_all is_plain_byte w
+
+abbrev pub are_plain : List (List ℕ) → Bool
+are_plain words = list_all is_plain words
+
+pub more : (w : List ℕ) (words : List (List ℕ)) → is_plain w ≡ true → are_plain words ≡ true → are_plain (w ∷ words) ≡ true
+more w words first rest = and_from (is_plain w) (are_plain words) first rest
+
+-- ---- bytes
+
+by_contradiction : (b : ℕ) (t : Bool) → nat_lt 32 b ≡ t → (b ≤ 32 → true ≡ false) → t ≡ true
+by_contradiction b true e fails = refl
+by_contradiction b false e fails = sym (fails (ltb-false 32 b e))
+
+digit_is_plain : (b : ℕ) → is_digit b ≡ true → is_plain_byte b ≡ true
+digit_is_plain b is =
+    let low : 48 ≤ b = leb-true 48 b (and_parts (nat_le 48 b) (nat_le b 57) is).0 in
+    lt-ltb 32 b (omega arith)
+
+low_is_no_name_byte : (b : ℕ) → b ≤ 32 → is_name_byte b ≡ false
+low_is_no_name_byte b low = rw (lt-leb 65 b (omega arith), lt-leb 97 b (omega arith), lt-leb 48 b (omega arith), ne_eqb b 95 (omega arith)) refl
+
+name_byte_is_plain : (b : ℕ) → is_name_byte b ≡ true → is_plain_byte b ≡ true
+name_byte_is_plain b is = by_contradiction b (nat_lt 32 b) refl (λ (low : b ≤ 32). sym is ∙ low_is_no_name_byte b low)
+
+wider : (p q : ℕ → Bool) → ((b : ℕ) → p b ≡ true → q b ≡ true) → (xs : List ℕ) → list_all p xs ≡ true → list_all q xs ≡ true
+wider p q each [] all = refl
+wider p q each (x ∷ xs) all =
+    let parts = and_parts (p x) (list_all p xs) all in
+    and_from (q x) (list_all q xs) (each x parts.0) (wider p q each xs parts.1)
+
+-- ---- words
+
+pub decimal_plain : (n : ℕ) → is_plain (decimal n) ≡ true
+decimal_plain n = wider is_digit is_plain_byte digit_is_plain (decimal n) (digits_of_decimal n)
+
+pub plain_name : (w : List ℕ) → is_name w ≡ true → is_plain w ≡ true
+unfolding is_name
+plain_name [] is = refl
+plain_name (b ∷ bs) is =
+    let first = (and_parts (not (is_digit b) && list_all is_name_byte (b ∷ bs)) (nat_le (length (b ∷ bs)) 31) is).0 in
+    wider is_name_byte is_plain_byte name_byte_is_plain (b ∷ bs) (and_parts (not (is_digit b)) (list_all is_name_byte (b ∷ bs)) first).1
+
+pub name_at_plain : (names : List (List ℕ)) (f : ℕ) → list_all is_name names ≡ true → is_plain (name_at names f) ≡ true
+unfolding name_at
+name_at_plain [] f all = refl
+name_at_plain (name ∷ names) zero all = plain_name name (and_parts (is_name name) (list_all is_name names) all).0
+name_at_plain (name ∷ names) (suc f) all = name_at_plain names f (and_parts (is_name name) (list_all is_name names) all).1
+
+-- the declared names of each kind
+pub declared_plain : (script : Script) (k : SymbolKind) (i : ℕ) → is_plain (name_at (names_of_kind (contents_of script) k) i) ≡ true
+declared_plain script k i =
+    let c = contents_of script in
+    name_at_plain (names_of_kind c k) i (kinds_are_names c k (text_parts c (passes_all c script.passes_checks).text))
+
+pub thread_plain : (pid tid : ℕ) → is_plain (thread_text pid tid) ≡ true
+unfolding thread_text
+thread_plain pid tid = list_all-append is_plain_byte (decimal pid) (46 ∷ decimal tid) ∙ and_from (is_plain (decimal pid)) (is_plain (decimal tid)) (decimal_plain pid) (decimal_plain tid)
+
+pub keyword_plain : (k : Keyword) → is_plain (keyword_text k) ≡ true
+unfolding keyword_text
+keyword_plain keyword.Main = refl
+keyword_plain keyword.Emit = refl
+keyword_plain keyword.End = refl
+keyword_plain keyword.Replay = refl
+keyword_plain keyword.Check = refl
+keyword_plain keyword.Push = refl
+keyword_plain keyword.Pop = refl
+keyword_plain keyword.Run = refl
+keyword_plain keyword.Drop = refl
+keyword_plain keyword.Exit = refl
+keyword_plain keyword.ProcessEnd = refl
+keyword_plain keyword.Create = refl
+keyword_plain keyword.Joinable = refl
+keyword_plain keyword.Detached = refl
+keyword_plain keyword.Answer = refl
+keyword_plain keyword.Request = refl
+keyword_plain keyword.Detach = refl
+keyword_plain keyword.State = refl
+keyword_plain keyword.Enable = refl
+keyword_plain keyword.Disable = refl
+keyword_plain keyword.Type = refl
+keyword_plain keyword.Asynchronous = refl
+keyword_plain keyword.Deferred = refl
+keyword_plain keyword.Call = refl
+keyword_plain keyword.Done = refl
+keyword_plain keyword.Joined = refl
+keyword_plain keyword.Ending = refl
+keyword_plain keyword.Canceled = refl
+keyword_plain keyword.Handler = refl
+keyword_plain keyword.Pass = refl
+keyword_plain keyword.Leftover = refl
+keyword_plain keyword.Ended = refl
+keyword_plain keyword.Key = refl
+keyword_plain keyword.KeyDelete = refl
+keyword_plain keyword.Acquire = refl
+keyword_plain keyword.Release = refl
+keyword_plain keyword.Signal = refl
+keyword_plain keyword.Broadcast = refl
+keyword_plain keyword.CancelWait = refl
+keyword_plain keyword.HandOn = refl
+keyword_plain keyword.Take = refl
+keyword_plain keyword.Post = refl
+keyword_plain keyword.Fork = refl
+keyword_plain keyword.Prepare = refl
+keyword_plain keyword.Parent = refl
+keyword_plain keyword.Child = refl
+keyword_plain keyword.AtExit = refl
+keyword_plain keyword.Reap = refl
+keyword_plain keyword.Report = refl
+keyword_plain keyword.Verdict = refl
+keyword_plain keyword.Complete = refl
+keyword_plain keyword.Deadlock = refl
+keyword_plain keyword.Budget = refl
+keyword_plain keyword.Open = refl
+keyword_plain keyword.Schedule = refl
+keyword_plain keyword.Go = refl
+keyword_plain keyword.Act = refl
+keyword_plain keyword.New = refl
+keyword_plain keyword.Pick = refl
+keyword_plain keyword.Dtor = refl
+keyword_plain keyword.Undefined = refl
+keyword_plain keyword.Profile = refl
+keyword_plain keyword.Unbuilt = refl
+keyword_plain keyword.ForkChildCall = refl
+keyword_plain keyword.AsyncCall = refl
+keyword_plain keyword.EnableInHandler = refl
+keyword_plain keyword.ExitInEnding = refl
+keyword_plain keyword.ThreadId = refl
+keyword_plain keyword.JoinSelf = refl
+keyword_plain keyword.NotJoinable = refl
+keyword_plain keyword.JoinTwice = refl
+keyword_plain keyword.DetachJoined = refl
+keyword_plain keyword.KeyId = refl
+keyword_plain keyword.NotOwner = refl
+keyword_plain keyword.CondTwoMutexes = refl
+keyword_plain keyword.ExitTwice = refl
+keyword_plain keyword.ForkInEnding = refl
+keyword_plain keyword.StackFull = refl
+keyword_plain keyword.CleanupFull = refl
+keyword_plain keyword.Refused = refl
+keyword_plain keyword.Words = refl
+keyword_plain keyword.Input = refl
+keyword_plain keyword.TooLong = refl
+keyword_plain keyword.Script = refl
+keyword_plain keyword.NotAscii = refl
+keyword_plain keyword.UnknownWord = refl
+keyword_plain keyword.WordCount = refl
+keyword_plain keyword.BadNumber = refl
+keyword_plain keyword.BadName = refl
+keyword_plain keyword.Misplaced = refl
+keyword_plain keyword.StrayEnd = refl
+keyword_plain keyword.PopUnmatched = refl
+keyword_plain keyword.Unclosed = refl
+keyword_plain keyword.TooMany = refl
+keyword_plain keyword.NameTwice = refl
+keyword_plain keyword.UnknownName = refl
+keyword_plain keyword.ReturnInPush = refl
+keyword_plain keyword.NotPlain = refl
+keyword_plain keyword.NoMain = refl
+keyword_plain keyword.Entry = refl
+keyword_plain keyword.BadHeader = refl
+keyword_plain keyword.BadEntry = refl
+keyword_plain keyword.BadEnd = refl
+keyword_plain keyword.Trailing = refl

@@ -1,0 +1,3 @@
+mod FrameLemmas
+pub mod TableLemmas
+mod FreeSlots

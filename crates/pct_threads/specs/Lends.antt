@@ -1,0 +1,21 @@
+-- What a table is after it lent the record of a thread, and a slot after it lent that of its thread.
+use Rattle.std.specs.Prelude.{ℕ, List, slice_set}
+use Rattle.std.specs.Borrow.{Lends, MutBor, Fml}
+use Rattle.pct_threads.specs.contracts.record.Thread.{the_row as thread_type}
+use Rattle.pct_threads.specs.contracts.row.Row.{the_row as slot_type}
+use Rattle.pct_threads.specs.contracts.threads.Threads.{the_row as table_type}
+use Rattle.pct_threads.specs.declared.record.Thread.{Thread}
+use Rattle.pct_threads.specs.Slots.{Slot, with_change, with_record}
+use Rattle.pct_threads.specs.Tables.{on_held}
+
+-- the slot has the last record behind r
+abbrev pub LendsRecord : MutBor Slot → MutBor Thread → Fml
+LendsRecord s r = Lends slot_type thread_type s r (λ thread. with_change (with_record thread) s.now)
+
+-- the table has the last slot behind r
+abbrev pub LendsSlot : MutBor (List Slot) → ℕ → MutBor Slot → Fml
+LendsSlot t index r = Lends table_type slot_type t r (slice_set t.now index)
+
+-- the thread on the slot has the last record behind r
+abbrev pub LendsThread : MutBor (List Slot) → ℕ → MutBor Thread → Fml
+LendsThread t index r = Lends table_type thread_type t r (λ thread. on_held index (with_record thread) t.now)

@@ -1,0 +1,5 @@
+pub mod FrameWords
+pub mod Records
+pub mod Slots
+pub mod Tables
+pub mod Lends

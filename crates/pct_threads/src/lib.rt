@@ -1,0 +1,12 @@
+//! The table of the threads of one process: the slots, and the thread that holds each (XSH 2.9, pthread_create,
+//! pthread_join, pthread_detach). Only `Threads::new` allocates memory.
+#![tactic(auto)]
+
+mod frame_words;
+mod record;
+mod row;
+mod threads;
+
+pub use record::{Place, Thread};
+pub use row::MAX_DEPTH;
+pub use threads::Threads;

@@ -1,0 +1,305 @@
+//! The table of the threads of one process.
+
+ghost use Rattle.std.specs.Prelude.{◌≡◌, ◌<◌, ◌&&◌, not, true, nat_lt, if◌then◌else◌};
+ghost use Rattle.pct_set.specs.Slots.{with_slot};
+
+use crate::row::Row;
+use crate::{Place, Thread};
+use pct_io::NoMemory;
+use pct_model::Frame;
+use pct_set::SlotSet;
+use std::alloc::Global;
+use std::marker::Model;
+
+/// The table of the threads of one process. A slot is occupied from the call of `create` on it until the call that gives it
+/// back. In a contract it is the list of the slots: each has the number of threads ever created on it, and the thread that
+/// holds it, if there is one, with its frames newest first.
+///
+/// A slot argument is below the number of slots. Unless a call says otherwise, its slot is occupied.
+#[derive(Debug, Drop)]
+pub struct Threads {
+    rows: Vec<Row>,
+}
+
+impl Model for Threads {
+    ghost use Rattle.std.specs.Prelude.{List, length, ◌≤◌};
+    ghost use Rattle.pct_model.specs.declared.limits.TheConstants.{MAX_SLOTS};
+    ghost use Rattle.pct_threads.specs.Slots.{Slot};
+
+    ghost Value = { List Slot };
+
+    ghost view = { λ t. t.rows.items };
+
+    ghost invariant = { λ t. (1 ≤ length t.rows.items) × (length t.rows.items ≤ MAX_SLOTS) };
+}
+
+impl Threads {
+    ghost use Rattle.std.specs.Prelude.{◌≡◌, ◌<◌, ◌≤◌, ◌^◌, ◌-◌, true, length, map, position, replicate, slice_get, Some, IfOk, IfSome};
+    ghost use Rattle.std.specs.Borrow.{sem};
+    ghost use Rattle.pct_model.specs.declared.limits.TheConstants.{MAX_SLOTS};
+    ghost use Rattle.pct_set.specs.Slots.{slots_where};
+    ghost use Rattle.pct_threads.specs.declared.row.TheConstants.{MAX_DEPTH};
+    ghost use Rattle.pct_threads.specs.FrameWords.{frame_word_of};
+    ghost use Rattle.pct_threads.specs.Slots.{unused, has_id, frame_at, with_joiner, with_frame, without_frame, without_frames, with_frame_word, freed};
+    ghost use Rattle.pct_threads.specs.Tables.{slot_at, is_occupied_at, is_free_at, id_at, place_at, thread_at, frames_at, is_reclaimable_at, next_id_at, on_slot, on_held, with_created, with_end, with_detach, replica_of};
+    ghost use Rattle.pct_threads.specs.Lends.{LendsSlot, LendsThread};
+
+    /// A table of 1 to 64 slots, none of them occupied. `NoMemory` is returned if the table does not fit into memory.
+    pub fn new(alloc: Global, slots: u32) -> Result<Threads, NoMemory>
+        requires some { 1 ≤ slots }
+        requires few { slots ≤ MAX_SLOTS }
+        ensures { IfOk result (λ threads. threads ≡ replicate slots unused) }
+    {
+        let mut rows = Vec::with_capacity(alloc, slots as usize)?;
+        for _ in 0..slots {
+            rows.push(Row::new())?;
+        }
+        Ok(Threads { rows })
+    }
+
+    /// The number of slots, 1 to 64.
+    pub fn slot_count(&self) -> u32
+        ensures value { result ≡ length self.now }
+        ensures some { 1 ≤ result }
+        ensures few { result ≤ MAX_SLOTS }
+    {
+        self.rows.len() as u32
+    }
+
+    /// Whether the slot is occupied.
+    pub fn is_occupied(&self, slot: u32) -> bool
+        requires { slot < length self.now }
+        ensures { result ≡ is_occupied_at self.now slot }
+    {
+        self.row(slot).is_occupied()
+    }
+
+    /// The first occupied slot whose thread has this id. It is `None` exactly if there is none.
+    pub fn find(&self, id: u32) -> Option<u32>
+        ensures value { result ≡ position (has_id id) self.now }
+        ensures within { IfSome result (λ slot. slot < length self.now) }
+        ensures occupied { IfSome result (λ slot. is_occupied_at self.now slot ≡ true) }
+    {
+        match self.index_of(id) {
+            Some(index) => Some(index as u32),
+            None => None,
+        }
+    }
+
+    /// The slots that are not occupied.
+    pub fn free(&self) -> SlotSet
+        ensures { result ≡ slots_where (is_free_at self.now) }
+    {
+        let mut free = SlotSet::new();
+        for slot in 0..self.slot_count() {
+            insert_if(&mut free, slot, !self.is_occupied(slot));
+        }
+        free
+    }
+
+    /// The id, whether the thread is detached, the id of the thread that joins it, and the number of its frames.
+    pub fn place(&self, slot: u32) -> Place
+        requires { is_occupied_at self.now slot ≡ true }
+        ensures value { place_at self.now slot ≡ Some result }
+        ensures fits { result.depth ≤ MAX_DEPTH }
+    {
+        self.row(slot).place()
+    }
+
+    /// The id of the next thread on the slot, which may be free: the slot's index plus 1, plus the number of slots times
+    /// the number of threads ever created on it. The id must be below 2^32.
+    pub fn next_id(&self, slot: u32) -> u32
+        requires within { slot < length self.now }
+        requires fits { next_id_at self.now slot < 2 ^ 32 }
+        ensures { result ≡ next_id_at self.now slot }
+    {
+        self.slot_count() * self.row(slot).made() + slot + 1
+    }
+
+    /// Creates a thread on a free slot, with one frame of `func` with `arg` (pthread_create). Returns its id, that of
+    /// `next_id`. The thread is running; its cancelability is enabled and deferred, and no request is pending; it has no
+    /// handlers, and no thread joins it.
+    pub fn create(&mut self, slot: u32, func: u32, arg: u32, detached: bool) -> u32
+        requires free { is_free_at self.old slot ≡ true }
+        requires fits { next_id_at self.old slot < 2 ^ 32 }
+        ensures id { result ≡ next_id_at self.old slot }
+        ensures table { self.new ≡ with_created slot func arg detached self.old }
+    {
+        let id = self.next_id(slot);
+        self.row_mut(slot).create(id, func, arg, detached);
+        id
+    }
+
+    /// The record of the thread.
+    pub fn read(&self, slot: u32) -> &Thread
+        requires { is_occupied_at self.now slot ≡ true }
+        ensures { thread_at self.now slot ≡ Some result.now }
+    {
+        self.row(slot).thread()
+    }
+
+    /// The record of the thread, for changes.
+    pub fn write(&mut self, slot: u32) -> &mut Thread
+        requires { is_occupied_at self.old slot ≡ true }
+        ensures* lends { sem 𝓛 (LendsThread self.entry slot result) }
+        ensures value { thread_at self.old slot ≡ Some result.now }
+    {
+        self.row_mut(slot).thread_mut()
+    }
+
+    /// Ends the thread: its status becomes `Ended` with this value. A detached thread gives back its slot.
+    pub fn end(&mut self, slot: u32, value: u32)
+        requires { is_occupied_at self.old slot ≡ true }
+        ensures { self.new ≡ with_end slot value self.old }
+    {
+        self.row_mut(slot).end(value);
+    }
+
+    /// Gives back the slot of a thread that was joined (pthread_join): it has ended, and is not detached.
+    pub fn reclaim(&mut self, slot: u32)
+        requires { is_reclaimable_at self.old slot ≡ true }
+        ensures { self.new ≡ on_slot slot freed self.old }
+    {
+        self.row_mut(slot).free();
+    }
+
+    /// The thread on the slot `joiner` joins the thread on the slot `target` (pthread_join).
+    pub fn join_begin(&mut self, joiner: u32, target: u32)
+        requires joiner { is_occupied_at self.old joiner ≡ true }
+        requires target { is_occupied_at self.old target ≡ true }
+        ensures { self.new ≡ on_held target (with_joiner (id_at self.old joiner)) self.old }
+    {
+        let id = self.place(joiner).id;
+        self.row_mut(target).set_joiner(id);
+    }
+
+    /// No thread joins the thread on the slot `target` from now on.
+    pub fn join_cancel(&mut self, target: u32)
+        requires { is_occupied_at self.old target ≡ true }
+        ensures { self.new ≡ on_held target (with_joiner 0) self.old }
+    {
+        self.row_mut(target).set_joiner(0);
+    }
+
+    /// Detaches the thread (pthread_detach). One that has ended gives back its slot.
+    pub fn detach(&mut self, slot: u32)
+        requires { is_occupied_at self.old slot ≡ true }
+        ensures { self.new ≡ with_detach slot self.old }
+    {
+        self.row_mut(slot).detach();
+    }
+
+    /// Makes this the table of the child process of a thread (fork). The other table is that of the parent; both have the same
+    /// number of slots, and the thread's slot is occupied in the other. Afterwards it alone is occupied, by a copy of the
+    /// thread with the same id, which no thread joins; and as many threads were ever created on each slot as in the other
+    /// table.
+    pub fn clone_one_from(&mut self, other: &Threads, slot: u32)
+        requires counts { length self.old ≡ length other.now }
+        requires occupied { is_occupied_at other.now slot ≡ true }
+        ensures { self.new ≡ replica_of slot other.now }
+    {
+        self.free_as(other);
+        self.row_mut(slot).copy_from(other.row(slot));
+    }
+
+    /// The newest frame of the thread. It is `None` exactly if the thread has no frame.
+    pub fn top_frame(&self, slot: u32) -> Option<Frame>
+        requires { is_occupied_at self.now slot ≡ true }
+        ensures { result ≡ slice_get (frames_at self.now slot) 0 }
+    {
+        self.row(slot).top_frame()
+    }
+
+    /// Adds a frame of `func`, at its first statement, to a thread with fewer than 17 frames. The frame's first local is
+    /// `arg`, its other locals are 0. Its kind has the number `kind`, below 8: 0 for `Main`, 1 `Start`, 2 `Call`,
+    /// 3 `PopHandler`, 4 `Handler`, 5 `Destructor`, 6 `ForkFn`, 7 `ExitFn`.
+    pub fn push_frame(&mut self, slot: u32, func: u32, arg: u32, kind: u32)
+        requires occupied { is_occupied_at self.old slot ≡ true }
+        requires room { length (frames_at self.old slot) < MAX_DEPTH }
+        requires kind { kind < 8 }
+        ensures { self.new ≡ on_held slot (with_frame func arg kind) self.old }
+    {
+        self.row_mut(slot).push_frame(func, arg, kind);
+    }
+
+    /// Removes the newest frame of a thread that has a frame.
+    pub fn pop_frame(&mut self, slot: u32)
+        requires { 0 < length (frames_at self.old slot) }
+        ensures { self.new ≡ on_held slot without_frame self.old }
+    {
+        self.row_mut(slot).pop_frame();
+    }
+
+    /// Removes all frames of the thread.
+    pub fn drop_frames(&mut self, slot: u32)
+        requires { is_occupied_at self.old slot ≡ true }
+        ensures { self.new ≡ on_held slot without_frames self.old }
+    {
+        self.row_mut(slot).drop_frames();
+    }
+
+    /// A word of a frame. Frames are counted from the oldest, which is 0. The words are the function, the program counter,
+    /// the number of the kind as in `push_frame`, and the eight locals.
+    pub fn frame_word(&self, slot: u32, frame: u32, i: u32) -> u32
+        requires frame { frame < length (frames_at self.now slot) }
+        requires word { i < 11 }
+        ensures { result ≡ frame_word_of (frame_at (frames_at self.now slot) frame) i }
+    {
+        self.row(slot).frame_word(frame, i)
+    }
+
+    /// Sets a word of a frame, both named as in `frame_word`. The number of a kind is below 8.
+    pub fn set_frame_word(&mut self, slot: u32, frame: u32, i: u32, value: u32)
+        requires frame { frame < length (frames_at self.old slot) }
+        requires word { i < 11 }
+        requires kind { i ≡ 2 → value < 8 }
+        ensures { self.new ≡ on_held slot (with_frame_word frame i value) self.old }
+    {
+        self.row_mut(slot).set_frame_word(frame, i, value);
+    }
+
+    // The slot with this index.
+    fn row(&self, slot: u32) -> &Row
+        requires { slot < length self.now }
+        ensures { result.now ≡ slot_at self.now slot }
+    {
+        &self.rows[slot as usize]
+    }
+
+    // The slot with this index, for changes.
+    fn row_mut(&mut self, slot: u32) -> &mut Row
+        requires { slot < length self.old }
+        ensures* lends { sem 𝓛 (LendsSlot self.entry slot result) }
+        ensures value { result.now ≡ slot_at self.old slot }
+    {
+        &mut self.rows[slot as usize]
+    }
+
+    // The index of the first slot whose thread has this id.
+    fn index_of(&self, id: u32) -> Option<usize>
+        ensures value { result ≡ position (has_id id) self.now }
+        ensures few { length self.now ≤ MAX_SLOTS }
+    {
+        self.rows.iter().position(|row| row.has_id(id))
+    }
+
+    // Gives back every slot, and makes the number of threads ever created on each that of the other table.
+    fn free_as(&mut self, other: &Threads)
+        requires { length self.old ≡ length other.now }
+        ensures { self.new ≡ map freed other.now }
+    {
+        for slot in 0..self.slot_count() {
+            self.row_mut(slot).free_as(other.row(slot));
+        }
+    }
+}
+
+// Inserts the slot if the test holds.
+fn insert_if(set: &mut SlotSet, slot: u32, test: bool)
+    requires { slot < 64 }
+    ensures { set.new ≡ (if test then with_slot slot set.old else set.old) }
+{
+    if test {
+        set.insert(slot);
+    }
+}
