@@ -1,5 +1,5 @@
 -- The verdict and the choice of an engine are those of the run that it represents.
-use Rattle.std.proofs.Common.{◌≡◌, ℕ, ◌<◌, ◌≤◌, Bool, true, ◌&&◌, List, length, Option, Some, None, refl, sym, ap, ◌∙◌, arith}
+use Rattle.std.proofs.Common.{◌≡◌, ℕ, ◌<◌, ◌≤◌, Bool, true, false, ◌&&◌, List, length, Option, Some, None, refl, sym, ap, ◌∙◌, arith}
 use Rattle.std.specs.Prelude.{reverse, nat_le, is_some, option_map, IfSome, IsSomeAnd}
 use Rattle.std.proofs.lemmas.Bool.{and_parts, leb-true, eqb-false, false≢true}
 use Rattle.pct_model.specs.declared.script.Script.{Script}
@@ -19,9 +19,10 @@ use Rattle.pct_engine_laws.proofs.StepSeen.{successor_of}
 use Rattle.pct_engine_laws.proofs.VerdictSeen.{verdict_is_seen}
 use Rattle.pct_engine.specs.declared.machine.Machine.{Machine}
 use Rattle.pct_engine.specs.Views.{machine_view}
-use Rattle.pct_engine.specs.Steps.{legal_transition, ArePlacedIn, IsSeenChoice}
+use Rattle.pct_engine.specs.Steps.{legal_transition, ArePlacedIn, IdsFitIn, IsSeenChoice}
 use Rattle.pct_engine.specs.EngineStates.{StandsFor, IsRunWith, IsChoice}
 use Rattle.pct_engine.proofs.StepViews.{placed_in, step_by_view}
+use Rattle.pct_engine.proofs.FittingIds.{ids_in}
 use Rattle.pct_engine.proofs.Readiness.{is_open}
 
 -- a configuration within the limits has a slot
@@ -71,14 +72,26 @@ choice_after script config history events m after worker a b answer stands is sm
     let verdict = verdict_after script config history events parts after (length history) stands is in
     let within = run_parts script config history after is in
     let some : 0 < config.slots = some_slots config within.limits in
+    let placed = placed_in script config.slots m after.world view in
+    let long : (m.has_ended ≡ false → length m.threads ≡ config.slots) = λ live. (placed live).all in
     record {
-      scheduled = λ going. choice.chosen (verdict ∙ going) ∙ ap (λ (v : Seen). seen_chosen script v worker a b) view ∙ sym (chosen_is_seen script config after.world worker a b);
+      scheduled = λ going. choice.chosen (verdict ∙ going) ∙ ap (λ (v : Seen). seen_chosen script config.slots v worker a b) view ∙ sym (chosen_is_seen script config after.world worker a b some);
       legal = λ going.
-          let left : length history < config.budget = omega (arith, within.within, eqb-false (length history) config.budget (is_open script config m (length history) (verdict ∙ going)).left) in
+          let left : length history < config.budget = omega (arith, within.within, eqb-false (length history) config.budget (is_open script config m (length history) long (verdict ∙ going)).left) in
           some_and answer (λ (e : Entry). is_some (legal_transition script config parts e) ≡ true) (IsRunWith (record { script = script; config = config; history = history })) (choice.some (verdict ∙ going))
           (λ e taken.
           let made = run_by script config after.world e after (legal_transition script config parts e) (step_by_view script config after.world e parts (legal_transition script config parts e) some view refl) taken in
           ap is_some (run_more script config history e after is left) ∙ step_runs script config after e (step script config after.world e) refl made)
-          (legal (placed_in script config.slots m after.world view) small);
+          (legal placed small);
       closed = λ closed. choice.closed (λ going. closed (sym verdict ∙ going));
     }
+
+-- ---- what holds of the machine of a run
+
+-- its threads are on as many slots as the configuration has, while the process has not ended
+pub slots_after : (script : Script) (config : Config) (history : List Entry) (events : List Event) (m : Machine) → StandsFor script config history events (machine_view script m) → m.has_ended ≡ false → length m.threads ≡ config.slots
+slots_after script config history events m stands live = (placed_in script config.slots m stands.after.world stands.parts_are live).all
+
+-- the ids of new threads fit 32 bits
+pub ids_after : (script : Script) (config : Config) (history : List Entry) (events : List Event) (m : Machine) → StandsFor script config history events (machine_view script m) → IdsFitIn m
+ids_after script config history events m stands = ids_in script config history stands.after m stands.is_run stands.parts_are

@@ -3,7 +3,11 @@ use Rattle.std.proofs.Common.{◌≡◌, ℕ, suc, ◌+◌, ◌%◌, ◌<◌, �
 use Rattle.std.specs.Prelude.{unwrap_or}
 use Rattle.std.proofs.lemmas.Bool.{ltb-true}
 use Rattle.pct_model.specs.declared.frame.Frame.{Frame}
+use Rattle.pct_model.specs.declared.other_threads.Target.{Target}
+use Rattle.pct_model.specs.declared.schedule.Alt.{Alt}
+use Rattle.pct_model.specs.declared.schedule.Alt.TheVariants as alt
 use Rattle.pct_model.specs.declared.script.Script.{Script}
+use Rattle.pct_model.specs.declared.state.Reason.{Reason}
 use Rattle.pct_model.specs.declared.state.FrameKind.{FrameKind}
 use Rattle.pct_model.specs.declared.state.FrameKind.TheVariants as kind
 use Rattle.pct_model.specs.declared.state.Status.{Status}
@@ -21,8 +25,11 @@ use Rattle.pct_model.specs.ScriptStatements.{jumps, emits, sets, adds, calls, af
 use Rattle.pct_model.specs.CleanupHandlers.{pushes, pops}
 use Rattle.pct_model.specs.ProcessExit.{exits, returns_by, ends_process}
 use Rattle.pct_model.specs.StopTable.{first_stop, is_stack_full, is_built, stops_of, stop_at}
-use Rattle.pct_model.specs.ChoiceTable.{next_in, next_of}
-use Rattle.pct_model.specs.TransitionTable.{body_at, ends_block, runs, stops_or, transition_at}
+use Rattle.pct_model.specs.NextStatement.{NoStatement, StatementIn, next_in, next_of, body_at}
+use Rattle.pct_model.specs.OtherThreads.{Others}
+use Rattle.pct_model.specs.ThreadCalls.{creates, fails_to_create, creates_by, begins_join, ends_join, joins_with, joins_at, detaches, gets_self}
+use Rattle.pct_model.specs.ThreadEnds.{ends_by_exit, end_value, ends_thread, goes_on_ending}
+use Rattle.pct_model.specs.TransitionTable.{ends_block, runs, stops_or, transition_at}
 use Rattle.pct_jumps.proofs.JumpTableFacts.{closes_inside, opens_earlier}
 use Rattle.pct_engine.specs.Fitting.{TransitionFits}
 use Rattle.pct_engine.proofs.Bodies.{few_statements, pc_within}
@@ -86,11 +93,74 @@ module _ (depth handlers : ℕ) where
       either_fit (nat_eq v 0) _ _ (record { next = within; actions = (tt, tt) }) (λ called. record { next = within; actions = (tt, (room called, tt)) })
 
   returns_fit : (k : FrameKind) (v : ℕ) → TransitionFits depth handlers (returns_by k v)
-  unfolding returns_by exits
+  unfolding returns_by exits ends_by_exit
   returns_fit kind.Main v = record { next = tt; actions = (tt, tt) }
+  returns_fit kind.Start v = record { next = tt; actions = (tt, tt) }
   returns_fit kind.Call v = record { next = tt; actions = (refl, tt) }
   returns_fit kind.PopHandler v = record { next = tt; actions = (refl, tt) }
-  returns_fit _ v = record { next = tt; actions = tt }
+  returns_fit kind.Handler v = record { next = tt; actions = (refl, tt) }
+  returns_fit kind.Destructor v = record { next = tt; actions = (refl, tt) }
+  returns_fit kind.ExitFn v = record { next = tt; actions = (refl, tt) }
+  returns_fit kind.ForkFn v = record { next = tt; actions = tt }
+
+  -- ---- threads
+
+  creates_fit : (next : ℕ) (a b : Dest) (new f v : ℕ) (detached : Bool) → next ≤ 2000 → TransitionFits depth handlers (creates next a b new f v detached)
+  unfolding creates
+  creates_fit next destination.Drop destination.Drop new f v detached within = record { next = within; actions = tt }
+  creates_fit next destination.Drop (destination.Local i) new f v detached within = record { next = within; actions = (tt, tt) }
+  creates_fit next destination.Drop (destination.Global i) new f v detached within = record { next = within; actions = (tt, tt) }
+  creates_fit next (destination.Local i) destination.Drop new f v detached within = record { next = within; actions = (tt, tt) }
+  creates_fit next (destination.Local i) (destination.Local j) new f v detached within = record { next = within; actions = (tt, (tt, tt)) }
+  creates_fit next (destination.Local i) (destination.Global j) new f v detached within = record { next = within; actions = (tt, (tt, tt)) }
+  creates_fit next (destination.Global i) destination.Drop new f v detached within = record { next = within; actions = (tt, tt) }
+  creates_fit next (destination.Global i) (destination.Local j) new f v detached within = record { next = within; actions = (tt, (tt, tt)) }
+  creates_fit next (destination.Global i) (destination.Global j) new f v detached within = record { next = within; actions = (tt, (tt, tt)) }
+
+  fails_fit : (next : ℕ) (a : Dest) → next ≤ 2000 → TransitionFits depth handlers (fails_to_create next a)
+  unfolding fails_to_create
+  fails_fit next destination.Drop within = record { next = within; actions = tt }
+  fails_fit next (destination.Local i) within = record { next = within; actions = (tt, tt) }
+  fails_fit next (destination.Global i) within = record { next = within; actions = (tt, tt) }
+
+  creates_by_fit : (choice : Alt) (next : ℕ) (a b : Dest) (f v : ℕ) (detached : Bool) → next ≤ 2000 → TransitionFits depth handlers (creates_by choice next a b f v detached)
+  creates_by_fit (alt.New new) next a b f v detached within = creates_fit next a b new f v detached within
+  creates_by_fit alt.Go next a b f v detached within = fails_fit next a within
+  creates_by_fit _ next a b f v detached within = record { next = tt; actions = tt }
+
+  begins_join_fit : (id : ℕ) → TransitionFits depth handlers (begins_join id)
+  unfolding begins_join
+  begins_join_fit id = record { next = tt; actions = (tt, tt) }
+
+  ends_join_fit : (next : ℕ) (d : Dest) (id v : ℕ) → next ≤ 2000 → TransitionFits depth handlers (ends_join next d id v)
+  unfolding ends_join
+  ends_join_fit next destination.Drop id v within = record { next = within; actions = (tt, tt) }
+  ends_join_fit next (destination.Local i) id v within = record { next = within; actions = (tt, (tt, tt)) }
+  ends_join_fit next (destination.Global i) id v within = record { next = within; actions = (tt, (tt, tt)) }
+
+  joins_in_fit : (v id : ℕ) (frame : Frame) (s : Stmt) → frame.pc < 2000 → TransitionFits depth handlers (joins_with (Some v) id (StatementIn frame s))
+  joins_in_fit v id frame (statement.Join operand d) within = ends_join_fit (suc frame.pc) d id v (omega (arith, within))
+  joins_in_fit v id frame _ within = record { next = tt; actions = tt }
+
+  detaches_fit : (next id : ℕ) → next ≤ 2000 → TransitionFits depth handlers (detaches next id)
+  unfolding detaches
+  detaches_fit next id within = record { next = within; actions = (tt, tt) }
+
+  gets_self_fit : (next : ℕ) (d : Dest) (id : ℕ) → next ≤ 2000 → TransitionFits depth handlers (gets_self next d id)
+  unfolding gets_self
+  gets_self_fit next destination.Drop id within = record { next = within; actions = tt }
+  gets_self_fit next (destination.Local i) id within = record { next = within; actions = (tt, tt) }
+  gets_self_fit next (destination.Global i) id within = record { next = within; actions = (tt, tt) }
+
+  ends_thread_fit : (is_last : Bool) (v : ℕ) → TransitionFits depth handlers (ends_thread is_last v)
+  unfolding ends_thread
+  ends_thread_fit true v = record { next = tt; actions = (tt, (tt, tt)) }
+  ends_thread_fit false v = record { next = tt; actions = (tt, tt) }
+
+  ending_fit : (is_last : Bool) (reason : Reason) (own : List (ℕ × ℕ)) → TransitionFits depth handlers (goes_on_ending is_last reason own)
+  unfolding goes_on_ending
+  ending_fit is_last reason [] = ends_thread_fit is_last (end_value reason)
+  ending_fit is_last reason ((f, a) ∷ below) = record { next = tt; actions = (tt, (tt, tt)) }
 
   -- the end of a process fits each thread
   pub ends_process_fit : (functions : List ℕ) (exit_value : Option ℕ) → TransitionFits depth handlers (ends_process functions exit_value)
@@ -125,12 +195,12 @@ second_false true b is called = absurd cc
 
 -- ---- the table
 
-module _ (script : Script) (shared : SharedState) (t : Thread) where
+module _ (script : Script) (shared : SharedState) (t : Thread) (others : Others) (choice : Alt) where
   -- the transition fits the thread
   abbrev FitsThread : Transition → Type 0
   FitsThread o = TransitionFits (length t.frames) (length t.handlers) o
 
-  runs_fit : (frame : Frame) (s : Stmt) → frame.pc < 2000 → stop_at (body_of script frame.func) shared t frame s ≡ None → FitsThread (runs (body_of script frame.func) shared t frame s)
+  runs_fit : (frame : Frame) (s : Stmt) → frame.pc < 2000 → stop_at (body_of script frame.func) shared t others frame s ≡ None → FitsThread (runs (body_of script frame.func) shared t others choice frame s)
   unfolding runs stop_at stops_of
   runs_fit frame (statement.Emit v) within none = emits_fit _ _ _ _ (omega (arith, within))
   runs_fit frame (statement.Set d v) within none = sets_fit _ _ _ d _ (omega (arith, within))
@@ -144,6 +214,10 @@ module _ (script : Script) (shared : SharedState) (t : Thread) where
       let room = below_limit (length t.frames) 16 (own_guard (not (is_built (statement.Do f v))) _ why.Unbuilt why.StackFull none) in
       calls_fit _ _ _ f _ (omega (arith, within)) (omega (arith, room))
   runs_fit frame (statement.Return v) within none = returns_fit _ _ frame.kind _
+  runs_fit frame (statement.Create a b f v detached) within none = creates_by_fit _ _ choice _ a b f _ detached (omega (arith, within))
+  runs_fit frame (statement.Join id d) within none = begins_join_fit _ _ _
+  runs_fit frame (statement.Detach id) within none = detaches_fit _ _ _ _ (omega (arith, within))
+  runs_fit frame (statement.SelfId d) within none = gets_self_fit _ _ _ d _ (omega (arith, within))
   runs_fit frame (statement.Push f v) within none = pushes_fit _ _ _ f _ (omega (arith, within)) (below_limit (length t.handlers) 32 (own_guard (not (is_built (statement.Push f v))) _ why.Unbuilt why.CleanupFull none))
   runs_fit frame (statement.Pop v) within none =
       pops_fit _ _ _ (value_of shared.globals frame v) t.handlers (omega (arith, within)) (λ called.
@@ -155,20 +229,42 @@ module _ (script : Script) (shared : SharedState) (t : Thread) where
   stops_fit None other fits = fits refl
   stops_fit (Some why) other fits = record { next = tt; actions = (tt, tt) }
 
-  next_fits : (frame : Frame) (o : Option Stmt) (s : Status) → statement_at script frame ≡ o → FitsThread (transition_at (body_of script frame.func) shared t (next_in frame o) s)
+  joins_fit : (target : Option Target) (id : ℕ) (frame : Frame) (o : Option Stmt) → statement_at script frame ≡ o → FitsThread (joins_at target id (next_in frame o))
+  joins_fit None id frame o at = record { next = tt; actions = tt }
+  joins_fit (Some target) id frame o at = value_fit target.value o at where
+    value_fit : (value : Option ℕ) (o : Option Stmt) → statement_at script frame ≡ o → FitsThread (joins_with value id (next_in frame o))
+    value_fit None None at = record { next = tt; actions = tt }
+    value_fit None (Some s) at = record { next = tt; actions = tt }
+    value_fit (Some v) None at = record { next = tt; actions = tt }
+    value_fit (Some v) (Some s) at = joins_in_fit _ _ v id frame s (pc_within script frame s at)
+
+  joins_nowhere : (target : Option Target) (id : ℕ) → FitsThread (joins_at target id NoStatement)
+  joins_nowhere None id = record { next = tt; actions = tt }
+  joins_nowhere (Some target) id = value_fit target.value where
+    value_fit : (value : Option ℕ) → FitsThread (joins_with value id NoStatement)
+    value_fit None = record { next = tt; actions = tt }
+    value_fit (Some v) = record { next = tt; actions = tt }
+
+  next_fits : (frame : Frame) (o : Option Stmt) (s : Status) → statement_at script frame ≡ o → FitsThread (transition_at (body_of script frame.func) shared t others choice (next_in frame o) s)
   unfolding transition_at
+  next_fits frame None (status.Joining id) at = joins_fit others.target id frame None at
+  next_fits frame None status.Ending at = ending_fit _ _ others.is_last t.reason t.handlers
   next_fits frame None status.Exiting at = ends_process_fit _ _ shared.exit_functions shared.exit_value
   next_fits frame None _ at = record { next = tt; actions = tt }
   next_fits frame (Some s) status.Running at = stops_fit _ _ (runs_fit frame s (pc_within script frame s at))
+  next_fits frame (Some s) (status.Joining id) at = joins_fit others.target id frame (Some s) at
+  next_fits frame (Some s) status.Ending at = ending_fit _ _ others.is_last t.reason t.handlers
   next_fits frame (Some s) status.Exiting at = ends_process_fit _ _ shared.exit_functions shared.exit_value
   next_fits frame (Some s) _ at = record { next = tt; actions = tt }
 
-  frames_fit : (frames : List Frame) (s : Status) → FitsThread (transition_at (body_at script frames) shared t (next_of script frames) s)
+  frames_fit : (frames : List Frame) (s : Status) → FitsThread (transition_at (body_at script frames) shared t others choice (next_of script frames) s)
   unfolding transition_at
+  frames_fit [] (status.Joining id) = joins_nowhere others.target id
+  frames_fit [] status.Ending = ending_fit _ _ others.is_last t.reason t.handlers
   frames_fit [] status.Exiting = ends_process_fit _ _ shared.exit_functions shared.exit_value
   frames_fit [] _ = record { next = tt; actions = tt }
   frames_fit (frame ∷ below) s = next_fits frame (statement_at script frame) s refl
 
   -- each transition of a thread fits it
-  pub transition_fits : (s : Status) → FitsThread (transition_at (body_at script t.frames) shared t (next_of script t.frames) s)
-  transition_fits s = frames_fit t.frames s
+  pub transition_fits : FitsThread (transition_at (body_at script t.frames) shared t others choice (next_of script t.frames) t.status)
+  transition_fits = frames_fit t.frames t.status

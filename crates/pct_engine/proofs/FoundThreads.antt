@@ -1,12 +1,9 @@
 -- The thread that an entry names: what a search in the slots finds is what is kept of it.
-use Rattle.std.proofs.Common.{◌≡◌, ℕ, ◌<◌, Bool, true, false, not, ◌&&◌, cond, List, map, length, get_or, Option, Some, None, refl, sym, ap, ◌∙◌, inl, inr, arith}
-use Rattle.std.specs.Prelude.{nat_eq, nat_le, nat_lt, slice_get, is_some, is_none, option_map, option_and_then, find, position}
-use Rattle.std.specs.List.{position_or_len}
+use Rattle.std.proofs.Common.{◌≡◌, ℕ, ◌<◌, Bool, true, false, not, ◌&&◌, cond, List, map, length, Option, Some, None, refl, sym, ap, ◌∙◌, inl, inr}
+use Rattle.std.specs.Prelude.{nat_eq, nat_le, slice_get, is_some, is_none, option_map, option_and_then, find, position}
 use Rattle.std.specs.Option.{option_map_or}
-use Rattle.std.proofs.lemmas.Bool.{cases_lt, and_parts, and_cases, and_from, eq-eqb, eqb-true, eqb-false, ne_eqb, not-true, not-false, false≢true, lt-ltb, cond-true, cond-false}
-use Rattle.std.proofs.lemmas.List.Quantifiers.{position-Some}
-use Rattle.std.proofs.lemmas.List.Sums.{fails_before_first}
-use Rattle.std.proofs.lemmas.Option.{slice_get-map, slice_get-get_or, slice_get_past, none-some}
+use Rattle.std.proofs.lemmas.Bool.{cases_lt, and_parts, and_cases, and_from, eq-eqb, eqb-true, eqb-false, ne_eqb, not-true, not-false, cond-true, cond-false}
+use Rattle.std.proofs.lemmas.Option.{slice_get-map, slice_get-get_or, slice_get_past}
 use Rattle.pct_model.specs.declared.script.Script.{Script}
 use Rattle.pct_model.specs.declared.schedule.Config.{Config}
 use Rattle.pct_model.specs.declared.schedule.Entry.{Entry}
@@ -16,29 +13,11 @@ use Rattle.pct_threads.specs.Slots.{Held, Slot, unused, has_id}
 use Rattle.pct_threads.specs.Tables.{held_at}
 use Rattle.pct_threads.proofs.TableLemmas.{within-occupied}
 use Rattle.pct_engine_laws.specs.Seen.{SeenProcess, is_live_seen}
-use Rattle.pct_engine_laws.specs.SeenSteps.{thread_on, thread_in, if_offered_in, seen_transition}
+use Rattle.pct_engine_laws.specs.SeenSteps.{thread_on, thread_with, if_offered_in, seen_transition}
 use Rattle.pct_engine.specs.declared.machine.Machine.{Machine}
 use Rattle.pct_engine.specs.Views.{thread_of, threads_of, slot_view, process_view, unless_ended, machine_view}
 use Rattle.pct_engine.specs.Steps.{legal_transition, may_step, ArePlacedIn}
-
--- ---- the search
-
--- no slot has a thread with the id
-fails_at : {X : Type 0} (p : X → Bool) (xs : List X) (k : ℕ) (d : X) → position p xs ≡ None → k < length xs → p (get_or xs k d) ≡ false
-fails_at p xs k d none within =
-    elim (cases_lt (position_or_len p xs) (length xs)) [
-      | inl inside ↦ absurd (none-some (position_or_len p xs) (sym none ∙ cond-true (nat_lt (position_or_len p xs) (length xs)) (Some (position_or_len p xs)) None (lt-ltb (position_or_len p xs) (length xs) inside)))
-      | inr past ↦ fails_before_first p xs k d (omega arith)
-    ]
-
--- a slot that has a thread with the id
-held_with : (id : ℕ) (o : Option Held) → option_map_or (λ held. nat_eq held.id id) o false ≡ true → (held : Held) × (o ≡ Some held) × (held.id ≡ id)
-held_with id None has = absurd (false≢true has)
-held_with id (Some held) has = (held, refl, eqb-true held.id id has)
-
--- the thread on the slot that the search finds
-pub held_found : (id slot : ℕ) (threads : List Slot) → position (has_id id) threads ≡ Some slot → (held : Held) × (held_at threads slot ≡ Some held) × (held.id ≡ id)
-held_found id slot threads found = held_with id (held_at threads slot) (position-Some (has_id id) threads slot unused found).1
+use Rattle.pct_engine.proofs.SearchedSlots.{fails_at}
 
 -- ---- the thread that is kept
 
@@ -48,11 +27,11 @@ thread_on-here o held id here named =
     ∙ cond-true (nat_eq held.id id) (Some (thread_of held)) None (eq-eqb held.id id named)
 
 -- the thread on a slot of the table is the one in what is kept of the process
-pub thread_in-here : (script : Script) (slots id slot : ℕ) (m : Machine) (held : Held) → held_at m.threads slot ≡ Some held → held.id ≡ id → slot_of slots id ≡ slot → slot < length m.threads → thread_in slots id (process_view script m) ≡ Some (thread_of held)
-thread_in-here script slots id slot m held here named placed inside =
-    ap (λ (i : ℕ). option_and_then (thread_on id) (slice_get (map slot_view m.threads) i)) placed
-    ∙ ap (option_and_then (thread_on id)) (slice_get-map slot_view m.threads slot ∙ ap (option_map slot_view) (slice_get-get_or m.threads slot unused inside))
-    ∙ thread_on-here (held_at m.threads slot) held id here named
+pub thread_with-here : (slots id slot : ℕ) (threads : List Slot) (held : Held) → held_at threads slot ≡ Some held → held.id ≡ id → slot_of slots id ≡ slot → slot < length threads → thread_with slots id (map slot_view threads) ≡ Some (thread_of held)
+thread_with-here slots id slot threads held here named placed inside =
+    ap (λ (i : ℕ). option_and_then (thread_on id) (slice_get (map slot_view threads) i)) placed
+    ∙ ap (option_and_then (thread_on id)) (slice_get-map slot_view threads slot ∙ ap (option_map slot_view) (slice_get-get_or threads slot unused inside))
+    ∙ thread_on-here (held_at threads slot) held id here named
 
 thread_on-none : (o : Option Held) (id : ℕ) → option_map_or (λ held. nat_eq held.id id) o false ≡ false → find (λ t. nat_eq t.id id) (threads_of o) ≡ None
 thread_on-none None id has = refl
@@ -69,8 +48,8 @@ thread_in_slot id slot threads none =
     ]
 
 -- none is kept where the search finds none
-pub thread_in-none : (script : Script) (slots id : ℕ) (m : Machine) → position (has_id id) m.threads ≡ None → thread_in slots id (process_view script m) ≡ None
-thread_in-none script slots id m none = thread_in_slot id (slot_of slots id) m.threads none
+pub thread_with-none : (slots id : ℕ) (threads : List Slot) → position (has_id id) threads ≡ None → thread_with slots id (map slot_view threads) ≡ None
+thread_with-none slots id threads none = thread_in_slot id (slot_of slots id) threads none
 
 -- ---- the transition
 
@@ -109,7 +88,7 @@ none_either false o none = refl
 
 -- what an entry takes of a process
 abbrev taken_in : Script → Config → Entry → SeenProcess → Option Transition
-taken_in script config e p = option_and_then (if_offered_in script p e) (thread_in config.slots e.tid p)
+taken_in script config e p = option_and_then (if_offered_in script config.slots p e) (thread_with config.slots e.tid p.slots)
 
 -- an entry that a machine refuses takes none
 pub legal_transition-refused : (script : Script) (config : Config) (m : Machine) (e : Entry) → may_step m e ≡ false → legal_transition script config (machine_view script m) e ≡ None
@@ -128,7 +107,7 @@ legal_transition-refused script config m e refused =
     ]
 
 -- an entry that it admits takes that of the thread
-pub legal_transition-admitted : (script : Script) (config : Config) (m : Machine) (e : Entry) → may_step m e ≡ true → legal_transition script config (machine_view script m) e ≡ option_and_then (if_offered_in script (process_view script m) e) (thread_in config.slots e.tid (process_view script m))
+pub legal_transition-admitted : (script : Script) (config : Config) (m : Machine) (e : Entry) → may_step m e ≡ true → legal_transition script config (machine_view script m) e ≡ option_and_then (if_offered_in script config.slots (process_view script m) e) (thread_with config.slots e.tid (map slot_view m.threads))
 legal_transition-admitted script config m e may =
     let parts = admits m e may in
     cond-true (is_none m.stop && nat_le e.worker 16) (seen_transition script config (machine_view script m) e) None (and_from (is_none m.stop) (nat_le e.worker 16) parts.running parts.worker)
@@ -138,12 +117,12 @@ legal_transition-admitted script config m e may =
 pub legal_transition-unfound : (script : Script) (config : Config) (m : Machine) (e : Entry) → may_step m e ≡ true → position (has_id e.tid) m.threads ≡ None → legal_transition script config (machine_view script m) e ≡ None
 legal_transition-unfound script config m e may none =
     legal_transition-admitted script config m e may
-    ∙ ap (option_and_then (if_offered_in script (process_view script m) e)) (thread_in-none script config.slots e.tid m none)
+    ∙ ap (option_and_then (if_offered_in script config.slots (process_view script m) e)) (thread_with-none config.slots e.tid m.threads none)
 
 -- that of the thread on a slot
 pub legal_transition-found : (script : Script) (config : Config) (m : Machine) (e : Entry) (slot : ℕ) (held : Held) → may_step m e ≡ true → ArePlacedIn config.slots m → held_at m.threads slot ≡ Some held → held.id ≡ e.tid
-    → legal_transition script config (machine_view script m) e ≡ if_offered_in script (process_view script m) e (thread_of held)
+    → legal_transition script config (machine_view script m) e ≡ if_offered_in script config.slots (process_view script m) e (thread_of held)
 legal_transition-found script config m e slot held may placed here named =
     let placed_on : slot_of config.slots e.tid ≡ slot = ap (λ (id : ℕ). slot_of config.slots id) (sym named) ∙ (placed (admits m e may).live).place slot held here in
     legal_transition-admitted script config m e may
-    ∙ ap (option_and_then (if_offered_in script (process_view script m) e)) (thread_in-here script config.slots e.tid slot m held here named placed_on (within-occupied m.threads slot (ap is_some here)))
+    ∙ ap (option_and_then (if_offered_in script config.slots (process_view script m) e)) (thread_with-here config.slots e.tid slot m.threads held here named placed_on (within-occupied m.threads slot (ap is_some here)))

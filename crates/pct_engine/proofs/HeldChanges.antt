@@ -1,12 +1,17 @@
 -- Changes of the thread on a slot, one after another.
-use Rattle.std.proofs.Common.{◌≡◌, ℕ, true, List, length, Option, Some, None, refl, sym, ap, ◌∙◌, inl, inr}
+use Rattle.std.proofs.Common.{◌≡◌, ℕ, true, List, [], ◌∷◌, length, Option, Some, None, refl, sym, ap, ◌∙◌, inl, inr}
 use Rattle.std.specs.Prelude.{slice_set, is_some, option_map}
 use Rattle.std.proofs.lemmas.Bool.{cases_lt, false≢true}
 use Rattle.std.proofs.lemmas.List.{get_or-set_same, get_or_past, set-set, set_past, set-get_or}
 use Rattle.std.proofs.lemmas.Option.{same_Some}
+use Rattle.pct_model.specs.declared.transition.Action.{Action}
+use Rattle.pct_model.specs.declared.transition.Transition.{Transition}
+use Rattle.pct_model.specs.Actions.{for_each}
 use Rattle.pct_threads.specs.declared.record.Thread.{Thread as ThreadRecord}
 use Rattle.pct_threads.specs.Slots.{Held, Slot, unused, with_change, with_record}
 use Rattle.pct_threads.specs.Tables.{slot_at, held_at, is_occupied_at, thread_at, on_held}
+use Rattle.pct_engine.specs.declared.machine.Machine.{Machine}
+use Rattle.pct_engine.specs.MachineChanges.{held_at_pc, held_after, held_moved, machine_after, machine_acted}
 
 -- ---- the thread on a slot
 
@@ -91,3 +96,15 @@ on_held-record slot change slots t read =
     (λ h here.
     let found : h.thread ≡ t = same_Some h.thread t (sym (ap (option_map (λ (held : Held). held.thread)) here) ∙ read) in
     ap (λ (r : ThreadRecord). record h { thread = change r }) (sym found))
+
+-- ---- the thread that makes a transition
+
+acts_on : (slot : ℕ) (actions : List Action) (m : Machine) → (for_each (machine_after slot) actions m).threads ≡ on_held slot (for_each held_after actions) m.threads
+acts_on slot [] m = sym (on_held-nothing slot (λ h. h) m.threads (λ h here. refl))
+acts_on slot (a ∷ actions) m = acts_on slot actions (machine_after slot a m) ∙ on_held-on_held slot (held_after a) (for_each held_after actions) m.threads
+
+-- the table after it went on, if it does, and made its actions on itself
+pub acted_threads : (slot : ℕ) (o : Transition) (m : Machine) → (machine_acted slot o m).threads ≡ on_held slot (held_moved o) m.threads
+acted_threads slot o m =
+    acts_on slot o.actions (record m { threads = on_held slot (held_at_pc o.next) m.threads })
+    ∙ on_held-on_held slot (held_at_pc o.next) (for_each held_after o.actions) m.threads

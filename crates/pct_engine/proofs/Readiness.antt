@@ -20,11 +20,10 @@ use Rattle.pct_model.specs.ChoiceTable.{is_enabled}
 use Rattle.pct_model.specs.Chosen.{Candidate, item_at, entry_for}
 use Rattle.pct_threads.specs.Slots.{Held, Slot, unused}
 use Rattle.pct_threads.specs.Tables.{slot_at, held_at}
-use Rattle.pct_engine_laws.specs.SeenSteps.{is_ready_in, threads_in, ready_in, candidate_in, seen_candidates, seen_chosen, has_ready_in, seen_verdict, seen_verdict_by}
+use Rattle.pct_engine_laws.specs.SeenSteps.{threads_on, is_ready_in, ready_in, candidate_in, seen_candidates, seen_chosen, has_ready_in, seen_verdict, seen_verdict_by}
 use Rattle.pct_engine.specs.declared.machine.Machine.{Machine}
 use Rattle.pct_engine.specs.Views.{thread_of, threads_of, slot_view, process_view, unless_ended, machine_view}
-use Rattle.pct_engine.proofs.FoundThreads.{none_either}
-use Rattle.pct_engine.specs.ReadyThreads.{choices_of_held, is_ready_held, is_ready_on, all_held, ready_held, candidate_held}
+use Rattle.pct_engine.specs.ReadyThreads.{choices_of_held, is_ready_held, is_ready_on, all_held, ready_among, ready_held, candidate_held}
 
 -- ---- lists
 
@@ -56,6 +55,10 @@ item (y ∷ ys) n some = (get_or (y ∷ ys) (n % length (y ∷ ys)) y, slice_get
 item-map : {A B : Type 0} (f : A → B) (xs : List A) (n : ℕ) → item_at (map f xs) n ≡ option_map f (item_at xs n)
 item-map f xs n = ap (λ k. slice_get (map f xs) (n % k)) (length-map xs f) ∙ slice_get-map f xs (n % length xs)
 
+none_either : {T : Type 0} (b : Bool) (o : Option T) → o ≡ None → cond b o None ≡ None
+none_either true o none = none
+none_either false o none = refl
+
 -- ---- the candidates
 
 threads_of-list : (o : Option Held) → threads_of o ≡ map thread_of (option_to_list o)
@@ -69,109 +72,116 @@ threads_are (s ∷ rest) =
     ∙ ap (λ ts. ts ++ map thread_of (all_held rest)) (threads_of-list s.here)
     ∙ sym (map-append thread_of (option_to_list s.here) (all_held rest))
 
-ready_are : (script : Script) (threads : List Slot) → filter (is_ready_in script) (flat_map (λ s. s.here) (map slot_view threads)) ≡ map thread_of (ready_held script threads)
-ready_are script threads = ap (filter (is_ready_in script)) (threads_are threads) ∙ filter-map (is_ready_in script) thread_of (all_held threads)
+ready_are : (script : Script) (m : Machine) → filter (is_ready_in script (length m.threads) (process_view script m)) (threads_on (map slot_view m.threads)) ≡ map thread_of (ready_held script m)
+ready_are script m =
+    let ready = is_ready_in script (length m.threads) (process_view script m) in
+    ap (filter ready) (threads_are m.threads) ∙ filter-map ready thread_of (all_held m.threads)
 
 -- those of a machine that has not ended
-candidates_live : (script : Script) (m : Machine) → map (candidate_in script (process_view script m)) (ready_in script (process_view script m)) ≡ map (candidate_held script) (ready_held script m.threads)
+candidates_live : (script : Script) (m : Machine) → map (candidate_in script (length m.threads) (process_view script m)) (ready_in script (length m.threads) (process_view script m)) ≡ map (candidate_held script m) (ready_held script m)
 candidates_live script m =
-    ap (map (candidate_in script (process_view script m))) (ready_are script m.threads)
-    ∙ map-map thread_of (candidate_in script (process_view script m)) (ready_held script m.threads)
+    let candidate = candidate_in script (length m.threads) (process_view script m) in
+    ap (map candidate) (ready_are script m) ∙ map-map thread_of candidate (ready_held script m)
 
 -- the candidates of a machine
-abbrev candidates_by : Bool → Script → List Slot → List Candidate
-candidates_by true script threads = []
-candidates_by false script threads = map (candidate_held script) (ready_held script threads)
+abbrev candidates_by : Bool → Script → Machine → List Candidate
+candidates_by true script m = []
+candidates_by false script m = map (candidate_held script m) (ready_held script m)
 
-candidates_are : (script : Script) (m : Machine) (b : Bool) → flat_map (λ p. map (candidate_in script p) (ready_in script p)) (unless_ended b (process_view script m)) ≡ candidates_by b script m.threads
+candidates_are : (script : Script) (m : Machine) (b : Bool) → flat_map (λ p. map (candidate_in script (length m.threads) p) (ready_in script (length m.threads) p)) (unless_ended b (process_view script m)) ≡ candidates_by b script m
 candidates_are script m true = refl
-candidates_are script m false = append-nil (map (candidate_in script (process_view script m)) (ready_in script (process_view script m))) ∙ candidates_live script m
+candidates_are script m false = append-nil (map (candidate_in script (length m.threads) (process_view script m)) (ready_in script (length m.threads) (process_view script m))) ∙ candidates_live script m
 
--- the entry that is chosen in a machine
-pub seen_chosen-machine : (script : Script) (m : Machine) (worker a b : ℕ) → is_none m.stop ≡ true → m.has_ended ≡ false
-    → seen_chosen script (machine_view script m) worker a b ≡ option_and_then (λ h. entry_for worker b (candidate_held script h)) (item_at (ready_held script m.threads) a)
+-- the entry that is chosen in a machine with this number of slots
+pub seen_chosen-machine : (script : Script) (slots : ℕ) (m : Machine) (worker a b : ℕ) → length m.threads ≡ slots → is_none m.stop ≡ true → m.has_ended ≡ false
+    → seen_chosen script slots (machine_view script m) worker a b ≡ option_and_then (λ h. entry_for worker b (candidate_held script m h)) (item_at (ready_held script m) a)
 unfolding seen_candidates
-seen_chosen-machine script m worker a b running live =
-    ap (λ t. cond t (option_and_then (entry_for worker b) (item_at (seen_candidates script (machine_view script m)) a)) None) running
+seen_chosen-machine script slots m worker a b long running live =
+    ap (λ n. seen_chosen script n (machine_view script m) worker a b) (sym long)
+    ∙ ap (λ t. cond t (option_and_then (entry_for worker b) (item_at (seen_candidates script (length m.threads) (machine_view script m)) a)) None) running
     ∙ ap (λ (cs : List Candidate). option_and_then (entry_for worker b) (item_at cs a)) (candidates_are script m m.has_ended)
-    ∙ ap (λ t. option_and_then (entry_for worker b) (item_at (candidates_by t script m.threads) a)) live
-    ∙ ap (option_and_then (entry_for worker b)) (item-map (candidate_held script) (ready_held script m.threads) a)
-    ∙ through (item_at (ready_held script m.threads) a) where
-      through : (o : Option Held) → option_and_then (entry_for worker b) (option_map (candidate_held script) o) ≡ option_and_then (λ h. entry_for worker b (candidate_held script h)) o
+    ∙ ap (λ t. option_and_then (entry_for worker b) (item_at (candidates_by t script m) a)) live
+    ∙ ap (option_and_then (entry_for worker b)) (item-map (candidate_held script m) (ready_held script m) a)
+    ∙ through (item_at (ready_held script m) a) where
+      through : (o : Option Held) → option_and_then (entry_for worker b) (option_map (candidate_held script m) o) ≡ option_and_then (λ h. entry_for worker b (candidate_held script m h)) o
       through None = refl
       through (Some h) = refl
 
 -- none is chosen in one that was stopped, or has ended
-pub seen_chosen-stopped : (script : Script) (m : Machine) (worker a b : ℕ) → is_none m.stop ≡ false → seen_chosen script (machine_view script m) worker a b ≡ None
-seen_chosen-stopped script m worker a b stopped = ap (λ t. cond t (option_and_then (entry_for worker b) (item_at (seen_candidates script (machine_view script m)) a)) None) stopped
+pub seen_chosen-stopped : (script : Script) (slots : ℕ) (m : Machine) (worker a b : ℕ) → is_none m.stop ≡ false → seen_chosen script slots (machine_view script m) worker a b ≡ None
+seen_chosen-stopped script slots m worker a b stopped = ap (λ t. cond t (option_and_then (entry_for worker b) (item_at (seen_candidates script slots (machine_view script m)) a)) None) stopped
 
-pub seen_chosen-ended : (script : Script) (m : Machine) (worker a b : ℕ) → m.has_ended ≡ true → seen_chosen script (machine_view script m) worker a b ≡ None
+ended_candidates : (script : Script) (slots : ℕ) (m : Machine) (b : Bool) → b ≡ true → flat_map (λ p. map (candidate_in script slots p) (ready_in script slots p)) (unless_ended b (process_view script m)) ≡ []
+ended_candidates script slots m true ended = refl
+ended_candidates script slots m false ended = absurd (false≢true ended)
+
+pub seen_chosen-ended : (script : Script) (slots : ℕ) (m : Machine) (worker a b : ℕ) → m.has_ended ≡ true → seen_chosen script slots (machine_view script m) worker a b ≡ None
 unfolding seen_candidates
-seen_chosen-ended script m worker a b ended =
-    ap (λ (cs : List Candidate). cond (is_none m.stop) (option_and_then (entry_for worker b) (item_at cs a)) None) (candidates_are script m m.has_ended ∙ ap (λ t. candidates_by t script m.threads) ended)
+seen_chosen-ended script slots m worker a b ended =
+    ap (λ (cs : List Candidate). cond (is_none m.stop) (option_and_then (entry_for worker b) (item_at cs a)) None) (ended_candidates script slots m m.has_ended ended)
     ∙ none_either {T = Entry} (is_none m.stop) None refl
 
 -- ---- slot by slot
 
 -- one slot more
-pub ready_more : (script : Script) (threads : List Slot) (slot : ℕ) → slot < length threads → ready_held script (take (slot + 1) threads) ≡ ready_held script (take slot threads) ++ filter (is_ready_held script) (option_to_list (held_at threads slot))
-ready_more script threads slot inside =
-    ap (ready_held script) (take_more threads slot unused inside)
-    ∙ ap (filter (is_ready_held script)) (flat_map-append (λ (s : Slot). option_to_list s.here) (take slot threads) (slot_at threads slot ∷ []) ∙ ap (λ hs. all_held (take slot threads) ++ hs) (append-nil (option_to_list (held_at threads slot))))
-    ∙ filter-append (is_ready_held script) (all_held (take slot threads)) (option_to_list (held_at threads slot))
+pub ready_more : (script : Script) (m : Machine) (slot : ℕ) → slot < length m.threads → ready_among script m (take (slot + 1) m.threads) ≡ ready_among script m (take slot m.threads) ++ filter (is_ready_held script m) (option_to_list (held_at m.threads slot))
+ready_more script m slot inside =
+    ap (ready_among script m) (take_more m.threads slot unused inside)
+    ∙ ap (filter (is_ready_held script m)) (flat_map-append (λ (s : Slot). option_to_list s.here) (take slot m.threads) (slot_at m.threads slot ∷ []) ∙ ap (λ hs. all_held (take slot m.threads) ++ hs) (append-nil (option_to_list (held_at m.threads slot))))
+    ∙ filter-append (is_ready_held script m) (all_held (take slot m.threads)) (option_to_list (held_at m.threads slot))
 
-one_ready : (script : Script) (o : Option Held) → length (filter (is_ready_held script) (option_to_list o)) ≡ cond (option_map_or (is_ready_held script) o false) 1 0
-one_ready script None = refl
-one_ready script (Some h) = either (is_ready_held script h) where
+one_ready : (script : Script) (m : Machine) (o : Option Held) → length (filter (is_ready_held script m) (option_to_list o)) ≡ cond (option_map_or (is_ready_held script m) o false) 1 0
+one_ready script m None = refl
+one_ready script m (Some h) = either (is_ready_held script m h) where
   either : (b : Bool) → length (cond b (h ∷ []) []) ≡ cond b 1 0
   either true = refl
   either false = refl
 
 -- and the number of those that are ready
-pub count_more : (script : Script) (threads : List Slot) (slot : ℕ) → slot < length threads → length (ready_held script (take (slot + 1) threads)) ≡ length (ready_held script (take slot threads)) + cond (is_ready_on script threads slot) 1 0
-count_more script threads slot inside =
-    ap length (ready_more script threads slot inside)
-    ∙ length-append (ready_held script (take slot threads)) (filter (is_ready_held script) (option_to_list (held_at threads slot)))
-    ∙ ap (λ n. length (ready_held script (take slot threads)) + n) (one_ready script (held_at threads slot))
+pub count_more : (script : Script) (m : Machine) (slot : ℕ) → slot < length m.threads → length (ready_among script m (take (slot + 1) m.threads)) ≡ length (ready_among script m (take slot m.threads)) + cond (is_ready_on script m slot) 1 0
+count_more script m slot inside =
+    ap length (ready_more script m slot inside)
+    ∙ length-append (ready_among script m (take slot m.threads)) (filter (is_ready_held script m) (option_to_list (held_at m.threads slot)))
+    ∙ ap (λ n. length (ready_among script m (take slot m.threads)) + n) (one_ready script m (held_at m.threads slot))
 
 after_front : {A : Type 0} (xs : List A) (y : A) (ys : List A) → slice_get (xs ++ y ∷ ys) (length xs) ≡ Some y
 after_front [] y ys = refl
 after_front (x ∷ xs) y ys = after_front xs y ys
 
-first_ready : (script : Script) (o : Option Held) (h : Held) (rest : List Held) → o ≡ Some h → is_ready_held script h ≡ true → filter (is_ready_held script) (option_to_list o ++ rest) ≡ h ∷ filter (is_ready_held script) rest
-first_ready script o h rest here ready =
-    ap (λ (x : Option Held). filter (is_ready_held script) (option_to_list x ++ rest)) here
-    ∙ ap (λ b. cond b (h ∷ filter (is_ready_held script) rest) (filter (is_ready_held script) rest)) ready
+first_ready : (script : Script) (m : Machine) (o : Option Held) (h : Held) (rest : List Held) → o ≡ Some h → is_ready_held script m h ≡ true → filter (is_ready_held script m) (option_to_list o ++ rest) ≡ h ∷ filter (is_ready_held script m) rest
+first_ready script m o h rest here ready =
+    ap (λ (x : Option Held). filter (is_ready_held script m) (option_to_list x ++ rest)) here
+    ∙ ap (λ b. cond b (h ∷ filter (is_ready_held script m) rest) (filter (is_ready_held script m) rest)) ready
 
 -- the thread on a slot, among those that are ready
-pub ready_at : (script : Script) (threads : List Slot) (slot : ℕ) (h : Held) → slot < length threads → held_at threads slot ≡ Some h → is_ready_held script h ≡ true → slice_get (ready_held script threads) (length (ready_held script (take slot threads))) ≡ Some h
-ready_at script threads slot h inside here ready =
-    let front : List Held = ready_held script (take slot threads) in
-    let rest : List Held = all_held (drop (slot + 1) threads) in
-    let parts : ready_held script threads ≡ front ++ h ∷ filter (is_ready_held script) rest =
-    ap (ready_held script) (sym (take-append-drop slot threads))
-    ∙ ap (filter (is_ready_held script)) (flat_map-append (λ (s : Slot). option_to_list s.here) (take slot threads) (drop slot threads))
-    ∙ filter-append (is_ready_held script) (all_held (take slot threads)) (all_held (drop slot threads))
-    ∙ ap (λ (ss : List Slot). front ++ ready_held script ss) (drop_more threads slot unused inside)
-    ∙ ap (λ (hs : List Held). front ++ hs) (first_ready script (held_at threads slot) h rest here ready) in
-    ap (λ (hs : List Held). slice_get hs (length front)) parts ∙ after_front front h (filter (is_ready_held script) rest)
+pub ready_at : (script : Script) (m : Machine) (slot : ℕ) (h : Held) → slot < length m.threads → held_at m.threads slot ≡ Some h → is_ready_held script m h ≡ true → slice_get (ready_held script m) (length (ready_among script m (take slot m.threads))) ≡ Some h
+ready_at script m slot h inside here ready =
+    let front : List Held = ready_among script m (take slot m.threads) in
+    let rest : List Held = all_held (drop (slot + 1) m.threads) in
+    let parts : ready_held script m ≡ front ++ h ∷ filter (is_ready_held script m) rest =
+    ap (ready_among script m) (sym (take-append-drop slot m.threads))
+    ∙ ap (filter (is_ready_held script m)) (flat_map-append (λ (s : Slot). option_to_list s.here) (take slot m.threads) (drop slot m.threads))
+    ∙ filter-append (is_ready_held script m) (all_held (take slot m.threads)) (all_held (drop slot m.threads))
+    ∙ ap (λ (ss : List Slot). front ++ ready_among script m ss) (drop_more m.threads slot unused inside)
+    ∙ ap (λ (hs : List Held). front ++ hs) (first_ready script m (held_at m.threads slot) h rest here ready) in
+    ap (λ (hs : List Held). slice_get hs (length front)) parts ∙ after_front front h (filter (is_ready_held script m) rest)
 
 -- a thread that is ready on a slot
-ready_of : (script : Script) (o : Option Held) → option_map_or (is_ready_held script) o false ≡ true → (h : Held) × (o ≡ Some h) × (is_ready_held script h ≡ true)
-ready_of script None ready = absurd (false≢true ready)
-ready_of script (Some h) ready = (h, refl, ready)
+ready_of : (script : Script) (m : Machine) (o : Option Held) → option_map_or (is_ready_held script m) o false ≡ true → (h : Held) × (o ≡ Some h) × (is_ready_held script m h ≡ true)
+ready_of script m None ready = absurd (false≢true ready)
+ready_of script m (Some h) ready = (h, refl, ready)
 
 -- a thread that is ready, by its number
-pub ready_here : (script : Script) (threads : List Slot) (slot n : ℕ) → slot < length threads → is_ready_on script threads slot ≡ true → length (ready_held script (take slot threads)) ≡ n → held_at threads slot ≡ slice_get (ready_held script threads) n
-ready_here script threads slot n inside ready number =
-    let found = ready_of script (held_at threads slot) ready in
-    found.1 ∙ sym (ready_at script threads slot found.0 inside found.1 found.2) ∙ ap (slice_get (ready_held script threads)) number
+pub ready_here : (script : Script) (m : Machine) (slot n : ℕ) → slot < length m.threads → is_ready_on script m slot ≡ true → length (ready_among script m (take slot m.threads)) ≡ n → held_at m.threads slot ≡ slice_get (ready_held script m) n
+ready_here script m slot n inside ready number =
+    let found = ready_of script m (held_at m.threads slot) ready in
+    found.1 ∙ sym (ready_at script m slot found.0 inside found.1 found.2) ∙ ap (slice_get (ready_held script m)) number
 
 -- no thread has a number past the last
-pub ready_past : (script : Script) (threads : List Slot) (slot left n : ℕ) → length threads ≤ slot → left + length (ready_held script (take slot threads)) ≡ n → None ≡ slice_get (ready_held script threads) n
-ready_past script threads slot left n past number =
-    let all : length (ready_held script (take slot threads)) ≡ length (ready_held script threads) = ap (λ (ss : List Slot). length (ready_held script ss)) (take_all slot threads past) in
-    sym (slice_get_past (ready_held script threads) n (omega (arith, all, number)))
+pub ready_past : (script : Script) (m : Machine) (slot left n : ℕ) → length m.threads ≤ slot → left + length (ready_among script m (take slot m.threads)) ≡ n → None ≡ slice_get (ready_held script m) n
+ready_past script m slot left n past number =
+    let all : length (ready_among script m (take slot m.threads)) ≡ length (ready_held script m) = ap (λ (ss : List Slot). length (ready_among script m ss)) (take_all slot m.threads past) in
+    sym (slice_get_past (ready_held script m) n (omega (arith, all, number)))
 
 -- ---- the verdict
 
@@ -181,12 +191,13 @@ verdict_by_count (Some why) ended ready config n = verdict.Undefined why
 verdict_by_count None true ready config n = verdict.Complete
 verdict_by_count None false ready config n = cond (nat_eq ready 0) verdict.Deadlock (cond (nat_eq n config.budget) verdict.Budget verdict.Open)
 
-has_ready-live : (script : Script) (m : Machine) → (has_ready_in script (process_view script m) || false) ≡ not (nat_eq (length (ready_held script m.threads)) 0)
+has_ready-live : (script : Script) (m : Machine) → (has_ready_in script (length m.threads) (process_view script m) || false) ≡ not (nat_eq (length (ready_held script m)) 0)
 has_ready-live script m =
-    or_false (list_any (is_ready_in script) (threads_in (process_view script m)))
-    ∙ list_any-filter (is_ready_in script) (threads_in (process_view script m))
-    ∙ ap (λ (ts : List Thread). not (nat_eq (length ts) 0)) (ready_are script m.threads)
-    ∙ ap (λ n. not (nat_eq n 0)) (length-map (ready_held script m.threads) thread_of) where
+    let ready = is_ready_in script (length m.threads) (process_view script m) in
+    or_false (list_any ready (threads_on (map slot_view m.threads)))
+    ∙ list_any-filter ready (threads_on (map slot_view m.threads))
+    ∙ ap (λ (ts : List Thread). not (nat_eq (length ts) 0)) (ready_are script m)
+    ∙ ap (λ n. not (nat_eq n 0)) (length-map (ready_held script m) thread_of) where
       or_false : (b : Bool) → (b || false) ≡ b
       or_false true = refl
       or_false false = refl
@@ -195,24 +206,26 @@ not-not : (b : Bool) → not (not b) ≡ b
 not-not true = refl
 not-not false = refl
 
-verdict_is : (script : Script) (config : Config) (m : Machine) (stop : Option Why) (ended : Bool) (n : ℕ) → seen_verdict_by stop script config (unless_ended ended (process_view script m)) n ≡ verdict_by_count stop ended (length (ready_held script m.threads)) config n
-verdict_is script config m (Some why) ended n = refl
-verdict_is script config m None true n = refl
-verdict_is script config m None false n =
-    ap (λ b. cond (not b) verdict.Deadlock (cond (nat_eq n config.budget) verdict.Budget verdict.Open)) (has_ready-live script m)
-    ∙ ap (λ b. cond b verdict.Deadlock (cond (nat_eq n config.budget) verdict.Budget verdict.Open)) (not-not (nat_eq (length (ready_held script m.threads)) 0))
+verdict_is : (script : Script) (config : Config) (m : Machine) (stop : Option Why) (ended : Bool) (n : ℕ) → (ended ≡ false → length m.threads ≡ config.slots)
+    → seen_verdict_by stop script config (unless_ended ended (process_view script m)) n ≡ verdict_by_count stop ended (length (ready_held script m)) config n
+verdict_is script config m (Some why) ended n long = refl
+verdict_is script config m None true n long = refl
+verdict_is script config m None false n long =
+    ap (λ (slots : ℕ). cond (not (has_ready_in script slots (process_view script m) || false)) verdict.Deadlock (cond (nat_eq n config.budget) verdict.Budget verdict.Open)) (sym (long refl))
+    ∙ ap (λ b. cond (not b) verdict.Deadlock (cond (nat_eq n config.budget) verdict.Budget verdict.Open)) (has_ready-live script m)
+    ∙ ap (λ b. cond b verdict.Deadlock (cond (nat_eq n config.budget) verdict.Budget verdict.Open)) (not-not (nat_eq (length (ready_held script m)) 0))
 
 -- the verdict of a machine
-pub seen_verdict-machine : (script : Script) (config : Config) (m : Machine) (n : ℕ) → seen_verdict script config (machine_view script m) n ≡ verdict_by_count m.stop m.has_ended (length (ready_held script m.threads)) config n
+pub seen_verdict-machine : (script : Script) (config : Config) (m : Machine) (n : ℕ) → (m.has_ended ≡ false → length m.threads ≡ config.slots) → seen_verdict script config (machine_view script m) n ≡ verdict_by_count m.stop m.has_ended (length (ready_held script m)) config n
 unfolding seen_verdict
-seen_verdict-machine script config m n = verdict_is script config m m.stop m.has_ended n
+seen_verdict-machine script config m n long = verdict_is script config m m.stop m.has_ended n long
 
 -- the same, by the stop and the end
-pub seen_verdict-by : (script : Script) (config : Config) (m : Machine) (n : ℕ) (stop : Option Why) (ended : Bool) → m.stop ≡ stop → m.has_ended ≡ ended → seen_verdict script config (machine_view script m) n ≡ verdict_by_count stop ended (length (ready_held script m.threads)) config n
-seen_verdict-by script config m n stop ended stop_is ended_is =
-    seen_verdict-machine script config m n
-    ∙ ap (λ (o : Option Why). verdict_by_count o m.has_ended (length (ready_held script m.threads)) config n) stop_is
-    ∙ ap (λ b. verdict_by_count stop b (length (ready_held script m.threads)) config n) ended_is
+pub seen_verdict-by : (script : Script) (config : Config) (m : Machine) (n : ℕ) (stop : Option Why) (ended : Bool) → (m.has_ended ≡ false → length m.threads ≡ config.slots) → m.stop ≡ stop → m.has_ended ≡ ended → seen_verdict script config (machine_view script m) n ≡ verdict_by_count stop ended (length (ready_held script m)) config n
+seen_verdict-by script config m n stop ended long stop_is ended_is =
+    seen_verdict-machine script config m n long
+    ∙ ap (λ (o : Option Why). verdict_by_count o m.has_ended (length (ready_held script m)) config n) stop_is
+    ∙ ap (λ b. verdict_by_count stop b (length (ready_held script m)) config n) ended_is
 
 -- ---- the verdict and the choice
 
@@ -220,7 +233,7 @@ seen_verdict-by script config m n stop ended stop_is ended_is =
 pub record IsOpen (script : Script) (m : Machine) (budget n : ℕ) : Type 0 where
   pub running : is_none m.stop ≡ true
   pub live : m.has_ended ≡ false
-  pub ready : 0 < length (ready_held script m.threads)
+  pub ready : 0 < length (ready_held script m)
   pub left : nat_eq n budget ≡ false
 
 open_by : (b d : Bool) → cond b verdict.Deadlock (cond d verdict.Budget verdict.Open) ≡ verdict.Open → (b ≡ false) × (d ≡ false)
@@ -228,57 +241,57 @@ open_by true d is = absurd cc
 open_by false true is = absurd cc
 open_by false false is = (refl, refl)
 
-open_parts : (script : Script) (m : Machine) (stop : Option Why) (ended : Bool) (config : Config) (n : ℕ) → m.stop ≡ stop → m.has_ended ≡ ended → verdict_by_count stop ended (length (ready_held script m.threads)) config n ≡ verdict.Open → IsOpen script m config.budget n
+open_parts : (script : Script) (m : Machine) (stop : Option Why) (ended : Bool) (config : Config) (n : ℕ) → m.stop ≡ stop → m.has_ended ≡ ended → verdict_by_count stop ended (length (ready_held script m)) config n ≡ verdict.Open → IsOpen script m config.budget n
 open_parts script m (Some why) ended config n stop_is ended_is is = absurd cc
 open_parts script m None true config n stop_is ended_is is = absurd cc
 open_parts script m None false config n stop_is ended_is is =
-    let tests = open_by (nat_eq (length (ready_held script m.threads)) 0) (nat_eq n config.budget) is in
-    let some = eqb-false (length (ready_held script m.threads)) 0 tests.0 in
+    let tests = open_by (nat_eq (length (ready_held script m)) 0) (nat_eq n config.budget) is in
+    let some = eqb-false (length (ready_held script m)) 0 tests.0 in
     record { running = ap is_none stop_is; live = ended_is; ready = omega (arith, some); left = tests.1 }
 
-pub is_open : (script : Script) (config : Config) (m : Machine) (n : ℕ) → seen_verdict script config (machine_view script m) n ≡ verdict.Open → IsOpen script m config.budget n
-is_open script config m n is = open_parts script m m.stop m.has_ended config n refl refl (sym (seen_verdict-machine script config m n) ∙ is)
+pub is_open : (script : Script) (config : Config) (m : Machine) (n : ℕ) → (m.has_ended ≡ false → length m.threads ≡ config.slots) → seen_verdict script config (machine_view script m) n ≡ verdict.Open → IsOpen script m config.budget n
+is_open script config m n long is = open_parts script m m.stop m.has_ended config n refl refl (sym (seen_verdict-machine script config m n long) ∙ is)
 
 -- a thread that is ready has a choice
-ready_item : (script : Script) (threads : List Slot) (a : ℕ) (h : Held) → item_at (ready_held script threads) a ≡ Some h → is_ready_held script h ≡ true
-ready_item script threads a h at =
-    let these : List Held = ready_held script threads in
+ready_item : (script : Script) (m : Machine) (a : ℕ) (h : Held) → item_at (ready_held script m) a ≡ Some h → is_ready_held script m h ≡ true
+ready_item script m a h at =
+    let these : List Held = ready_held script m in
     let k : ℕ = a % length these in
     let inside : k < length these = slice_get_within these k h at in
-    let passes = filter_passes (is_ready_held script) (all_held threads) k h inside in
-    ap (is_ready_held script) (sym (get_or_from_slice_get these k h h at)) ∙ passes
+    let passes = filter_passes (is_ready_held script m) (all_held m.threads) k h inside in
+    ap (is_ready_held script m) (sym (get_or_from_slice_get these k h h at)) ∙ passes
 
 some_choice : (choices : List Alt) → is_enabled choices ≡ true → 0 < length choices
 some_choice [] enabled = absurd (false≢true enabled)
 some_choice (c ∷ rest) enabled = omega arith
 
 -- while the verdict is `Open`, there is an entry
-pub chosen-open : (script : Script) (config : Config) (m : Machine) (worker a b n : ℕ) → seen_verdict script config (machine_view script m) n ≡ verdict.Open → (e : Entry) × (seen_chosen script (machine_view script m) worker a b ≡ Some e)
-chosen-open script config m worker a b n is =
-    let parts = is_open script config m n is in
-    let thread = item (ready_held script m.threads) a parts.ready in
-    let choice = item (choices_of_held script thread.0) b (some_choice (choices_of_held script thread.0) (ready_item script m.threads a thread.0 thread.1)) in (
+pub chosen-open : (script : Script) (config : Config) (m : Machine) (worker a b n : ℕ) → (m.has_ended ≡ false → length m.threads ≡ config.slots) → seen_verdict script config (machine_view script m) n ≡ verdict.Open → (e : Entry) × (seen_chosen script config.slots (machine_view script m) worker a b ≡ Some e)
+chosen-open script config m worker a b n long is =
+    let parts = is_open script config m n long is in
+    let thread = item (ready_held script m) a parts.ready in
+    let choice = item (choices_of_held script m thread.0) b (some_choice (choices_of_held script m thread.0) (ready_item script m a thread.0 thread.1)) in (
       record { worker = worker; pid = 1; tid = thread.0.id; alt = choice.0 },
-      seen_chosen-machine script m worker a b parts.running parts.live
-          ∙ ap (option_and_then (λ h. entry_for worker b (candidate_held script h))) thread.1
+      seen_chosen-machine script config.slots m worker a b (long parts.live) parts.running parts.live
+          ∙ ap (option_and_then (λ h. entry_for worker b (candidate_held script m h))) thread.1
           ∙ ap (option_map (λ (c : Alt). record { worker = worker; pid = 1; tid = thread.0.id; alt = c })) choice.1,
     )
 
-closed_by : (script : Script) (config : Config) (m : Machine) (worker a b n : ℕ) (stop : Option Why) (ended : Bool) → m.stop ≡ stop → m.has_ended ≡ ended → (verdict_by_count stop ended (length (ready_held script m.threads)) config n ≡ verdict.Open → ⊥) → nat_eq n config.budget ≡ false
-    → seen_chosen script (machine_view script m) worker a b ≡ None
-closed_by script config m worker a b n (Some why) ended stop_is ended_is closed left = seen_chosen-stopped script m worker a b (ap is_none stop_is)
-closed_by script config m worker a b n None true stop_is ended_is closed left = seen_chosen-ended script m worker a b ended_is
-closed_by script config m worker a b n None false stop_is ended_is closed left =
-    elim (cases_Bool (nat_eq (length (ready_held script m.threads)) 0)) [
+closed_by : (script : Script) (config : Config) (m : Machine) (worker a b n : ℕ) (stop : Option Why) (ended : Bool) → (m.has_ended ≡ false → length m.threads ≡ config.slots) → m.stop ≡ stop → m.has_ended ≡ ended → (verdict_by_count stop ended (length (ready_held script m)) config n ≡ verdict.Open → ⊥) → nat_eq n config.budget ≡ false
+    → seen_chosen script config.slots (machine_view script m) worker a b ≡ None
+closed_by script config m worker a b n (Some why) ended long stop_is ended_is closed left = seen_chosen-stopped script config.slots m worker a b (ap is_none stop_is)
+closed_by script config m worker a b n None true long stop_is ended_is closed left = seen_chosen-ended script config.slots m worker a b ended_is
+closed_by script config m worker a b n None false long stop_is ended_is closed left =
+    elim (cases_Bool (nat_eq (length (ready_held script m)) 0)) [
       | inl none ↦
-          let no_one : ready_held script m.threads ≡ [] = nil_from_length (ready_held script m.threads) (eqb-true (length (ready_held script m.threads)) 0 none) in
-          seen_chosen-machine script m worker a b (ap is_none stop_is) ended_is
-          ∙ ap (λ (hs : List Held). option_and_then (λ h. entry_for worker b (candidate_held script h)) (item_at hs a)) no_one
+          let no_one : ready_held script m ≡ [] = nil_from_length (ready_held script m) (eqb-true (length (ready_held script m)) 0 none) in
+          seen_chosen-machine script config.slots m worker a b (long ended_is) (ap is_none stop_is) ended_is
+          ∙ ap (λ (hs : List Held). option_and_then (λ h. entry_for worker b (candidate_held script m h)) (item_at hs a)) no_one
       | inr some ↦ absurd (closed (
           ap (λ t. cond t verdict.Deadlock (cond (nat_eq n config.budget) verdict.Budget verdict.Open)) some
           ∙ ap (λ t. cond t verdict.Budget verdict.Open) left))
     ]
 
 -- else there is none, also where the budget is not used up
-pub chosen-closed : (script : Script) (config : Config) (m : Machine) (worker a b n : ℕ) → (seen_verdict script config (machine_view script m) n ≡ verdict.Open → ⊥) → nat_eq n config.budget ≡ false → seen_chosen script (machine_view script m) worker a b ≡ None
-chosen-closed script config m worker a b n closed left = closed_by script config m worker a b n m.stop m.has_ended refl refl (λ is. closed (seen_verdict-machine script config m n ∙ is)) left
+pub chosen-closed : (script : Script) (config : Config) (m : Machine) (worker a b n : ℕ) → (m.has_ended ≡ false → length m.threads ≡ config.slots) → (seen_verdict script config (machine_view script m) n ≡ verdict.Open → ⊥) → nat_eq n config.budget ≡ false → seen_chosen script config.slots (machine_view script m) worker a b ≡ None
+chosen-closed script config m worker a b n long closed left = closed_by script config m worker a b n m.stop m.has_ended long refl refl (λ is. closed (seen_verdict-machine script config m n long ∙ is)) left

@@ -1,12 +1,12 @@
 -- A thread has room for the actions of a transition that fits it, one after another.
-use Rattle.std.proofs.Common.{◌≡◌, ℕ, suc, ◌-◌, List, [], ◌∷◌, length, Option, Some, None, refl, sym, ap, ◌∙◌, subst, sub-one}
+use Rattle.std.proofs.Common.{◌≡◌, ℕ, suc, ◌-◌, List, [], ◌∷◌, length, Option, Some, None, refl, sym, ap, ◌∙◌, ◌≤◌, arith, subst, sub-one}
 use Rattle.std.specs.Prelude.{option_map}
 use Rattle.std.proofs.lemmas.Option.{none-some, same_Some}
 use Rattle.pct_model.specs.declared.frame.Frame.{Frame}
 use Rattle.pct_model.specs.declared.transition.Action.{Action}
 use Rattle.pct_model.specs.declared.transition.Action.TheVariants as action
 use Rattle.pct_model.specs.Actions.{at_pc, set_local, without_first}
-use Rattle.pct_threads.specs.Slots.{Held, Slot}
+use Rattle.pct_threads.specs.Slots.{Held, Slot, without_frames}
 use Rattle.pct_threads.specs.Tables.{held_at, on_held}
 use Rattle.pct_engine.specs.Fitting.{AllFit, depth_after, handlers_after}
 use Rattle.pct_engine.specs.MachineChanges.{held_at_pc, held_after}
@@ -29,9 +29,16 @@ unfolding held_after
 depth-after (action.SetLocal i v) h = length-set_local i v h.frames
 depth-after (action.SetGlobal i v) h = refl
 depth-after (action.Call f a k) h = refl
+depth-after (action.CallAlone f a k) h = refl
 depth-after (action.Leave s) h = length-without_first h.frames
 depth-after (action.PushHandler f a) h = refl
 depth-after action.PopHandler h = refl
+depth-after (action.BeginJoin id) h = refl
+depth-after (action.EndJoin id) h = refl
+depth-after (action.Detach id) h = refl
+depth-after (action.BeginEnd why) h = refl
+depth-after (action.EndThread v) h = refl
+depth-after action.MarkEnded h = refl
 depth-after (action.BeginExit v) h = refl
 depth-after (action.EndProcess n) h = refl
 depth-after (action.Stop why) h = refl
@@ -41,9 +48,16 @@ unfolding held_after
 handlers-after (action.SetLocal i v) h = refl
 handlers-after (action.SetGlobal i v) h = refl
 handlers-after (action.Call f a k) h = refl
+handlers-after (action.CallAlone f a k) h = refl
 handlers-after (action.Leave s) h = refl
 handlers-after (action.PushHandler f a) h = refl
 handlers-after action.PopHandler h = length-without_first h.thread.handlers
+handlers-after (action.BeginJoin id) h = refl
+handlers-after (action.EndJoin id) h = refl
+handlers-after (action.Detach id) h = refl
+handlers-after (action.BeginEnd why) h = refl
+handlers-after (action.EndThread v) h = refl
+handlers-after action.MarkEnded h = refl
 handlers-after (action.BeginExit v) h = refl
 handlers-after (action.EndProcess n) h = refl
 handlers-after (action.Stop why) h = refl
@@ -84,3 +98,9 @@ fit_next slot next actions old mid moved fits held here =
     let frames : length h.frames ≡ length held.frames = sym (frames_at-next next h) ∙ sym (ap (λ (x : Held). length x.frames) before.2) in
     let handlers : length h.thread.handlers ≡ length held.thread.handlers = sym (handlers_at-next next h) ∙ sym (ap (λ (x : Held). length x.thread.handlers) before.2) in
     subst (λ (n : ℕ). AllFit (length held.frames) n actions) handlers (subst (λ (n : ℕ). AllFit n (length h.thread.handlers) actions) frames (fits h before.1))
+
+-- a thread that left all its frames has room for one
+pub no_frames : (slot : ℕ) (old mid : List Slot) (held : Held) → mid ≡ on_held slot without_frames old → held_at mid slot ≡ Some held → length held.frames ≤ 16
+no_frames slot old mid held left here =
+    let before = held_before without_frames (held_at old slot) held (sym (ap (λ (xs : List Slot). held_at xs slot) left ∙ held_at-on_held slot without_frames old) ∙ here) in
+    omega (arith, ap (λ (x : Held). length x.frames) before.2)

@@ -1,6 +1,7 @@
 -- The step of a machine is the step of each state to which it corresponds.
 use Rattle.std.proofs.Common.{◌≡◌, ℕ, ◌<◌, Bool, true, false, cond, List, [], length, Option, Some, None, refl, sym, ap, ◌∙◌, subst, All}
 use Rattle.std.specs.Prelude.{slice_get, is_some, option_map}
+use Rattle.std.proofs.lemmas.List.{length-map}
 use Rattle.std.proofs.lemmas.List.Elements.{All-head}
 use Rattle.std.proofs.lemmas.Option.{slice_get-map, slice_get-get_or}
 use Rattle.pct_model.specs.declared.script.Script.{Script}
@@ -8,7 +9,6 @@ use Rattle.pct_model.specs.declared.schedule.Config.{Config}
 use Rattle.pct_model.specs.declared.schedule.Entry.{Entry}
 use Rattle.pct_model.specs.declared.transition.Transition.{Transition}
 use Rattle.pct_model.specs.World.{Thread, World}
-use Rattle.pct_model.specs.ThreadSlots.{slot_of}
 use Rattle.pct_model.specs.Step.{step}
 use Rattle.pct_threads.specs.Slots.{Held, unused}
 use Rattle.pct_threads.specs.Tables.{slot_at, held_at}
@@ -38,6 +38,7 @@ placed_in script slots m w view live =
     let row : slice_get q.slots slot ≡ Some (slot_view (slot_at m.threads slot)) = slice_get-map slot_view m.threads slot ∙ ap (option_map slot_view) (slice_get-get_or m.threads slot unused inside) in
     All-head (HoldsSlot slots slot) (thread_of held) [] (subst (λ (ts : List Thread). All (HoldsSlot slots slot) ts) (ap threads_of here) (placed.each slot (slot_view (slot_at m.threads slot)) row)) in
     record {
+      all = sym (length-map m.threads slot_view) ∙ placed.all;
       place = λ slot held here. (at slot held here).on;
       holds = λ slot held here. (at slot held here).holds;
     }
@@ -67,14 +68,13 @@ pub step_made : (script : Script) (config : Config) (w : World) (m new : Machine
 step_made script config w m new e slot o some view found legal moved =
     let parts = admits m e found.may in
     let placed = placed_in script config.slots m w view parts.live in
-    let on = ap (λ (id : ℕ). slot_of config.slots id) (sym found.named) ∙ placed.place slot found.held found.here in
     record {
       successor = successor_of w e o;
       is_step = step_by_view script config w e (machine_view script m) (Some o) some view legal;
       events_are = refl;
       view_is =
           ap (machine_view script) moved
-          ∙ machine_view-moved script config.slots slot e.tid o m found.held parts.live found.here found.named on (placed.holds slot found.held found.here) found.fits
+          ∙ machine_view-moved script config.slots slot e.tid o m found.held parts.live placed found.here found.named found.names found.created
           ∙ ap (λ (pid : ℕ). seen_after config.slots pid e.tid o (machine_view script m)) (sym parts.first)
           ∙ ap (seen_after config.slots e.pid e.tid o) view
           ∙ sym (after_is_seen config.slots e.pid e.tid w o some);

@@ -1,11 +1,15 @@
 -- The limits that a transition keeps. An engine with tables of a fixed size makes the actions one after another and relies on
 -- these: where all of them fit, each one finds room in its turn, and no thread loses its slot before its last action.
-use Rattle.std.specs.Prelude.{◌≡◌, ℕ, suc, ◌-◌, ◌<◌, ◌≤◌, false, List, [], ◌∷◌, IfSome}
+use Rattle.std.specs.Prelude.{◌≡◌, ℕ, suc, ◌-◌, ◌<◌, ◌≤◌, true, false, List, [], ◌∷◌, length, position, Option, IfSome}
 use Rattle.pct_model.specs.declared.limits.TheConstants.{MAX_STATEMENTS, MAX_FRAMES, MAX_HANDLERS}
 use Rattle.pct_model.specs.declared.transition.Action.{Action}
 use Rattle.pct_model.specs.declared.transition.Action.TheVariants as action
+use Rattle.pct_model.specs.declared.transition.NewThread.{NewThread}
 use Rattle.pct_model.specs.declared.transition.Transition.{Transition}
-use Rattle.pct_model.specs.ThreadSlots.{is_ended_status}
+use Rattle.pct_model.specs.ThreadSlots.{is_ended_status, slot_of}
+use Rattle.pct_threads.specs.Slots.{Slot, has_id}
+use Rattle.pct_threads.specs.Tables.{is_occupied_at, is_free_at, is_reclaimable_at, next_id_at}
+use Rattle.pct_engine.specs.MachineChanges.{named_on}
 
 -- a thread with these numbers of frames and of cleanup handlers has room for the action. A function that the host calls may
 -- be one frame above those that a script calls.
@@ -18,7 +22,9 @@ Fits depth handlers _ = Unit {0}
 -- the number of frames after an action
 abbrev pub depth_after : Action → ℕ → ℕ
 depth_after (action.Call f a kind) depth = suc depth
+depth_after (action.CallAlone f a kind) depth = 1
 depth_after (action.Leave status) depth = depth - 1
+depth_after (action.BeginEnd why) depth = 0
 depth_after (action.BeginExit v) depth = 0
 depth_after _ depth = depth
 
@@ -37,3 +43,30 @@ AllFit depth handlers (a ∷ actions) = Fits depth handlers a × AllFit (depth_a
 pub record TransitionFits (depth handlers : ℕ) (o : Transition) : Type 0 where
   pub next : IfSome o.next (λ pc. pc ≤ MAX_STATEMENTS)
   pub actions : AllFit depth handlers o.actions
+
+-- ---- the threads that it names, and the thread that it creates
+
+-- a slot that has a thread with an id passes a test
+abbrev pub IfNamed : ℕ → List Slot → (ℕ → Type 0) → Type 0
+IfNamed id threads test = IfSome (position (has_id id) threads) test
+
+-- an action of the thread on a slot fits the table: a thread that joins another holds its slot, and one that was joined has ended
+-- and is not detached
+abbrev pub NameFits : ℕ → Action → List Slot → Type 0
+NameFits slot (action.BeginJoin id) threads = is_occupied_at threads slot ≡ true
+NameFits slot (action.EndJoin id) threads = IfNamed id threads (λ target. is_reclaimable_at threads target ≡ true)
+NameFits slot _ threads = Unit {0}
+
+-- each of the actions does, after those before it
+abbrev pub NamesFit : ℕ → List Action → List Slot → Type 0
+NamesFit slot [] threads = Unit {0}
+NamesFit slot (a ∷ actions) threads = NameFits slot a threads × NamesFit slot actions (named_on slot a threads)
+
+-- a new thread fits the table: it gets the next id on its slot, which is free
+pub record IsNext (new : NewThread) (threads : List Slot) : Type 0 where
+  pub free : is_free_at threads (slot_of (length threads) new.id) ≡ true
+  pub id_is : next_id_at threads (slot_of (length threads) new.id) ≡ new.id
+
+-- the thread that a transition creates does
+abbrev pub NewFits : Option NewThread → List Slot → Type 0
+NewFits created threads = IfSome created (λ new. IsNext new threads)

@@ -1,9 +1,10 @@
 pub mod Programs
 pub mod Positions
-pub mod Listed
 pub mod Fitting
 pub mod Views
-pub mod MachineChanges
+pub mod Listed
+pub mod Answers
 pub mod ReadyThreads
+pub mod MachineChanges
 pub mod Steps
 pub mod EngineStates

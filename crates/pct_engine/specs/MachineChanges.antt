@@ -1,15 +1,21 @@
--- What a transition changes in a machine: in the thread that makes it, and in what its threads share.
-use Rattle.std.specs.Prelude.{ℕ, Bool, true, List, [], ◌∷◌, Option, Some, None, slice_set}
+-- What a transition changes in a machine: in the thread that makes it, in what its threads share, in a thread that it names, and
+-- by the thread that it creates.
+use Rattle.std.specs.Prelude.{ℕ, Bool, true, ◌&&◌, if◌then◌else◌, List, [], ◌∷◌, length, Option, Some, None, slice_set, position}
+use Rattle.std.specs.Option.{option_map_or}
+use Rattle.pct_model.specs.declared.state.Reason.{Reason}
 use Rattle.pct_model.specs.declared.state.Status.{Status}
-use Rattle.pct_model.specs.declared.state.Status.TheVariants.{Running, Exiting}
+use Rattle.pct_model.specs.declared.state.Status.TheVariants.{Running, Joining, Ending, Exiting}
 use Rattle.pct_model.specs.declared.transition.Action.{Action}
 use Rattle.pct_model.specs.declared.transition.Action.TheVariants as action
+use Rattle.pct_model.specs.declared.transition.NewThread.{NewThread}
 use Rattle.pct_model.specs.declared.transition.Transition.{Transition}
 use Rattle.pct_model.specs.Cancelability.{ending_state, ending_mode}
 use Rattle.pct_model.specs.World.{new_frame}
 use Rattle.pct_model.specs.Actions.{at_pc, set_local, without_first, stop_after, for_each}
-use Rattle.pct_threads.specs.Slots.{Held}
-use Rattle.pct_threads.specs.Tables.{on_held}
+use Rattle.pct_model.specs.ThreadSlots.{is_ended_status, slot_of}
+use Rattle.pct_threads.specs.Records.{ended_record}
+use Rattle.pct_threads.specs.Slots.{Held, Slot, has_id, with_joiner, after_detach, after_change, with_change, freed}
+use Rattle.pct_threads.specs.Tables.{id_at, on_slot, on_held, with_created}
 use Rattle.pct_engine.specs.declared.machine.Machine.{Machine}
 
 -- ---- the thread
@@ -22,6 +28,10 @@ held_with_status s h = record h { thread = record h.thread { status = s } }
 abbrev pub held_exiting : Held → Held
 held_exiting h = record h { frames = []; thread = record h.thread { status = Exiting; cancel = record h.thread.cancel { state = ending_state; mode = ending_mode } } }
 
+-- that begins to end for a reason: the same
+abbrev pub held_ending : Reason → Held → Held
+held_ending why h = record h { frames = []; thread = record h.thread { status = Ending; cancel = record h.thread.cancel { state = ending_state; mode = ending_mode }; reason = why } }
+
 -- after it went on at a pc, if it does
 unfoldable pub held_at_pc : Option ℕ → Held → Held
 held_at_pc None h = h
@@ -31,15 +41,48 @@ held_at_pc (Some pc) h = held_with_status Running (record h { frames = at_pc pc 
 unfoldable pub held_after : Action → Held → Held
 held_after (action.SetLocal i v) h = record h { frames = set_local i v h.frames }
 held_after (action.Call f a kind) h = held_with_status Running (record h { frames = new_frame f a kind ∷ h.frames })
+held_after (action.CallAlone f a kind) h = held_with_status Running (record h { frames = new_frame f a kind ∷ [] })
 held_after (action.Leave s) h = held_with_status s (record h { frames = without_first h.frames })
 held_after (action.PushHandler f a) h = record h { thread = record h.thread { handlers = (f, a) ∷ h.thread.handlers } }
 held_after action.PopHandler h = record h { thread = record h.thread { handlers = without_first h.thread.handlers } }
+held_after (action.BeginJoin id) h = held_with_status (Joining id) h
+held_after (action.BeginEnd why) h = held_ending why h
+held_after (action.EndThread v) h = record h { thread = ended_record v h.thread }
+held_after action.MarkEnded h = record h { thread = record h.thread { ended = true } }
 held_after (action.BeginExit v) h = held_exiting h
 held_after _ h = h
 
 -- after its transition
 abbrev pub held_moved : Transition → Held → Held
 held_moved o h = for_each held_after o.actions (held_at_pc o.next h)
+
+-- ---- the threads that it names
+
+-- the table after a change of the first slot whose thread has an id, if there is one
+abbrev pub on_named : ℕ → (Slot → Slot) → List Slot → List Slot
+on_named id change threads = option_map_or (λ target. on_slot target change threads) (position (has_id id) threads) threads
+
+-- the table after an action of the thread on a slot, which may name a thread
+unfoldable pub named_on : ℕ → Action → List Slot → List Slot
+named_on slot (action.BeginJoin id) threads = on_named id (with_change (with_joiner (id_at threads slot))) threads
+named_on slot (action.EndJoin id) threads = on_named id freed threads
+named_on slot (action.Detach id) threads = on_named id (after_change after_detach) threads
+named_on slot _ threads = threads
+
+-- ---- the end, and a new thread
+
+-- a thread that has ended and is detached gives back its slot (XSH pthread_detach)
+abbrev pub unless_reclaimed : Held → Option Held
+unless_reclaimed h = if is_ended_status h.thread.status && h.detached then None else Some h
+
+-- the table after this, for the thread on a slot
+abbrev pub settled : ℕ → List Slot → List Slot
+settled slot threads = on_slot slot (after_change unless_reclaimed) threads
+
+-- the table with the thread that a transition creates, if it does
+abbrev pub with_new : Option NewThread → List Slot → List Slot
+with_new None threads = threads
+with_new (Some new) threads = with_created (slot_of (length threads) new.id) new.func new.arg new.detached threads
 
 -- ---- what the threads share
 
@@ -64,6 +107,14 @@ has_ended_after _ has_ended = has_ended
 abbrev pub machine_after : ℕ → Action → Machine → Machine
 machine_after slot a m = record { threads = on_held slot (held_after a) m.threads; globals = globals_after a m.globals; exit_value = exit_value_after a m.exit_value; has_ended = has_ended_after a m.has_ended; stop = stop_after a m.stop }
 
+-- a machine after the thread on a slot went on, if it does, and made its actions on itself and on what is shared
+abbrev pub machine_acted : ℕ → Transition → Machine → Machine
+machine_acted slot o m = for_each (machine_after slot) o.actions (record m { threads = on_held slot (held_at_pc o.next) m.threads })
+
+-- a machine with a change of its threads
+abbrev pub on_threads : (List Slot → List Slot) → Machine → Machine
+on_threads change m = record m { threads = change m.threads }
+
 -- a machine after a transition of the thread on a slot
 abbrev pub machine_moved : ℕ → Transition → Machine → Machine
-machine_moved slot o m = for_each (machine_after slot) o.actions (record m { threads = on_held slot (held_at_pc o.next) m.threads })
+machine_moved slot o m = on_threads (λ threads. with_new o.created (settled slot (for_each (named_on slot) o.actions threads))) (machine_acted slot o m)

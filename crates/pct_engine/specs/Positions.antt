@@ -4,7 +4,7 @@ use Rattle.pct_model.specs.declared.script.Script.{Script}
 use Rattle.pct_model.specs.declared.statement.Stmt.{Stmt}
 use Rattle.pct_model.specs.declared.frame.Frame.{Frame}
 use Rattle.pct_model.specs.World.{Thread, SharedState, statement_at}
-use Rattle.pct_model.specs.ChoiceTable.{NextStatement, NoStatement, StatementIn, next_of}
+use Rattle.pct_model.specs.NextStatement.{NextStatement, NoStatement, StatementIn, next_of}
 use Rattle.pct_engine.specs.declared.position.Position.{Position}
 
 -- a frame and a statement as the next statement of a thread
@@ -18,11 +18,13 @@ IsDecoded script next = IfSome next (λ n. statement_at script n.0 ≡ Some n.1)
 
 -- this is the position of the thread
 pub record IsPosition (script : Script) (position : Position) (t : Thread) : Type 0 where
+  pub id_is : position.id ≡ t.id
   pub next_is : next_at position.next ≡ next_of script t.frames
   pub depth_is : position.depth ≡ length t.frames
   pub newest_is : position.newest ≡ slice_get t.handlers 0
   pub handlers_are : position.handlers ≡ length t.handlers
   pub status_is : position.status ≡ t.status
+  pub reason_is : position.reason ≡ t.reason
 
 -- these are the globals and the value of exit of the shared state, in which no exit function is registered
 pub record AreShared (globals : List ℕ) (exit_value : Option ℕ) (shared : SharedState) : Type 0 where

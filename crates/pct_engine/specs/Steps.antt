@@ -8,15 +8,16 @@ use Rattle.pct_model.specs.declared.stop.Verdict.TheVariants.{Open}
 use Rattle.pct_model.specs.declared.limits.TheConstants.{MAX_WORKER}
 use Rattle.pct_model.specs.declared.transition.Transition.{Transition}
 use Rattle.pct_model.specs.World.{World}
-use Rattle.pct_model.specs.ThreadSlots.{slot_of, holds_slot}
 use Rattle.pct_model.specs.Step.{Successor, step}
-use Rattle.pct_threads.specs.Slots.{Held, Slot}
-use Rattle.pct_threads.specs.Tables.{held_at}
+use Rattle.pct_threads.specs.Slots.{Held}
+use Rattle.pct_threads.specs.Tables.{held_at, on_held}
 use Rattle.pct_engine_laws.specs.Seen.{Seen, seen}
 use Rattle.pct_engine_laws.specs.SeenSteps.{seen_transition, seen_chosen, seen_verdict}
 use Rattle.pct_engine.specs.declared.machine.Machine.{Machine}
-use Rattle.pct_engine.specs.Fitting.{AllFit}
-use Rattle.pct_engine.specs.Views.{thread_of, machine_view}
+use Rattle.pct_engine.specs.Answers.{IdsFit}
+use Rattle.pct_engine.specs.Fitting.{AllFit, NamesFit, NewFits}
+use Rattle.pct_engine.specs.Views.{machine_view, ArePlaced}
+use Rattle.pct_engine.specs.MachineChanges.{held_moved}
 
 -- ---- legal entries
 
@@ -31,24 +32,26 @@ may_step m e = is_none m.stop && nat_le e.worker MAX_WORKER && nat_eq e.pid 1 &&
 
 -- ---- the threads of a state that a run reaches
 
--- each thread that holds a slot has an id of the slot, and has not been reclaimed
-pub record ArePlaced (slots : ℕ) (threads : List Slot) : Type 0 where
-  pub place : (slot : ℕ) (held : Held) → held_at threads slot ≡ Some held → slot_of slots held.id ≡ slot
-  pub holds : (slot : ℕ) (held : Held) → held_at threads slot ≡ Some held → holds_slot (thread_of held) ≡ true
-
--- the same, while the process has not ended
+-- the threads of a machine are placed, while the process has not ended
 abbrev pub ArePlacedIn : ℕ → Machine → Type 0
 ArePlacedIn slots m = m.has_ended ≡ false → ArePlaced slots m.threads
 
+-- the id of the next thread on each slot fits 32 bits, while the process has not ended
+abbrev pub IdsFitIn : Machine → Type 0
+IdsFitIn m = m.has_ended ≡ false → IdsFit m.threads
+
 -- ---- a step
 
--- the entry names the thread on this slot, and the thread has room for the actions of the transition
+-- the entry names the thread on this slot, the thread has room for the actions of the transition, and the table fits those that
+-- name a thread and the thread that it creates
 pub record IsFound (m : Machine) (e : Entry) (slot : ℕ) (o : Transition) : Type 0 where
   pub may : may_step m e ≡ true
   pub held : Held
   pub here : held_at m.threads slot ≡ Some held
   pub named : held.id ≡ e.tid
   pub fits : AllFit (length held.frames) (length held.thread.handlers) o.actions
+  pub names : NamesFit slot o.actions (on_held slot (held_moved o) m.threads)
+  pub created : NewFits o.created m.threads
 
 -- the step of a state to which the machine corresponds, with these events
 pub record IsStepOf (script : Script) (config : Config) (w : World) (new : Machine) (e : Entry) (events : List What) : Type 0 where
@@ -66,6 +69,6 @@ StepsBy script config w old new e (Some events) = IsStepOf script config w new e
 
 -- the answer to a worker in a run of n entries: the entry of the scheduler while the verdict is `Open`, else none
 pub record IsSeenChoice (script : Script) (config : Config) (v : Seen) (n worker a b : ℕ) (answer : Option Entry) : Type 0 where
-  pub chosen : seen_verdict script config v n ≡ Open → answer ≡ seen_chosen script v worker a b
+  pub chosen : seen_verdict script config v n ≡ Open → answer ≡ seen_chosen script config.slots v worker a b
   pub some : seen_verdict script config v n ≡ Open → is_some answer ≡ true
   pub closed : ¬ (seen_verdict script config v n ≡ Open) → answer ≡ None

@@ -1,8 +1,10 @@
 -- What the parts of an engine represent: the part of the machine's state that an engine keeps.
-use Rattle.std.specs.Prelude.{ℕ, Bool, true, false, List, [], ◌∷◌, map, length, replicate, Option, Some, None}
+use Rattle.std.specs.Prelude.{◌≡◌, ℕ, Bool, true, false, List, [], ◌∷◌, map, length, replicate, Option, Some, None}
 use Rattle.pct_model.specs.declared.script.Script.{Script}
 use Rattle.pct_model.specs.World.{Thread, SharedState}
+use Rattle.pct_model.specs.ThreadSlots.{slot_of, holds_slot}
 use Rattle.pct_threads.specs.Slots.{Held, Slot}
+use Rattle.pct_threads.specs.Tables.{held_at}
 use Rattle.pct_engine_laws.specs.Seen.{SeenSlot, SeenProcess, Seen}
 use Rattle.pct_engine.specs.declared.machine.Machine.{Machine}
 
@@ -21,6 +23,12 @@ threads_of (Some h) = thread_of h ∷ []
 -- a slot
 abbrev pub slot_view : Slot → SeenSlot
 slot_view s = record { made = s.made; here = threads_of s.here }
+
+-- each of this number of slots: a thread that holds it has an id of the slot, and has not been reclaimed
+pub record ArePlaced (slots : ℕ) (threads : List Slot) : Type 0 where
+  pub all : length threads ≡ slots
+  pub place : (slot : ℕ) (held : Held) → held_at threads slot ≡ Some held → slot_of slots held.id ≡ slot
+  pub holds : (slot : ℕ) (held : Held) → held_at threads slot ≡ Some held → holds_slot (thread_of held) ≡ true
 
 -- ---- the process and the run
 

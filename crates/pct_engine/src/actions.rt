@@ -1,13 +1,14 @@
-//! What a transition changes: in the thread that makes it, and in what the threads of its process share.
+//! What a transition changes: in the thread that makes it, in what the threads of its process share, and in the other threads.
 
 ghost use Rattle.std.specs.Prelude.{◌≡◌, length, Some, true};
 ghost use Rattle.pct_model.specs.Actions.{for_each, stop_after};
 ghost use Rattle.pct_threads.specs.Slots.{Held};
 ghost use Rattle.pct_threads.specs.Tables.{held_at, is_occupied_at, on_held};
-ghost use Rattle.pct_engine.specs.Fitting.{Fits, AllFit};
-ghost use Rattle.pct_engine.specs.MachineChanges.{held_after, machine_after, machine_moved};
+ghost use Rattle.pct_engine.specs.Fitting.{Fits, AllFit, NamesFit, NewFits};
+ghost use Rattle.pct_engine.specs.MachineChanges.{held_after, held_moved, machine_after, machine_acted, machine_moved};
 
 use crate::machine::Machine;
+use crate::named_threads::{create, name_all, settle};
 use crate::own_actions::{act_alone, go_on};
 use pct_model::{Action, Transition, UpToThree};
 
@@ -15,7 +16,21 @@ use pct_model::{Action, Transition, UpToThree};
 pub(crate) fn change(machine: &mut Machine, slot: u32, transition: &Transition)
     requires occupied { is_occupied_at machine.old.threads slot ≡ true }
     requires fits { (held : Held) → held_at machine.old.threads slot ≡ Some held → AllFit (length held.frames) (length held.thread.handlers) transition.now.actions }
+    requires names { NamesFit slot transition.now.actions (on_held slot (held_moved transition.now) machine.old.threads) }
+    requires created { NewFits transition.now.created machine.old.threads }
     ensures { machine.new ≡ machine_moved slot transition.now machine.old }
+{
+    act_own(machine, slot, transition);
+    name_all(&mut machine.threads, slot, &transition.actions);
+    settle(&mut machine.threads, slot);
+    create(&mut machine.threads, transition.created);
+}
+
+// Makes the changes of a transition in the thread that makes it, and in what the threads share.
+fn act_own(machine: &mut Machine, slot: u32, transition: &Transition)
+    requires occupied { is_occupied_at machine.old.threads slot ≡ true }
+    requires fits { (held : Held) → held_at machine.old.threads slot ≡ Some held → AllFit (length held.frames) (length held.thread.handlers) transition.now.actions }
+    ensures { machine.new ≡ machine_acted slot transition.now machine.old }
 {
     go_on(&mut machine.threads, slot, transition.next);
     act_all(machine, slot, &transition.actions);
@@ -55,8 +70,15 @@ fn act_shared(machine: &mut Machine, action: Action)
         Action::Stop(why) => machine.stop = Some(why),
         Action::SetLocal(_, _)
         | Action::Call { .. }
+        | Action::CallAlone { .. }
         | Action::Leave(_)
         | Action::PushHandler(_, _)
-        | Action::PopHandler => {}
+        | Action::PopHandler
+        | Action::BeginJoin(_)
+        | Action::EndJoin(_)
+        | Action::Detach(_)
+        | Action::BeginEnd(_)
+        | Action::EndThread(_)
+        | Action::MarkEnded => {}
     }
 }

@@ -5,7 +5,7 @@ ghost use Rattle.pct_model.specs.declared.frame.Frame.{Frame as FrameRecord};
 ghost use Rattle.pct_model.specs.declared.limits.TheConstants.{MAX_STATEMENTS};
 ghost use Rattle.pct_model.specs.World.{statement_at, value_of};
 ghost use Rattle.pct_model.specs.ScriptStatements.{variable_value};
-ghost use Rattle.pct_model.specs.ChoiceTable.{next_of};
+ghost use Rattle.pct_model.specs.NextStatement.{next_of};
 ghost use Rattle.pct_engine.specs.Positions.{next_at, IsDecoded};
 
 use pct_model::{Dest, Frame, Operand, Script, Stmt};

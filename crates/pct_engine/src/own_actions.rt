@@ -1,18 +1,19 @@
 //! What a transition changes in the thread that makes it.
 
-ghost use Rattle.std.specs.Prelude.{◌≡◌, ◌<◌, ◌≤◌, ◌∷◌, ℕ, List, length, Some, None, true};
+ghost use Rattle.std.specs.Prelude.{◌≡◌, ◌<◌, ◌≤◌, ◌∷◌, [], ℕ, List, length, Some, None, true};
 ghost use Rattle.pct_model.specs.declared.limits.TheConstants.{MAX_FRAMES, MAX_HANDLERS};
 ghost use Rattle.pct_model.specs.declared.state.Status.TheVariants as status;
 ghost use Rattle.pct_model.specs.Actions.{set_local, at_pc, without_first};
 ghost use Rattle.pct_model.specs.World.{new_frame};
 ghost use Rattle.pct_threads.specs.FrameWords.{kind_number};
+ghost use Rattle.pct_threads.specs.Records.{ended_record};
 ghost use Rattle.pct_threads.specs.Slots.{Held, without_frame};
 ghost use Rattle.pct_threads.specs.Tables.{held_at, is_occupied_at, on_held};
 ghost use Rattle.pct_engine.specs.Fitting.{Fits};
-ghost use Rattle.pct_engine.specs.MachineChanges.{held_after, held_at_pc, held_exiting, held_with_status};
+ghost use Rattle.pct_engine.specs.MachineChanges.{held_after, held_at_pc, held_ending, held_exiting, held_with_status};
 
 use pct_cleanup::Handlers;
-use pct_model::{Action, FrameKind, Status};
+use pct_model::{Action, FrameKind, Reason, Status};
 use pct_threads::Threads;
 
 /// The thread on a slot goes on at a program counter, if there is one.
@@ -37,11 +38,20 @@ pub(crate) fn act_alone(threads: &mut Threads, slot: u32, action: Action)
     match action {
         Action::SetLocal(i, value) => set_local(threads, slot, i, value),
         Action::Call { func, arg, kind } => call(threads, slot, func, arg, kind),
+        Action::CallAlone { func, arg, kind } => call_alone(threads, slot, func, arg, kind),
         Action::Leave(status) => leave(threads, slot, status),
         Action::PushHandler(func, arg) => push_handler(threads, slot, func, arg),
         Action::PopHandler => pop_handler(threads, slot),
+        Action::BeginJoin(id) => set_status(threads, slot, Status::Joining(id)),
+        Action::BeginEnd(why) => begin_end(threads, slot, why),
+        Action::EndThread(value) => end_thread(threads, slot, value),
+        Action::MarkEnded => mark_ended(threads, slot),
         Action::BeginExit(_) => begin_exit(threads, slot),
-        Action::SetGlobal(_, _) | Action::EndProcess(_) | Action::Stop(_) => {}
+        Action::SetGlobal(_, _)
+        | Action::EndJoin(_)
+        | Action::Detach(_)
+        | Action::EndProcess(_)
+        | Action::Stop(_) => {}
     }
 }
 
@@ -82,6 +92,15 @@ fn call(threads: &mut Threads, slot: u32, func: u32, arg: u32, kind: FrameKind)
     set_status(threads, slot, Status::Running);
 }
 
+// The thread calls a function, and runs in its frame, which is its only one.
+fn call_alone(threads: &mut Threads, slot: u32, func: u32, arg: u32, kind: FrameKind)
+    requires { is_occupied_at threads.old slot ≡ true }
+    ensures { threads.new ≡ on_held slot (λ h. held_with_status status.Running (record h { frames = new_frame func arg kind ∷ [] })) threads.old }
+{
+    threads.drop_frames(slot);
+    call(threads, slot, func, arg, kind);
+}
+
 // The thread leaves its newest frame, and gets a status.
 fn leave(threads: &mut Threads, slot: u32, status: Status)
     requires { is_occupied_at threads.old slot ≡ true }
@@ -119,6 +138,36 @@ fn begin_exit(threads: &mut Threads, slot: u32)
     let thread = threads.write(slot);
     thread.cancel.begin_end();
     thread.status = Status::Exiting;
+}
+
+// The thread leaves all its frames, and begins to end for a reason.
+fn begin_end(threads: &mut Threads, slot: u32, why: Reason)
+    requires { is_occupied_at threads.old slot ≡ true }
+    ensures { threads.new ≡ on_held slot (held_ending why) threads.old }
+{
+    threads.drop_frames(slot);
+    let thread = threads.write(slot);
+    thread.cancel.begin_end();
+    thread.status = Status::Ending;
+    thread.reason = why;
+}
+
+// The thread has ended with a value. It keeps its slot.
+fn end_thread(threads: &mut Threads, slot: u32, value: u32)
+    requires { is_occupied_at threads.old slot ≡ true }
+    ensures { threads.new ≡ on_held slot (λ h. record h { thread = ended_record value h.thread }) threads.old }
+{
+    let thread = threads.write(slot);
+    thread.status = Status::Ended(value);
+    thread.ended = true;
+}
+
+// The thread counts as ended.
+fn mark_ended(threads: &mut Threads, slot: u32)
+    requires { is_occupied_at threads.old slot ≡ true }
+    ensures { threads.new ≡ on_held slot (λ h. record h { thread = record h.thread { ended = true } }) threads.old }
+{
+    threads.write(slot).ended = true;
 }
 
 // ---- parts

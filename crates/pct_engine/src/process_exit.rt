@@ -2,11 +2,11 @@
 
 ghost use Rattle.std.specs.Prelude.{◌≡◌, ◌%◌, [], ◌∷◌};
 ghost use Rattle.pct_model.specs.declared.transition.Action.TheVariants as action;
-ghost use Rattle.pct_model.specs.declared.state.Status.TheVariants as status;
 ghost use Rattle.pct_model.specs.Transitions.{acts};
 ghost use Rattle.pct_model.specs.ProcessExit.{exits, returns_by, ends_process};
 
-use crate::transitions::{acts, no_change};
+use crate::thread_ends::ends_by_exit;
+use crate::transitions::{acts, no_change, no_next};
 use pct_model::{Action, FrameKind, Status, Transition, UpToThree, What};
 
 /// A thread begins to exit its process with a value, as if it called exit (XSH exit).
@@ -17,17 +17,21 @@ pub(crate) fn exits(value: u32) -> Transition
     acts(Action::BeginExit(value), What::ExitBegun(value))
 }
 
-/// `return` of a value, by the kind of the top frame. A return from `main` in the initial thread acts as exit (XSH
-/// pthread_create).
+/// `return` of a value, by the kind of the top frame. A return from `main` in the initial thread acts as exit, one from the
+/// start routine of another thread as pthread_exit (XSH pthread_create).
 #[tactic(auto, unfolding(pct_model::specs::ProcessExit::returns_by))]
 pub(crate) fn returns_by(kind: FrameKind, value: u32) -> Transition
     ensures { result ≡ returns_by kind value }
 {
     match kind {
         FrameKind::Main => exits(value),
-        FrameKind::Call => runs_below(),
-        FrameKind::PopHandler => runs_below(),
-        _ => no_change(),
+        FrameKind::Start => ends_by_exit(value),
+        FrameKind::Call => leaves(Status::Running),
+        FrameKind::PopHandler => leaves(Status::Running),
+        FrameKind::Handler => leaves(Status::Ending),
+        FrameKind::Destructor => leaves(Status::Ending),
+        FrameKind::ExitFn => leaves(Status::Exiting),
+        FrameKind::ForkFn => no_change(),
     }
 }
 
@@ -46,13 +50,9 @@ pub(crate) fn ends_process(exit_value: Option<u32>) -> Transition
     }
 }
 
-// The thread leaves its top frame, and runs on in the one below.
-fn runs_below() -> Transition
-    ensures { result ≡ acts (action.Leave status.Running ∷ []) [] }
+// The thread leaves its top frame, and gets a status.
+fn leaves(status: Status) -> Transition
+    ensures { result ≡ acts (action.Leave status ∷ []) [] }
 {
-    Transition {
-        next: None,
-        actions: UpToThree::one(Action::Leave(Status::Running)),
-        events: UpToThree::none(),
-    }
+    no_next(UpToThree::one(Action::Leave(status)), UpToThree::none())
 }

@@ -1,32 +1,34 @@
 //! The threads that are ready, the entry that two numbers choose, and the verdict.
 
-ghost use Rattle.std.specs.Prelude.{◌≡◌, ◌<◌, ◌≤◌, length, Some, true, IfSome, is_some, option_and_then, slice_get};
+ghost use Rattle.std.specs.Prelude.{◌≡◌, ◌<◌, ◌≤◌, is_some, length, Some, true, false, IfSome, option_and_then, slice_get};
 ghost use Rattle.pct_model.specs.declared.limits.TheConstants.{MAX_WORKER};
 ghost use Rattle.pct_model.specs.Chosen.{item_at, entry_for};
 ghost use Rattle.pct_threads.specs.Slots.{Held};
 ghost use Rattle.pct_threads.specs.Tables.{held_at, is_occupied_at};
 ghost use Rattle.pct_engine_laws.specs.SeenSteps.{seen_chosen, seen_verdict};
-ghost use Rattle.pct_engine.specs.Listed.{listed};
+ghost use Rattle.pct_engine.specs.Listed.{listed, AreWithin};
 ghost use Rattle.pct_engine.specs.Views.{machine_view};
+ghost use Rattle.pct_engine.specs.Answers.{IdsFit};
 ghost use Rattle.pct_engine.specs.ReadyThreads.{choices_of_held, is_ready_on, ready_held, candidate_held};
-ghost use Rattle.pct_engine.specs.Steps.{legal_transition, ArePlacedIn, IsSeenChoice};
+ghost use Rattle.pct_engine.specs.Steps.{legal_transition, ArePlacedIn, IdsFitIn, IsSeenChoice};
 
 use crate::choice_table::{Choices, choices_at};
 use crate::machine::Machine;
+use crate::other_threads::others_of;
+use crate::position::position_of;
 use crate::program::Program;
-use crate::steps::position_of;
 use pct_model::{Entry, Verdict};
-use pct_threads::Threads;
 
 /// The verdict of a run of this many entries.
 pub(crate) fn verdict_after(program: &Program, machine: &Machine, count: usize) -> Verdict
+    requires slots { machine.now.has_ended ≡ false → length machine.now.threads ≡ program.now.config.slots }
     ensures { result ≡ seen_verdict program.now.script program.now.config (machine_view program.now.script machine.now) count }
 {
     if let Some(why) = machine.stop {
         Verdict::Undefined(why)
     } else if machine.has_ended {
         Verdict::Complete
-    } else if ready_count(program, &machine.threads) == 0 {
+    } else if ready_count(program, machine) == 0 {
         Verdict::Deadlock
     } else if count == program.config.budget as usize {
         Verdict::Budget
@@ -46,7 +48,9 @@ pub(crate) fn chosen(
     a: u32,
     b: u32,
 ) -> Option<Entry>
-    requires { count ≤ program.now.config.budget }
+    requires count { count ≤ program.now.config.budget }
+    requires slots { machine.now.has_ended ≡ false → length machine.now.threads ≡ program.now.config.slots }
+    requires ids { IdsFitIn machine.now }
     ensures choice { IsSeenChoice program.now.script program.now.config (machine_view program.now.script machine.now) count worker a b result }
     ensures legal { ArePlacedIn program.now.config.slots machine.now → worker ≤ MAX_WORKER
         → IfSome result (λ e. is_some (legal_transition program.now.script program.now.config (machine_view program.now.script machine.now) e) ≡ true) }
@@ -60,7 +64,9 @@ pub(crate) fn chosen(
 
 // The same, whether or not the budget is used up.
 fn chosen_in(program: &Program, machine: &Machine, worker: u32, a: u32, b: u32) -> Option<Entry>
-    ensures value { result ≡ seen_chosen program.now.script (machine_view program.now.script machine.now) worker a b }
+    requires slots { machine.now.has_ended ≡ false → length machine.now.threads ≡ program.now.config.slots }
+    requires ids { IdsFitIn machine.now }
+    ensures value { result ≡ seen_chosen program.now.script program.now.config.slots (machine_view program.now.script machine.now) worker a b }
     ensures legal { ArePlacedIn program.now.config.slots machine.now → worker ≤ MAX_WORKER
         → IfSome result (λ e. is_some (legal_transition program.now.script program.now.config (machine_view program.now.script machine.now) e) ≡ true) }
 {
@@ -70,54 +76,55 @@ fn chosen_in(program: &Program, machine: &Machine, worker: u32, a: u32, b: u32) 
     if machine.has_ended {
         return None;
     }
-    let Some(slot) = chosen_slot(program, &machine.threads, a) else {
+    let Some(slot) = chosen_slot(program, machine, a) else {
         return None;
     };
-    entry_on(program, &machine.threads, slot, worker, b)
+    entry_on(program, machine, slot, worker, b)
 }
 
 // The slot of the ready thread that a number chooses, if a thread is ready.
-fn chosen_slot(program: &Program, threads: &Threads, a: u32) -> Option<u32>
-    ensures value { option_and_then (held_at threads.now) result ≡ item_at (ready_held program.now.script threads.now) a }
-    ensures occupied { IfSome result (λ slot. is_occupied_at threads.now slot ≡ true) }
+fn chosen_slot(program: &Program, machine: &Machine, a: u32) -> Option<u32>
+    ensures value { option_and_then (held_at machine.now.threads) result ≡ item_at (ready_held program.now.script machine.now) a }
+    ensures occupied { IfSome result (λ slot. is_occupied_at machine.now.threads slot ≡ true) }
 {
-    let count = ready_count(program, threads);
+    let count = ready_count(program, machine);
     if count == 0 {
         return None;
     }
-    nth_ready(program, threads, a % count)
+    nth_ready(program, machine, a % count)
 }
 
 // The entry of a worker for the thread on a slot, by a number that chooses one of its choices.
-fn entry_on(program: &Program, threads: &Threads, slot: u32, worker: u32, b: u32) -> Option<Entry>
-    requires { is_occupied_at threads.now slot ≡ true }
-    ensures { (held : Held) → held_at threads.now slot ≡ Some held → result ≡ entry_for worker b (candidate_held program.now.script held) }
+fn entry_on(program: &Program, machine: &Machine, slot: u32, worker: u32, b: u32) -> Option<Entry>
+    requires occupied { is_occupied_at machine.now.threads slot ≡ true }
+    requires ids { IdsFit machine.now.threads }
+    ensures { (held : Held) → held_at machine.now.threads slot ≡ Some held → result ≡ entry_for worker b (candidate_held program.now.script machine.now held) }
 {
-    let choices = choices_on(program, threads, slot);
+    let choices = choices_on(program, machine, slot);
     let count = choices.count();
     if count == 0 {
         return None;
     }
-    let Some(alt) = choices.nth(b as usize % count) else {
+    let Some(alt) = choices.nth(&machine.threads, b as usize % count) else {
         return None;
     };
     Some(Entry {
         worker,
         pid: 1,
-        tid: threads.place(slot).id,
+        tid: machine.threads.place(slot).id,
         alt,
     })
 }
 
 // The slot of the ready thread with this number, counted from 0 by rising slot.
-fn nth_ready(program: &Program, threads: &Threads, n: u32) -> Option<u32>
-    ensures value { option_and_then (held_at threads.now) result ≡ slice_get (ready_held program.now.script threads.now) n }
-    ensures occupied { IfSome result (λ slot. is_occupied_at threads.now slot ≡ true) }
+fn nth_ready(program: &Program, machine: &Machine, n: u32) -> Option<u32>
+    ensures value { option_and_then (held_at machine.now.threads) result ≡ slice_get (ready_held program.now.script machine.now) n }
+    ensures occupied { IfSome result (λ slot. is_occupied_at machine.now.threads slot ≡ true) }
 {
-    let slots = threads.slot_count();
+    let slots = machine.threads.slot_count();
     let mut left = n;
     for slot in 0..slots {
-        if is_ready(program, threads, slot) {
+        if is_ready(program, machine, slot) {
             if left == 0 {
                 return Some(slot);
             }
@@ -128,12 +135,12 @@ fn nth_ready(program: &Program, threads: &Threads, n: u32) -> Option<u32>
 }
 
 // The number of threads that are ready.
-fn ready_count(program: &Program, threads: &Threads) -> u32
-    ensures { result ≡ length (ready_held program.now.script threads.now) }
+fn ready_count(program: &Program, machine: &Machine) -> u32
+    ensures { result ≡ length (ready_held program.now.script machine.now) }
 {
     let mut count = 0;
-    for slot in 0..threads.slot_count() {
-        if is_ready(program, threads, slot) {
+    for slot in 0..machine.threads.slot_count() {
+        if is_ready(program, machine, slot) {
             count += 1;
         }
     }
@@ -141,17 +148,19 @@ fn ready_count(program: &Program, threads: &Threads) -> u32
 }
 
 // The thread on a slot has a choice. A free slot has no thread.
-fn is_ready(program: &Program, threads: &Threads, slot: u32) -> bool
-    requires { slot < length threads.now }
-    ensures { result ≡ is_ready_on program.now.script threads.now slot }
+fn is_ready(program: &Program, machine: &Machine, slot: u32) -> bool
+    requires { slot < length machine.now.threads }
+    ensures { result ≡ is_ready_on program.now.script machine.now slot }
 {
-    threads.is_occupied(slot) && choices_on(program, threads, slot).is_enabled()
+    machine.threads.is_occupied(slot) && choices_on(program, machine, slot).is_enabled()
 }
 
 // The choices of the thread on a slot.
-fn choices_on(program: &Program, threads: &Threads, slot: u32) -> Choices
-    requires { is_occupied_at threads.now slot ≡ true }
-    ensures { (held : Held) → held_at threads.now slot ≡ Some held → listed result ≡ choices_of_held program.now.script held }
+fn choices_on(program: &Program, machine: &Machine, slot: u32) -> Choices
+    requires { is_occupied_at machine.now.threads slot ≡ true }
+    ensures value { (held : Held) → held_at machine.now.threads slot ≡ Some held → listed machine.now.threads result ≡ choices_of_held program.now.script machine.now held }
+    ensures within { AreWithin (length machine.now.threads) result }
 {
-    choices_at(&position_of(program, threads, slot))
+    let position = position_of(program, &machine.threads, slot);
+    choices_at(&others_of(machine, &position), &position)
 }

@@ -1,20 +1,22 @@
 //! The stops: where POSIX leaves the behavior undefined, or this host's profile of POSIX excludes it.
 
-ghost use Rattle.std.specs.Prelude.{◌≡◌, List, length, not, nat_lt, is_none};
+ghost use Rattle.std.specs.Prelude.{◌≡◌, ◌∷◌, [], List, length, not, nat_eq, nat_lt, is_none};
+ghost use Rattle.pct_model.specs.declared.stop.Why.TheVariants as why;
 ghost use Rattle.pct_model.specs.declared.frame.Frame.{Frame as FrameRecord};
 ghost use Rattle.pct_model.specs.declared.limits.TheConstants.{MAX_HANDLERS};
 ghost use Rattle.pct_model.specs.Jumps.{open_of};
 ghost use Rattle.pct_model.specs.World.{Thread, SharedState, body_of};
+ghost use Rattle.pct_model.specs.OtherThreads.{Others, target_is};
 ghost use Rattle.pct_model.specs.StopTable.{stop_at, stops_of, first_stop, is_stack_full, exits_twice, is_built};
 ghost use Rattle.pct_engine.specs.Positions.{AreShared, IsPosition};
 
 use crate::current::value_of;
 use crate::position::Position;
 use crate::program::Program;
-use pct_model::{Frame, FrameKind, MAX_FRAMES, MAX_HANDLERS, Stmt, Why};
+use pct_model::{Frame, FrameKind, MAX_FRAMES, MAX_HANDLERS, Stmt, Target, Why};
 
-/// The stop of a running thread at this statement of its top frame, in a process with these globals and this value of exit:
-/// whether the statement is implemented is tested first, and then the statement's own stops in their order. `None` if the
+/// The stop of a running thread at this statement of its top frame, in a process with these globals and this value of exit,
+/// where the thread that it names, if it names one that holds its slot, is this target: whether the statement is implemented is tested first, and then the statement's own stops in their order. `None` if the
 /// statement does not stop.
 #[tactic(auto, unfolding(pct_model::specs::StopTable::stop_at))]
 pub(crate) fn stop_at(
@@ -22,14 +24,17 @@ pub(crate) fn stop_at(
     globals: &[u32],
     exit_value: Option<u32>,
     position: &Position,
+    target: Option<Target>,
     frame: &Frame,
     statement: Stmt,
 ) -> Option<Why>
-    ensures { (shared : SharedState) (t : Thread) → AreShared globals.now exit_value shared → IsPosition program.now.script position.now t
-        → result ≡ stop_at (body_of program.now.script frame.now.func) shared t frame.now statement }
+    ensures { (shared : SharedState) (t : Thread) (others : Others) → AreShared globals.now exit_value shared → IsPosition program.now.script position.now t → target ≡ others.target
+        → result ≡ stop_at (body_of program.now.script frame.now.func) shared t others frame.now statement }
 {
     if is_built(statement) {
-        own_stop(program, globals, exit_value, position, frame, statement)
+        own_stop(
+            program, globals, exit_value, position, target, frame, statement,
+        )
     } else {
         Some(Why::Unbuilt)
     }
@@ -42,13 +47,16 @@ fn own_stop(
     globals: &[u32],
     exit_value: Option<u32>,
     position: &Position,
+    target: Option<Target>,
     frame: &Frame,
     statement: Stmt,
 ) -> Option<Why>
-    ensures { (shared : SharedState) (t : Thread) → AreShared globals.now exit_value shared → IsPosition program.now.script position.now t
-        → result ≡ first_stop (stops_of (body_of program.now.script frame.now.func) shared t frame.now statement) }
+    ensures { (shared : SharedState) (t : Thread) (others : Others) → AreShared globals.now exit_value shared → IsPosition program.now.script position.now t → target ≡ others.target
+        → result ≡ first_stop (stops_of (body_of program.now.script frame.now.func) shared t others frame.now statement) }
 {
     match statement {
+        Stmt::Join { id, .. } => stop_of_join(target, position.id, value_of(globals, frame, id)),
+        Stmt::Detach(_) => stop_of_detach(target),
         Stmt::Return(_) => first_stop(&[(exits_twice(frame.kind, exit_value), Why::ExitTwice)]),
         Stmt::End => first_stop(&[(
             closes_function(program, frame) && exits_twice(frame.kind, exit_value),
@@ -64,6 +72,30 @@ fn own_stop(
     }
 }
 
+// The stop of pthread_join by the thread with the id `tid`, for the thread with an id.
+fn stop_of_join(target: Option<Target>, tid: u32, id: u32) -> Option<Why>
+    ensures { result ≡ first_stop ((is_none target, why.ThreadId) ∷ (nat_eq id tid, why.JoinSelf)
+        ∷ (target_is (λ t. t.detached) target, why.NotJoinable) ∷ (target_is (λ t. t.joining) target, why.JoinTwice) ∷ []) }
+{
+    first_stop(&[
+        (target.is_none(), Why::ThreadId),
+        (id == tid, Why::JoinSelf),
+        (is_detached(target), Why::NotJoinable),
+        (is_joined(target), Why::JoinTwice),
+    ])
+}
+
+// The stop of pthread_detach.
+fn stop_of_detach(target: Option<Target>) -> Option<Why>
+    ensures { result ≡ first_stop ((is_none target, why.ThreadId) ∷ (target_is (λ t. t.detached) target, why.NotJoinable) ∷ (target_is (λ t. t.joining) target, why.DetachJoined) ∷ []) }
+{
+    first_stop(&[
+        (target.is_none(), Why::ThreadId),
+        (is_detached(target), Why::NotJoinable),
+        (is_joined(target), Why::DetachJoined),
+    ])
+}
+
 // The first stop whose guard holds.
 fn first_stop(guards: &[(bool, Why)]) -> Option<Why>
     ensures { result ≡ first_stop guards.now }
@@ -72,6 +104,26 @@ fn first_stop(guards: &[(bool, Why)]) -> Option<Why>
 }
 
 // ---- conditions
+
+// The thread that was named is detached.
+fn is_detached(target: Option<Target>) -> bool
+    ensures { result ≡ target_is (λ t. t.detached) target }
+{
+    match target {
+        None => false,
+        Some(target) => target.detached,
+    }
+}
+
+// Another thread is suspended in pthread_join for the thread that was named.
+fn is_joined(target: Option<Target>) -> bool
+    ensures { result ≡ target_is (λ t. t.joining) target }
+{
+    match target {
+        None => false,
+        Some(target) => target.joining,
+    }
+}
 
 // Whether a call in a thread with this number of frames would need one frame more than the limit.
 fn is_stack_full(depth: u32) -> bool
@@ -120,6 +172,10 @@ fn is_built(statement: Stmt) -> bool
             | Stmt::End
             | Stmt::Do(_, _)
             | Stmt::Return(_)
+            | Stmt::Create { .. }
+            | Stmt::Join { .. }
+            | Stmt::Detach(_)
+            | Stmt::SelfId(_)
             | Stmt::Push(_, _)
             | Stmt::Pop(_)
     )

@@ -3,14 +3,17 @@
 ghost use Rattle.std.specs.Prelude.{◌≡◌, Some, length};
 ghost use Rattle.pct_model.specs.declared.state.Status.TheVariants as status;
 ghost use Rattle.pct_model.specs.World.{Thread, SharedState, body_of, statement_at};
+ghost use Rattle.pct_model.specs.OtherThreads.{Others as SeenOthers};
 ghost use Rattle.pct_model.specs.StopTable.{stop_at};
-ghost use Rattle.pct_model.specs.ChoiceTable.{next_of};
-ghost use Rattle.pct_model.specs.TransitionTable.{body_at, transition_at, stops_or, runs};
+ghost use Rattle.pct_model.specs.NextStatement.{next_of, body_at};
+ghost use Rattle.pct_model.specs.TransitionTable.{transition_at, stops_or, runs};
+ghost use Rattle.pct_engine.specs.Answers.{SeesAlike};
 ghost use Rattle.pct_engine.specs.Positions.{AreShared, IsDecoded, IsPosition};
 ghost use Rattle.pct_engine.specs.Fitting.{TransitionFits};
 
 use crate::cleanup_handlers::{pops, pushes};
 use crate::current::{next_pc, value_of, variable_value};
+use crate::other_threads::Others;
 use crate::position::Position;
 use crate::process_exit::{ends_process, returns_by};
 use crate::program::Program;
@@ -18,27 +21,57 @@ use crate::script_statements::{
     adds, after_block, after_test, calls, emits, ends_block, jumps, sets,
 };
 use crate::stop_table::stop_at;
+use crate::thread_calls::{begins_join, creates_by, detaches, gets_self, joins_at};
+use crate::thread_ends::goes_on_ending;
 use crate::transitions::{no_change, stops};
-use pct_model::{Frame, Status, Stmt, Transition};
+use pct_model::{Alt, Frame, Status, Stmt, Target, Transition};
 
-/// What a thread in this position does by a choice, in a process with these globals and this value of exit (`None` before exit
-/// has begun), in which no function is registered with atexit. A running thread stops the run, or makes the transition of its
-/// next statement; a thread that exits its process ends it; every other thread changes nothing. The program counter and the
+/// What a thread in this position does by a choice, with this answer to its query, in a process with these globals and this
+/// value of exit (`None` before exit has begun), in which no function is registered with atexit. A running thread stops the run,
+/// or makes the transition of its next statement; one that joins another returns, once that has ended; one that is ending runs
+/// its handlers and ends; one that exits its process ends it; every other thread changes nothing. The program counter and the
 /// actions, one after another, keep the limits.
-#[tactic(auto, unfolding(pct_model::specs::TransitionTable::transition_at))]
 pub(crate) fn transition_at(
     program: &Program,
     globals: &[u32],
     exit_value: Option<u32>,
     position: &Position,
+    others: &Others,
+    choice: Alt,
 ) -> Transition
     requires decoded { IsDecoded program.now.script position.now.next }
-    ensures value { (shared : SharedState) (t : Thread) → AreShared globals.now exit_value shared → IsPosition program.now.script position.now t
-        → result ≡ transition_at (body_at program.now.script t.frames) shared t (next_of program.now.script t.frames) t.status }
+    ensures value { (shared : SharedState) (t : Thread) (seen : SeenOthers) → AreShared globals.now exit_value shared → IsPosition program.now.script position.now t → SeesAlike others.now seen
+        → result ≡ transition_at (body_at program.now.script t.frames) shared t seen choice (next_of program.now.script t.frames) t.status }
     ensures fits { (t : Thread) → IsPosition program.now.script position.now t → TransitionFits (length t.frames) (length t.handlers) result }
 {
+    by_status(program, globals, exit_value, position, others, choice)
+}
+
+// The same, by the status of the thread.
+#[tactic(auto, unfolding(pct_model::specs::TransitionTable::transition_at))]
+fn by_status(
+    program: &Program,
+    globals: &[u32],
+    exit_value: Option<u32>,
+    position: &Position,
+    others: &Others,
+    choice: Alt,
+) -> Transition
+    requires decoded { IsDecoded program.now.script position.now.next }
+    ensures { (shared : SharedState) (t : Thread) (seen : SeenOthers) → AreShared globals.now exit_value shared → IsPosition program.now.script position.now t → SeesAlike others.now seen
+        → result ≡ transition_at (body_at program.now.script t.frames) shared t seen choice (next_of program.now.script t.frames) t.status }
+{
     match position.status {
-        Status::Running => running(program, globals, exit_value, position),
+        Status::Running => running(
+            program,
+            globals,
+            exit_value,
+            position,
+            others.target,
+            choice,
+        ),
+        Status::Joining(id) => joins_at(program, others.target, id, position.next),
+        Status::Ending => goes_on_ending(others.is_last, position.reason, position.newest),
         Status::Exiting => ends_process(exit_value),
         _ => no_change(),
     }
@@ -51,16 +84,18 @@ fn running(
     globals: &[u32],
     exit_value: Option<u32>,
     position: &Position,
+    target: Option<Target>,
+    choice: Alt,
 ) -> Transition
     requires decoded { IsDecoded program.now.script position.now.next }
-    ensures { (shared : SharedState) (t : Thread) → AreShared globals.now exit_value shared → IsPosition program.now.script position.now t
-        → result ≡ transition_at (body_at program.now.script t.frames) shared t (next_of program.now.script t.frames) status.Running }
+    ensures { (shared : SharedState) (t : Thread) (seen : SeenOthers) → AreShared globals.now exit_value shared → IsPosition program.now.script position.now t → target ≡ seen.target
+        → result ≡ transition_at (body_at program.now.script t.frames) shared t seen choice (next_of program.now.script t.frames) status.Running }
 {
     match position.next {
         None => no_change(),
-        Some((frame, statement)) => {
-            stops_or_runs(program, globals, exit_value, position, &frame, statement)
-        }
+        Some((frame, statement)) => stops_or_runs(
+            program, globals, exit_value, position, target, choice, &frame, statement,
+        ),
     }
 }
 
@@ -70,17 +105,21 @@ fn stops_or_runs(
     globals: &[u32],
     exit_value: Option<u32>,
     position: &Position,
+    target: Option<Target>,
+    choice: Alt,
     frame: &Frame,
     statement: Stmt,
 ) -> Transition
     requires at { statement_at program.now.script frame.now ≡ Some statement }
-    ensures { (shared : SharedState) (t : Thread) → AreShared globals.now exit_value shared → IsPosition program.now.script position.now t
+    ensures { (shared : SharedState) (t : Thread) (seen : SeenOthers) → AreShared globals.now exit_value shared → IsPosition program.now.script position.now t → target ≡ seen.target
         → let body = body_of program.now.script frame.now.func in
-        result ≡ stops_or (stop_at body shared t frame.now statement) (runs body shared t frame.now statement) }
+        result ≡ stops_or (stop_at body shared t seen frame.now statement) (runs body shared t seen choice frame.now statement) }
 {
-    match stop_at(program, globals, exit_value, position, frame, statement) {
+    match stop_at(
+        program, globals, exit_value, position, target, frame, statement,
+    ) {
         Some(why) => stops(why),
-        None => runs(program, globals, position, frame, statement),
+        None => runs(program, globals, position, choice, frame, statement),
     }
 }
 
@@ -90,12 +129,13 @@ fn runs(
     program: &Program,
     globals: &[u32],
     position: &Position,
+    choice: Alt,
     frame: &Frame,
     statement: Stmt,
 ) -> Transition
     requires at { statement_at program.now.script frame.now ≡ Some statement }
-    ensures { (shared : SharedState) (t : Thread) → globals.now ≡ shared.globals → IsPosition program.now.script position.now t
-        → result ≡ runs (body_of program.now.script frame.now.func) shared t frame.now statement }
+    ensures { (shared : SharedState) (t : Thread) (seen : SeenOthers) → globals.now ≡ shared.globals → IsPosition program.now.script position.now t
+        → result ≡ runs (body_of program.now.script frame.now.func) shared t seen choice frame.now statement }
 {
     match statement {
         Stmt::Emit(operand) => emits(next_pc(frame), value_of(globals, frame, operand)),
@@ -123,6 +163,24 @@ fn runs(
         Stmt::End => ends_block(program, frame),
         Stmt::Do(func, operand) => calls(next_pc(frame), func, value_of(globals, frame, operand)),
         Stmt::Return(operand) => returns_by(frame.kind, value_of(globals, frame, operand)),
+        Stmt::Create {
+            result: answer,
+            id,
+            func,
+            arg,
+            detached,
+        } => creates_by(
+            choice,
+            next_pc(frame),
+            answer,
+            id,
+            func,
+            value_of(globals, frame, arg),
+            detached,
+        ),
+        Stmt::Join { id, .. } => begins_join(value_of(globals, frame, id)),
+        Stmt::Detach(operand) => detaches(next_pc(frame), value_of(globals, frame, operand)),
+        Stmt::SelfId(dest) => gets_self(next_pc(frame), dest, position.id),
         Stmt::Push(func, operand) => pushes(
             next_pc(frame),
             func,

@@ -11,6 +11,19 @@ pub(crate) fn goes_on(next: u32, actions: UpToThree<Action>, events: UpToThree<W
 {
     Transition {
         next: Some(next),
+        created: None,
+        actions,
+        events,
+    }
+}
+
+/// The thread does not go on, and has these actions and events.
+pub(crate) fn no_next(actions: UpToThree<Action>, events: UpToThree<What>) -> Transition
+    ensures { result ≡ acts actions events }
+{
+    Transition {
+        next: None,
+        created: None,
         actions,
         events,
     }
@@ -22,6 +35,7 @@ pub(crate) fn acts(action: Action, event: What) -> Transition
 {
     Transition {
         next: None,
+        created: None,
         actions: UpToThree::one(action),
         events: UpToThree::one(event),
     }
@@ -33,6 +47,7 @@ pub(crate) fn no_change() -> Transition
 {
     Transition {
         next: None,
+        created: None,
         actions: UpToThree::none(),
         events: UpToThree::none(),
     }
@@ -53,5 +68,16 @@ pub(crate) fn written(dest: Dest, value: u32) -> UpToThree<Action>
         Dest::Drop => UpToThree::none(),
         Dest::Local(i) => UpToThree::one(Action::SetLocal(i, value)),
         Dest::Global(i) => UpToThree::one(Action::SetGlobal(i, value)),
+    }
+}
+
+/// An action, and then those that write a value to a destination; `-` drops it.
+pub(crate) fn written_after(action: Action, dest: Dest, value: u32) -> UpToThree<Action>
+    ensures { result ≡ action ∷ written dest value }
+{
+    match dest {
+        Dest::Drop => UpToThree::one(action),
+        Dest::Local(i) => UpToThree::two(action, Action::SetLocal(i, value)),
+        Dest::Global(i) => UpToThree::two(action, Action::SetGlobal(i, value)),
     }
 }

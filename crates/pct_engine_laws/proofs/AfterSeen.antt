@@ -6,10 +6,10 @@ use Rattle.pct_model.specs.declared.transition.Action.{Action}
 use Rattle.pct_model.specs.declared.transition.Action.TheVariants as action
 use Rattle.pct_model.specs.declared.transition.Transition.{Transition}
 use Rattle.pct_model.specs.World.{SharedState, Process, World}
-use Rattle.pct_model.specs.Actions.{moved, shared_after, process_after, has_ended, other_process_after, stop_after, for_each, changed, is_live_process, after_transition}
+use Rattle.pct_model.specs.Actions.{threads_moved, shared_after, process_after, has_ended, other_process_after, stop_after, for_each, changed, is_live_process, after_transition}
 use Rattle.pct_engine_laws.specs.Seen.{SeenSlot, SeenProcess, seen_process, seen, own_kept, other_kept, own_process_seen, other_process_seen, is_live_seen, seen_after}
 use Rattle.pct_engine_laws.proofs.ListFacts.{flat_map_agree, flat_map-flat_map, map-filter}
-use Rattle.pct_engine_laws.proofs.ThreadChanges.{on_thread, slots_after}
+use Rattle.pct_engine_laws.proofs.ThreadChanges.{slots_after}
 
 -- ---- one action
 
@@ -119,7 +119,7 @@ with_slots p shared slots = record p { slots = slots; shared = shared }
 
 -- the process of the thread, before the actions of its own
 abbrev with_thread : ℕ → Transition → Process → Process
-with_thread tid o p = record p { threads = map (on_thread tid (moved o)) p.threads; shared = for_each shared_after o.actions p.shared }
+with_thread tid o p = record p { threads = threads_moved tid o p.threads; shared = for_each shared_after o.actions p.shared }
 
 -- the process of the thread after the transition
 pub own_kept_after : (slots tid : ℕ) (o : Transition) (p : Process) → 0 < slots → p.reaped ≡ false → kept slots (changed tid o p) ≡ own_process_seen slots tid o (seen_process slots p)

@@ -2,6 +2,7 @@ pub mod ListFacts
 pub mod IndexedLists
 pub mod ThreadChanges
 pub mod AfterSeen
+pub mod AnswerSeen
 pub mod TransitionSeen
 pub mod VerdictSeen
 pub mod ChosenSeen
@@ -10,3 +11,4 @@ pub mod OpeningSeen
 pub mod PlacedThreads
 pub mod LongerRuns
 pub mod OpenRuns
+pub mod FewThreads

@@ -29,6 +29,17 @@ count_agree {A} p q agree xs = ap (λ (test : A → Bool). count_by test xs) (fu
 pub flat_map_agree : {A B : Type 0} (f g : A → List B) → ((a : A) → f a ≡ g a) → (xs : List A) → flat_map f xs ≡ flat_map g xs
 flat_map_agree {A} {B} f g agree xs = ap (λ (h : A → List B). flat_map h xs) (fun_ext agree)
 
+-- ---- tests that are negated
+
+none_cons : (b rest some : Bool) → rest ≡ not some → (b && rest) ≡ not (not b || some)
+none_cons true rest some e = e
+none_cons false rest some e = refl
+
+-- each item passes exactly if no item fails
+pub all_none : {A : Type 0} (p : A → Bool) (xs : List A) → list_all p xs ≡ not (list_any (λ a. not (p a)) xs)
+all_none p [] = refl
+all_none p (x ∷ xs) = none_cons (p x) (list_all p xs) (list_any (λ a. not (p a)) xs) (all_none p xs)
+
 -- ---- options
 
 -- a step after a mapped option
@@ -164,6 +175,11 @@ pub flat_map-flat_map : {A B C : Type 0} (g : B → List C) (f : A → List B) (
 flat_map-flat_map g f [] = refl
 flat_map-flat_map {A} {B} {C} g f (x ∷ xs) =
     flat_map-append g (f x) (flat_map f xs) ∙ ap (λ (rest : List C). flat_map g (f x) ++ rest) (flat_map-flat_map g f xs)
+
+-- a list that is mapped twice
+pub map-map : {A B C : Type 0} (g : B → C) (f : A → B) (xs : List A) → map g (map f xs) ≡ map (λ a. g (f a)) xs
+map-map g f [] = refl
+map-map {A} {B} {C} g f (x ∷ xs) = ap (λ (rest : List C). g (f x) ∷ rest) (map-map g f xs)
 
 map_filter_cons : {A B : Type 0} (v : A → B) (x : A) (t : Bool) (kept : List A) (ys : List B) → map v kept ≡ ys → map v (cond t (x ∷ kept) kept) ≡ cond t (v x ∷ []) [] ++ ys
 map_filter_cons {A} {B} v x true kept ys e = ap (λ (rest : List B). v x ∷ rest) e

@@ -1,68 +1,76 @@
--- The slots of a process after a change of its threads.
-use Rattle.std.proofs.Common.{◌≡◌, ℕ, ◌-◌, ◌<◌, Bool, true, false, ◌&&◌, cond, ◌⊎◌, inl, inr, List, [], ◌∷◌, map, filter, count_by, Option, Some, None, nat_eq, slice_set, refl, sym, ap, ◌∙◌, mod-lt, ne_eqb, eqb-true}
+-- The slots of a process after a transition of one of its threads.
+use Rattle.std.proofs.Common.{◌≡◌, ℕ, ◌+◌, ◌-◌, ◌<◌, Bool, true, false, ◌&&◌, cond, List, [], ◌∷◌, ◌++◌, map, filter, count_by, Option, Some, None, nat_eq, slice_set, refl, sym, ap, ◌∙◌, mod-lt, ne_eqb, eq-eqb, append-nil, arith}
+use Rattle.std.specs.List.{range_with_len}
 use Rattle.std.specs.Option.{option_map_or}
-use Rattle.std.proofs.lemmas.Bool.{cases_Bool, eqb-false, and_left, and_right}
+use Rattle.std.proofs.Math.Path.{fun_ext}
+use Rattle.std.proofs.lemmas.Bool.{and_right}
+use Rattle.std.proofs.lemmas.List.Elements.{filter-append}
+use Rattle.std.proofs.lemmas.List.Sums.{fold_push}
 use Rattle.pct_model.specs.declared.transition.Action.{Action}
 use Rattle.pct_model.specs.declared.transition.Action.TheVariants as action
-use Rattle.pct_model.specs.World.{Thread}
-use Rattle.pct_model.specs.ThreadSlots.{holds_slot, slot_of, is_on, is_live_thread}
+use Rattle.pct_model.specs.declared.transition.NewThread.{NewThread}
 use Rattle.pct_model.specs.declared.transition.Transition.{Transition}
-use Rattle.pct_model.specs.Actions.{thread_at, thread_after, for_each, moved}
-use Rattle.pct_engine_laws.specs.Seen.{SeenSlot, seen_slot, slot_after, on_slot}
-use Rattle.pct_engine_laws.proofs.ListFacts.{count_agree, count-map, filter_changed, filter_unchanged}
+use Rattle.pct_model.specs.declared.state.FrameKind.TheVariants.{Start}
+use Rattle.pct_model.specs.World.{Thread, new_frame, new_thread}
+use Rattle.pct_model.specs.ThreadSlots.{holds_slot, slot_of, is_on, is_live_thread}
+use Rattle.pct_model.specs.Actions.{thread_at, thread_after, named_after, for_each, moved, thread_moved, thread_created, threads_moved}
+use Rattle.pct_engine_laws.specs.Seen.{SeenSlot, seen_slot, slot_with, on_slot, with_created, slots_moved}
+use Rattle.pct_engine_laws.proofs.ListFacts.{count_agree, count-map, filter_changed, map-map}
 use Rattle.pct_engine_laws.proofs.IndexedLists.{by_index, item_by_index, changed_by_index}
 
 -- ---- any change
 
--- a change of the threads on slot i: it keeps ids, lets no reclaimed thread hold a slot again, and leaves the threads on
--- other slots alone
-pub record ChangesSlot (slots i : ℕ) (change : Thread → Thread) : Type 0 where
+-- a change of threads: it keeps ids, and lets no reclaimed thread hold a slot again
+pub record KeepsSlots (change : Thread → Thread) : Type 0 where
   pub same_id : (t : Thread) → (change t).id ≡ t.id
   pub reclaimed : (t : Thread) → holds_slot t ≡ false → holds_slot (change t) ≡ false
-  pub others : (t : Thread) → is_on slots i t ≡ false → change t ≡ t
 
 -- a slot after a change of its threads; a thread that is reclaimed holds it no longer
 abbrev pub with_change : (Thread → Thread) → SeenSlot → SeenSlot
 with_change change s = record s { here = filter holds_slot (map change s.here) }
 
-module _ (slots i : ℕ) (change : Thread → Thread) (changes : ChangesSlot slots i change) where
+module _ (slots : ℕ) (change : Thread → Thread) (keeps : KeepsSlots change) where
   same_slot : (s : ℕ) (t : Thread) → is_on slots s (change t) ≡ is_on slots s t
-  same_slot s t = ap (λ (id : ℕ). nat_eq (slot_of slots id) s) (changes.same_id t)
-
-  same_made : (s : ℕ) (threads : List Thread) → count_by (is_on slots s) (map change threads) ≡ count_by (is_on slots s) threads
-  same_made s threads =
-      count-map (is_on slots s) change threads ∙ count_agree (λ t. is_on slots s (change t)) (is_on slots s) (same_slot s) threads
+  same_slot s t = ap (λ (id : ℕ). nat_eq (slot_of slots id) s) (keeps.same_id t)
 
   -- a slot after the change
   pub slot_changed : (threads : List Thread) (s : ℕ) → seen_slot slots (map change threads) s ≡ with_change change (seen_slot slots threads s)
   slot_changed threads s =
-      let made : count_by (is_on slots s) (map change threads) ≡ count_by (is_on slots s) threads = same_made s threads in
-      let here : filter (λ t. is_on slots s t && holds_slot t) (map change threads) ≡ filter holds_slot (map change (filter (λ t. is_on slots s t && holds_slot t) threads)) = filter_changed (is_on slots s) holds_slot change (same_slot s) changes.reclaimed threads in
-      λ j. record { made = made j; here = here j }
-
-  off_slot : (s : ℕ) → (s ≡ i → ⊥) → (t : Thread) → is_on slots i t ≡ true → is_on slots s t ≡ false
-  off_slot s other t on = ne_eqb (slot_of slots t.id) s (λ e. other (sym e ∙ eqb-true (slot_of slots t.id) i on))
-
-  unchanged_there : (s : ℕ) → (s ≡ i → ⊥) → (t : Thread) → (is_on slots i t ≡ true) ⊎ (is_on slots i t ≡ false) → (change t ≡ t) ⊎ (((is_on slots s t && holds_slot t) ≡ false) × ((is_on slots s (change t) && holds_slot (change t)) ≡ false))
-  unchanged_there s other t (inl on) =
-      let off : is_on slots s t ≡ false = off_slot s other t on in
-      inr (and_left (is_on slots s t) (holds_slot t) off, and_left (is_on slots s (change t)) (holds_slot (change t)) (same_slot s t ∙ off))
-  unchanged_there s other t (inr off) = inl (changes.others t off)
-
-  -- another slot after the change
-  pub slot_unchanged : (threads : List Thread) (s : ℕ) → (s ≡ i → ⊥) → seen_slot slots (map change threads) s ≡ seen_slot slots threads s
-  slot_unchanged threads s other =
-      let made : count_by (is_on slots s) (map change threads) ≡ count_by (is_on slots s) threads = same_made s threads in
-      let here : filter (λ t. is_on slots s t && holds_slot t) (map change threads) ≡ filter (λ t. is_on slots s t && holds_slot t) threads = filter_unchanged (λ t. is_on slots s t && holds_slot t) change (λ t. unchanged_there s other t (cases_Bool (is_on slots i t))) threads in
+      let made : count_by (is_on slots s) (map change threads) ≡ count_by (is_on slots s) threads = count-map (is_on slots s) change threads ∙ count_agree (λ t. is_on slots s (change t)) (is_on slots s) (same_slot s) threads in
+      let here : filter (λ t. is_on slots s t && holds_slot t) (map change threads) ≡ filter holds_slot (map change (filter (λ t. is_on slots s t && holds_slot t) threads)) = filter_changed (is_on slots s) holds_slot change (same_slot s) keeps.reclaimed threads in
       λ j. record { made = made j; here = here j }
 
   -- all slots after the change
-  pub slots_changed : i < slots → (threads : List Thread) → by_index (seen_slot slots (map change threads)) slots ≡ on_slot i (with_change change) (by_index (seen_slot slots threads) slots)
-  slots_changed low threads =
-      let rows : List SeenSlot = by_index (seen_slot slots threads) slots in
-      changed_by_index (seen_slot slots threads) (seen_slot slots (map change threads)) slots i low (slot_unchanged threads)
-      ∙ ap (λ (s : SeenSlot). slice_set rows i s) (slot_changed threads i)
-      ∙ sym (ap (λ (o : Option SeenSlot). option_map_or (λ (s : SeenSlot). slice_set rows i (with_change change s)) o rows) (item_by_index (seen_slot slots threads) slots i low))
+  pub slots_changed : (threads : List Thread) → by_index (seen_slot slots (map change threads)) slots ≡ map (with_change change) (by_index (seen_slot slots threads) slots)
+  slots_changed threads =
+      ap (λ (f : ℕ → SeenSlot). by_index f slots) (fun_ext (slot_changed threads))
+      ∙ sym (map-map (with_change change) (seen_slot slots threads) (range_with_len 0 slots))
+
+-- ---- a change of the thread with an id
+
+-- a thread of the process after a change of the one with an id
+abbrev pub on_thread : ℕ → (Thread → Thread) → Thread → Thread
+on_thread tid change t = cond (is_live_thread tid t) (change t) t
+
+module _ (tid : ℕ) (change : Thread → Thread) (same_id : (t : Thread) → (change t).id ≡ t.id) where
+  id_if : (t : Thread) (test : Bool) → (cond test (change t) t).id ≡ t.id
+  id_if t true = same_id t
+  id_if t false = refl
+
+  reclaimed_if : (t : Thread) → holds_slot t ≡ false → holds_slot (on_thread tid change t) ≡ false
+  reclaimed_if t gone =
+      ap (λ (test : Bool). holds_slot (cond test (change t) t)) (and_right (nat_eq t.id tid) (holds_slot t) gone) ∙ gone
+
+  -- a change of the thread with an id that keeps the id
+  pub on_thread_keeps : KeepsSlots (on_thread tid change)
+  on_thread_keeps = record { same_id = λ t. id_if t (is_live_thread tid t); reclaimed = reclaimed_if }
+
+-- one change after another
+pub then_keeps : (f g : Thread → Thread) → KeepsSlots f → KeepsSlots g → KeepsSlots (λ t. g (f t))
+then_keeps f g first second = record {
+  same_id = λ t. second.same_id (f t) ∙ first.same_id t;
+  reclaimed = λ t gone. second.reclaimed (f t) (first.reclaimed t gone);
+}
 
 -- ---- a transition of a thread
 
@@ -85,37 +93,73 @@ going_on_keeps_id (Some pc) t = refl
 pub transition_keeps_id : (o : Transition) (t : Thread) → (moved o t).id ≡ t.id
 transition_keeps_id o t = actions_keep_id o.actions (thread_at o.next t) ∙ going_on_keeps_id o.next t
 
--- a thread of the process after a change of the one with an id
-abbrev pub on_thread : ℕ → (Thread → Thread) → Thread → Thread
-on_thread tid change t = cond (is_live_thread tid t) (change t) t
+-- a change that changes nothing
+nothing_keeps : KeepsSlots (λ t. t)
+nothing_keeps = record { same_id = λ t. refl; reclaimed = λ t gone. gone }
 
-module _ (slots tid : ℕ) (change : Thread → Thread) (same_id : (t : Thread) → (change t).id ≡ t.id) where
-  id_if : (t : Thread) (test : Bool) → (cond test (change t) t).id ≡ t.id
-  id_if t true = same_id t
-  id_if t false = refl
+-- an action on the threads that it names
+pub named_keeps : (a : Action) → KeepsSlots (named_after a)
+unfolding named_after
+named_keeps (action.EndJoin id) = on_thread_keeps id (λ t. record t { joined = true }) (λ t. refl)
+named_keeps (action.Detach id) = on_thread_keeps id (λ t. record t { detached = true }) (λ t. refl)
+named_keeps _ = nothing_keeps
 
-  others_if : (t : Thread) → is_on slots (slot_of slots tid) t ≡ false → on_thread tid change t ≡ t
-  others_if t off =
-      let other : nat_eq t.id tid ≡ false = ne_eqb t.id tid (λ e. eqb-false (slot_of slots t.id) (slot_of slots tid) off (ap (slot_of slots) e)) in
-      ap (λ (test : Bool). cond test (change t) t) (and_left (nat_eq t.id tid) (holds_slot t) other)
+-- the actions of a transition, on the threads that they name
+pub all_named_keep : (actions : List Action) → KeepsSlots (for_each named_after actions)
+all_named_keep [] = nothing_keeps
+all_named_keep (a ∷ actions) = then_keeps (named_after a) (for_each named_after actions) (named_keeps a) (all_named_keep actions)
 
-  reclaimed_if : (t : Thread) → holds_slot t ≡ false → holds_slot (on_thread tid change t) ≡ false
-  reclaimed_if t gone =
-      ap (λ (test : Bool). holds_slot (cond test (change t) t)) (and_right (nat_eq t.id tid) (holds_slot t) gone) ∙ gone
+-- a transition of the thread with an id
+pub transition_keeps : (tid : ℕ) (o : Transition) → KeepsSlots (thread_moved tid o)
+transition_keeps tid o =
+    then_keeps (on_thread tid (moved o)) (for_each named_after o.actions) (on_thread_keeps tid (moved o) (transition_keeps_id o)) (all_named_keep o.actions)
 
-  -- a change of the thread with an id that keeps the id changes the slot of that thread
-  pub on_thread_changes : ChangesSlot slots (slot_of slots tid) (on_thread tid change)
-  on_thread_changes = record {
-    same_id = λ t. id_if t (is_live_thread tid t);
-    reclaimed = reclaimed_if;
-    others = others_if;
-  }
+-- ---- a new thread
 
 -- a thread's slot is one of the process's
 pub slot_below : (slots tid : ℕ) → 0 < slots → slot_of slots tid < slots
 slot_below slots tid some = mod-lt (tid - 1) some
 
+module _ (slots : ℕ) (threads : List Thread) (new : NewThread) where
+  -- the new thread
+  abbrev made_thread : List Thread
+  made_thread = thread_created (Some new)
+
+  count_with : (s : ℕ) (on : Bool) → nat_eq (slot_of slots new.id) s ≡ on → count_by (is_on slots s) (threads ++ made_thread) ≡ count_by (is_on slots s) threads + cond on 1 0
+  count_with s on e =
+      fold_push (λ (n : ℕ) (t : Thread). n + cond (is_on slots s t) 1 0) 0 threads (new_thread new.id new.detached (new_frame new.func new.arg Start))
+      ∙ ap (λ (b : Bool). count_by (is_on slots s) threads + cond b 1 0) e
+
+  holders_with : (s : ℕ) (on : Bool) → nat_eq (slot_of slots new.id) s ≡ on → filter (λ t. is_on slots s t && holds_slot t) (threads ++ made_thread) ≡ filter (λ t. is_on slots s t && holds_slot t) threads ++ cond (on && true) made_thread []
+  holders_with s on e =
+      filter-append (λ t. is_on slots s t && holds_slot t) threads made_thread
+      ∙ ap (λ (b : Bool). filter (λ t. is_on slots s t && holds_slot t) threads ++ cond (b && true) made_thread []) e
+
+  slot_on : (s : ℕ) (on : Bool) → nat_eq (slot_of slots new.id) s ≡ on → seen_slot slots (threads ++ made_thread) s ≡ cond on (slot_with new (seen_slot slots threads s)) (seen_slot slots threads s)
+  slot_on s true e = λ j. record { made = count_with s true e j; here = holders_with s true e j }
+  slot_on s false e =
+      let same : count_by (is_on slots s) threads + 0 ≡ count_by (is_on slots s) threads = omega arith in
+      let made : count_by (is_on slots s) (threads ++ made_thread) ≡ count_by (is_on slots s) threads = count_with s false e ∙ same in
+      let here : filter (λ t. is_on slots s t && holds_slot t) (threads ++ made_thread) ≡ filter (λ t. is_on slots s t && holds_slot t) threads = holders_with s false e ∙ append-nil (filter (λ t. is_on slots s t && holds_slot t) threads) in
+      λ j. record { made = made j; here = here j }
+
+  -- all slots with the new thread
+  pub slots_created : 0 < slots → by_index (seen_slot slots (threads ++ made_thread)) slots ≡ on_slot (slot_of slots new.id) (slot_with new) (by_index (seen_slot slots threads) slots)
+  slots_created some =
+      let i : ℕ = slot_of slots new.id in
+      let rows : List SeenSlot = by_index (seen_slot slots threads) slots in
+      let low : i < slots = slot_below slots new.id some in
+      changed_by_index (seen_slot slots threads) (seen_slot slots (threads ++ made_thread)) slots i low (λ s other. slot_on s false (ne_eqb i s (λ e. other (sym e))))
+      ∙ ap (λ (s : SeenSlot). slice_set rows i s) (slot_on i true (eq-eqb i i refl))
+      ∙ sym (ap (λ (o : Option SeenSlot). option_map_or (λ (s : SeenSlot). slice_set rows i (slot_with new s)) o rows) (item_by_index (seen_slot slots threads) slots i low))
+
+-- the slots with the thread that a transition creates, if it does
+pub slots_with_created : (slots : ℕ) (threads : List Thread) (created : Option NewThread) → 0 < slots → by_index (seen_slot slots (threads ++ thread_created created)) slots ≡ with_created slots created (by_index (seen_slot slots threads) slots)
+slots_with_created slots threads None some = ap (λ (ts : List Thread). by_index (seen_slot slots ts) slots) (append-nil threads)
+slots_with_created slots threads (Some new) some = slots_created slots threads new some
+
 -- the slots after a transition of a thread
-pub slots_after : (slots tid : ℕ) (o : Transition) (threads : List Thread) → 0 < slots → by_index (seen_slot slots (map (on_thread tid (moved o)) threads)) slots ≡ on_slot (slot_of slots tid) (slot_after tid o) (by_index (seen_slot slots threads) slots)
+pub slots_after : (slots tid : ℕ) (o : Transition) (threads : List Thread) → 0 < slots → by_index (seen_slot slots (threads_moved tid o threads)) slots ≡ slots_moved slots tid o (by_index (seen_slot slots threads) slots)
 slots_after slots tid o threads some =
-    slots_changed slots (slot_of slots tid) (on_thread tid (moved o)) (on_thread_changes slots tid (moved o) (transition_keeps_id o)) (slot_below slots tid some) threads
+    slots_with_created slots (map (thread_moved tid o) threads) o.created some
+    ∙ ap (with_created slots o.created) (slots_changed slots (thread_moved tid o) (transition_keeps tid o) threads)

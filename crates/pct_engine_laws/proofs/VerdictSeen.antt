@@ -1,42 +1,22 @@
 -- The verdict depends only on what is kept of the state.
 use Rattle.std.proofs.Common.{◌≡◌, ℕ, ◌<◌, Bool, true, false, not, ◌&&◌, ◌||◌, cond, List, map, filter, Option, Some, None, is_some, nat_eq, refl, sym, ap, ◌∙◌}
-use Rattle.std.specs.List.{list_any, list_all, range_with_len}
-use Rattle.std.proofs.lemmas.List.Folds.{flat_map-map, list_all-map}
+use Rattle.std.specs.List.{list_any, list_all}
+use Rattle.std.proofs.lemmas.List.Folds.{list_all-map}
 use Rattle.pct_model.specs.declared.script.Script.{Script}
+use Rattle.pct_model.specs.declared.schedule.Alt.{Alt}
 use Rattle.pct_model.specs.declared.schedule.Config.{Config}
 use Rattle.pct_model.specs.declared.stop.Why.{Why}
 use Rattle.pct_model.specs.declared.stop.Verdict.{Verdict}
 use Rattle.pct_model.specs.declared.stop.Verdict.TheVariants.{Complete, Deadlock, Budget, Open}
 use Rattle.pct_model.specs.World.{Thread, Process, World}
-use Rattle.pct_model.specs.ThreadSlots.{holds_slot, slot_of, is_on}
+use Rattle.pct_model.specs.ThreadSlots.{holds_slot}
+use Rattle.pct_model.specs.ChoiceTable.{is_enabled}
 use Rattle.pct_model.specs.Actions.{has_ended}
 use Rattle.pct_model.specs.Run.{is_ready, has_ready, verdict_by, verdict_of}
-use Rattle.pct_model.specs.Chosen.{by_slot}
-use Rattle.pct_engine_laws.specs.Seen.{SeenProcess, seen_slot, seen_process, seen}
-use Rattle.pct_engine_laws.specs.SeenSteps.{threads_in, is_ready_in, has_ready_in, seen_verdict_by, seen_verdict}
-use Rattle.pct_engine_laws.proofs.ListFacts.{any_agree, all_agree, any-filter, all-filter, any-map, any-flat_map, any_swap, any_and}
-use Rattle.pct_engine_laws.proofs.IndexedLists.{index_among}
-use Rattle.pct_engine_laws.proofs.ThreadChanges.{slot_below}
-
--- ---- the threads of a process
-
--- the threads of a process, by rising slot
-pub threads_seen : (slots : ℕ) (p : Process) → threads_in (seen_process slots p) ≡ by_slot slots p.threads
-threads_seen slots p = flat_map-map (λ s. s.here) (seen_slot slots p.threads) (range_with_len 0 slots)
-
-on_some_slot : (slots : ℕ) (test : Thread → Bool) (t : Thread) → 0 < slots → list_any (λ s. (is_on slots s t && holds_slot t) && test t) (range_with_len 0 slots) ≡ (holds_slot t && test t)
-on_some_slot slots test t some =
-    any_and (λ s. is_on slots s t && holds_slot t) (test t) (range_with_len 0 slots)
-    ∙ ap (λ (b : Bool). b && test t)
-    (any_and (λ s. is_on slots s t) (holds_slot t) (range_with_len 0 slots) ∙ ap (λ (b : Bool). b && holds_slot t) (index_among (slot_of slots t.id) slots (slot_below slots t.id some)))
-
--- a test that some thread on a slot passes
-pub any_by_slot : (slots : ℕ) (test : Thread → Bool) (threads : List Thread) → 0 < slots → list_any test (by_slot slots threads) ≡ list_any (λ t. holds_slot t && test t) threads
-any_by_slot slots test threads some =
-    any-flat_map test (λ s. filter (λ t. is_on slots s t && holds_slot t) threads) (range_with_len 0 slots)
-    ∙ any_agree (λ s. list_any test (filter (λ t. is_on slots s t && holds_slot t) threads)) (λ s. list_any (λ t. (is_on slots s t && holds_slot t) && test t) threads) (λ s. any-filter test (λ t. is_on slots s t && holds_slot t) threads) (range_with_len 0 slots)
-    ∙ any_swap (λ s t. (is_on slots s t && holds_slot t) && test t) (range_with_len 0 slots) threads
-    ∙ any_agree (λ t. list_any (λ s. (is_on slots s t && holds_slot t) && test t) (range_with_len 0 slots)) (λ t. holds_slot t && test t) (λ t. on_some_slot slots test t some) threads
+use Rattle.pct_engine_laws.specs.Seen.{SeenProcess, seen_process, seen}
+use Rattle.pct_engine_laws.specs.SeenSteps.{threads_on, is_ready_in, has_ready_in, seen_verdict_by, seen_verdict}
+use Rattle.pct_engine_laws.proofs.ListFacts.{any_agree, all_agree, any-filter, all-filter, any-map}
+use Rattle.pct_engine_laws.proofs.AnswerSeen.{threads_seen, any_by_slot, choices_seen}
 
 -- ---- processes
 
@@ -46,17 +26,21 @@ ready_by false true ready ready_in e = refl
 ready_by false false ready ready_in e = e
 
 -- a process has a thread that is ready
-pub ready_seen : (script : Script) (config : Config) (p : Process) → 0 < config.slots → (not p.reaped && has_ready_in script (seen_process config.slots p)) ≡ has_ready script config p
+pub ready_seen : (script : Script) (config : Config) (p : Process) → 0 < config.slots → (not p.reaped && has_ready_in script config.slots (seen_process config.slots p)) ≡ has_ready script config p
 ready_seen script config p some =
-    ready_by p.reaped (is_some p.ended) (list_any (is_ready script config p) p.threads) (list_any (is_ready_in script) (threads_in (seen_process config.slots p)))
-    (ap (list_any (is_ready_in script)) (threads_seen config.slots p) ∙ any_by_slot config.slots (is_ready_in script) p.threads some)
+    let kept : SeenProcess = seen_process config.slots p in
+    let ready : Thread → Bool = is_ready_in script config.slots kept in
+    ready_by p.reaped (is_some p.ended) (list_any (is_ready script config p) p.threads) (list_any ready (threads_on kept.slots))
+    (ap (list_any ready) (threads_seen config.slots p.threads)
+    ∙ any_by_slot config.slots ready p.threads some
+    ∙ any_agree (λ t. holds_slot t && ready t) (is_ready script config p) (λ t. ap (λ (choices : List Alt). holds_slot t && is_enabled choices) (sym (choices_seen script config p t some))) p.threads)
 
 -- some process has a thread that is ready
-pub some_ready_seen : (script : Script) (config : Config) (ps : List Process) → 0 < config.slots → list_any (has_ready_in script) (map (seen_process config.slots) (filter (λ p. not p.reaped) ps)) ≡ list_any (has_ready script config) ps
+pub some_ready_seen : (script : Script) (config : Config) (ps : List Process) → 0 < config.slots → list_any (has_ready_in script config.slots) (map (seen_process config.slots) (filter (λ p. not p.reaped) ps)) ≡ list_any (has_ready script config) ps
 some_ready_seen script config ps some =
-    any-map (has_ready_in script) (seen_process config.slots) (filter (λ p. not p.reaped) ps)
-    ∙ any-filter (λ p. has_ready_in script (seen_process config.slots p)) (λ p. not p.reaped) ps
-    ∙ any_agree (λ p. not p.reaped && has_ready_in script (seen_process config.slots p)) (has_ready script config) (λ p. ready_seen script config p some) ps
+    any-map (has_ready_in script config.slots) (seen_process config.slots) (filter (λ p. not p.reaped) ps)
+    ∙ any-filter (λ p. has_ready_in script config.slots (seen_process config.slots p)) (λ p. not p.reaped) ps
+    ∙ any_agree (λ p. not p.reaped && has_ready_in script config.slots (seen_process config.slots p)) (has_ready script config) (λ p. ready_seen script config p some) ps
 
 ended_by : (reaped ended : Bool) → (not (not reaped) || ended) ≡ (reaped || ended)
 ended_by true ended = refl

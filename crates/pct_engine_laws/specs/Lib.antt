@@ -2,3 +2,4 @@ pub mod Seen
 pub mod SeenSteps
 pub mod SeenLaws
 pub mod RunLaws
+pub mod ThreadCounts

@@ -1,16 +1,17 @@
 -- What an engine keeps of a state of the machine: the processes that are not reaped and, of each, the threads that hold a
 -- slot, slot by slot. As long as no process forks, legality, transitions, verdicts and the choices of the scheduler depend on
 -- nothing else.
-use Rattle.std.specs.Prelude.{ℕ, Bool, not, ◌&&◌, if◌then◌else◌, List, [], ◌∷◌, map, filter, flat_map, count_by, Option, Some, is_some, nat_eq, slice_get, slice_set}
+use Rattle.std.specs.Prelude.{ℕ, ◌+◌, Bool, not, ◌&&◌, if◌then◌else◌, List, [], ◌∷◌, ◌++◌, map, filter, flat_map, count_by, Option, Some, None, is_some, nat_eq, slice_get, slice_set}
 use Rattle.std.specs.Option.{option_map_or}
 use Rattle.std.specs.List.{range_with_len}
 use Rattle.pct_model.specs.declared.stop.Why.{Why}
 use Rattle.pct_model.specs.declared.transition.Action.{Action}
 use Rattle.pct_model.specs.declared.transition.Action.TheVariants as action
+use Rattle.pct_model.specs.declared.transition.NewThread.{NewThread}
 use Rattle.pct_model.specs.declared.transition.Transition.{Transition}
 use Rattle.pct_model.specs.World.{Thread, SharedState, Process, World}
-use Rattle.pct_model.specs.ThreadSlots.{holds_slot, slot_of, is_on, is_live_thread}
-use Rattle.pct_model.specs.Actions.{shared_after, stop_after, for_each, moved}
+use Rattle.pct_model.specs.ThreadSlots.{holds_slot, slot_of, is_on}
+use Rattle.pct_model.specs.Actions.{shared_after, stop_after, for_each, thread_moved, thread_created}
 
 -- a slot: the number of threads ever made on it, and the thread that holds it
 pub record SeenSlot : Type 0 where
@@ -47,13 +48,26 @@ seen slots w = record { processes = map (seen_process slots) (filter (λ p. not 
 
 -- ---- after a transition
 
--- a slot after a transition of a thread
+-- a slot after a transition of the thread with an id; a thread that the transition names can be on any slot
 abbrev pub slot_after : ℕ → Transition → SeenSlot → SeenSlot
-slot_after tid o s = record s { here = filter holds_slot (map (λ t. if is_live_thread tid t then moved o t else t) s.here) }
+slot_after tid o s = record s { here = filter holds_slot (map (thread_moved tid o) s.here) }
+
+-- a slot after a thread was created on it
+abbrev pub slot_with : NewThread → SeenSlot → SeenSlot
+slot_with new s = record { made = s.made + 1; here = s.here ++ thread_created (Some new) }
 
 -- the slots with a change of the one at an index
 abbrev pub on_slot : ℕ → (SeenSlot → SeenSlot) → List SeenSlot → List SeenSlot
 on_slot i f slots = option_map_or (λ s. slice_set slots i (f s)) (slice_get slots i) slots
+
+-- the slots with the thread that a transition creates, if it does
+abbrev pub with_created : ℕ → Option NewThread → List SeenSlot → List SeenSlot
+with_created slots None rows = rows
+with_created slots (Some new) rows = on_slot (slot_of slots new.id) (slot_with new) rows
+
+-- the slots after a transition of the thread with an id
+abbrev pub slots_moved : ℕ → ℕ → Transition → List SeenSlot → List SeenSlot
+slots_moved slots tid o rows = with_created slots o.created (map (slot_after tid o) rows)
 
 -- the process of the thread after an action: after its end it is kept only if it has a parent
 unfoldable pub own_kept : Action → SeenProcess → List SeenProcess
@@ -67,7 +81,7 @@ other_kept pid _ p = p ∷ []
 
 -- the process of the thread after the transition, with this number of slots
 abbrev pub own_process_seen : ℕ → ℕ → Transition → SeenProcess → List SeenProcess
-own_process_seen slots tid o p = for_each (λ a. flat_map (own_kept a)) o.actions (record p { slots = on_slot (slot_of slots tid) (slot_after tid o) p.slots; shared = for_each shared_after o.actions p.shared } ∷ [])
+own_process_seen slots tid o p = for_each (λ a. flat_map (own_kept a)) o.actions (record p { slots = slots_moved slots tid o p.slots; shared = for_each shared_after o.actions p.shared } ∷ [])
 
 -- another process after the transition
 abbrev pub other_process_seen : ℕ → Transition → SeenProcess → List SeenProcess

@@ -1,14 +1,17 @@
--- What a transition changes: the thread that makes it, the state that the threads of its process share, the process, the
--- other processes, and the run. The thread and its process are looked up once, before the first action.
-use Rattle.std.specs.Prelude.{ℕ, Bool, true, not, ◌&&◌, ◌||◌, if◌then◌else◌, List, [], ◌∷◌, map, Option, Some, None, is_some, nat_eq, slice_set}
+-- What a transition changes: the thread that makes it, a thread that it names, the state that the threads of its process share,
+-- the process, the other processes, and the run. The thread that makes it and its process are looked up once, before the first
+-- action.
+use Rattle.std.specs.Prelude.{ℕ, Bool, true, not, ◌&&◌, ◌||◌, if◌then◌else◌, List, [], ◌∷◌, ◌++◌, map, Option, Some, None, is_some, nat_eq, slice_set}
 use Rattle.pct_model.specs.declared.frame.Frame.{Frame}
-use Rattle.pct_model.specs.declared.state.Status.TheVariants.{Running, Exiting}
+use Rattle.pct_model.specs.declared.state.FrameKind.TheVariants.{Start}
+use Rattle.pct_model.specs.declared.state.Status.TheVariants.{Running, Joining, Ending, Exiting, Ended}
 use Rattle.pct_model.specs.declared.stop.Why.{Why}
 use Rattle.pct_model.specs.declared.transition.Action.{Action}
 use Rattle.pct_model.specs.declared.transition.Action.TheVariants as action
+use Rattle.pct_model.specs.declared.transition.NewThread.{NewThread}
 use Rattle.pct_model.specs.declared.transition.Transition.{Transition}
 use Rattle.pct_model.specs.Cancelability.{ending_state, ending_mode}
-use Rattle.pct_model.specs.World.{Thread, SharedState, Process, World, new_frame}
+use Rattle.pct_model.specs.World.{Thread, SharedState, Process, World, new_frame, new_thread}
 use Rattle.pct_model.specs.ThreadSlots.{is_live_thread}
 
 -- ---- the thread
@@ -37,11 +40,29 @@ thread_at (Some pc) t = record t { status = Running; frames = at_pc pc t.frames 
 unfoldable pub thread_after : Action → Thread → Thread
 thread_after (action.SetLocal i v) t = record t { frames = set_local i v t.frames }
 thread_after (action.Call f a kind) t = record t { status = Running; frames = new_frame f a kind ∷ t.frames }
+thread_after (action.CallAlone f a kind) t = record t { status = Running; frames = new_frame f a kind ∷ [] }
 thread_after (action.Leave status) t = record t { status = status; frames = without_first t.frames }
 thread_after (action.PushHandler f a) t = record t { handlers = (f, a) ∷ t.handlers }
 thread_after action.PopHandler t = record t { handlers = without_first t.handlers }
+thread_after (action.BeginJoin id) t = record t { status = Joining id }
+thread_after (action.BeginEnd why) t = record t { status = Ending; frames = []; state = ending_state; mode = ending_mode; reason = why }
+thread_after (action.EndThread v) t = record t { status = Ended v; ended = true }
+thread_after action.MarkEnded t = record t { ended = true }
 thread_after (action.BeginExit v) t = record t { status = Exiting; frames = []; state = ending_state; mode = ending_mode }
 thread_after _ t = t
+
+-- ---- the threads of its process
+
+-- any thread of the process after an action, which may name it
+unfoldable pub named_after : Action → Thread → Thread
+named_after (action.EndJoin id) t = if is_live_thread id t then record t { joined = true } else t
+named_after (action.Detach id) t = if is_live_thread id t then record t { detached = true } else t
+named_after _ t = t
+
+-- the thread that a transition creates
+abbrev pub thread_created : Option NewThread → List Thread
+thread_created None = []
+thread_created (Some new) = new_thread new.id new.detached (new_frame new.func new.arg Start) ∷ []
 
 -- ---- its process
 
@@ -87,9 +108,17 @@ for_each change (a ∷ actions) value = for_each change actions (change a value)
 abbrev pub moved : Transition → Thread → Thread
 moved o t = for_each thread_after o.actions (thread_at o.next t)
 
+-- a thread of the process after a transition of the one with an id
+abbrev pub thread_moved : ℕ → Transition → Thread → Thread
+thread_moved tid o t = for_each named_after o.actions (if is_live_thread tid t then moved o t else t)
+
+-- the threads of the process
+abbrev pub threads_moved : ℕ → Transition → List Thread → List Thread
+threads_moved tid o threads = map (thread_moved tid o) threads ++ thread_created o.created
+
 -- the process after a transition of its thread with an id
 abbrev pub changed : ℕ → Transition → Process → Process
-changed tid o p = for_each process_after o.actions (record p { threads = map (λ t. if is_live_thread tid t then moved o t else t) p.threads; shared = for_each shared_after o.actions p.shared })
+changed tid o p = for_each process_after o.actions (record p { threads = threads_moved tid o p.threads; shared = for_each shared_after o.actions p.shared })
 
 -- the process has this id and has not ended
 abbrev pub is_live_process : ℕ → Process → Bool

@@ -1,51 +1,53 @@
 -- The choices of the scheduler for each thread: its enabled transitions, in the order `go`, then the others by the slot of the
 -- thread or the place of the key that they name. A thread is enabled if it has a choice. Legality (Step.antt), deadlock
 -- (Run.antt) and the scheduler's choice (Chosen.antt) derive from this table.
-use Rattle.std.specs.Prelude.{ℕ, Bool, true, false, List, [], ◌∷◌, Option, Some, None, nat_eq}
+use Rattle.std.specs.Prelude.{ℕ, Bool, true, false, List, [], ◌∷◌, map, is_some, nat_eq}
 use Rattle.std.specs.List.{list_any}
 use Rattle.pct_model.specs.declared.script.Script.{Script}
 use Rattle.pct_model.specs.declared.statement.Stmt.{Stmt}
+use Rattle.pct_model.specs.declared.statement.Stmt.TheVariants as statement
 use Rattle.pct_model.specs.declared.schedule.Alt.{Alt}
 use Rattle.pct_model.specs.declared.schedule.Config.{Config}
 use Rattle.pct_model.specs.declared.schedule.Alt.TheVariants as alt
-use Rattle.pct_model.specs.declared.frame.Frame.{Frame}
 use Rattle.pct_model.specs.declared.state.Status.{Status}
 use Rattle.pct_model.specs.declared.state.Status.TheVariants as status
-use Rattle.pct_model.specs.World.{Thread, Process, statement_at}
+use Rattle.pct_model.specs.World.{Thread, Process}
+use Rattle.pct_model.specs.NextStatement.{NextStatement, NoStatement, StatementIn, next_of}
+use Rattle.pct_model.specs.OtherThreads.{Others, target_is, others_of}
 
--- ---- where a thread is
+-- ---- parts of the table
 
--- the statement that a thread executes next, and the frame in which it does, if there is one
-pub data NextStatement : Type 0 where
-  NoStatement : NextStatement
-  StatementIn : Frame → Stmt → NextStatement
+-- `go`, if the test holds
+abbrev pub go_if : Bool → List Alt
+go_if true = alt.Go ∷ []
+go_if false = []
 
--- the next statement of a frame
-abbrev pub next_in : Frame → Option Stmt → NextStatement
-next_in frame None = NoStatement
-next_in frame (Some s) = StatementIn frame s
+-- one of these ids for a new thread, or `go` if there is none
+abbrev pub new_or_go : List ℕ → List Alt
+new_or_go [] = alt.Go ∷ []
+new_or_go (id ∷ ids) = alt.New id ∷ map (λ n. alt.New n) ids
 
--- the next statement of a thread with these frames: that of its top frame
-abbrev pub next_of : Script → List Frame → NextStatement
-next_of script [] = NoStatement
-next_of script (frame ∷ below) = next_in frame (statement_at script frame)
+-- the choices of a running thread at a statement; a stop is a step too
+unfoldable pub running_choices : Others → Stmt → List Alt
+running_choices others (statement.Create result id f v detached) = new_or_go others.new_ids
+running_choices others s = alt.Go ∷ []
 
 -- ---- the table
 
--- the choices of a running thread at a statement: each statement that is implemented can go on, and a stop is a step too
-unfoldable pub running_choices : Frame → Stmt → List Alt
-running_choices frame s = alt.Go ∷ []
+-- the choices of a thread, by its status
+unfoldable pub choices_at : Others → NextStatement → Status → List Alt
+choices_at others (StatementIn frame s) status.Running = running_choices others s
+choices_at others NoStatement status.Running = []
+choices_at others next (status.Joining id) = go_if (target_is (λ target. is_some target.value) others.target)
+choices_at others next status.Ending = alt.Go ∷ []
+choices_at others next status.Exiting = alt.Go ∷ []
+choices_at others next (status.Ended v) = []
+-- no thread has one of the other statuses yet
+choices_at others next _ = []
 
--- the choices of a thread, by its status: a thread that has ended has none, and no thread has one of the other statuses yet
-unfoldable pub choices_at : NextStatement → Status → List Alt
-choices_at (StatementIn frame s) status.Running = running_choices frame s
-choices_at NoStatement status.Running = []
-choices_at next status.Exiting = alt.Go ∷ []
-choices_at next _ = []
-
--- the choices of a thread of a process; none depends on the configuration or on the process yet
+-- the choices of a thread of a process
 abbrev pub choices_of : Script → Config → Process → Thread → List Alt
-choices_of script config p t = choices_at (next_of script t.frames) t.status
+choices_of script config p t = choices_at (others_of script config p t) (next_of script t.frames) t.status
 
 -- ---- membership
 

@@ -18,9 +18,13 @@ pub mod Canon
 pub mod Jumps
 pub mod World
 pub mod ThreadSlots
+pub mod NextStatement
+pub mod OtherThreads
 pub mod Transitions
 pub mod ScriptStatements
 pub mod CleanupHandlers
+pub mod ThreadCalls
+pub mod ThreadEnds
 pub mod ProcessExit
 pub mod StopTable
 pub mod ChoiceTable

@@ -7,9 +7,10 @@ use Rattle.pct_model.specs.declared.state.FrameKind.{FrameKind}
 use Rattle.pct_model.specs.declared.state.FrameKind.TheVariants as kind
 use Rattle.pct_model.specs.declared.limits.TheConstants.{MAX_FRAMES, MAX_HANDLERS}
 use Rattle.pct_model.specs.declared.stop.Why.{Why}
-use Rattle.pct_model.specs.declared.stop.Why.TheVariants.{Unbuilt, ExitTwice, StackFull, CleanupFull}
+use Rattle.pct_model.specs.declared.stop.Why.TheVariants.{Unbuilt, ThreadId, JoinSelf, NotJoinable, JoinTwice, DetachJoined, ExitTwice, StackFull, CleanupFull}
 use Rattle.pct_model.specs.Jumps.{open_of}
 use Rattle.pct_model.specs.World.{Thread, SharedState, value_of}
+use Rattle.pct_model.specs.OtherThreads.{Others, target_is}
 
 -- a test: whether a stop applies, and the stop
 abbrev pub StopTest : Type 0
@@ -42,23 +43,42 @@ is_built (statement.While v) = true
 is_built statement.End = true
 is_built (statement.Do f v) = true
 is_built (statement.Return v) = true
+is_built (statement.Create result id f v detached) = true
+is_built (statement.Join id d) = true
+is_built (statement.Detach id) = true
+is_built (statement.SelfId d) = true
 is_built (statement.Push f v) = true
 is_built (statement.Pop v) = true
 is_built _ = false
 
 -- ---- the table
 
--- the stops of each statement beside `Unbuilt`, in the order in which they are tested
-unfoldable pub stops_of : List Stmt → SharedState → Thread → Frame → Stmt → List StopTest
--- XSH exit: a second call is undefined, and a return from `main` is a call of exit
-stops_of body shared t frame (statement.Return v) = (exits_twice frame.kind shared, ExitTwice) ∷ []
-stops_of body shared t frame statement.End = (is_none (open_of body frame.pc) && exits_twice frame.kind shared, ExitTwice) ∷ []
--- limits of this host
-stops_of body shared t frame (statement.Do f v) = (is_stack_full t.frames, StackFull) ∷ []
-stops_of body shared t frame (statement.Pop v) = (not (nat_eq (value_of shared.globals frame v) 0) && is_stack_full t.frames, StackFull) ∷ []
-stops_of body shared t frame (statement.Push f v) = (not (nat_lt (length t.handlers) MAX_HANDLERS), CleanupFull) ∷ []
-stops_of body shared t frame s = []
+module _ (body : List Stmt) (shared : SharedState) (t : Thread) (others : Others) where
+  -- the stops of each statement beside `Unbuilt`, in the order in which they are tested
+  unfoldable pub stops_of : Frame → Stmt → List StopTest
+  -- XSH 2.9.2: the lifetime of the thread id is over. XSH pthread_join: a join of the calling thread, of a thread that is not
+  -- joinable, or of one that another thread is joining is undefined
+  stops_of frame (statement.Join id d) =
+      (is_none others.target, ThreadId)
+      ∷ (nat_eq (value_of shared.globals frame id) t.id, JoinSelf)
+      ∷ (target_is (λ target. target.detached) others.target, NotJoinable)
+      ∷ (target_is (λ target. target.joining) others.target, JoinTwice)
+      ∷ []
+  -- XSH 2.9.2, pthread_detach; that a thread which another is joining may not be detached is a choice of this host
+  stops_of frame (statement.Detach id) =
+      (is_none others.target, ThreadId)
+      ∷ (target_is (λ target. target.detached) others.target, NotJoinable)
+      ∷ (target_is (λ target. target.joining) others.target, DetachJoined)
+      ∷ []
+  -- XSH exit: a second call is undefined, and a return from `main` is a call of exit
+  stops_of frame (statement.Return v) = (exits_twice frame.kind shared, ExitTwice) ∷ []
+  stops_of frame statement.End = (is_none (open_of body frame.pc) && exits_twice frame.kind shared, ExitTwice) ∷ []
+  -- limits of this host
+  stops_of frame (statement.Do f v) = (is_stack_full t.frames, StackFull) ∷ []
+  stops_of frame (statement.Pop v) = (not (nat_eq (value_of shared.globals frame v) 0) && is_stack_full t.frames, StackFull) ∷ []
+  stops_of frame (statement.Push f v) = (not (nat_lt (length t.handlers) MAX_HANDLERS), CleanupFull) ∷ []
+  stops_of frame s = []
 
--- the stop of a running thread at a statement, if there is one: whether the statement is implemented is tested first
-unfoldable pub stop_at : List Stmt → SharedState → Thread → Frame → Stmt → Option Why
-stop_at body shared t frame s = first_stop ((not (is_built s), Unbuilt) ∷ stops_of body shared t frame s)
+  -- the stop of a running thread at a statement, if there is one: whether the statement is implemented is tested first
+  unfoldable pub stop_at : Frame → Stmt → Option Why
+  stop_at frame s = first_stop ((not (is_built s), Unbuilt) ∷ stops_of frame s)

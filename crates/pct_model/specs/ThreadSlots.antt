@@ -1,7 +1,8 @@
 -- Thread ids and thread slots. A process has a number of thread slots, which the configuration gives. A thread holds its
 -- slot until it is reclaimed: an ended thread is reclaimed once it was joined or detached (XSH pthread_join,
--- pthread_detach). Slots are a choice of this host.
-use Rattle.std.specs.Prelude.{ℕ, ◌-◌, ◌%◌, Bool, true, false, not, ◌&&◌, ◌||◌, List, Option, find, nat_eq}
+-- pthread_detach). Slots, and the order of ids on each, are a choice of this host.
+use Rattle.std.specs.Prelude.{ℕ, ◌+◌, ◌-◌, ◌*◌, ◌%◌, Bool, true, false, not, ◌&&◌, ◌||◌, List, map, filter, count_by, Option, find, nat_eq}
+use Rattle.std.specs.List.{list_any, range_with_len}
 use Rattle.pct_model.specs.declared.state.Status.{Status}
 use Rattle.pct_model.specs.declared.state.Status.TheVariants as status
 use Rattle.pct_model.specs.World.{Thread}
@@ -13,8 +14,12 @@ abbrev pub is_ended_status : Status → Bool
 is_ended_status (status.Ended v) = true
 is_ended_status _ = false
 
--- the thread holds its slot: its process inherited it, and it was not reclaimed. The last thread of a process keeps its
--- slot while it exits the process after its own end.
+-- the thread was not reclaimed: its process inherited it, and it has not ended or was neither joined nor detached
+abbrev pub is_unreclaimed : Thread → Bool
+is_unreclaimed t = not t.gone && (not t.ended || not (t.joined || t.detached))
+
+-- the thread holds its slot: it was not reclaimed, or it is the last thread of its process, which keeps its slot while it
+-- exits the process after its own end
 abbrev pub holds_slot : Thread → Bool
 holds_slot t = not t.gone && not (is_ended_status t.status && (t.joined || t.detached))
 
@@ -25,6 +30,20 @@ slot_of slots id = (id - 1) % slots
 -- the thread was created on slot s
 abbrev pub is_on : ℕ → ℕ → Thread → Bool
 is_on slots s t = nat_eq (slot_of slots t.id) s
+
+-- ---- new threads
+
+-- no thread holds slot s
+abbrev pub is_free : ℕ → List Thread → ℕ → Bool
+is_free slots threads s = not (list_any (λ t. is_on slots s t && holds_slot t) threads)
+
+-- the id of the next thread on slot s; each thread ever created on the slot counts, gone ones included
+abbrev pub next_id : ℕ → List Thread → ℕ → ℕ
+next_id slots threads s = 1 + s + slots * count_by (is_on slots s) threads
+
+-- the ids that a new thread can get, one for each free slot, by rising slot
+unfoldable pub free_ids : ℕ → List Thread → List ℕ
+free_ids slots threads = map (next_id slots threads) (filter (is_free slots threads) (range_with_len 0 slots))
 
 -- ---- lookup
 

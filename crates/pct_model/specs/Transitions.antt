@@ -1,5 +1,5 @@
--- Transitions: what a thread does in one step, as data. ScriptStatements.antt, CleanupHandlers.antt and ProcessExit.antt give
--- the transition of each statement; Actions.antt gives what a transition changes.
+-- Transitions: what a thread does in one step, as data. ScriptStatements.antt, CleanupHandlers.antt, ThreadCalls.antt,
+-- ThreadEnds.antt and ProcessExit.antt give the transitions; Actions.antt gives what a transition changes.
 use Rattle.std.specs.Prelude.{ℕ, List, [], ◌∷◌, Some, None}
 use Rattle.pct_model.specs.declared.statement.Dest.{Dest}
 use Rattle.pct_model.specs.declared.statement.Dest.TheVariants as destination
@@ -8,15 +8,20 @@ use Rattle.pct_model.specs.declared.event.What.TheVariants.{Stopped}
 use Rattle.pct_model.specs.declared.stop.Why.{Why}
 use Rattle.pct_model.specs.declared.transition.Action.{Action}
 use Rattle.pct_model.specs.declared.transition.Action.TheVariants.{SetLocal, SetGlobal, Stop}
+use Rattle.pct_model.specs.declared.transition.NewThread.{NewThread}
 use Rattle.pct_model.specs.declared.transition.Transition.{Transition}
 
 -- the thread goes on at a pc, with these actions and events
 abbrev pub goes_on : ℕ → List Action → List What → Transition
-goes_on next actions events = record { next = Some next; actions = actions; events = events }
+goes_on next actions events = record { next = Some next; created = None; actions = actions; events = events }
+
+-- the thread goes on at a pc and creates a thread, with these actions and events
+abbrev pub creates_thread : ℕ → NewThread → List Action → List What → Transition
+creates_thread next new actions events = record { next = Some next; created = Some new; actions = actions; events = events }
 
 -- the thread does not go on, and has these actions and events
 abbrev pub acts : List Action → List What → Transition
-acts actions events = record { next = None; actions = actions; events = events }
+acts actions events = record { next = None; created = None; actions = actions; events = events }
 
 -- a transition that changes nothing, for states that no run reaches
 abbrev pub no_change : Transition

@@ -1,11 +1,12 @@
 //! Transitions of the machine: what a thread does in one step.
 
 use crate::event::What;
-use crate::state::{FrameKind, Status};
+use crate::state::{FrameKind, Reason, Status};
 use crate::stop::Why;
 use crate::up_to_three::UpToThree;
 
-/// An action: one of the changes that a transition of a thread makes, beside going on to a program counter.
+/// An action: one of the changes that a transition of a thread makes, beside going on to a program counter and the creation of
+/// a thread.
 #[derive(Clone, Copy, Debug, PartialEq, Eq)]
 pub enum Action {
     /// The local with this index in the thread's top frame gets a value.
@@ -18,12 +19,30 @@ pub enum Action {
         arg: u32,
         kind: FrameKind,
     },
+    /// The thread calls a function with an argument, and runs in the new frame, which is its only one.
+    CallAlone {
+        func: u32,
+        arg: u32,
+        kind: FrameKind,
+    },
     /// The thread leaves its top frame and gets this status.
     Leave(Status),
     /// A cleanup handler is pushed: a function and its argument.
     PushHandler(u32, u32),
     /// The newest cleanup handler is removed.
     PopHandler,
+    /// The thread is suspended in pthread_join, for the thread with this id.
+    BeginJoin(u32),
+    /// The thread with this id was joined.
+    EndJoin(u32),
+    /// The thread with this id becomes detached. It may be the thread itself.
+    Detach(u32),
+    /// The thread begins to end, for a reason: it leaves all its frames, and its cancelability is disabled and deferred.
+    BeginEnd(Reason),
+    /// The thread ends with a value.
+    EndThread(u32),
+    /// The thread counts as ended. It is the last thread of its process, which it goes on to exit.
+    MarkEnded,
     /// The thread begins to exit its process with a value: it leaves all its frames, and its cancelability is disabled and
     /// deferred.
     BeginExit(u32),
@@ -33,10 +52,21 @@ pub enum Action {
     Stop(Why),
 }
 
-/// A transition: the program counter at which the thread goes on, if it does, and then its actions and its events, in order.
+/// A new thread (pthread_create): its id, whether it is detached, its start routine and the argument.
+#[derive(Clone, Copy, Debug, PartialEq, Eq)]
+pub struct NewThread {
+    pub id: u32,
+    pub detached: bool,
+    pub func: u32,
+    pub arg: u32,
+}
+
+/// A transition: the program counter at which the thread goes on, if it does, and the thread that it creates, if it does; and
+/// then its actions and its events, in order.
 #[derive(Debug, Drop)]
 pub struct Transition {
     pub next: Option<u32>,
+    pub created: Option<NewThread>,
     pub actions: UpToThree<Action>,
     pub events: UpToThree<What>,
 }

@@ -3,6 +3,7 @@ mod SpellingRows
 mod ScriptRows
 mod StaticRows
 mod MachineRows
+mod ThreadRows
 mod Rows
 mod ChoiceRows
 mod EventRows

@@ -26,9 +26,10 @@ use Rattle.pct_model.specs.ScriptStatements.{jumps, emits, sets, variable_value,
 use Rattle.pct_model.specs.CleanupHandlers.{pushes, pops}
 use Rattle.pct_model.specs.ProcessExit.{exits, returns_by, ends_process}
 use Rattle.pct_model.specs.StopTable.{stops_of, stop_at}
+use Rattle.pct_model.specs.OtherThreads.{statement_query, query_at, answer_to}
 use Rattle.pct_model.specs.ChoiceTable.{running_choices, choices_at}
 use Rattle.pct_model.specs.TransitionTable.{runs, transition_at}
-use Rattle.pct_model.specs.Actions.{thread_at, thread_after, shared_after, process_after, other_process_after, stop_after, after_transition}
+use Rattle.pct_model.specs.Actions.{thread_at, thread_after, named_after, shared_after, process_after, other_process_after, stop_after, after_transition}
 use Rattle.pct_model.specs.Step.{step}
 use Rattle.pct_model.specs.Run.{run_step, run_from, run, verdict_of}
 use Rattle.pct_model.specs.Outcome.{default_config, first_goes}
@@ -58,7 +59,7 @@ counting = record { globals = counting_contents.globals; mutexes = []; conds = [
 
 -- two iterations; after the loop `main` returns 0
 counts_down : events_and_verdict counting 12 ≡ Some (what.Emit 2 ∷ what.Emit 1 ∷ what.ExitBegun 0 ∷ what.ProcessEnded 0 ∷ [], verdict.Complete)
-unfolding main_of keyword_text statement_at value_of opening jumps emits sets variable_value adds calls pushes pops exits returns_by ends_process stops_of stop_at running_choices choices_at runs transition_at thread_at thread_after shared_after process_after other_process_after stop_after after_transition close_of open_of step run_step run_from run verdict_of
+unfolding main_of keyword_text statement_at value_of opening jumps emits sets variable_value adds calls pushes pops exits returns_by ends_process stops_of stop_at statement_query query_at answer_to running_choices choices_at runs transition_at thread_at thread_after named_after shared_after process_after other_process_after stop_after after_transition close_of open_of step run_step run_from run verdict_of
 counts_down = refl
 
 -- ---- both branches of an `if`, in a function that is called twice
@@ -75,7 +76,7 @@ choosing = record { globals = choosing_contents.globals; mutexes = []; conds = [
 
 -- the first call takes the `else`, the second skips it
 chooses : events_and_verdict choosing 12 ≡ Some (what.Emit 2 ∷ what.Emit 1 ∷ what.ExitBegun 0 ∷ what.ProcessEnded 0 ∷ [], verdict.Complete)
-unfolding main_of keyword_text statement_at value_of opening jumps emits sets variable_value adds calls pushes pops exits returns_by ends_process stops_of stop_at running_choices choices_at runs transition_at thread_at thread_after shared_after process_after other_process_after stop_after after_transition close_of open_of step run_step run_from run verdict_of
+unfolding main_of keyword_text statement_at value_of opening jumps emits sets variable_value adds calls pushes pops exits returns_by ends_process stops_of stop_at statement_query query_at answer_to running_choices choices_at runs transition_at thread_at thread_after named_after shared_after process_after other_process_after stop_after after_transition close_of open_of step run_step run_from run verdict_of
 chooses = refl
 
 -- ---- nested blocks
@@ -92,7 +93,7 @@ skipping = record { globals = skipping_contents.globals; mutexes = []; conds = [
 
 -- an `if` without `else` jumps past its own `end`
 skips_all : events_and_verdict skipping 5 ≡ Some (what.Emit 3 ∷ what.ExitBegun 0 ∷ what.ProcessEnded 0 ∷ [], verdict.Complete)
-unfolding main_of keyword_text statement_at value_of opening jumps emits sets variable_value adds calls pushes pops exits returns_by ends_process stops_of stop_at running_choices choices_at runs transition_at thread_at thread_after shared_after process_after other_process_after stop_after after_transition close_of open_of step run_step run_from run verdict_of
+unfolding main_of keyword_text statement_at value_of opening jumps emits sets variable_value adds calls pushes pops exits returns_by ends_process stops_of stop_at statement_query query_at answer_to running_choices choices_at runs transition_at thread_at thread_after named_after shared_after process_after other_process_after stop_after after_transition close_of open_of step run_step run_from run verdict_of
 skips_all = refl
 
 -- ---- a call with an argument, and a return with a value
@@ -109,7 +110,7 @@ calling = record { globals = calling_contents.globals; mutexes = []; conds = [];
 
 -- the value of a call is dropped; that of `main` is the exit value
 calls_and_returns : events_and_verdict calling 6 ≡ Some (what.Emit 4 ∷ what.Emit 5 ∷ what.ExitBegun 258 ∷ what.ProcessEnded 2 ∷ [], verdict.Complete)
-unfolding main_of keyword_text statement_at value_of opening jumps emits sets variable_value adds calls pushes pops exits returns_by ends_process stops_of stop_at running_choices choices_at runs transition_at thread_at thread_after shared_after process_after other_process_after stop_after after_transition close_of open_of step run_step run_from run verdict_of
+unfolding main_of keyword_text statement_at value_of opening jumps emits sets variable_value adds calls pushes pops exits returns_by ends_process stops_of stop_at statement_query query_at answer_to running_choices choices_at runs transition_at thread_at thread_after named_after shared_after process_after other_process_after stop_after after_transition close_of open_of step run_step run_from run verdict_of
 calls_and_returns = refl
 
 -- ---- a global whose sum wraps
@@ -126,7 +127,7 @@ adding = record { globals = adding_contents.globals; mutexes = []; conds = []; s
 
 -- 4294967295 and 3
 adds_up : events_and_verdict adding 5 ≡ Some (what.Emit 2 ∷ what.ExitBegun 0 ∷ what.ProcessEnded 0 ∷ [], verdict.Complete)
-unfolding main_of keyword_text statement_at value_of opening jumps emits sets variable_value adds calls pushes pops exits returns_by ends_process stops_of stop_at running_choices choices_at runs transition_at thread_at thread_after shared_after process_after other_process_after stop_after after_transition close_of open_of step run_step run_from run verdict_of
+unfolding main_of keyword_text statement_at value_of opening jumps emits sets variable_value adds calls pushes pops exits returns_by ends_process stops_of stop_at statement_query query_at answer_to running_choices choices_at runs transition_at thread_at thread_after named_after shared_after process_after other_process_after stop_after after_transition close_of open_of step run_step run_from run verdict_of
 adds_up = refl
 
 -- ---- `main` calls itself
@@ -143,12 +144,12 @@ deep = record { globals = deep_contents.globals; mutexes = []; conds = []; sems 
 
 -- the sixteenth call is stopped
 fills_the_stack : events_and_verdict deep 16 ≡ Some (what.Stopped why.StackFull ∷ [], verdict.Undefined why.StackFull)
-unfolding main_of keyword_text statement_at value_of opening jumps emits sets variable_value adds calls pushes pops exits returns_by ends_process stops_of stop_at running_choices choices_at runs transition_at thread_at thread_after shared_after process_after other_process_after stop_after after_transition close_of open_of step run_step run_from run verdict_of
+unfolding main_of keyword_text statement_at value_of opening jumps emits sets variable_value adds calls pushes pops exits returns_by ends_process stops_of stop_at statement_query query_at answer_to running_choices choices_at runs transition_at thread_at thread_after named_after shared_after process_after other_process_after stop_after after_transition close_of open_of step run_step run_from run verdict_of
 fills_the_stack = refl
 
 -- the fifteenth is not
 fills_nearly : events_and_verdict deep 15 ≡ Some ([], verdict.Open)
-unfolding main_of keyword_text statement_at value_of opening jumps emits sets variable_value adds calls pushes pops exits returns_by ends_process stops_of stop_at running_choices choices_at runs transition_at thread_at thread_after shared_after process_after other_process_after stop_after after_transition close_of open_of step run_step run_from run verdict_of
+unfolding main_of keyword_text statement_at value_of opening jumps emits sets variable_value adds calls pushes pops exits returns_by ends_process stops_of stop_at statement_query query_at answer_to running_choices choices_at runs transition_at thread_at thread_after named_after shared_after process_after other_process_after stop_after after_transition close_of open_of step run_step run_from run verdict_of
 fills_nearly = refl
 
 -- ---- `main` pushes three handlers and calls itself
@@ -165,7 +166,7 @@ piling = record { globals = piling_contents.globals; mutexes = []; conds = []; s
 
 -- the thirty-third push is stopped
 fills_the_handlers : events_and_verdict piling 43 ≡ Some (replicate 32 (what.Pushed 0 0) ++ what.Stopped why.CleanupFull ∷ [], verdict.Undefined why.CleanupFull)
-unfolding main_of keyword_text statement_at value_of opening jumps emits sets variable_value adds calls pushes pops exits returns_by ends_process stops_of stop_at running_choices choices_at runs transition_at thread_at thread_after shared_after process_after other_process_after stop_after after_transition close_of open_of step run_step run_from run verdict_of
+unfolding main_of keyword_text statement_at value_of opening jumps emits sets variable_value adds calls pushes pops exits returns_by ends_process stops_of stop_at statement_query query_at answer_to running_choices choices_at runs transition_at thread_at thread_after named_after shared_after process_after other_process_after stop_after after_transition close_of open_of step run_step run_from run verdict_of
 fills_the_handlers = refl
 
 -- ---- a statement that is not implemented
@@ -182,5 +183,5 @@ unbuilt = record { globals = unbuilt_contents.globals; mutexes = []; conds = [];
 
 -- its step is a stop
 stops_at_it : events_and_verdict unbuilt 1 ≡ Some (what.Stopped why.Unbuilt ∷ [], verdict.Undefined why.Unbuilt)
-unfolding main_of keyword_text statement_at value_of opening jumps emits sets variable_value adds calls pushes pops exits returns_by ends_process stops_of stop_at running_choices choices_at runs transition_at thread_at thread_after shared_after process_after other_process_after stop_after after_transition close_of open_of step run_step run_from run verdict_of
+unfolding main_of keyword_text statement_at value_of opening jumps emits sets variable_value adds calls pushes pops exits returns_by ends_process stops_of stop_at statement_query query_at answer_to running_choices choices_at runs transition_at thread_at thread_after named_after shared_after process_after other_process_after stop_after after_transition close_of open_of step run_step run_from run verdict_of
 stops_at_it = refl

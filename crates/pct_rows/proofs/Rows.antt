@@ -42,9 +42,11 @@ use Rattle.pct_model.specs.CleanupHandlers.{pushes, pops}
 use Rattle.pct_model.specs.ProcessExit.{exits, returns_by, ends_process}
 use Rattle.pct_model.specs.Transitions.{acts}
 use Rattle.pct_model.specs.StopTable.{stops_of, stop_at}
-use Rattle.pct_model.specs.ChoiceTable.{StatementIn, running_choices, choices_at}
+use Rattle.pct_model.specs.NextStatement.{StatementIn}
+use Rattle.pct_model.specs.OtherThreads.{statement_query, query_at, no_answer, answer_to}
+use Rattle.pct_model.specs.ChoiceTable.{running_choices, choices_at}
 use Rattle.pct_model.specs.TransitionTable.{runs, transition_at}
-use Rattle.pct_model.specs.Actions.{moved, thread_at, thread_after, shared_after, process_after, other_process_after, stop_after, after_transition}
+use Rattle.pct_model.specs.Actions.{moved, thread_at, thread_after, named_after, shared_after, process_after, other_process_after, stop_after, after_transition}
 use Rattle.pct_model.specs.Step.{step, is_legal}
 use Rattle.pct_model.specs.Run.{run_step, run_from, illegal_in, first_illegal, run, verdict_of}
 use Rattle.pct_model.specs.StopTexts.{stop_words}
@@ -122,42 +124,42 @@ smallest_text_length = refl
 
 -- the report of its run
 pub smallest_reported : report smallest default_config (replicate 2 first_goes) ≡ Some (codes "report 1\n1.1 exit 0\n1.1 process_end 0\nverdict complete\nschedule 1 10000 4 64\n1 1 1 go\n1 1 1 go\nend 2\n")
-unfolding main_of keyword_text statement_at value_of opening jumps emits sets variable_value adds calls pushes pops exits returns_by ends_process stops_of stop_at running_choices choices_at runs transition_at thread_at thread_after shared_after process_after other_process_after stop_after after_transition close_of open_of step run_step run_from run verdict_of digits name_at stop_words event_words thread_text event_line alt_words entry_line header_line end_line schedule_lines verdict_words verdict_line title_line report_lines report
+unfolding main_of keyword_text statement_at value_of opening jumps emits sets variable_value adds calls pushes pops exits returns_by ends_process stops_of stop_at statement_query query_at answer_to running_choices choices_at runs transition_at thread_at thread_after named_after shared_after process_after other_process_after stop_after after_transition close_of open_of step run_step run_from run verdict_of digits name_at stop_words event_words thread_text event_line alt_words entry_line header_line end_line schedule_lines verdict_words verdict_line title_line report_lines report
 smallest_reported = refl
 
 -- the length of the report
 smallest_report_length : option_map length (report smallest default_config (replicate 2 first_goes)) ≡ Some 101
-unfolding main_of keyword_text statement_at value_of opening jumps emits sets variable_value adds calls pushes pops exits returns_by ends_process stops_of stop_at running_choices choices_at runs transition_at thread_at thread_after shared_after process_after other_process_after stop_after after_transition close_of open_of step run_step run_from run verdict_of digits name_at stop_words event_words thread_text event_line alt_words entry_line header_line end_line schedule_lines verdict_words verdict_line title_line report_lines report
+unfolding main_of keyword_text statement_at value_of opening jumps emits sets variable_value adds calls pushes pops exits returns_by ends_process stops_of stop_at statement_query query_at answer_to running_choices choices_at runs transition_at thread_at thread_after named_after shared_after process_after other_process_after stop_after after_transition close_of open_of step run_step run_from run verdict_of digits name_at stop_words event_words thread_text event_line alt_words entry_line header_line end_line schedule_lines verdict_words verdict_line title_line report_lines report
 smallest_report_length = refl
 
 -- before the first entry and after it the run is open
 smallest_open : (verdict_after smallest default_config 0 ≡ Some verdict.Open) × (verdict_after smallest default_config 1 ≡ Some verdict.Open)
-unfolding main_of keyword_text statement_at value_of opening jumps emits sets variable_value adds calls pushes pops exits returns_by ends_process stops_of stop_at running_choices choices_at runs transition_at thread_at thread_after shared_after process_after other_process_after stop_after after_transition close_of open_of step run_step run_from run verdict_of
+unfolding main_of keyword_text statement_at value_of opening jumps emits sets variable_value adds calls pushes pops exits returns_by ends_process stops_of stop_at statement_query query_at answer_to running_choices choices_at runs transition_at thread_at thread_after named_after shared_after process_after other_process_after stop_after after_transition close_of open_of step run_step run_from run verdict_of
 smallest_open = (refl, refl)
 
 -- a run that completes with the last entry of its budget is complete
 smallest_at_budget : verdict_after smallest (with_budget 2) 2 ≡ Some verdict.Complete
-unfolding main_of keyword_text statement_at value_of opening jumps emits sets variable_value adds calls pushes pops exits returns_by ends_process stops_of stop_at running_choices choices_at runs transition_at thread_at thread_after shared_after process_after other_process_after stop_after after_transition close_of open_of step run_step run_from run verdict_of
+unfolding main_of keyword_text statement_at value_of opening jumps emits sets variable_value adds calls pushes pops exits returns_by ends_process stops_of stop_at statement_query query_at answer_to running_choices choices_at runs transition_at thread_at thread_after named_after shared_after process_after other_process_after stop_after after_transition close_of open_of step run_step run_from run verdict_of
 smallest_at_budget = refl
 
 -- a run of one entry with a budget of one
 smallest_cut : verdict_after smallest (with_budget 1) 1 ≡ Some verdict.Budget
-unfolding main_of keyword_text statement_at value_of opening jumps emits sets variable_value adds calls pushes pops exits returns_by ends_process stops_of stop_at running_choices choices_at runs transition_at thread_at thread_after shared_after process_after other_process_after stop_after after_transition close_of open_of step run_step run_from run verdict_of
+unfolding main_of keyword_text statement_at value_of opening jumps emits sets variable_value adds calls pushes pops exits returns_by ends_process stops_of stop_at statement_query query_at answer_to running_choices choices_at runs transition_at thread_at thread_after named_after shared_after process_after other_process_after stop_after after_transition close_of open_of step run_step run_from run verdict_of
 smallest_cut = refl
 
 -- no entry is legal after the process has ended
 smallest_ends : run smallest default_config (replicate 3 first_goes) ≡ None
-unfolding main_of keyword_text statement_at value_of opening jumps emits sets variable_value adds calls pushes pops exits returns_by ends_process stops_of stop_at running_choices choices_at runs transition_at thread_at thread_after shared_after process_after other_process_after stop_after after_transition close_of open_of step run_step run_from run verdict_of
+unfolding main_of keyword_text statement_at value_of opening jumps emits sets variable_value adds calls pushes pops exits returns_by ends_process stops_of stop_at statement_query query_at answer_to running_choices choices_at runs transition_at thread_at thread_after named_after shared_after process_after other_process_after stop_after after_transition close_of open_of step run_step run_from run verdict_of
 smallest_ends = refl
 
 -- there is no run past the budget
 smallest_past_budget : run smallest (with_budget 1) (replicate 2 first_goes) ≡ None
-unfolding main_of keyword_text statement_at value_of opening jumps emits sets variable_value adds calls pushes pops exits returns_by ends_process stops_of stop_at running_choices choices_at runs transition_at thread_at thread_after shared_after process_after other_process_after stop_after after_transition close_of open_of step run_step run_from run verdict_of
+unfolding main_of keyword_text statement_at value_of opening jumps emits sets variable_value adds calls pushes pops exits returns_by ends_process stops_of stop_at statement_query query_at answer_to running_choices choices_at runs transition_at thread_at thread_after named_after shared_after process_after other_process_after stop_after after_transition close_of open_of step run_step run_from run verdict_of
 smallest_past_budget = refl
 
 -- the first entry that is not legal: a third step, another thread, another process, another choice, worker 17
 smallest_illegal : (first_illegal smallest default_config (replicate 2 first_goes) ≡ None) × (first_illegal smallest default_config (replicate 4 first_goes) ≡ Some 3) × (first_illegal smallest default_config (record { worker = 1; pid = 1; tid = 2; alt = alt.Go } ∷ []) ≡ Some 1) × (first_illegal smallest default_config (first_goes ∷ record { worker = 1; pid = 2; tid = 1; alt = alt.Go } ∷ first_goes ∷ []) ≡ Some 2) × (first_illegal smallest default_config (record { worker = 1; pid = 1; tid = 1; alt = alt.Act 0 } ∷ first_goes ∷ []) ≡ Some 1) × (first_illegal smallest default_config (record { worker = 16; pid = 1; tid = 1; alt = alt.Go } ∷ record { worker = 0; pid = 1; tid = 1; alt = alt.Go } ∷ []) ≡ None) × (first_illegal smallest default_config (record { worker = 17; pid = 1; tid = 1; alt = alt.Go } ∷ []) ≡ Some 1)
-unfolding main_of keyword_text statement_at value_of opening jumps emits sets variable_value adds calls pushes pops exits returns_by ends_process stops_of stop_at running_choices choices_at runs transition_at thread_at thread_after shared_after process_after other_process_after stop_after after_transition close_of open_of step run_step illegal_in
+unfolding main_of keyword_text statement_at value_of opening jumps emits sets variable_value adds calls pushes pops exits returns_by ends_process stops_of stop_at statement_query query_at answer_to running_choices choices_at runs transition_at thread_at thread_after named_after shared_after process_after other_process_after stop_after after_transition close_of open_of step run_step illegal_in
 smallest_illegal = (refl, refl, refl, refl, refl, refl, refl)
 
 -- ---- a handler that a pop calls
@@ -185,32 +187,32 @@ cleanup_text_length = refl
 
 -- the events of its run
 cleanup_events : events_of cleanup default_config 7 ≡ Some (map event (what.Pushed 0 1 ∷ what.Emit 5 ∷ what.Popped 0 1 true ∷ what.Emit 1 ∷ what.ExitBegun 0 ∷ what.ProcessEnded 0 ∷ []))
-unfolding main_of keyword_text statement_at value_of opening jumps emits sets variable_value adds calls pushes pops exits returns_by ends_process stops_of stop_at running_choices choices_at runs transition_at thread_at thread_after shared_after process_after other_process_after stop_after after_transition close_of open_of step run_step run_from run verdict_of
+unfolding main_of keyword_text statement_at value_of opening jumps emits sets variable_value adds calls pushes pops exits returns_by ends_process stops_of stop_at statement_query query_at answer_to running_choices choices_at runs transition_at thread_at thread_after named_after shared_after process_after other_process_after stop_after after_transition close_of open_of step run_step run_from run verdict_of
 cleanup_events = refl
 
 -- the return of the handler is no event
 cleanup_silent : events_of cleanup default_config 5 ≡ events_of cleanup default_config 4
-unfolding main_of keyword_text statement_at value_of opening jumps emits sets variable_value adds calls pushes pops exits returns_by ends_process stops_of stop_at running_choices choices_at runs transition_at thread_at thread_after shared_after process_after other_process_after stop_after after_transition close_of open_of step run_step run_from run verdict_of
+unfolding main_of keyword_text statement_at value_of opening jumps emits sets variable_value adds calls pushes pops exits returns_by ends_process stops_of stop_at statement_query query_at answer_to running_choices choices_at runs transition_at thread_at thread_after named_after shared_after process_after other_process_after stop_after after_transition close_of open_of step run_step run_from run verdict_of
 cleanup_silent = refl
 
 -- the run is complete
 cleanup_complete : verdict_after cleanup default_config 7 ≡ Some verdict.Complete
-unfolding main_of keyword_text statement_at value_of opening jumps emits sets variable_value adds calls pushes pops exits returns_by ends_process stops_of stop_at running_choices choices_at runs transition_at thread_at thread_after shared_after process_after other_process_after stop_after after_transition close_of open_of step run_step run_from run verdict_of
+unfolding main_of keyword_text statement_at value_of opening jumps emits sets variable_value adds calls pushes pops exits returns_by ends_process stops_of stop_at statement_query query_at answer_to running_choices choices_at runs transition_at thread_at thread_after named_after shared_after process_after other_process_after stop_after after_transition close_of open_of step run_step run_from run verdict_of
 cleanup_complete = refl
 
 -- the report of the run
 pub cleanup_reported : report cleanup default_config (replicate 7 first_goes) ≡ Some (codes "report 1\n1.1 push h 1\n1.1 emit 5\n1.1 pop h 1 run\n1.1 emit 1\n1.1 exit 0\n1.1 process_end 0\nverdict complete\nschedule 1 10000 4 64\n1 1 1 go\n1 1 1 go\n1 1 1 go\n1 1 1 go\n1 1 1 go\n1 1 1 go\n1 1 1 go\nend 7\n")
-unfolding main_of keyword_text statement_at value_of opening jumps emits sets variable_value adds calls pushes pops exits returns_by ends_process stops_of stop_at running_choices choices_at runs transition_at thread_at thread_after shared_after process_after other_process_after stop_after after_transition close_of open_of step run_step run_from run verdict_of digits name_at stop_words event_words thread_text event_line alt_words entry_line header_line end_line schedule_lines verdict_words verdict_line title_line report_lines report
+unfolding main_of keyword_text statement_at value_of opening jumps emits sets variable_value adds calls pushes pops exits returns_by ends_process stops_of stop_at statement_query query_at answer_to running_choices choices_at runs transition_at thread_at thread_after named_after shared_after process_after other_process_after stop_after after_transition close_of open_of step run_step run_from run verdict_of digits name_at stop_words event_words thread_text event_line alt_words entry_line header_line end_line schedule_lines verdict_words verdict_line title_line report_lines report
 cleanup_reported = refl
 
 -- with a smaller budget the verdict is that of the budget
 cleanup_cut : verdict_after cleanup (with_budget 3) 3 ≡ Some verdict.Budget
-unfolding main_of keyword_text statement_at value_of opening jumps emits sets variable_value adds calls pushes pops exits returns_by ends_process stops_of stop_at running_choices choices_at runs transition_at thread_at thread_after shared_after process_after other_process_after stop_after after_transition close_of open_of step run_step run_from run verdict_of
+unfolding main_of keyword_text statement_at value_of opening jumps emits sets variable_value adds calls pushes pops exits returns_by ends_process stops_of stop_at statement_query query_at answer_to running_choices choices_at runs transition_at thread_at thread_after named_after shared_after process_after other_process_after stop_after after_transition close_of open_of step run_step run_from run verdict_of
 cleanup_cut = refl
 
 -- the report of that run
 cleanup_cut_report : report cleanup (with_budget 3) (replicate 3 first_goes) ≡ Some (codes "report 1\n1.1 push h 1\n1.1 emit 5\n1.1 pop h 1 run\nverdict budget\nschedule 1 3 4 64\n1 1 1 go\n1 1 1 go\n1 1 1 go\nend 3\n")
-unfolding main_of keyword_text statement_at value_of opening jumps emits sets variable_value adds calls pushes pops exits returns_by ends_process stops_of stop_at running_choices choices_at runs transition_at thread_at thread_after shared_after process_after other_process_after stop_after after_transition close_of open_of step run_step run_from run verdict_of digits name_at stop_words event_words thread_text event_line alt_words entry_line header_line end_line schedule_lines verdict_words verdict_line title_line report_lines report
+unfolding main_of keyword_text statement_at value_of opening jumps emits sets variable_value adds calls pushes pops exits returns_by ends_process stops_of stop_at statement_query query_at answer_to running_choices choices_at runs transition_at thread_at thread_after named_after shared_after process_after other_process_after stop_after after_transition close_of open_of step run_step run_from run verdict_of digits name_at stop_words event_words thread_text event_line alt_words entry_line header_line end_line schedule_lines verdict_words verdict_line title_line report_lines report
 cleanup_cut_report = refl
 
 -- ---- other runs
@@ -228,7 +230,7 @@ dropped = record { globals = []; mutexes = []; conds = []; sems = []; funcs = dr
 
 -- the handler is dropped, and the closing `end` of `main` returns 0
 dropped_report : report dropped default_config (replicate 4 first_goes) ≡ Some (codes "report 1\n1.1 push h 1\n1.1 pop h 1 drop\n1.1 exit 0\n1.1 process_end 0\nverdict complete\nschedule 1 10000 4 64\n1 1 1 go\n1 1 1 go\n1 1 1 go\n1 1 1 go\nend 4\n")
-unfolding main_of keyword_text statement_at value_of opening jumps emits sets variable_value adds calls pushes pops exits returns_by ends_process stops_of stop_at running_choices choices_at runs transition_at thread_at thread_after shared_after process_after other_process_after stop_after after_transition close_of open_of step run_step run_from run verdict_of digits name_at stop_words event_words thread_text event_line alt_words entry_line header_line end_line schedule_lines verdict_words verdict_line title_line report_lines report
+unfolding main_of keyword_text statement_at value_of opening jumps emits sets variable_value adds calls pushes pops exits returns_by ends_process stops_of stop_at statement_query query_at answer_to running_choices choices_at runs transition_at thread_at thread_after named_after shared_after process_after other_process_after stop_after after_transition close_of open_of step run_step run_from run verdict_of digits name_at stop_words event_words thread_text event_line alt_words entry_line header_line end_line schedule_lines verdict_words verdict_line title_line report_lines report
 dropped_report = refl
 
 abbrev last_first_funcs : List Func
@@ -244,7 +246,7 @@ last_first = record { globals = []; mutexes = []; conds = []; sems = []; funcs =
 
 -- a pop removes the handler that was pushed last
 last_first_events : events_of last_first default_config 8 ≡ Some (map event (what.Pushed 0 1 ∷ what.Pushed 0 2 ∷ what.Popped 0 2 true ∷ what.Emit 2 ∷ what.Popped 0 1 false ∷ what.ExitBegun 0 ∷ what.ProcessEnded 0 ∷ []))
-unfolding main_of keyword_text statement_at value_of opening jumps emits sets variable_value adds calls pushes pops exits returns_by ends_process stops_of stop_at running_choices choices_at runs transition_at thread_at thread_after shared_after process_after other_process_after stop_after after_transition close_of open_of step run_step run_from run verdict_of
+unfolding main_of keyword_text statement_at value_of opening jumps emits sets variable_value adds calls pushes pops exits returns_by ends_process stops_of stop_at statement_query query_at answer_to running_choices choices_at runs transition_at thread_at thread_after named_after shared_after process_after other_process_after stop_after after_transition close_of open_of step run_step run_from run verdict_of
 last_first_events = refl
 
 abbrev large_value_funcs : List Func
@@ -260,7 +262,7 @@ large_value = record { globals = []; mutexes = []; conds = []; sems = []; funcs 
 
 -- the parameter of `main` is 0, and the exit status of a process is the exit value modulo 256
 large_value_events : events_of large_value default_config 3 ≡ Some (map event (what.Emit 0 ∷ what.ExitBegun 300 ∷ what.ProcessEnded 44 ∷ []))
-unfolding main_of keyword_text statement_at value_of opening jumps emits sets variable_value adds calls pushes pops exits returns_by ends_process stops_of stop_at running_choices choices_at runs transition_at thread_at thread_after shared_after process_after other_process_after stop_after after_transition close_of open_of step run_step run_from run verdict_of
+unfolding main_of keyword_text statement_at value_of opening jumps emits sets variable_value adds calls pushes pops exits returns_by ends_process stops_of stop_at statement_query query_at answer_to running_choices choices_at runs transition_at thread_at thread_after named_after shared_after process_after other_process_after stop_after after_transition close_of open_of step run_step run_from run verdict_of
 large_value_events = refl
 
 -- ---- stops and ends
@@ -278,7 +280,7 @@ with_frames n = record (with_handlers 1) { frames = replicate n main_frame }
 
 -- the stop of a thread at a statement
 abbrev stop_of : SharedState → Thread → Stmt → Option Why
-stop_of shared t s = stop_at (s ∷ []) shared t main_frame s
+stop_of shared t s = stop_at (s ∷ []) shared t no_answer main_frame s
 
 abbrev no_exit : SharedState
 no_exit = new_shared smallest
@@ -307,7 +309,7 @@ unfolding stops_of stop_at value_of open_of close_of
 do_at_16 = (refl, refl)
 
 -- a statement that is not implemented is a stop before all others
-unbuilt_first : (stop_of exit_begun (with_frames 16) statement.TestCancel ≡ Some why.Unbuilt) × (stop_of no_exit (with_handlers 32) (statement.Create destination.Drop destination.Drop 0 (operand.Num 0) false) ≡ Some why.Unbuilt)
+unbuilt_first : (stop_of exit_begun (with_frames 16) statement.TestCancel ≡ Some why.Unbuilt) × (stop_of no_exit (with_handlers 32) (statement.KeyCreate destination.Drop destination.Drop None) ≡ Some why.Unbuilt)
 unfolding stops_of stop_at
 unbuilt_first = (refl, refl)
 
@@ -322,12 +324,12 @@ unfolding stops_of stop_at value_of open_of close_of
 second_exit = (refl, refl, refl, refl)
 
 -- a return of a function that `do` calls is no stop
-second_exit_only_in_main : stop_at (returns_0 ∷ []) exit_begun (with_handlers 0) (new_frame 0 0 kind.Call) returns_0 ≡ None
+second_exit_only_in_main : stop_at (returns_0 ∷ []) exit_begun (with_handlers 0) no_answer (new_frame 0 0 kind.Call) returns_0 ≡ None
 unfolding stops_of stop_at value_of open_of close_of
 second_exit_only_in_main = refl
 
 -- a stop changes nothing but the run
-stopped_by_second_exit : transition_at (returns_0 ∷ []) exit_begun (with_handlers 0) (StatementIn main_frame returns_0) Running ≡ record { next = None; actions = Stop why.ExitTwice ∷ []; events = what.Stopped why.ExitTwice ∷ [] }
+stopped_by_second_exit : transition_at (returns_0 ∷ []) exit_begun (with_handlers 0) no_answer alt.Go (StatementIn main_frame returns_0) Running ≡ record { next = None; created = None; actions = Stop why.ExitTwice ∷ []; events = what.Stopped why.ExitTwice ∷ [] }
 unfolding transition_at stops_of stop_at value_of open_of close_of
 stopped_by_second_exit = refl
 
@@ -356,12 +358,12 @@ all_ended = record { processes = record (first_process smallest) { ended = Some 
 
 -- no entry is legal after a stop
 nothing_after_a_stop : IsFalse (is_legal smallest default_config stopped first_goes)
-unfolding opening step open_of close_of jumps emits sets variable_value adds calls pushes pops exits returns_by ends_process stops_of stop_at running_choices choices_at runs transition_at thread_at thread_after shared_after process_after other_process_after stop_after after_transition
+unfolding opening step open_of close_of jumps emits sets variable_value adds calls pushes pops exits returns_by ends_process stops_of stop_at statement_query query_at answer_to running_choices choices_at runs transition_at thread_at thread_after named_after shared_after process_after other_process_after stop_after after_transition
 nothing_after_a_stop = refl
 
 -- a stop precedes complete, complete precedes deadlock, deadlock precedes budget
 verdict_order : (verdict_of smallest (with_budget 2) (record all_ended { stop = Some why.StackFull }) 2 ≡ verdict.Undefined why.StackFull) × (verdict_of smallest (with_budget 2) all_ended 2 ≡ verdict.Complete) × (verdict_of smallest (with_budget 2) deadlocked 2 ≡ verdict.Deadlock)
-unfolding verdict_of main_of keyword_text statement_at running_choices choices_at
+unfolding verdict_of main_of keyword_text statement_at statement_query query_at answer_to running_choices choices_at
 verdict_order = (refl, refl, refl)
 
 -- a process with this id, parent and exit status
@@ -381,12 +383,12 @@ parent_and_end p = (p.parent, p.ended, p.reaped)
 -- as a process ends, its ended children are reaped, its other children lose their parent, and other processes are
 -- unchanged
 end_of_a_process : map parent_and_end (after_transition 2 1 ends_with_7 family).processes ≡ (0, None, false) ∷ (1, Some 7, false) ∷ (2, Some 5, true) ∷ (0, None, false) ∷ (1, Some 6, false) ∷ []
-unfolding main_of keyword_text after_transition thread_at thread_after shared_after process_after other_process_after stop_after
+unfolding main_of keyword_text after_transition thread_at thread_after named_after shared_after process_after other_process_after stop_after
 end_of_a_process = refl
 
 -- a process without a parent is reaped as it ends
 end_of_the_first : map parent_and_end (after_transition 1 1 ends_with_7 family).processes ≡ (0, Some 7, true) ∷ (0, None, false) ∷ (2, Some 5, false) ∷ (2, None, false) ∷ (1, Some 6, true) ∷ []
-unfolding main_of keyword_text after_transition thread_at thread_after shared_after process_after other_process_after stop_after
+unfolding main_of keyword_text after_transition thread_at thread_after named_after shared_after process_after other_process_after stop_after
 end_of_the_first = refl
 
 -- ---- entries
@@ -396,27 +398,27 @@ legal_at_start e = is_legal smallest default_config (opening smallest) e
 
 -- thread 1 may step, by any worker from 0 to 16
 first_workers : (IsTrue (legal_at_start (record first_goes { worker = 0 }))) × (IsTrue (legal_at_start first_goes)) × (IsTrue (legal_at_start (record first_goes { worker = 16 })))
-unfolding main_of keyword_text statement_at value_of opening open_of close_of jumps emits sets variable_value adds calls pushes pops exits returns_by ends_process stops_of stop_at running_choices choices_at runs transition_at thread_at thread_after shared_after process_after other_process_after stop_after after_transition step
+unfolding main_of keyword_text statement_at value_of opening open_of close_of jumps emits sets variable_value adds calls pushes pops exits returns_by ends_process stops_of stop_at statement_query query_at answer_to running_choices choices_at runs transition_at thread_at thread_after named_after shared_after process_after other_process_after stop_after after_transition step
 first_workers = (refl, refl, refl)
 
 -- no worker is above 16
 no_worker_17 : IsFalse (legal_at_start (record first_goes { worker = 17 }))
-unfolding main_of keyword_text statement_at value_of opening open_of close_of jumps emits sets variable_value adds calls pushes pops exits returns_by ends_process stops_of stop_at running_choices choices_at runs transition_at thread_at thread_after shared_after process_after other_process_after stop_after after_transition step
+unfolding main_of keyword_text statement_at value_of opening open_of close_of jumps emits sets variable_value adds calls pushes pops exits returns_by ends_process stops_of stop_at statement_query query_at answer_to running_choices choices_at runs transition_at thread_at thread_after named_after shared_after process_after other_process_after stop_after after_transition step
 no_worker_17 = refl
 
 -- there is no other process
 no_other_process : (IsFalse (legal_at_start (record first_goes { pid = 0 }))) × (IsFalse (legal_at_start (record first_goes { pid = 2 })))
-unfolding main_of keyword_text statement_at value_of opening open_of close_of jumps emits sets variable_value adds calls pushes pops exits returns_by ends_process stops_of stop_at running_choices choices_at runs transition_at thread_at thread_after shared_after process_after other_process_after stop_after after_transition step
+unfolding main_of keyword_text statement_at value_of opening open_of close_of jumps emits sets variable_value adds calls pushes pops exits returns_by ends_process stops_of stop_at statement_query query_at answer_to running_choices choices_at runs transition_at thread_at thread_after named_after shared_after process_after other_process_after stop_after after_transition step
 no_other_process = (refl, refl)
 
 -- there is no other thread
 no_other_thread : (IsFalse (legal_at_start (record first_goes { tid = 0 }))) × (IsFalse (legal_at_start (record first_goes { tid = 2 })))
-unfolding main_of keyword_text statement_at value_of opening open_of close_of jumps emits sets variable_value adds calls pushes pops exits returns_by ends_process stops_of stop_at running_choices choices_at runs transition_at thread_at thread_after shared_after process_after other_process_after stop_after after_transition step
+unfolding main_of keyword_text statement_at value_of opening open_of close_of jumps emits sets variable_value adds calls pushes pops exits returns_by ends_process stops_of stop_at statement_query query_at answer_to running_choices choices_at runs transition_at thread_at thread_after named_after shared_after process_after other_process_after stop_after after_transition step
 no_other_thread = (refl, refl)
 
 -- there is no other choice
 nothing_but_go : (IsFalse (legal_at_start (record first_goes { alt = alt.Act 0 }))) × (IsFalse (legal_at_start (record first_goes { alt = alt.New 2 }))) × (IsFalse (legal_at_start (record first_goes { alt = alt.Pick 1 }))) × (IsFalse (legal_at_start (record first_goes { alt = alt.Dtor 1 })))
-unfolding main_of keyword_text statement_at value_of opening open_of close_of jumps emits sets variable_value adds calls pushes pops exits returns_by ends_process stops_of stop_at running_choices choices_at runs transition_at thread_at thread_after shared_after process_after other_process_after stop_after after_transition step
+unfolding main_of keyword_text statement_at value_of opening open_of close_of jumps emits sets variable_value adds calls pushes pops exits returns_by ends_process stops_of stop_at statement_query query_at answer_to running_choices choices_at runs transition_at thread_at thread_after named_after shared_after process_after other_process_after stop_after after_transition step
 nothing_but_go = (refl, refl, refl, refl)
 
 -- ---- names, and the limit on statement lines

@@ -1,8 +1,22 @@
 use Rattle.std.proofs.Common.{◌<◌, ◌≤◌, length, refl, ap, arith}
 use Rattle.std.proofs.lemmas.Bool.{false≢true}
 use Rattle.pct_engine.specs.Programs.{ProgramValue}
+use Rattle.pct_engine.proofs.StepViews.{placed_in}
+use Rattle.pct_engine.proofs.FittingIds.{ids_in}
 use Rattle.pct_engine.proofs.EngineRuns.{stands-more, legal-more, illegal-more, illegal-full}
 use Rattle.pct_engine.proofs.engine.step_with.Goals as goal
+
+pub step-requires-clause-placed : goal.step-requires-clause-placed
+step-requires-clause-placed c =
+    let program = c.args.program.now in
+    let stands = c.requires.stands in
+    placed_in program.script program.config.slots c.args.machine.now stands.after.world stands.parts_are
+
+pub step-requires-clause-ids : goal.step-requires-clause-ids
+step-requires-clause-ids c =
+    let program = c.args.program.now in
+    let stands = c.requires.stands in
+    ids_in program.script program.config c.args.history.now.items stands.after c.args.machine.now stands.is_run stands.parts_are
 
 pub returns-then-len-program-clause-legal : goal.returns-then-len-program-clause-legal
 returns-then-len-program-clause-legal c =

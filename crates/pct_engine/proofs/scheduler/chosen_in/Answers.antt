@@ -9,14 +9,14 @@ use Rattle.pct_engine.proofs.LegalChoices.{chosen_is_legal}
 use Rattle.pct_engine.proofs.scheduler.chosen_in.Goals as goal
 
 pub returns-then-machine-clause-value : goal.returns-then-machine-clause-value
-returns-then-machine-clause-value c = sym (seen_chosen-ended c.args.program.now.script c.args.machine.now c.args.worker c.args.a c.args.b c.if-machine.true)
+returns-then-machine-clause-value c = sym (seen_chosen-ended c.args.program.now.script c.args.program.now.config.slots c.args.machine.now c.args.worker c.args.a c.args.b c.if-machine.true)
 
 pub returns-in_default-clause-value : goal.returns-in_default-clause-value
 returns-in_default-clause-value c =
     let script = c.args.program.now.script in
     let running : is_none c.args.machine.now.stop ≡ true = ap not (sym c.is_some.ensures ∙ c.if-is_some.false) in
-    sym (seen_chosen-machine script c.args.machine.now c.args.worker c.args.a c.args.b running c.if-machine.false
-    ∙ ap (option_and_then (λ (h : Held). entry_for c.args.worker c.args.b (candidate_held script h))) (sym c.in_default.ensures.value))
+    sym (seen_chosen-machine script c.args.program.now.config.slots c.args.machine.now c.args.worker c.args.a c.args.b (c.requires.slots c.if-machine.false) running c.if-machine.false
+    ∙ ap (option_and_then (λ (h : Held). entry_for c.args.worker c.args.b (candidate_held script c.args.machine.now h))) (sym c.in_default.ensures.value))
 
 pub returns-clause-value : goal.returns-clause-value
 returns-clause-value c =
@@ -24,12 +24,12 @@ returns-clause-value c =
     let running : is_none c.args.machine.now.stop ≡ true = ap not (sym c.is_some.ensures ∙ c.if-is_some.false) in
     let held = held_on c.args.machine.now.threads c.in-Some.slot c.in-Some.ensures.occupied in
     c.entry_on.ensures held.0 held.1
-    ∙ sym (seen_chosen-machine script c.args.machine.now c.args.worker c.args.a c.args.b running c.if-machine.false
-    ∙ ap (option_and_then (λ (h : Held). entry_for c.args.worker c.args.b (candidate_held script h))) (sym c.in-Some.ensures.value ∙ held.1))
+    ∙ sym (seen_chosen-machine script c.args.program.now.config.slots c.args.machine.now c.args.worker c.args.a c.args.b (c.requires.slots c.if-machine.false) running c.if-machine.false
+    ∙ ap (option_and_then (λ (h : Held). entry_for c.args.worker c.args.b (candidate_held script c.args.machine.now h))) (sym c.in-Some.ensures.value ∙ held.1))
 
 pub returns-clause-legal : goal.returns-clause-legal
 returns-clause-legal c = λ placed small.
     let machine = c.args.machine.now in
     let running : is_none machine.stop ≡ true = ap not (sym c.is_some.ensures ∙ c.if-is_some.false) in
     let held = held_on machine.threads c.in-Some.slot c.in-Some.ensures.occupied in
-    chosen_is_legal c.args.program.now.script c.args.program.now.config machine c.in-Some.slot c.args.worker c.args.b held.0 c.entry_on.result running c.if-machine.false (le-leb c.args.worker 16 small) held.1 ((placed c.if-machine.false).place c.in-Some.slot held.0 held.1) (c.entry_on.ensures held.0 held.1)
+    chosen_is_legal c.args.program.now.script c.args.program.now.config machine c.in-Some.slot c.args.worker c.args.b held.0 c.entry_on.result (c.requires.slots c.if-machine.false) running c.if-machine.false (le-leb c.args.worker 16 small) held.1 ((placed c.if-machine.false).place c.in-Some.slot held.0 held.1) (c.entry_on.ensures held.0 held.1)

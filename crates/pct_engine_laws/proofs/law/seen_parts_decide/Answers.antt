@@ -3,6 +3,7 @@ use Rattle.pct_engine_laws.proofs.AfterSeen.{after_is_seen}
 use Rattle.pct_engine_laws.proofs.VerdictSeen.{verdict_is_seen}
 use Rattle.pct_engine_laws.proofs.ChosenSeen.{chosen_is_seen}
 use Rattle.pct_engine_laws.proofs.OpenRuns.{goes_on_while_open}
+use Rattle.pct_engine_laws.proofs.FewThreads.{few_made}
 use Rattle.pct_engine_laws.proofs.law.seen_parts_decide.Goals as goal
 
 pub returns-clause-transition : goal.returns-clause-transition
@@ -19,3 +20,6 @@ returns-clause-chosen c = chosen_is_seen
 
 pub returns-clause-open : goal.returns-clause-open
 returns-clause-open c = goes_on_while_open
+
+pub returns-clause-few : goal.returns-clause-few
+returns-clause-few c = few_made

@@ -3,8 +3,18 @@ use Rattle.pct_model.specs.Run.{Run}
 use Rattle.pct_engine.specs.Views.{machine_view}
 use Rattle.pct_engine.specs.Steps.{IsSeenChoice}
 use Rattle.pct_engine.specs.EngineStates.{EngineValue, IsRunOf, IsChoice}
-use Rattle.pct_engine.proofs.EngineChoices.{choice_after}
+use Rattle.pct_engine.proofs.EngineChoices.{choice_after, slots_after, ids_after}
 use Rattle.pct_engine.proofs.engine.Engine.choose.Goals as goal
+
+pub chosen-requires-clause-slots : goal.chosen-requires-clause-slots
+chosen-requires-clause-slots c =
+    let e = c.self.inside in
+    slots_after e.program.script e.program.config e.history.items e.events.items e.machine c.self.invariant.0
+
+pub chosen-requires-clause-ids : goal.chosen-requires-clause-ids
+chosen-requires-clause-ids c =
+    let e = c.self.inside in
+    ids_after e.program.script e.program.config e.history.items e.events.items e.machine c.self.invariant.0
 
 pub returns : goal.returns
 returns c =

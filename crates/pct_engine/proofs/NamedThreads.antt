@@ -1,0 +1,161 @@
+-- The threads that a transition names: what is kept of them changes as the threads of the state.
+use Rattle.std.proofs.Common.{◌≡◌, ℕ, Bool, true, false, not, ◌&&◌, cond, List, [], ◌∷◌, map, filter, Option, Some, None, refl, sym, ap, ◌∙◌, subst, ne_eqb, eq-eqb}
+use Rattle.std.specs.Prelude.{nat_eq, position, option_map, option_and_then, IfSome}
+use Rattle.std.proofs.lemmas.Bool.{and_parts, not-true}
+use Rattle.std.specs.Option.{option_map_or}
+use Rattle.pct_model.specs.declared.transition.Action.{Action}
+use Rattle.pct_model.specs.declared.transition.Action.TheVariants as action
+use Rattle.pct_model.specs.World.{Thread}
+use Rattle.pct_model.specs.ThreadSlots.{is_ended_status, holds_slot, slot_of}
+use Rattle.pct_model.specs.Actions.{named_after}
+use Rattle.pct_threads.specs.Slots.{Held, Slot, has_id, is_reclaimable, with_joiner, after_detach, after_change, with_change, freed}
+use Rattle.pct_threads.specs.Tables.{slot_at, held_at, id_at, is_reclaimable_at, on_slot}
+use Rattle.pct_engine_laws.proofs.ThreadChanges.{KeepsSlots, named_keeps}
+use Rattle.pct_engine_laws.proofs.ThreadChanges as laws
+use Rattle.pct_engine.specs.Fitting.{IfNamed, NameFits}
+use Rattle.pct_engine.specs.Views.{thread_of, threads_of}
+use Rattle.pct_engine.specs.MachineChanges.{on_named, named_on}
+use Rattle.pct_engine.proofs.SearchedSlots.{held_found, fails_everywhere}
+use Rattle.pct_engine.proofs.ChangedTables.{changed_slots, same_slots, open_view, changed_view, change_of_open}
+
+-- each thread on a slot of the table has an id of the slot
+abbrev pub AreOnTheirSlots : ℕ → List Slot → Type 0
+AreOnTheirSlots slots threads = (slot : ℕ) (held : Held) → held_at threads slot ≡ Some held → slot_of slots held.id ≡ slot
+
+-- ---- a slot whose thread is not named
+
+unnamed_here : (id : ℕ) (f : Thread → Thread) (o : Option Held) → ((t : Thread) → nat_eq t.id id ≡ false → f t ≡ t) → ((h : Held) → o ≡ Some h → nat_eq h.id id ≡ false) → filter holds_slot (threads_of o) ≡ filter holds_slot (map f (threads_of o))
+unnamed_here id f None stays other = refl
+unnamed_here id f (Some h) stays other = ap (λ (t : Thread). filter holds_slot (t ∷ [])) (sym (stays (thread_of h) (other h refl)))
+
+pub unnamed : (id : ℕ) (f : Thread → Thread) (s : Slot) → ((t : Thread) → nat_eq t.id id ≡ false → f t ≡ t) → ((h : Held) → s.here ≡ Some h → nat_eq h.id id ≡ false) → open_view s ≡ changed_view f s
+unnamed id f s stays other i = record { made = s.made; here = unnamed_here id f s.here stays other i }
+
+-- ---- the thread with an id
+
+-- no slot has a thread with the id, where the search finds none
+test_held : (id : ℕ) (o : Option Held) (h : Held) → option_map_or (λ held. nat_eq held.id id) o false ≡ false → o ≡ Some h → nat_eq h.id id ≡ false
+test_held id o h fails here = sym (ap (λ (x : Option Held). option_map_or (λ held. nat_eq held.id id) x false) here) ∙ fails
+
+module _ (slots id : ℕ) (f : Thread → Thread) (change : Slot → Slot) (threads : List Slot)
+    (placed : AreOnTheirSlots slots threads) (stays : (t : Thread) → nat_eq t.id id ≡ false → f t ≡ t)
+    (changes : (k : ℕ) (h : Held) → position (has_id id) threads ≡ Some k → held_at threads k ≡ Some h → nat_eq h.id id ≡ true → open_view (change (slot_at threads k)) ≡ changed_view f (slot_at threads k)) where
+  found_view : (o : Option ℕ) → position (has_id id) threads ≡ o → map open_view (option_map_or (λ target. on_slot target change threads) o threads) ≡ map (changed_view f) threads
+  found_view None none = same_slots open_view (changed_view f) threads (λ j. unnamed id f (slot_at threads j) stays (λ h here. test_held id (held_at threads j) h (fails_everywhere id threads none j) here))
+  found_view (Some k) found =
+      let at = held_found id k threads found in
+      changed_slots open_view (changed_view f) k change threads
+      (λ inside. changes k at.0 found at.1 (eq-eqb at.0.id id at.2))
+      (λ j differs. unnamed id f (slot_at threads j) stays (λ h here. ne_eqb h.id id (λ same. differs (sym (placed j h here) ∙ ap (slot_of slots) (same ∙ sym at.2) ∙ placed k at.0 at.1))))
+
+  pub on_named_view : map open_view (on_named id change threads) ≡ map (changed_view f) threads
+  on_named_view = found_view (position (has_id id) threads) refl
+
+-- ---- each action
+
+-- what is kept of one of two threads
+kept_either : (b : Bool) (x y : Thread) → filter holds_slot (cond b x y ∷ []) ≡ cond b (filter holds_slot (x ∷ [])) (filter holds_slot (y ∷ []))
+kept_either true x y = refl
+kept_either false x y = refl
+
+-- what is kept of a thread, or of none
+kept_unless : (b : Bool) (h : Held) → filter holds_slot (threads_of (cond b None (Some h))) ≡ cond b [] (filter holds_slot (thread_of h ∷ []))
+kept_unless true h = refl
+kept_unless false h = refl
+
+-- what is kept of a thread after a change by which it would be joined or detached, if it has the id: by whether it has ended and
+-- is detached
+abbrev one_kept : Thread → Thread → Bool → Bool → List Thread
+one_kept new old ended detached = cond (not (ended && detached)) (cond (not (ended && true)) (new ∷ []) []) (cond (not (ended && detached)) (old ∷ []) [])
+
+module _ (h : Held) (id : ℕ) (named : nat_eq h.id id ≡ true) where
+  detached_kept : filter holds_slot (named_after (action.Detach id) (thread_of h) ∷ []) ≡ one_kept (record (thread_of h) { detached = true }) (thread_of h) (is_ended_status h.thread.status) h.detached
+  unfolding named_after
+  detached_kept =
+      ap (λ (n : Bool). filter holds_slot (cond (n && holds_slot (thread_of h)) (record (thread_of h) { detached = true }) (thread_of h) ∷ [])) named
+      ∙ kept_either (holds_slot (thread_of h)) (record (thread_of h) { detached = true }) (thread_of h)
+
+  joined_kept : filter holds_slot (named_after (action.EndJoin id) (thread_of h) ∷ []) ≡ one_kept (record (thread_of h) { joined = true }) (thread_of h) (is_ended_status h.thread.status) h.detached
+  unfolding named_after
+  joined_kept =
+      ap (λ (n : Bool). filter holds_slot (cond (n && holds_slot (thread_of h)) (record (thread_of h) { joined = true }) (thread_of h) ∷ [])) named
+      ∙ kept_either (holds_slot (thread_of h)) (record (thread_of h) { joined = true }) (thread_of h)
+
+  detach_cases : (e d : Bool) → cond e [] (cond (not (e && true)) (thread_of (record h { detached = true }) ∷ []) []) ≡ one_kept (record (thread_of h) { detached = true }) (thread_of h) e d
+  detach_cases true true = refl
+  detach_cases true false = refl
+  detach_cases false d = refl
+
+  -- pthread_detach
+  detached_by : filter holds_slot (threads_of (after_detach h)) ≡ filter holds_slot (named_after (action.Detach id) (thread_of h) ∷ [])
+  detached_by =
+      kept_unless (is_ended_status h.thread.status) (record h { detached = true })
+      ∙ detach_cases (is_ended_status h.thread.status) h.detached
+      ∙ sym detached_kept
+
+  -- pthread_join
+  joined_by : is_ended_status h.thread.status ≡ true → h.detached ≡ false → [] ≡ filter holds_slot (named_after (action.EndJoin id) (thread_of h) ∷ [])
+  joined_by ended detached =
+      sym (joined_kept
+      ∙ ap (λ (e : Bool). one_kept (record (thread_of h) { joined = true }) (thread_of h) e h.detached) ended
+      ∙ ap (one_kept (record (thread_of h) { joined = true }) (thread_of h) true) detached)
+
+-- no change
+pub same_here : (o : Option Held) → filter holds_slot (threads_of o) ≡ filter holds_slot (map (λ (t : Thread). t) (threads_of o))
+same_here None = refl
+same_here (Some h) = refl
+
+-- another joiner
+joiner_here : (joiner : ℕ) (o : Option Held) → filter holds_slot (threads_of (option_map (with_joiner joiner) o)) ≡ filter holds_slot (map (λ (t : Thread). t) (threads_of o))
+joiner_here joiner None = refl
+joiner_here joiner (Some h) = refl
+
+-- a thread with another id is not named
+join_stays : (id : ℕ) (t : Thread) → nat_eq t.id id ≡ false → named_after (action.EndJoin id) t ≡ t
+unfolding named_after
+join_stays id t other = ap (λ (b : Bool). cond (b && holds_slot t) (record t { joined = true }) t) other
+
+detach_stays : (id : ℕ) (t : Thread) → nat_eq t.id id ≡ false → named_after (action.Detach id) t ≡ t
+unfolding named_after
+detach_stays id t other = ap (λ (b : Bool). cond (b && holds_slot t) (record t { detached = true }) t) other
+
+detach_view : (id : ℕ) (s : Slot) (h : Held) → s.here ≡ Some h → nat_eq h.id id ≡ true → open_view (after_change after_detach s) ≡ changed_view (named_after (action.Detach id)) s
+detach_view id s h here named i = record {
+  made = s.made;
+  here = (ap (λ (o : Option Held). filter holds_slot (threads_of (option_and_then after_detach o))) here
+      ∙ detached_by h id named
+      ∙ sym (ap (λ (o : Option Held). filter holds_slot (map (named_after (action.Detach id)) (threads_of o))) here)) i;
+}
+
+join_view : (id : ℕ) (s : Slot) (h : Held) → s.here ≡ Some h → nat_eq h.id id ≡ true → is_reclaimable h ≡ true → open_view (freed s) ≡ changed_view (named_after (action.EndJoin id)) s
+join_view id s h here named ready i =
+    let parts = and_parts (is_ended_status h.thread.status) (not h.detached) ready in
+    record {
+      made = s.made;
+      here = (joined_by h id named parts.0 (not-true h.detached parts.1)
+          ∙ sym (ap (λ (o : Option Held). filter holds_slot (map (named_after (action.EndJoin id)) (threads_of o))) here)) i;
+    }
+
+-- ---- an action
+
+reclaimable_found : (id k : ℕ) (threads : List Slot) (h : Held) → IfNamed id threads (λ target. is_reclaimable_at threads target ≡ true) → position (has_id id) threads ≡ Some k → held_at threads k ≡ Some h → is_reclaimable h ≡ true
+reclaimable_found id k threads h fits found here =
+    let ready : is_reclaimable_at threads k ≡ true = subst (λ (o : Option ℕ). IfSome o (λ target. is_reclaimable_at threads target ≡ true)) found fits in
+    sym (ap (λ (o : Option Held). option_map_or is_reclaimable o false) here) ∙ ready
+
+named_first : (slots slot : ℕ) (a : Action) (threads : List Slot) → AreOnTheirSlots slots threads → NameFits slot a threads → map open_view (named_on slot a threads) ≡ map (changed_view (named_after a)) threads
+unfolding named_on named_after
+named_first slots slot (action.BeginJoin id) threads placed fits =
+    on_named_view slots id (λ t. t) (with_change (with_joiner (id_at threads slot))) threads placed (λ t other. refl)
+    (λ k h found here named i. record { made = (slot_at threads k).made; here = joiner_here (id_at threads slot) (held_at threads k) i })
+named_first slots slot (action.EndJoin id) threads placed fits =
+    on_named_view slots id (named_after (action.EndJoin id)) freed threads placed (join_stays id)
+    (λ k h found here named. join_view id (slot_at threads k) h here named (reclaimable_found id k threads h fits found here))
+named_first slots slot (action.Detach id) threads placed fits =
+    on_named_view slots id (named_after (action.Detach id)) (after_change after_detach) threads placed (detach_stays id)
+    (λ k h found here named. detach_view id (slot_at threads k) h here named)
+named_first slots slot _ threads placed fits = same_slots open_view (changed_view (λ t. t)) threads (λ j i. record { made = (slot_at threads j).made; here = same_here (held_at threads j) i })
+
+-- what is kept of a table after an action that may name a thread
+pub named_view : (slots slot : ℕ) (a : Action) (threads : List Slot) → AreOnTheirSlots slots threads → NameFits slot a threads → map open_view (named_on slot a threads) ≡ map (laws.with_change (named_after a)) (map open_view threads)
+named_view slots slot a threads placed fits = named_first slots slot a threads placed fits ∙ sym (change_of_open (named_after a) (named_keeps a) threads)

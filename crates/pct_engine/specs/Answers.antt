@@ -1,0 +1,31 @@
+-- The answers to a thread's query about the other threads.
+use Rattle.std.specs.Prelude.{◌≡◌, ℕ, ◌<◌, ◌^◌, Bool, false, not, ◌||◌, List, map, length, Option, nat_eq}
+use Rattle.std.specs.Option.{option_map_or}
+use Rattle.pct_model.specs.World.{Thread}
+use Rattle.pct_model.specs.OtherThreads.{Others}
+use Rattle.pct_threads.specs.Slots.{Held, Slot}
+use Rattle.pct_threads.specs.Tables.{next_id_at}
+use Rattle.pct_engine.specs.Views.{thread_of}
+use Rattle.pct_engine.specs.declared.other_threads.Others.{Others as Answer}
+
+-- the thread on a slot passes a test; a free slot has no thread
+abbrev pub any_on : (Thread → Bool) → Option Held → Bool
+any_on test here = option_map_or (λ h. test (thread_of h)) here false
+
+-- the thread has not ended, and has another id
+abbrev pub is_other_running : ℕ → Thread → Bool
+is_other_running tid t = not (t.ended || nat_eq t.id tid)
+
+-- an answer by slots is this answer, beside the ids that a new thread can get
+pub record SeesAlike (answer : Answer) (others : Others) : Type 0 where
+  pub target_is : answer.target ≡ others.target
+  pub is_last_is : answer.is_last ≡ others.is_last
+
+-- an answer by slots is this answer, in a process with these threads
+pub record IsAnswer (threads : List Slot) (answer : Answer) (others : Others) : Type 0 where
+  pub alike : SeesAlike answer others
+  pub new_ids_are : map (next_id_at threads) answer.free ≡ others.new_ids
+
+-- the id of the next thread on each slot fits 32 bits
+abbrev pub IdsFit : List Slot → Type 0
+IdsFit threads = (slot : ℕ) → slot < length threads → next_id_at threads slot < 2 ^ 32
