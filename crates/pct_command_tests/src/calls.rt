@@ -1,79 +1,11 @@
 //! Whole calls of `command`, over memory. The expected bytes are worked by hand from the rules of the machine.
 
-use pct_command::{Status, command};
-use pct_io::{MemSink, MemSource, NoGate};
+use crate::harness::{Outside, QUIET, call, report};
+use pct_command::Status;
 use std::alloc::{AllocError, Global};
 use std::test::Fail;
-use std::thread::Threads;
 
 const SMALLEST: &[u8] = b"fn main x\nreturn 0\nend\n";
-
-// What a call answered, what it wrote, and how many bytes it left unread.
-#[derive(Drop)]
-struct Answer {
-    status: Status,
-    text: Vec<u8>,
-    left: usize,
-}
-
-// The memory forms of the outside: which calls fail, and how many bytes a write takes.
-#[derive(Clone, Copy)]
-struct Outside<'a> {
-    read_fails: &'a [u64],
-    write_chunk: u32,
-    write_fails: &'a [u64],
-}
-
-const QUIET: Outside<'static> = Outside {
-    read_fails: &[],
-    write_chunk: 1_000_000,
-    write_fails: &[],
-};
-
-fn call<R: Threads + Sync>(
-    rt: &R,
-    alloc: Global,
-    words: &[&str],
-    input: &[u8],
-    outside: &Outside,
-) -> Result<Answer, AllocError> {
-    let mut all = Vec::new(alloc);
-    for word in words {
-        all.push(String::from_str(alloc, word)?)?;
-    }
-    let chunk = outside.write_chunk.max(1);
-    let mut source = MemSource::new(alloc, input, 4096, outside.read_fails).map_err(
-        |_| AllocError,
-    )?;
-    let mut sink = MemSink::new(alloc, 2_000_000, chunk, outside.write_fails).map_err(
-        |_| AllocError,
-    )?;
-    let status = command(rt, alloc, &all, &mut source, &mut sink, &NoGate);
-    Ok(Answer {
-        status,
-        text: sink.written().to_vec(alloc)?,
-        left: source.left().len(),
-    })
-}
-
-// The report of a run of the default numbers: its events, its verdict, and this many steps of the first thread.
-fn report(
-    alloc: Global,
-    events: &[u8],
-    verdict: &[u8],
-    steps: usize,
-) -> Result<Vec<u8>, AllocError> {
-    let mut text = Vec::from_slice(alloc, b"report 1\n")?;
-    text.extend_from_slice(events)?;
-    text.extend_from_slice(b"verdict ")?;
-    text.extend_from_slice(verdict)?;
-    text.extend_from_slice(b"\nschedule 1 10000 4 64\n")?;
-    for _ in 0..steps {
-        text.extend_from_slice(b"1 1 1 go\n")?;
-    }
-    text.extend_from_slice(format!(in alloc; "end {steps}\n")?.as_bytes())?;
-    Ok(text)
-}
 
 #[test]
 fn reports(rt: HostRuntime) -> Result<(), Fail> {

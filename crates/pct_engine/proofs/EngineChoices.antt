@@ -34,19 +34,19 @@ some_slots config limits =
     omega (arith, leb-true 1 config.slots some.1)
 
 -- the parts of an engine are those of the state after the run
-pub parts_after : (script : Script) (config : Config) (history : List Entry) (events : List Event) (parts : Seen) (after : Run) → StandsFor script config history events parts → run script config history ≡ Some after → parts ≡ seen config.slots after.world
-parts_after script config history events parts after stands is =
+pub parts_after : (script : Script) (config : Config) (history : List Entry) (events : List Event) (m : Machine) (after : Run) → StandsFor script config history events m → run script config history ≡ Some after → machine_view script m ≡ seen config.slots after.world
+parts_after script config history events m after stands is =
     stands.parts_are ∙ ap (λ (r : Run). seen config.slots r.world) (same_run script config history stands.after after stands.is_run is)
 
 -- its events
-pub events_after : (script : Script) (config : Config) (history : List Entry) (events : List Event) (parts : Seen) (after : Run) → StandsFor script config history events parts → run script config history ≡ Some after → reverse events ≡ after.events
-events_after script config history events parts after stands is =
+pub events_after : (script : Script) (config : Config) (history : List Entry) (events : List Event) (m : Machine) (after : Run) → StandsFor script config history events m → run script config history ≡ Some after → reverse events ≡ after.events
+events_after script config history events m after stands is =
     stands.events_are ∙ ap (λ (r : Run). r.events) (same_run script config history stands.after after stands.is_run is)
 
 -- its verdict
-pub verdict_after : (script : Script) (config : Config) (history : List Entry) (events : List Event) (parts : Seen) (after : Run) (n : ℕ) → StandsFor script config history events parts → run script config history ≡ Some after → seen_verdict script config parts n ≡ verdict_of script config after.world n
-verdict_after script config history events parts after n stands is =
-    ap (λ (v : Seen). seen_verdict script config v n) (parts_after script config history events parts after stands is)
+pub verdict_after : (script : Script) (config : Config) (history : List Entry) (events : List Event) (m : Machine) (after : Run) (n : ℕ) → StandsFor script config history events m → run script config history ≡ Some after → seen_verdict script config (machine_view script m) n ≡ verdict_of script config after.world n
+verdict_after script config history events m after n stands is =
+    ap (λ (v : Seen). seen_verdict script config v n) (parts_after script config history events m after stands is)
     ∙ sym (verdict_is_seen script config after.world n (some_slots config (run_parts script config history after is).limits))
 
 some_and : {T : Type 0} (o : Option T) (P Q : T → Type 0) → is_some o ≡ true → ((x : T) → P x → Q x) → IfSome o P → IsSomeAnd o Q
@@ -62,14 +62,14 @@ step_runs script config r e None made some = absurd (false≢true some)
 step_runs script config r e (Some s) made some = ap is_some (run_step-is script config r e (Some s) made)
 
 -- the answer to a worker
-pub choice_after : (script : Script) (config : Config) (history : List Entry) (events : List Event) (m : Machine) (after : Run) (worker a b : ℕ) (answer : Option Entry) → StandsFor script config history events (machine_view script m) → run script config history ≡ Some after
+pub choice_after : (script : Script) (config : Config) (history : List Entry) (events : List Event) (m : Machine) (after : Run) (worker a b : ℕ) (answer : Option Entry) → StandsFor script config history events m → run script config history ≡ Some after
     → worker ≤ MAX_WORKER → IsSeenChoice script config (machine_view script m) (length history) worker a b answer
     → (ArePlacedIn config.slots m → worker ≤ MAX_WORKER → IfSome answer (λ e. is_some (legal_transition script config (machine_view script m) e) ≡ true))
     → IsChoice (record { script = script; config = config; history = history }) after worker a b answer
 choice_after script config history events m after worker a b answer stands is small choice legal =
     let parts : Seen = machine_view script m in
-    let view = parts_after script config history events parts after stands is in
-    let verdict = verdict_after script config history events parts after (length history) stands is in
+    let view = parts_after script config history events m after stands is in
+    let verdict = verdict_after script config history events m after (length history) stands is in
     let within = run_parts script config history after is in
     let some : 0 < config.slots = some_slots config within.limits in
     let placed = placed_in script config.slots m after.world view in
@@ -89,9 +89,9 @@ choice_after script config history events m after worker a b answer stands is sm
 -- ---- what holds of the machine of a run
 
 -- its threads are on as many slots as the configuration has, while the process has not ended
-pub slots_after : (script : Script) (config : Config) (history : List Entry) (events : List Event) (m : Machine) → StandsFor script config history events (machine_view script m) → m.has_ended ≡ false → length m.threads ≡ config.slots
+pub slots_after : (script : Script) (config : Config) (history : List Entry) (events : List Event) (m : Machine) → StandsFor script config history events m → m.has_ended ≡ false → length m.threads ≡ config.slots
 slots_after script config history events m stands live = (placed_in script config.slots m stands.after.world stands.parts_are live).all
 
 -- the ids of new threads fit 32 bits
-pub ids_after : (script : Script) (config : Config) (history : List Entry) (events : List Event) (m : Machine) → StandsFor script config history events (machine_view script m) → IdsFitIn m
+pub ids_after : (script : Script) (config : Config) (history : List Entry) (events : List Event) (m : Machine) → StandsFor script config history events m → IdsFitIn m
 ids_after script config history events m stands = ids_in script config history stands.after m stands.is_run stands.parts_are

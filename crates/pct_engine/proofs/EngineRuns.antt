@@ -12,7 +12,7 @@ use Rattle.pct_model.specs.Step.{step}
 use Rattle.pct_model.specs.Run.{Run, event_of, run}
 use Rattle.pct_engine_laws.proofs.LongerRuns.{run_more, run_full, run_after, run_step-is}
 use Rattle.pct_engine.specs.declared.machine.Machine.{Machine}
-use Rattle.pct_engine.specs.Views.{machine_view}
+use Rattle.pct_engine.specs.Joiners.{HaveJoiners}
 use Rattle.pct_engine.specs.Steps.{IsStepOf}
 use Rattle.pct_engine.specs.EngineStates.{StandsFor}
 
@@ -25,9 +25,9 @@ reverse-map f (x ∷ xs) =
     ∙ ap (map f) (sym (reverse-append (x ∷ []) xs))
 
 -- an engine after a step that it recorded
-pub stands-more : (script : Script) (config : Config) (history : List Entry) (events : List Event) (m new : Machine) (e : Entry) (whats : List What) → length history < config.budget → (stands : StandsFor script config history events (machine_view script m)) → IsStepOf script config stands.after.world new e whats
-    → StandsFor script config (history ++ e ∷ []) (events ++ map (event_of e) whats) (machine_view script new)
-stands-more script config history events m new e whats left stands made =
+pub stands-more : (script : Script) (config : Config) (history : List Entry) (events : List Event) (m new : Machine) (e : Entry) (whats : List What) → length history < config.budget → (stands : StandsFor script config history events m) → IsStepOf script config stands.after.world new e whats → HaveJoiners new.threads
+    → StandsFor script config (history ++ e ∷ []) (events ++ map (event_of e) whats) new
+stands-more script config history events m new e whats left stands made joiners =
     let r = stands.after in
     let s = made.successor in
     record {
@@ -38,14 +38,14 @@ stands-more script config history events m new e whats left stands made =
           ∙ ap (λ (es : List Event). es ++ reverse events) (reverse-map (event_of e) whats ∙ ap (λ (xs : List What). map (event_of e) (reverse xs)) made.events_are)
           ∙ ap (λ (es : List Event). map (event_of e) (reverse s.events) ++ es) stands.events_are;
       parts_are = made.view_is;
+      joiners_are = joiners;
     }
 
 -- the history with an entry that makes a step is a run
-pub legal-more : (script : Script) (config : Config) (history : List Entry) (events : List Event) (m new : Machine) (e : Entry) (whats : List What) → length history < config.budget → (stands : StandsFor script config history events (machine_view script m)) → IsStepOf script config stands.after.world new e whats
+pub legal-more : (script : Script) (config : Config) (history : List Entry) (events : List Event) (m new : Machine) (e : Entry) (whats : List What) → length history < config.budget → (stands : StandsFor script config history events m) → IsStepOf script config stands.after.world new e whats
     → is_some (run script config (history ++ e ∷ [])) ≡ true
 legal-more script config history events m new e whats left stands made =
-    let more = stands-more script config history events m new e whats left stands made in
-    ap is_some more.is_run
+    ap is_some (run_more script config history e stands.after stands.is_run left ∙ run_step-is script config stands.after e (Some made.successor) made.is_step)
 
 -- with one that makes none it is not
 pub illegal-more : (script : Script) (config : Config) (history : List Entry) (e : Entry) (r : Run) → length history < config.budget → run script config history ≡ Some r → step script config r.world e ≡ None → is_some (run script config (history ++ e ∷ [])) ≡ true → ⊥

@@ -17,6 +17,7 @@ use Rattle.pct_engine_laws.proofs.OpeningSeen.{first_on_slot, first_thread, firs
 use Rattle.pct_engine.specs.declared.machine.Machine.{Machine}
 use Rattle.pct_engine.specs.Programs.{ProgramValue}
 use Rattle.pct_engine.specs.Views.{slot_view, shared_view, first_process_view, machine_view}
+use Rattle.pct_engine.specs.Joiners.{HaveJoiners}
 use Rattle.pct_engine.specs.EngineStates.{StandsFor}
 
 map-replicate : {A B : Type 0} (f : A → B) (n : ℕ) (x : A) → map f (replicate n x) ≡ replicate n (f x)
@@ -69,18 +70,19 @@ machine_view-first script n func threads globals some main made zeros =
     ∙ ap (first_view script (first_slots n (first_thread script))) zeros
     ∙ sym (opening_is_seen n script some)
 
-first_stands : (script : Script) (config : Config) (m : Machine) → is_config config ≡ true → machine_view script m ≡ seen config.slots (opening script) → StandsFor script config [] [] (machine_view script m)
-first_stands script config m limits view = record {
+first_stands : (script : Script) (config : Config) (m : Machine) → is_config config ≡ true → machine_view script m ≡ seen config.slots (opening script) → HaveJoiners m.threads → StandsFor script config [] [] m
+first_stands script config m limits view joiners = record {
   after = record { world = opening script; events = [] };
   is_run = run_none script config limits;
   events_are = refl;
   parts_are = view;
+  joiners_are = joiners;
 }
 
 -- an engine without entries
-pub stands-first : (script : Script) (config : Config) (program : ProgramValue) (history : List Entry) (events : List Event) (m : Machine) → is_config config ≡ true → program ≡ record { script = script; config = config } → history ≡ [] → events ≡ [] → machine_view script m ≡ seen config.slots (opening script)
-    → StandsFor program.script program.config history events (machine_view program.script m)
-stands-first script config program history events m limits is none quiet view =
-    subst (λ (p : ProgramValue). StandsFor p.script p.config history events (machine_view p.script m)) (sym is)
-    (subst (λ (es : List Entry). StandsFor script config es events (machine_view script m)) (sym none)
-    (subst (λ (es : List Event). StandsFor script config [] es (machine_view script m)) (sym quiet) (first_stands script config m limits view)))
+pub stands-first : (script : Script) (config : Config) (program : ProgramValue) (history : List Entry) (events : List Event) (m : Machine) → is_config config ≡ true → program ≡ record { script = script; config = config } → history ≡ [] → events ≡ [] → machine_view script m ≡ seen config.slots (opening script) → HaveJoiners m.threads
+    → StandsFor program.script program.config history events m
+stands-first script config program history events m limits is none quiet view joiners =
+    subst (λ (p : ProgramValue). StandsFor p.script p.config history events m) (sym is)
+    (subst (λ (es : List Entry). StandsFor script config es events m) (sym none)
+    (subst (λ (es : List Event). StandsFor script config [] es m) (sym quiet) (first_stands script config m limits view joiners)))

@@ -201,7 +201,7 @@ module _ (script : Script) (shared : SharedState) (t : Thread) (others : Others)
   FitsThread o = TransitionFits (length t.frames) (length t.handlers) o
 
   runs_fit : (frame : Frame) (s : Stmt) → frame.pc < 2000 → stop_at (body_of script frame.func) shared t others frame s ≡ None → FitsThread (runs (body_of script frame.func) shared t others choice frame s)
-  unfolding runs stop_at stops_of
+  unfolding runs ends_by_exit stop_at stops_of
   runs_fit frame (statement.Emit v) within none = emits_fit _ _ _ _ (omega (arith, within))
   runs_fit frame (statement.Set d v) within none = sets_fit _ _ _ d _ (omega (arith, within))
   runs_fit frame (statement.Add d v) within none = adds_fit _ _ _ d _ _ (omega (arith, within))
@@ -218,6 +218,7 @@ module _ (script : Script) (shared : SharedState) (t : Thread) (others : Others)
   runs_fit frame (statement.Join id d) within none = begins_join_fit _ _ _
   runs_fit frame (statement.Detach id) within none = detaches_fit _ _ _ _ (omega (arith, within))
   runs_fit frame (statement.SelfId d) within none = gets_self_fit _ _ _ d _ (omega (arith, within))
+  runs_fit frame (statement.ThreadExit v) within none = record { next = tt; actions = (tt, tt) }
   runs_fit frame (statement.Push f v) within none = pushes_fit _ _ _ f _ (omega (arith, within)) (below_limit (length t.handlers) 32 (own_guard (not (is_built (statement.Push f v))) _ why.Unbuilt why.CleanupFull none))
   runs_fit frame (statement.Pop v) within none =
       pops_fit _ _ _ (value_of shared.globals frame v) t.handlers (omega (arith, within)) (λ called.

@@ -1,11 +1,8 @@
 -- The ids of new threads fit 32 bits, since a run is limited in its entries.
-use Rattle.std.proofs.Common.{◌≡◌, ℕ, ◌+◌, ◌*◌, ◌^◌, ◌<◌, ◌≤◌, Bool, ◌&&◌, List, [], map, length, Some, sym, subst, arith, All}
-use Rattle.std.specs.Prelude.{nat_le}
-use Rattle.std.proofs.lemmas.Bool.{and_parts, leb-true}
+use Rattle.std.proofs.Common.{◌≡◌, ℕ, ◌+◌, ◌*◌, ◌^◌, ◌<◌, ◌≤◌, Bool, List, [], map, length, Some, sym, subst, arith, All}
 use Rattle.std.proofs.lemmas.List.{get_or-map, length-map}
 use Rattle.std.proofs.lemmas.List.Elements.{All-head, All-get_or}
 use Rattle.std.proofs.Math.Nat.{mul-le-mul}
-use Rattle.pct_model.specs.declared.limits.TheConstants.{MAX_BUDGET, MAX_SLOTS, MIN_PASSES, MAX_PASSES}
 use Rattle.pct_model.specs.declared.script.Script.{Script}
 use Rattle.pct_model.specs.declared.schedule.Config.{Config}
 use Rattle.pct_model.specs.declared.schedule.Entry.{Entry}
@@ -15,33 +12,11 @@ use Rattle.pct_threads.specs.Tables.{slot_at}
 use Rattle.pct_engine_laws.specs.Seen.{SeenSlot, SeenProcess, Seen, seen}
 use Rattle.pct_engine_laws.specs.ThreadCounts.{MadeAtMost}
 use Rattle.pct_engine_laws.proofs.FewThreads.{few_made}
-use Rattle.pct_engine_laws.proofs.LongerRuns.{run_parts}
+use Rattle.pct_engine_laws.proofs.RunNumbers.{run_limited}
 use Rattle.pct_engine.specs.declared.machine.Machine.{Machine}
 use Rattle.pct_engine.specs.Views.{slot_view, process_view, unless_ended, machine_view}
 use Rattle.pct_engine.specs.Steps.{IdsFitIn}
 use Rattle.pct_engine.proofs.StepViews.{placed_in}
-
--- the limits of a configuration and of a run
-record RunsWithin (config : Config) (entries : List Entry) : Type 0 where
-  slots : config.slots ≤ 64
-  budget : length entries ≤ 200000
-
-within : (script : Script) (config : Config) (entries : List Entry) (after : Run) → run script config entries ≡ Some after → RunsWithin config entries
-within script config entries after is =
-    let b1 : Bool = nat_le 1 config.budget in
-    let b2 : Bool = nat_le config.budget MAX_BUDGET in
-    let b3 : Bool = nat_le MIN_PASSES config.passes in
-    let b4 : Bool = nat_le config.passes MAX_PASSES in
-    let b5 : Bool = nat_le 1 config.slots in
-    let b6 : Bool = nat_le config.slots MAX_SLOTS in
-    let parts = run_parts script config entries after is in
-    let p6 = and_parts (b1 && b2 && b3 && b4 && b5) b6 parts.limits in
-    let p5 = and_parts (b1 && b2 && b3 && b4) b5 p6.0 in
-    let p4 = and_parts (b1 && b2 && b3) b4 p5.0 in
-    let p3 = and_parts (b1 && b2) b3 p4.0 in
-    let p2 = and_parts b1 b2 p3.0 in
-    let budget = leb-true config.budget MAX_BUDGET p2.1 in
-    record { slots = leb-true config.slots MAX_SLOTS p6.1; budget = omega (arith, parts.within, budget) }
 
 next_below : (slot slots made n : ℕ) → slot < slots → slots ≤ 64 → made ≤ 1 + n → n ≤ 200000 → 1 + slot + slots * made < 2 ^ 32
 next_below slot slots made n low few made_few budget =
@@ -53,7 +28,7 @@ next_below slot slots made n low few made_few budget =
 pub ids_in : (script : Script) (config : Config) (entries : List Entry) (after : Run) (m : Machine) → run script config entries ≡ Some after → machine_view script m ≡ seen config.slots after.world → IdsFitIn m
 ids_in script config entries after m is view live slot low =
     let n : ℕ = 1 + length entries in
-    let limits = within script config entries after is in
+    let limits = run_limited script config entries after is in
     let all : length m.threads ≡ config.slots = (placed_in script config.slots m after.world view live).all in
     let few : All (λ (p : SeenProcess). MadeAtMost n p.slots) (unless_ended m.has_ended (process_view script m)) =
     subst (λ (v : Seen). All (λ (p : SeenProcess). MadeAtMost n p.slots) v.processes) (sym view) (few_made script config entries after is) in

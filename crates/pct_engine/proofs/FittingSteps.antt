@@ -8,8 +8,10 @@ use Rattle.pct_model.specs.World.{SharedState}
 use Rattle.pct_model.specs.NextStatement.{next_of, body_at}
 use Rattle.pct_model.specs.OtherThreads.{query_at, Others}
 use Rattle.pct_model.specs.ChoiceTable.{offers}
+use Rattle.pct_model.specs.Transitions.{written}
+use Rattle.pct_model.specs.ThreadCalls.{begins_join, ends_join, detaches}
 use Rattle.pct_threads.specs.Slots.{Held}
-use Rattle.pct_threads.specs.Tables.{held_at, on_held}
+use Rattle.pct_threads.specs.Tables.{held_at, is_occupied_at, on_held}
 use Rattle.pct_engine_laws.specs.Seen.{SeenSlot}
 use Rattle.pct_engine_laws.specs.SeenSteps.{answer_in, others_in, choices_in, transition_in}
 use Rattle.pct_engine.specs.declared.machine.Machine.{Machine}
@@ -24,17 +26,17 @@ use Rattle.pct_engine.specs.Views.{thread_of, slot_view, process_view, ArePlaced
 use Rattle.pct_engine.specs.MachineChanges.{held_moved}
 use Rattle.pct_engine.proofs.HeldChanges.{is_occupied_at-on_held}
 use Rattle.pct_engine.proofs.MachineViews.{id-moved}
-use Rattle.pct_engine.proofs.NamedFits.{transition_names}
+use Rattle.pct_engine.proofs.NamedFits.{quiet_all_fit, written_quiet, ByName, transition_case}
 use Rattle.pct_engine.proofs.NewThreads.{offered_is_next, ids_asked, transition_new}
-use Rattle.pct_engine.proofs.JoinedThreads.{target_asked, join_fits}
+use Rattle.pct_engine.proofs.JoinedThreads.{join_fits}
 
 -- the answer to the query of the thread on a slot is what it sees of the others
 pub answer_is : (script : Script) (slots : ℕ) (m : Machine) (h : Held) (tid : ℕ) (q : Query) (position : Position) (answer : Answer) → ArePlaced slots m.threads → h.id ≡ tid → IsPosition script position (thread_of h)
-    → q ≡ query_at (process_view script m).shared (next_at position.next) position.status → IsAnswer m.threads answer (answer_in (length m.threads) tid (map slot_view m.threads) q) → IsAnswer m.threads answer (others_in script slots (process_view script m) (thread_of h))
+    → q ≡ query_at (process_view script m).shared (next_at position.next) position.thread.now.status → IsAnswer m.threads answer (answer_in (length m.threads) tid (map slot_view m.threads) q) → IsAnswer m.threads answer (others_in script slots (process_view script m) (thread_of h))
 answer_is script slots m h tid q position answer placed named is query answered =
     let shared : SharedState = (process_view script m).shared in
     let rows : List SeenSlot = map slot_view m.threads in
-    let asked : q ≡ query_at shared (next_of script h.frames) h.thread.status = query ∙ ap (λ (n : NextStatement). query_at shared n position.status) is.next_is ∙ ap (query_at shared (next_of script h.frames)) is.status_is in
+    let asked : q ≡ query_at shared (next_of script h.frames) h.thread.status = query ∙ ap (λ (n : NextStatement). query_at shared n position.thread.now.status) is.next_is ∙ ap (query_at shared (next_of script h.frames)) is.status_is in
     let seen : answer_in (length m.threads) tid rows q ≡ others_in script slots (process_view script m) (thread_of h) =
     ap (λ (n : ℕ). answer_in n tid rows q) placed.all
     ∙ ap (λ (n : ℕ). answer_in slots n rows q) (sym named)
@@ -50,13 +52,29 @@ module _ (script : Script) (slots slot : ℕ) (m : Machine) (h : Held) (choice :
   abbrev seen_others : Others
   seen_others = others_in script slots (process_view script m) (thread_of h)
 
+  -- what a transition names fits the table after it
+  abbrev Names : Transition → Type 0
+  Names o = NamesFit slot o.actions (on_held slot (held_moved o) m.threads)
+
+  occupied : (f : Held → Held) → is_occupied_at (on_held slot f m.threads) slot ≡ true
+  occupied f = is_occupied_at-on_held slot f m.threads ∙ ap is_some here
+
+  names_fit : ByName Names slots h.id (map slot_view m.threads) h.thread.status
+  unfolding begins_join ends_join detaches
+  names_fit = record {
+    rests = tt;
+    quiet = λ o not quiet. quiet_all_fit slot o.actions (on_held slot (held_moved o) m.threads) quiet;
+    begins = λ id x not seen other joinable unjoined. (occupied (held_moved (begins_join id)), tt);
+    ends = λ next id v d x joins seen value. (
+      join_fits slots slot id v m.threads placed h here joins x seen value (held_moved (ends_join next d id v)) (id-moved (ends_join next d id v)),
+      quiet_all_fit slot (written d v) _ (written_quiet d v),
+    );
+    detached = λ next id x not seen unjoined. (tt, tt);
+  }
+
   -- the threads that it names fit it
   pub taken_names : NamesFit slot taken.actions (on_held slot (held_moved taken) m.threads)
-  taken_names =
-      let shared : SharedState = (process_view script m).shared in
-      let rows : List SeenSlot = map slot_view m.threads in
-      transition_names slot (body_at script h.frames) shared (thread_of h) seen_others choice (on_held slot (held_moved taken) m.threads) (is_occupied_at-on_held slot (held_moved taken) m.threads ∙ ap is_some here) (next_of script h.frames) h.thread.status
-      (λ id v x joins target value. join_fits slots slot id v m.threads placed h here joins x (sym (target_asked slots h.id id rows shared (next_of script h.frames) h.thread.status joins) ∙ target) value (held_moved taken) (id-moved taken))
+  taken_names = transition_case Names slots (map slot_view m.threads) (body_at script h.frames) (process_view script m).shared (thread_of h) choice (next_of script h.frames) h.thread.status names_fit
 
   -- the thread that it creates fits the table
   pub taken_new : offers (choices_in script slots (process_view script m) (thread_of h)) choice ≡ true → NewFits taken.created m.threads

@@ -1,6 +1,6 @@
 -- The thread that an entry names: what a search in the slots finds is what is kept of it.
 use Rattle.std.proofs.Common.{◌≡◌, ℕ, ◌<◌, Bool, true, false, not, ◌&&◌, cond, List, map, length, Option, Some, None, refl, sym, ap, ◌∙◌, inl, inr}
-use Rattle.std.specs.Prelude.{nat_eq, nat_le, slice_get, is_some, is_none, option_map, option_and_then, find, position}
+use Rattle.std.specs.Prelude.{nat_eq, nat_le, slice_get, is_some, is_none, option_map, option_and_then, find}
 use Rattle.std.specs.Option.{option_map_or}
 use Rattle.std.proofs.lemmas.Bool.{cases_lt, and_parts, and_cases, and_from, eq-eqb, eqb-true, eqb-false, ne_eqb, not-true, not-false, cond-true, cond-false}
 use Rattle.std.proofs.lemmas.Option.{slice_get-map, slice_get-get_or, slice_get_past}
@@ -10,14 +10,13 @@ use Rattle.pct_model.specs.declared.schedule.Entry.{Entry}
 use Rattle.pct_model.specs.declared.transition.Transition.{Transition}
 use Rattle.pct_model.specs.ThreadSlots.{slot_of}
 use Rattle.pct_threads.specs.Slots.{Held, Slot, unused, has_id}
-use Rattle.pct_threads.specs.Tables.{held_at}
+use Rattle.pct_threads.specs.Tables.{slot_at, held_at}
 use Rattle.pct_threads.proofs.TableLemmas.{within-occupied}
 use Rattle.pct_engine_laws.specs.Seen.{SeenProcess, is_live_seen}
 use Rattle.pct_engine_laws.specs.SeenSteps.{thread_on, thread_with, if_offered_in, seen_transition}
 use Rattle.pct_engine.specs.declared.machine.Machine.{Machine}
 use Rattle.pct_engine.specs.Views.{thread_of, threads_of, slot_view, process_view, unless_ended, machine_view}
 use Rattle.pct_engine.specs.Steps.{legal_transition, may_step, ArePlacedIn}
-use Rattle.pct_engine.proofs.SearchedSlots.{fails_at}
 
 -- ---- the thread that is kept
 
@@ -37,19 +36,17 @@ thread_on-none : (o : Option Held) (id : ℕ) → option_map_or (λ held. nat_eq
 thread_on-none None id has = refl
 thread_on-none (Some held) id has = cond-false (nat_eq held.id id) (Some (thread_of held)) None has
 
-thread_in_slot : (id slot : ℕ) (threads : List Slot) → position (has_id id) threads ≡ None → option_and_then (thread_on id) (slice_get (map slot_view threads) slot) ≡ None
-thread_in_slot id slot threads none =
-    ap (option_and_then (thread_on id)) (slice_get-map slot_view threads slot)
+-- none is kept of a thread that does not hold its slot
+pub thread_with-none : (slots id slot : ℕ) (threads : List Slot) → slot ≡ slot_of slots id → has_id id (slot_at threads slot) ≡ false → thread_with slots id (map slot_view threads) ≡ None
+thread_with-none slots id slot threads on none =
+    ap (λ (i : ℕ). option_and_then (thread_on id) (slice_get (map slot_view threads) i)) (sym on)
+    ∙ ap (option_and_then (thread_on id)) (slice_get-map slot_view threads slot)
     ∙ elim (cases_lt slot (length threads)) [
       | inl inside ↦
           ap (λ (s : Option Slot). option_and_then (thread_on id) (option_map slot_view s)) (slice_get-get_or threads slot unused inside)
-          ∙ thread_on-none (held_at threads slot) id (fails_at (has_id id) threads slot unused none inside)
+          ∙ thread_on-none (held_at threads slot) id none
       | inr past ↦ ap (λ (s : Option Slot). option_and_then (thread_on id) (option_map slot_view s)) (slice_get_past threads slot past)
     ]
-
--- none is kept where the search finds none
-pub thread_with-none : (slots id : ℕ) (threads : List Slot) → position (has_id id) threads ≡ None → thread_with slots id (map slot_view threads) ≡ None
-thread_with-none slots id threads none = thread_in_slot id (slot_of slots id) threads none
 
 -- ---- the transition
 
@@ -113,11 +110,12 @@ legal_transition-admitted script config m e may =
     cond-true (is_none m.stop && nat_le e.worker 16) (seen_transition script config (machine_view script m) e) None (and_from (is_none m.stop) (nat_le e.worker 16) parts.running parts.worker)
     ∙ ap (option_and_then (taken_in script config e)) (process_live script m e.pid parts.live (ap (λ n. nat_eq 1 n) parts.first))
 
--- none, where no thread has the id
-pub legal_transition-unfound : (script : Script) (config : Config) (m : Machine) (e : Entry) → may_step m e ≡ true → position (has_id e.tid) m.threads ≡ None → legal_transition script config (machine_view script m) e ≡ None
-legal_transition-unfound script config m e may none =
+-- none, where no thread with the id holds its slot
+pub legal_transition-unfound : (script : Script) (config : Config) (m : Machine) (e : Entry) → may_step m e ≡ true → ArePlacedIn config.slots m → thread_with (length m.threads) e.tid (map slot_view m.threads) ≡ None → legal_transition script config (machine_view script m) e ≡ None
+legal_transition-unfound script config m e may placed none =
     legal_transition-admitted script config m e may
-    ∙ ap (option_and_then (if_offered_in script config.slots (process_view script m) e)) (thread_with-none config.slots e.tid m.threads none)
+    ∙ ap (λ (slots : ℕ). option_and_then (if_offered_in script config.slots (process_view script m) e) (thread_with slots e.tid (map slot_view m.threads))) (sym (placed (admits m e may).live).all)
+    ∙ ap (option_and_then (if_offered_in script config.slots (process_view script m) e)) none
 
 -- that of the thread on a slot
 pub legal_transition-found : (script : Script) (config : Config) (m : Machine) (e : Entry) (slot : ℕ) (held : Held) → may_step m e ≡ true → ArePlacedIn config.slots m → held_at m.threads slot ≡ Some held → held.id ≡ e.tid

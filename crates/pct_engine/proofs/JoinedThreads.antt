@@ -1,39 +1,65 @@
--- The thread that another joins has ended and is not detached, so that its slot can be given back.
-use Rattle.std.proofs.Common.{◌≡◌, ℕ, Bool, true, false, not, ◌&&◌, List, map, Option, Some, None, refl, sym, ap, ◌∙◌, inl, inr}
+-- The thread that another sees by its id. The one that another joins has ended and is not detached, so that its slot can be given
+-- back.
+use Rattle.std.proofs.Common.{◌≡◌, ◌≢◌, ℕ, Bool, true, false, not, ◌&&◌, List, map, Option, Some, None, refl, sym, ap, ◌∙◌, inl, inr}
 use Rattle.std.specs.Prelude.{is_some, position, option_map, IfSome}
 use Rattle.std.specs.Option.{option_map_or}
-use Rattle.std.proofs.lemmas.Bool.{cases_eq, and_from, false≢true}
+use Rattle.std.proofs.lemmas.Bool.{cases_eq, and_from, eq-eqb, false≢true}
 use Rattle.std.proofs.lemmas.Option.{none-some, same_Some}
 use Rattle.pct_model.specs.declared.state.Status.{Status}
 use Rattle.pct_model.specs.declared.state.Status.TheVariants as status
 use Rattle.pct_model.specs.declared.other_threads.Target.{Target}
 use Rattle.pct_model.specs.declared.transition.Action.TheVariants as action
-use Rattle.pct_model.specs.World.{Thread, SharedState}
 use Rattle.pct_model.specs.ThreadSlots.{is_ended_status, holds_slot, slot_of}
+use Rattle.pct_model.specs.World.{SharedState}
 use Rattle.pct_model.specs.NextStatement.{NextStatement}
-use Rattle.pct_model.specs.OtherThreads.{query_at, exit_value_of}
+use Rattle.pct_model.specs.OtherThreads.{query_at, is_joining, exit_value_of}
 use Rattle.pct_threads.specs.Slots.{Held, Slot, has_id, is_reclaimable, with_change}
-use Rattle.pct_threads.specs.Tables.{held_at, is_reclaimable_at, on_held}
+use Rattle.pct_threads.specs.Tables.{slot_at, held_at, is_reclaimable_at, on_held}
 use Rattle.pct_threads.proofs.TableLemmas.{within-occupied, slot_at-on_slot_other}
 use Rattle.pct_engine_laws.specs.Seen.{SeenSlot}
 use Rattle.pct_engine_laws.specs.SeenSteps.{thread_with, target_in, answer_in}
+use Rattle.pct_engine.specs.Answers.{any_on}
 use Rattle.pct_engine.specs.Fitting.{NameFits}
 use Rattle.pct_engine.specs.Views.{thread_of, slot_view, ArePlaced}
 use Rattle.pct_engine.proofs.HeldChanges.{held_at-on_held}
-use Rattle.pct_engine.proofs.SearchedSlots.{held_found}
-use Rattle.pct_engine.proofs.FoundThreads.{thread_with-here}
+use Rattle.pct_engine.proofs.SearchedSlots.{held_found, held_with}
+use Rattle.pct_engine.proofs.SlotAnswers.{any_found, target_by, is_joined}
+use Rattle.pct_engine.proofs.FoundThreads.{thread_with-here, thread_with-none}
+
+-- a thread in pthread_join for an id joins it
+pub joining_is : (id : ℕ) (s : Status) → s ≡ status.Joining id → is_joining id s ≡ true
+joining_is id s is = ap (is_joining id) is ∙ eq-eqb id id refl
 
 -- what a thread in pthread_join asks
 pub target_asked : (slots tid id : ℕ) (rows : List SeenSlot) (shared : SharedState) (next : NextStatement) (s : Status) → s ≡ status.Joining id → (answer_in slots tid rows (query_at shared next s)).target ≡ target_in slots id rows
 unfolding query_at answer_in
 target_asked slots tid id rows shared next s is = ap (λ (x : Status). (answer_in slots tid rows (query_at shared next x)).target) is
 
--- the exit value that it sees is that of the thread
-value_seen : (o : Option Thread) (f : Thread → Bool) (g : Thread → Bool) (x : Target) (t : Thread) → o ≡ Some t → option_map (λ (u : Thread). record { detached = f u; joining = g u; value = exit_value_of u.status }) o ≡ Some x → x.value ≡ exit_value_of t.status
-value_seen None f g x t is seen = absurd (none-some t is)
-value_seen (Some u) f g x t is seen =
-    sym (ap (λ (y : Target). y.value) (same_Some (record { detached = f u; joining = g u; value = exit_value_of u.status }) x seen))
-    ∙ ap (λ (y : Thread). exit_value_of y.status) (same_Some u t is)
+-- ---- the thread that is seen
+
+module _ (slots id : ℕ) (threads : List Slot) (placed : ArePlaced slots threads) (x : Target) (seen : target_in slots id (map slot_view threads) ≡ Some x) where
+  -- it is the one with the id
+  pub seen_is : (k : ℕ) (t : Held) → held_at threads k ≡ Some t → t.id ≡ id → target_by (is_joined threads id) (thread_of t) ≡ x
+  seen_is k t at named =
+      let found : thread_with slots id (map slot_view threads) ≡ Some (thread_of t) =
+      thread_with-here slots id k threads t at named (ap (slot_of slots) (sym named) ∙ placed.place k t at) (within-occupied threads k (ap is_some at)) in
+      same_Some (target_by (is_joined threads id) (thread_of t)) x (sym (ap (option_map (target_by (is_joined threads id))) found) ∙ seen)
+
+  -- there is one
+  pub seen_held : (k : ℕ) × (t : Held) × (held_at threads k ≡ Some t) × (t.id ≡ id)
+  seen_held = either (has_id id (slot_at threads (slot_of slots id))) refl where
+    either : (has : Bool) → has_id id (slot_at threads (slot_of slots id)) ≡ has → (k : ℕ) × (t : Held) × (held_at threads k ≡ Some t) × (t.id ≡ id)
+    either false none = absurd (none-some x (sym (ap (option_map (target_by (is_joined threads id))) (thread_with-none slots id (slot_of slots id) threads refl none)) ∙ seen))
+    either true has = let at = held_with id (held_at threads (slot_of slots id)) has in (slot_of slots id, at.0, at.1, at.2)
+
+  -- if it is seen not to be joined, no thread joins it
+  pub seen_unjoined : x.joining ≡ false → (j : ℕ) (z : Held) → held_at threads j ≡ Some z → z.thread.status ≢ status.Joining id
+  seen_unjoined unjoined j z at joins =
+      let none : is_joined threads id ≡ false = ap (λ (y : Target). y.joining) (seen_is seen_held.0 seen_held.1 seen_held.2 seen_held.3) ∙ unjoined in
+      let passes : any_on (λ u. is_joining id u.status) (held_at threads j) ≡ true = ap (any_on (λ u. is_joining id u.status)) at ∙ joining_is id z.thread.status joins in
+      false≢true (sym none ∙ any_found (λ u. is_joining id u.status) threads j (within-occupied threads j (ap is_some at)) passes)
+
+-- ---- the thread that is joined
 
 -- a thread with an exit value has ended
 ended_by : (s : Status) (v : ℕ) → exit_value_of s ≡ Some v → is_ended_status s ≡ true
@@ -50,12 +76,12 @@ ready h ended holds = and_from (is_ended_status h.thread.status) (not h.detached
 
 module _ (slots slot id v : ℕ) (threads : List Slot) (placed : ArePlaced slots threads) (h : Held) (here : held_at threads slot ≡ Some h) (joins : h.thread.status ≡ status.Joining id)
     (x : Target) (seen : target_in slots id (map slot_view threads) ≡ Some x) (value : x.value ≡ Some v) where
+  target_value : (k : ℕ) (t : Held) → held_at threads k ≡ Some t → t.id ≡ id → exit_value_of t.thread.status ≡ Some v
+  target_value k t at named = ap (λ (y : Target). y.value) (seen_is slots id threads placed x seen k t at named) ∙ value
+
   -- the thread with the id has ended
-  target_ended : (k : ℕ) (t : Held) → held_at threads k ≡ Some t → t.id ≡ id → exit_value_of t.thread.status ≡ Some v
-  target_ended k t at named =
-      let found : thread_with slots id (map slot_view threads) ≡ Some (thread_of t) =
-      thread_with-here slots id k threads t at named (ap (slot_of slots) (sym named) ∙ placed.place k t at) (within-occupied threads k (ap is_some at)) in
-      sym (value_seen (thread_with slots id (map slot_view threads)) (λ u. u.detached) _ x (thread_of t) found seen) ∙ value
+  pub target_ended : (k : ℕ) (t : Held) → held_at threads k ≡ Some t → t.id ≡ id → is_ended_status t.thread.status ≡ true
+  target_ended k t at named = ended_by t.thread.status v (target_value k t at named)
 
   before_change : (f : Held → Held) → ((b : Held) → (f b).id ≡ b.id) → (o : Option Held) (t : Held) → option_map f o ≡ Some t → (b : Held) × (o ≡ Some b) × (b.id ≡ t.id)
   before_change f same_id None t is = absurd (none-some t is)
@@ -69,10 +95,10 @@ module _ (slots slot id v : ℕ) (threads : List Slot) (placed : ArePlaced slots
             let own : option_map f (held_at threads slot) ≡ Some t = sym (held_at-on_held slot f threads) ∙ ap (held_at (on_held slot f threads)) (sym same) ∙ at in
             let b = before_change f same_id (held_at threads slot) t own in
             let both : b.0 ≡ h = same_Some b.0 h (sym b.1 ∙ here) in
-            absurd (none-some v (sym (ap exit_value_of (ap (λ (y : Held). y.thread.status) both ∙ joins)) ∙ target_ended slot b.0 b.1 (b.2 ∙ named)))
+            absurd (none-some v (sym (ap exit_value_of (ap (λ (y : Held). y.thread.status) both ∙ joins)) ∙ target_value slot b.0 b.1 (b.2 ∙ named)))
         | inr differs ↦
             let before : held_at threads k ≡ Some t = sym (ap (λ (s : Slot). s.here) (slot_at-on_slot_other slot k (with_change f) threads differs)) ∙ at in
-            ready t (ended_by t.thread.status v (target_ended k t before named)) (placed.holds k t before)
+            ready t (target_ended k t before named) (placed.holds k t before)
       ]
 
   joined_fits : (f : Held → Held) → ((b : Held) → (f b).id ≡ b.id) → (o : Option ℕ) → position (has_id id) (on_held slot f threads) ≡ o → IfSome o (λ k. is_reclaimable_at (on_held slot f threads) k ≡ true)

@@ -5,6 +5,7 @@ pub mod SlotAnswers
 mod HeldChanges
 mod FrameChanges
 mod RoomAfter
+mod RestItems
 mod SearchedSlots
 mod ChangedTables
 mod NamedThreads
@@ -13,13 +14,19 @@ mod MachineViews
 mod FoundThreads
 mod SmallIds
 mod Readiness
+mod ReadySlots
+mod EnabledThreads
 mod LegalChoices
 mod StepViews
 mod NamedFits
 mod JoinedThreads
 mod NewThreads
 mod FittingSteps
+mod JoinersKept
+mod JoinersAfter
 mod FittingIds
 mod EngineRuns
+pub mod EngineLaws
 mod EngineChoices
 mod FirstStates
+mod UsedSlots

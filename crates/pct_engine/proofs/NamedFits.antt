@@ -1,6 +1,8 @@
--- The threads that a transition names fit it.
-use Rattle.std.proofs.Common.{◌≡◌, ℕ, Bool, true, false, cond, List, [], ◌∷◌, ◌++◌, Option, Some, None, refl}
-use Rattle.std.specs.Prelude.{nat_eq}
+-- The transitions by the threads that they name: most name none; the others begin or end a join, or detach a thread.
+use Rattle.std.proofs.Common.{◌≡◌, ◌≢◌, ℕ, suc, Bool, true, false, cond, List, [], ◌∷◌, ◌++◌, Option, Some, None, refl, sym, ◌∙◌}
+use Rattle.std.specs.Prelude.{nat_eq, is_none}
+use Rattle.std.proofs.lemmas.Bool.{eqb-false}
+use Rattle.std.proofs.lemmas.Option.{none-some}
 use Rattle.pct_model.specs.declared.event.What.TheVariants.{Popped}
 use Rattle.pct_model.specs.declared.frame.Frame.{Frame}
 use Rattle.pct_model.specs.declared.state.FrameKind.{FrameKind}
@@ -15,122 +17,219 @@ use Rattle.pct_model.specs.declared.statement.Stmt.TheVariants as statement
 use Rattle.pct_model.specs.declared.schedule.Alt.{Alt}
 use Rattle.pct_model.specs.declared.schedule.Alt.TheVariants as alt
 use Rattle.pct_model.specs.declared.stop.Why.{Why}
+use Rattle.pct_model.specs.declared.stop.Why.TheVariants as why
 use Rattle.pct_model.specs.declared.other_threads.Target.{Target}
+use Rattle.pct_model.specs.declared.transition.Action.{Action}
 use Rattle.pct_model.specs.declared.transition.Action.TheVariants as action
 use Rattle.pct_model.specs.declared.transition.Transition.{Transition}
 use Rattle.pct_model.specs.Jumps.{open_of}
 use Rattle.pct_model.specs.NextStatement.{NextStatement, StatementIn}
-use Rattle.pct_model.specs.OtherThreads.{Others}
-use Rattle.pct_model.specs.World.{Thread, SharedState}
-use Rattle.pct_model.specs.Transitions.{goes_on, written}
+use Rattle.pct_model.specs.OtherThreads.{Others, statement_query, query_at, target_is, is_joining}
+use Rattle.pct_model.specs.World.{Thread, SharedState, value_of}
+use Rattle.pct_model.specs.Actions.{for_each}
+use Rattle.pct_model.specs.Transitions.{goes_on, written, no_change, stops}
 use Rattle.pct_model.specs.ScriptStatements.{jumps, emits, sets, adds, calls}
 use Rattle.pct_model.specs.CleanupHandlers.{pushes, pops}
 use Rattle.pct_model.specs.ThreadCalls.{creates, creates_by, fails_to_create, begins_join, ends_join, joins_with, joins_at, detaches, gets_self}
 use Rattle.pct_model.specs.ThreadEnds.{ends_by_exit, ends_thread, goes_on_ending}
 use Rattle.pct_model.specs.ProcessExit.{exits, returns_by, ends_process}
-use Rattle.pct_model.specs.StopTable.{stop_at}
+use Rattle.pct_model.specs.StopTable.{StopTest, first_stop, stops_of, stop_at}
 use Rattle.pct_model.specs.TransitionTable.{ends_block, stops_or, runs, transition_at}
 use Rattle.pct_threads.specs.Slots.{Slot}
-use Rattle.pct_threads.specs.Tables.{is_occupied_at}
+use Rattle.pct_engine_laws.specs.Seen.{SeenSlot}
+use Rattle.pct_engine_laws.specs.SeenSteps.{target_in, answer_in}
 use Rattle.pct_engine.specs.Fitting.{NameFits, NamesFit}
+use Rattle.pct_engine.specs.MachineChanges.{named_on}
 
--- ---- the transitions
+-- ---- actions that name no thread
 
-module _ (slot : ℕ) where
-  -- what a transition names fits the table
-  abbrev Names : Transition → List Slot → Type 0
-  Names o threads = NamesFit slot o.actions threads
+-- the status is not that of a thread in pthread_join
+abbrev pub IsNotJoining : Status → Type 0
+IsNotJoining s = (id : ℕ) → is_joining id s ≡ false
 
-  written_names : (d : Dest) (v : ℕ) (threads : List Slot) → NamesFit slot (written d v) threads
-  written_names (destination.Local i) v threads = (tt, tt)
-  written_names (destination.Global i) v threads = (tt, tt)
-  written_names destination.Drop v threads = tt
+-- the action names no thread, and a thread is not in pthread_join after it
+abbrev pub IsQuiet : Action → Type 0
+IsQuiet (action.Leave s) = IsNotJoining s
+IsQuiet (action.BeginJoin id) = ⊥
+IsQuiet (action.EndJoin id) = ⊥
+IsQuiet (action.Detach id) = ⊥
+IsQuiet _ = Unit {0}
 
-  both_names : (d e : Dest) (v w : ℕ) (threads : List Slot) → NamesFit slot (written d v ++ written e w) threads
-  both_names (destination.Local i) (destination.Local j) v w threads = (tt, (tt, tt))
-  both_names (destination.Local i) (destination.Global j) v w threads = (tt, (tt, tt))
-  both_names (destination.Local i) destination.Drop v w threads = (tt, tt)
-  both_names (destination.Global i) (destination.Local j) v w threads = (tt, (tt, tt))
-  both_names (destination.Global i) (destination.Global j) v w threads = (tt, (tt, tt))
-  both_names (destination.Global i) destination.Drop v w threads = (tt, tt)
-  both_names destination.Drop (destination.Local j) v w threads = (tt, tt)
-  both_names destination.Drop (destination.Global j) v w threads = (tt, tt)
-  both_names destination.Drop destination.Drop v w threads = tt
+abbrev pub AreQuiet : List Action → Type 0
+AreQuiet [] = Unit {0}
+AreQuiet (a ∷ actions) = IsQuiet a × AreQuiet actions
 
-  creates_names : (choice : Alt) (next : ℕ) (result id : Dest) (f v : ℕ) (detached : Bool) (threads : List Slot) → Names (creates_by choice next result id f v detached) threads
-  unfolding creates fails_to_create
-  creates_names (alt.New new) next result id f v detached threads = both_names result id 0 new threads
-  creates_names alt.Go next result id f v detached threads = written_names result 1 threads
-  creates_names _ next result id f v detached threads = tt
+quiet_name : (slot : ℕ) (a : Action) (threads : List Slot) → IsQuiet a → named_on slot a threads ≡ threads
+unfolding named_on
+quiet_name slot (action.BeginJoin id) threads quiet = absurd quiet
+quiet_name slot (action.EndJoin id) threads quiet = absurd quiet
+quiet_name slot (action.Detach id) threads quiet = absurd quiet
+quiet_name slot _ threads quiet = refl
 
-  either_names : (b : Bool) (x y : Transition) (threads : List Slot) → Names x threads → Names y threads → Names (cond b x y) threads
-  either_names true x y threads first second = first
-  either_names false x y threads first second = second
+-- such actions change no other thread
+pub quiet_names : (slot : ℕ) (actions : List Action) (threads : List Slot) → AreQuiet actions → for_each (named_on slot) actions threads ≡ threads
+quiet_names slot [] threads quiet = refl
+quiet_names slot (a ∷ actions) threads quiet = quiet_names slot actions (named_on slot a threads) quiet.1 ∙ quiet_name slot a threads quiet.0
 
-  pops_names : (next v : ℕ) (handlers : List (ℕ × ℕ)) (threads : List Slot) → Names (pops next v handlers) threads
-  unfolding pops
-  pops_names next v [] threads = tt
-  pops_names next v ((f, a) ∷ handlers) threads = either_names (nat_eq v 0) (goes_on next (action.PopHandler ∷ []) (Popped f a false ∷ [])) (goes_on next (action.PopHandler ∷ action.Call f a kind.PopHandler ∷ []) (Popped f a true ∷ [])) threads (tt, tt) (tt, (tt, tt))
+quiet_fit : (slot : ℕ) (a : Action) (threads : List Slot) → IsQuiet a → NameFits slot a threads
+quiet_fit slot (action.BeginJoin id) threads quiet = absurd quiet
+quiet_fit slot (action.EndJoin id) threads quiet = absurd quiet
+quiet_fit slot _ threads quiet = tt
 
-  returns_names : (k : FrameKind) (v : ℕ) (threads : List Slot) → Names (returns_by k v) threads
-  unfolding returns_by exits ends_by_exit
-  returns_names kind.ForkFn v threads = tt
-  returns_names kind.Main v threads = (tt, tt)
-  returns_names _ v threads = (tt, tt)
+-- and fit each table
+pub quiet_all_fit : (slot : ℕ) (actions : List Action) (threads : List Slot) → AreQuiet actions → NamesFit slot actions threads
+quiet_all_fit slot [] threads quiet = tt
+quiet_all_fit slot (a ∷ actions) threads quiet = (quiet_fit slot a threads quiet.0, quiet_all_fit slot actions (named_on slot a threads) quiet.1)
 
-  ends_names : (o : Option ℕ) (body : List Stmt) (frame : Frame) (threads : List Slot) → Names (ends_block o body frame) threads
-  unfolding jumps
-  ends_names (Some opened) body frame threads = tt
-  ends_names None body frame threads = returns_names frame.kind 0 threads
+-- ---- transitions that name no thread
 
-  ending_names : (is_last : Bool) (why : Reason) (handlers : List (ℕ × ℕ)) (threads : List Slot) → Names (goes_on_ending is_last why handlers) threads
-  unfolding goes_on_ending ends_thread
-  ending_names is_last why ((f, a) ∷ handlers) threads = (tt, (tt, tt))
-  ending_names false why [] threads = (tt, tt)
-  ending_names true why [] threads = (tt, (tt, tt))
+-- the transition names no thread
+abbrev Quiet : Transition → Type 0
+Quiet o = AreQuiet o.actions
 
-  exit_names : (functions : List ℕ) (exit_value : Option ℕ) (threads : List Slot) → Names (ends_process functions exit_value) threads
-  unfolding ends_process
-  exit_names [] (Some v) threads = (tt, tt)
-  exit_names _ _ threads = tt
+pub written_quiet : (d : Dest) (v : ℕ) → AreQuiet (written d v)
+written_quiet (destination.Local i) v = (tt, tt)
+written_quiet (destination.Global i) v = (tt, tt)
+written_quiet destination.Drop v = tt
 
-  joins_with_names : (value : Option ℕ) (id : ℕ) (next : NextStatement) (threads : List Slot) → ((v : ℕ) → value ≡ Some v → NameFits slot (action.EndJoin id) threads) → Names (joins_with value id next) threads
-  unfolding ends_join
-  joins_with_names (Some v) id (StatementIn frame (statement.Join operand d)) threads fits = (fits v refl, written_names d v _)
-  joins_with_names _ id next threads fits = tt
+both_quiet : (d e : Dest) (v w : ℕ) → AreQuiet (written d v ++ written e w)
+both_quiet (destination.Local i) e v w = (tt, written_quiet e w)
+both_quiet (destination.Global i) e v w = (tt, written_quiet e w)
+both_quiet destination.Drop e v w = written_quiet e w
 
-  joins_names : (target : Option Target) (id : ℕ) (next : NextStatement) (threads : List Slot) → ((x : Target) (v : ℕ) → target ≡ Some x → x.value ≡ Some v → NameFits slot (action.EndJoin id) threads) → Names (joins_at target id next) threads
-  joins_names (Some x) id next threads fits = joins_with_names x.value id next threads (λ v. fits x v refl)
-  joins_names None id next threads fits = tt
+creates_quiet : (choice : Alt) (next : ℕ) (result id : Dest) (f v : ℕ) (detached : Bool) → Quiet (creates_by choice next result id f v detached)
+unfolding creates fails_to_create
+creates_quiet (alt.New new) next result id f v detached = both_quiet result id 0 new
+creates_quiet alt.Go next result id f v detached = written_quiet result 1
+creates_quiet _ next result id f v detached = tt
 
-  stop_names : (stop : Option Why) (other : Transition) (threads : List Slot) → Names other threads → Names (stops_or stop other) threads
-  stop_names (Some why) other threads fits = (tt, tt)
-  stop_names None other threads fits = fits
+either_quiet : (b : Bool) (x y : Transition) → Quiet x → Quiet y → Quiet (cond b x y)
+either_quiet true x y first second = first
+either_quiet false x y first second = second
 
-  -- ---- the table
+pops_quiet : (next v : ℕ) (handlers : List (ℕ × ℕ)) → Quiet (pops next v handlers)
+unfolding pops
+pops_quiet next v [] = tt
+pops_quiet next v ((f, a) ∷ handlers) = either_quiet (nat_eq v 0) (goes_on next (action.PopHandler ∷ []) (Popped f a false ∷ [])) (goes_on next (action.PopHandler ∷ action.Call f a kind.PopHandler ∷ []) (Popped f a true ∷ [])) (tt, tt) (tt, (tt, tt))
 
-  module _ (body : List Stmt) (shared : SharedState) (t : Thread) (others : Others) (choice : Alt) (threads : List Slot) (occupied : is_occupied_at threads slot ≡ true) where
-    runs_names : (frame : Frame) (s : Stmt) → Names (runs body shared t others choice frame s) threads
-    unfolding runs emits sets adds jumps calls begins_join detaches gets_self pushes
-    runs_names frame (statement.Emit v) = tt
-    runs_names frame (statement.Set d v) = written_names d _ threads
-    runs_names frame (statement.Add d v) = written_names d _ threads
-    runs_names frame statement.End = ends_names (open_of body frame.pc) body frame threads
-    runs_names frame (statement.Do f v) = (tt, tt)
-    runs_names frame (statement.Return v) = returns_names frame.kind _ threads
-    runs_names frame (statement.Create result id f v detached) = creates_names choice _ result id f _ detached threads
-    runs_names frame (statement.Join id d) = (occupied, tt)
-    runs_names frame (statement.Detach id) = (tt, tt)
-    runs_names frame (statement.SelfId d) = written_names d t.id threads
-    runs_names frame (statement.Push f v) = (tt, tt)
-    runs_names frame (statement.Pop v) = pops_names _ _ t.handlers threads
-    runs_names frame s = tt
+returns_quiet : (k : FrameKind) (v : ℕ) → Quiet (returns_by k v)
+unfolding returns_by exits ends_by_exit
+returns_quiet kind.ForkFn v = tt
+returns_quiet kind.Main v = (tt, tt)
+returns_quiet kind.Start v = (tt, tt)
+returns_quiet _ v = (λ id. refl, tt)
 
-    -- the threads that the transition of a thread names fit it, if a thread that is joined does
-    pub transition_names : (next : NextStatement) (s : Status) → ((id v : ℕ) (x : Target) → s ≡ status.Joining id → others.target ≡ Some x → x.value ≡ Some v → NameFits slot (action.EndJoin id) threads) → Names (transition_at body shared t others choice next s) threads
-    unfolding transition_at
-    transition_names (StatementIn frame s) status.Running fits = stop_names (stop_at body shared t others frame s) (runs body shared t others choice frame s) threads (runs_names frame s)
-    transition_names next (status.Joining id) fits = joins_names others.target id next threads (λ x v. fits id v x refl)
-    transition_names next status.Ending fits = ending_names others.is_last t.reason t.handlers threads
-    transition_names next status.Exiting fits = exit_names shared.exit_functions shared.exit_value threads
-    transition_names next _ fits = tt
+ends_quiet : (o : Option ℕ) (body : List Stmt) (frame : Frame) → Quiet (ends_block o body frame)
+unfolding jumps
+ends_quiet (Some opened) body frame = tt
+ends_quiet None body frame = returns_quiet frame.kind 0
+
+ending_quiet : (is_last : Bool) (why : Reason) (handlers : List (ℕ × ℕ)) → Quiet (goes_on_ending is_last why handlers)
+unfolding goes_on_ending ends_thread
+ending_quiet is_last why ((f, a) ∷ handlers) = (tt, (tt, tt))
+ending_quiet false why [] = (tt, tt)
+ending_quiet true why [] = (tt, (tt, tt))
+
+exit_quiet : (functions : List ℕ) (exit_value : Option ℕ) → Quiet (ends_process functions exit_value)
+unfolding ends_process
+exit_quiet [] (Some v) = (tt, tt)
+exit_quiet _ _ = tt
+
+-- ---- the stops of joins and detaches
+
+-- a stop that does not come
+stop_none : (b : Bool) (why : Why) (rest : List StopTest) → first_stop ((b, why) ∷ rest) ≡ None → (b ≡ false) × (first_stop rest ≡ None)
+stop_none true why rest none = absurd (none-some why (sym none))
+stop_none false why rest none = (refl, none)
+
+-- a thread may be joined by the one with an id: it holds its slot, is another one, and is neither detached nor joined
+record MayJoin (target : Option Target) (id tid : ℕ) : Type 0 where
+  seen : Target
+  target_is : target ≡ Some seen
+  other : id ≢ tid
+  joinable : seen.detached ≡ false
+  unjoined : seen.joining ≡ false
+
+may_join : (target : Option Target) (id tid : ℕ) → first_stop ((is_none target, why.ThreadId) ∷ (nat_eq id tid, why.JoinSelf) ∷ (target_is (λ x. x.detached) target, why.NotJoinable) ∷ (target_is (λ x. x.joining) target, why.JoinTwice) ∷ []) ≡ None → MayJoin target id tid
+may_join None id tid none = absurd (none-some why.ThreadId (sym none))
+may_join (Some x) id tid none =
+    let other = stop_none (nat_eq id tid) why.JoinSelf ((x.detached, why.NotJoinable) ∷ (x.joining, why.JoinTwice) ∷ []) none in
+    let joinable = stop_none x.detached why.NotJoinable ((x.joining, why.JoinTwice) ∷ []) other.1 in
+    let unjoined = stop_none x.joining why.JoinTwice [] joinable.1 in
+    record { seen = x; target_is = refl; other = eqb-false id tid other.0; joinable = joinable.0; unjoined = unjoined.0 }
+
+-- a thread may be detached: it holds its slot, and is not joined
+record MayDetach (target : Option Target) : Type 0 where
+  seen : Target
+  target_is : target ≡ Some seen
+  unjoined : seen.joining ≡ false
+
+may_detach : (target : Option Target) → first_stop ((is_none target, why.ThreadId) ∷ (target_is (λ x. x.detached) target, why.NotJoinable) ∷ (target_is (λ x. x.joining) target, why.DetachJoined) ∷ []) ≡ None → MayDetach target
+may_detach None none = absurd (none-some why.ThreadId (sym none))
+may_detach (Some x) none =
+    let joinable = stop_none x.detached why.NotJoinable ((x.joining, why.DetachJoined) ∷ []) none in
+    let unjoined = stop_none x.joining why.DetachJoined [] joinable.1 in
+    record { seen = x; target_is = refl; unjoined = unjoined.0 }
+
+-- ---- the table
+
+-- a fact of each transition that a thread with an id and a status may make, by the thread that it names
+pub record ByName (P : Transition → Type 0) (slots tid : ℕ) (rows : List SeenSlot) (s : Status) : Type 0 where
+  pub rests : P no_change
+  pub quiet : (o : Transition) → IsNotJoining s → AreQuiet o.actions → P o
+  pub begins : (id : ℕ) (x : Target) → IsNotJoining s → target_in slots id rows ≡ Some x → id ≢ tid → x.detached ≡ false → x.joining ≡ false → P (begins_join id)
+  pub ends : (next id v : ℕ) (d : Dest) (x : Target) → s ≡ status.Joining id → target_in slots id rows ≡ Some x → x.value ≡ Some v → P (ends_join next d id v)
+  pub detached : (next id : ℕ) (x : Target) → IsNotJoining s → target_in slots id rows ≡ Some x → x.joining ≡ false → P (detaches next id)
+
+module _ (P : Transition → Type 0) (slots : ℕ) (rows : List SeenSlot) (body : List Stmt) (shared : SharedState) (t : Thread) (choice : Alt) where
+  -- what the thread sees of the others
+  abbrev seen_at : NextStatement → Status → Others
+  seen_at next s = answer_in slots t.id rows (query_at shared next s)
+
+  stop_case : (stop : Option Why) (other : Transition) → ((why : Why) → P (stops why)) → (stop ≡ None → P other) → P (stops_or stop other)
+  stop_case (Some why) other stopped goes = stopped why
+  stop_case None other stopped goes = goes refl
+
+  running_case : (frame : Frame) (s : Stmt) → ByName P slots t.id rows status.Running → stop_at body shared t (seen_at (StatementIn frame s) status.Running) frame s ≡ None → P (runs body shared t (seen_at (StatementIn frame s) status.Running) choice frame s)
+  unfolding stop_at stops_of query_at statement_query answer_in runs emits sets adds jumps calls gets_self ends_by_exit pushes
+  running_case frame (statement.Emit v) by_name none = by_name.quiet _ (λ id. refl) tt
+  running_case frame (statement.Set d v) by_name none = by_name.quiet _ (λ id. refl) (written_quiet d _)
+  running_case frame (statement.Add d v) by_name none = by_name.quiet _ (λ id. refl) (written_quiet d _)
+  running_case frame statement.Nop by_name none = by_name.quiet _ (λ id. refl) tt
+  running_case frame (statement.If v) by_name none = by_name.quiet _ (λ id. refl) tt
+  running_case frame statement.Else by_name none = by_name.quiet _ (λ id. refl) tt
+  running_case frame (statement.While v) by_name none = by_name.quiet _ (λ id. refl) tt
+  running_case frame statement.End by_name none = by_name.quiet _ (λ id. refl) (ends_quiet (open_of body frame.pc) body frame)
+  running_case frame (statement.Do f v) by_name none = by_name.quiet _ (λ id. refl) (tt, tt)
+  running_case frame (statement.Return v) by_name none = by_name.quiet _ (λ id. refl) (returns_quiet frame.kind _)
+  running_case frame (statement.Create result id f v detached) by_name none = by_name.quiet _ (λ id. refl) (creates_quiet choice _ result id f _ detached)
+  running_case frame (statement.Join id d) by_name none =
+      let named : ℕ = value_of shared.globals frame id in
+      let may = may_join (target_in slots named rows) named t.id none in
+      by_name.begins named may.seen (λ id. refl) may.target_is may.other may.joinable may.unjoined
+  running_case frame (statement.Detach id) by_name none =
+      let named : ℕ = value_of shared.globals frame id in
+      let may = may_detach (target_in slots named rows) none in
+      by_name.detached (suc frame.pc) named may.seen (λ id. refl) may.target_is may.unjoined
+  running_case frame (statement.SelfId d) by_name none = by_name.quiet _ (λ id. refl) (written_quiet d t.id)
+  running_case frame (statement.ThreadExit v) by_name none = by_name.quiet _ (λ id. refl) (tt, tt)
+  running_case frame (statement.Push f v) by_name none = by_name.quiet _ (λ id. refl) (tt, tt)
+  running_case frame (statement.Pop v) by_name none = by_name.quiet _ (λ id. refl) (pops_quiet _ _ t.handlers)
+  running_case frame s by_name none = by_name.rests
+
+  value_case : (value : Option ℕ) (id : ℕ) (next : NextStatement) (x : Target) → ByName P slots t.id rows (status.Joining id) → target_in slots id rows ≡ Some x → x.value ≡ value → P (joins_with value id next)
+  value_case (Some v) id (StatementIn frame (statement.Join operand d)) x by_name seen value = by_name.ends (suc frame.pc) id v d x refl seen value
+  value_case _ id next x by_name seen value = by_name.rests
+
+  joining_case : (target : Option Target) (id : ℕ) (next : NextStatement) → ByName P slots t.id rows (status.Joining id) → target_in slots id rows ≡ target → P (joins_at target id next)
+  joining_case (Some x) id next by_name seen = value_case x.value id next x by_name seen refl
+  joining_case None id next by_name seen = by_name.rests
+
+  -- the transition of a thread
+  pub transition_case : (next : NextStatement) (s : Status) → ByName P slots t.id rows s → P (transition_at body shared t (seen_at next s) choice next s)
+  unfolding transition_at query_at answer_in
+  transition_case (StatementIn frame s) status.Running by_name = stop_case (stop_at body shared t (seen_at (StatementIn frame s) status.Running) frame s) (runs body shared t (seen_at (StatementIn frame s) status.Running) choice frame s) (λ why. by_name.quiet (stops why) (λ id. refl) (tt, tt)) (running_case frame s by_name)
+  transition_case next (status.Joining id) by_name = joining_case (target_in slots id rows) id next by_name refl
+  transition_case next status.Ending by_name = by_name.quiet _ (λ id. refl) (ending_quiet _ t.reason t.handlers)
+  transition_case next status.Exiting by_name = by_name.quiet _ (λ id. refl) (exit_quiet shared.exit_functions shared.exit_value)
+  transition_case next _ by_name = by_name.rests

@@ -1,13 +1,12 @@
 -- The threads that are ready, slot by slot, are the candidates of what is kept of a machine.
-use Rattle.std.proofs.Common.{◌≡◌, ℕ, ◌+◌, ◌%◌, ◌<◌, ◌≤◌, Bool, true, false, not, ◌||◌, cond, List, [], ◌∷◌, ◌++◌, map, take, drop, length, get_or, Option, Some, None, refl, sym, ap, ◌∙◌, inl, inr, arith}
+use Rattle.std.proofs.Common.{◌≡◌, ℕ, ◌%◌, ◌<◌, Bool, true, false, not, ◌||◌, cond, List, [], ◌∷◌, ◌++◌, map, length, get_or, Option, Some, None, refl, sym, ap, ◌∙◌, inl, inr, arith}
 use Rattle.std.specs.Prelude.{filter, nat_eq, slice_get, is_none, option_map, option_and_then}
 use Rattle.std.specs.List.{flat_map, list_any}
-use Rattle.std.specs.Option.{option_map_or, option_to_list}
+use Rattle.std.specs.Option.{option_to_list}
 use Rattle.std.proofs.lemmas.Bool.{cases_Bool, eqb-true, eqb-false, ne_eqb, false≢true}
-use Rattle.std.proofs.lemmas.List.{append-nil, map-append, length-append, length-map, take_all, take_more, take-append-drop, drop_more, nil_from_length}
-use Rattle.std.proofs.lemmas.List.Concat.{flat_map-append}
-use Rattle.std.proofs.lemmas.List.Elements.{filter-append, filter_passes}
-use Rattle.std.proofs.lemmas.Option.{slice_get-map, slice_get-get_or, slice_get_within, slice_get_past, get_or_from_slice_get}
+use Rattle.std.proofs.lemmas.List.{append-nil, map-append, length-map, nil_from_length}
+use Rattle.std.proofs.lemmas.List.Elements.{filter_passes}
+use Rattle.std.proofs.lemmas.Option.{slice_get-map, slice_get-get_or, slice_get_within, get_or_from_slice_get}
 use Rattle.pct_model.specs.declared.script.Script.{Script}
 use Rattle.pct_model.specs.declared.schedule.Alt.{Alt}
 use Rattle.pct_model.specs.declared.schedule.Config.{Config}
@@ -18,12 +17,11 @@ use Rattle.pct_model.specs.declared.stop.Verdict.TheVariants as verdict
 use Rattle.pct_model.specs.World.{Thread}
 use Rattle.pct_model.specs.ChoiceTable.{is_enabled}
 use Rattle.pct_model.specs.Chosen.{Candidate, item_at, entry_for}
-use Rattle.pct_threads.specs.Slots.{Held, Slot, unused}
-use Rattle.pct_threads.specs.Tables.{slot_at, held_at}
+use Rattle.pct_threads.specs.Slots.{Held, Slot}
 use Rattle.pct_engine_laws.specs.SeenSteps.{threads_on, is_ready_in, ready_in, candidate_in, seen_candidates, seen_chosen, has_ready_in, seen_verdict, seen_verdict_by}
 use Rattle.pct_engine.specs.declared.machine.Machine.{Machine}
 use Rattle.pct_engine.specs.Views.{thread_of, threads_of, slot_view, process_view, unless_ended, machine_view}
-use Rattle.pct_engine.specs.ReadyThreads.{choices_of_held, is_ready_held, is_ready_on, all_held, ready_among, ready_held, candidate_held}
+use Rattle.pct_engine.specs.ReadyThreads.{choices_of_held, is_ready_held, all_held, ready_held, candidate_held}
 
 -- ---- lists
 
@@ -120,68 +118,6 @@ unfolding seen_candidates
 seen_chosen-ended script slots m worker a b ended =
     ap (λ (cs : List Candidate). cond (is_none m.stop) (option_and_then (entry_for worker b) (item_at cs a)) None) (ended_candidates script slots m m.has_ended ended)
     ∙ none_either {T = Entry} (is_none m.stop) None refl
-
--- ---- slot by slot
-
--- one slot more
-pub ready_more : (script : Script) (m : Machine) (slot : ℕ) → slot < length m.threads → ready_among script m (take (slot + 1) m.threads) ≡ ready_among script m (take slot m.threads) ++ filter (is_ready_held script m) (option_to_list (held_at m.threads slot))
-ready_more script m slot inside =
-    ap (ready_among script m) (take_more m.threads slot unused inside)
-    ∙ ap (filter (is_ready_held script m)) (flat_map-append (λ (s : Slot). option_to_list s.here) (take slot m.threads) (slot_at m.threads slot ∷ []) ∙ ap (λ hs. all_held (take slot m.threads) ++ hs) (append-nil (option_to_list (held_at m.threads slot))))
-    ∙ filter-append (is_ready_held script m) (all_held (take slot m.threads)) (option_to_list (held_at m.threads slot))
-
-one_ready : (script : Script) (m : Machine) (o : Option Held) → length (filter (is_ready_held script m) (option_to_list o)) ≡ cond (option_map_or (is_ready_held script m) o false) 1 0
-one_ready script m None = refl
-one_ready script m (Some h) = either (is_ready_held script m h) where
-  either : (b : Bool) → length (cond b (h ∷ []) []) ≡ cond b 1 0
-  either true = refl
-  either false = refl
-
--- and the number of those that are ready
-pub count_more : (script : Script) (m : Machine) (slot : ℕ) → slot < length m.threads → length (ready_among script m (take (slot + 1) m.threads)) ≡ length (ready_among script m (take slot m.threads)) + cond (is_ready_on script m slot) 1 0
-count_more script m slot inside =
-    ap length (ready_more script m slot inside)
-    ∙ length-append (ready_among script m (take slot m.threads)) (filter (is_ready_held script m) (option_to_list (held_at m.threads slot)))
-    ∙ ap (λ n. length (ready_among script m (take slot m.threads)) + n) (one_ready script m (held_at m.threads slot))
-
-after_front : {A : Type 0} (xs : List A) (y : A) (ys : List A) → slice_get (xs ++ y ∷ ys) (length xs) ≡ Some y
-after_front [] y ys = refl
-after_front (x ∷ xs) y ys = after_front xs y ys
-
-first_ready : (script : Script) (m : Machine) (o : Option Held) (h : Held) (rest : List Held) → o ≡ Some h → is_ready_held script m h ≡ true → filter (is_ready_held script m) (option_to_list o ++ rest) ≡ h ∷ filter (is_ready_held script m) rest
-first_ready script m o h rest here ready =
-    ap (λ (x : Option Held). filter (is_ready_held script m) (option_to_list x ++ rest)) here
-    ∙ ap (λ b. cond b (h ∷ filter (is_ready_held script m) rest) (filter (is_ready_held script m) rest)) ready
-
--- the thread on a slot, among those that are ready
-pub ready_at : (script : Script) (m : Machine) (slot : ℕ) (h : Held) → slot < length m.threads → held_at m.threads slot ≡ Some h → is_ready_held script m h ≡ true → slice_get (ready_held script m) (length (ready_among script m (take slot m.threads))) ≡ Some h
-ready_at script m slot h inside here ready =
-    let front : List Held = ready_among script m (take slot m.threads) in
-    let rest : List Held = all_held (drop (slot + 1) m.threads) in
-    let parts : ready_held script m ≡ front ++ h ∷ filter (is_ready_held script m) rest =
-    ap (ready_among script m) (sym (take-append-drop slot m.threads))
-    ∙ ap (filter (is_ready_held script m)) (flat_map-append (λ (s : Slot). option_to_list s.here) (take slot m.threads) (drop slot m.threads))
-    ∙ filter-append (is_ready_held script m) (all_held (take slot m.threads)) (all_held (drop slot m.threads))
-    ∙ ap (λ (ss : List Slot). front ++ ready_among script m ss) (drop_more m.threads slot unused inside)
-    ∙ ap (λ (hs : List Held). front ++ hs) (first_ready script m (held_at m.threads slot) h rest here ready) in
-    ap (λ (hs : List Held). slice_get hs (length front)) parts ∙ after_front front h (filter (is_ready_held script m) rest)
-
--- a thread that is ready on a slot
-ready_of : (script : Script) (m : Machine) (o : Option Held) → option_map_or (is_ready_held script m) o false ≡ true → (h : Held) × (o ≡ Some h) × (is_ready_held script m h ≡ true)
-ready_of script m None ready = absurd (false≢true ready)
-ready_of script m (Some h) ready = (h, refl, ready)
-
--- a thread that is ready, by its number
-pub ready_here : (script : Script) (m : Machine) (slot n : ℕ) → slot < length m.threads → is_ready_on script m slot ≡ true → length (ready_among script m (take slot m.threads)) ≡ n → held_at m.threads slot ≡ slice_get (ready_held script m) n
-ready_here script m slot n inside ready number =
-    let found = ready_of script m (held_at m.threads slot) ready in
-    found.1 ∙ sym (ready_at script m slot found.0 inside found.1 found.2) ∙ ap (slice_get (ready_held script m)) number
-
--- no thread has a number past the last
-pub ready_past : (script : Script) (m : Machine) (slot left n : ℕ) → length m.threads ≤ slot → left + length (ready_among script m (take slot m.threads)) ≡ n → None ≡ slice_get (ready_held script m) n
-ready_past script m slot left n past number =
-    let all : length (ready_among script m (take slot m.threads)) ≡ length (ready_held script m) = ap (λ (ss : List Slot). length (ready_among script m ss)) (take_all slot m.threads past) in
-    sym (slice_get_past (ready_held script m) n (omega (arith, all, number)))
 
 -- ---- the verdict
 

@@ -22,7 +22,7 @@ fails_at p xs k d none within =
     ]
 
 -- a slot that has a thread with the id
-held_with : (id : ℕ) (o : Option Held) → option_map_or (λ held. nat_eq held.id id) o false ≡ true → (held : Held) × (o ≡ Some held) × (held.id ≡ id)
+pub held_with : (id : ℕ) (o : Option Held) → option_map_or (λ held. nat_eq held.id id) o false ≡ true → (held : Held) × (o ≡ Some held) × (held.id ≡ id)
 held_with id None has = absurd (false≢true has)
 held_with id (Some held) has = (held, refl, eqb-true held.id id has)
 

@@ -4,21 +4,21 @@ use Rattle.std.specs.Prelude.{All, filter, is_some, ◌&&◌, nat_eq, slice_get,
 use Rattle.std.specs.List.{list_all, list_any, range_with_len}
 use Rattle.std.specs.Option.{option_map_or}
 use Rattle.std.proofs.Math.Bool.{or-false}
-use Rattle.std.proofs.lemmas.Bool.{cases_lt, cond-true, eq-eqb}
+use Rattle.std.proofs.lemmas.Bool.{cases_lt, cond-true, eq-eqb, false≢true}
 use Rattle.std.proofs.lemmas.List.{take_all, drop_more, drop_all}
 use Rattle.std.proofs.lemmas.List.Elements.{filter_passes}
 use Rattle.std.proofs.lemmas.List.Folds.{list_any-append, list_any_at}
-use Rattle.std.proofs.lemmas.Option.{slice_get-map, slice_get-get_or, slice_get_past}
+use Rattle.std.proofs.lemmas.Option.{slice_get-map, slice_get-get_or, slice_get_past, same_Some}
 use Rattle.pct_model.specs.World.{Thread}
 use Rattle.pct_model.specs.ThreadSlots.{slot_of}
-use Rattle.pct_model.specs.OtherThreads.{is_joining, exit_value_of}
+use Rattle.pct_model.specs.OtherThreads.{is_joining, exit_value_of, target_is}
 use Rattle.pct_model.specs.declared.other_threads.Target.{Target}
 use Rattle.pct_set.specs.Slots.{slots_where}
 use Rattle.pct_threads.specs.declared.record.Place.{Place}
 use Rattle.pct_threads.specs.declared.record.Thread.{Thread as Kept}
-use Rattle.pct_threads.specs.Slots.{Held, Slot, unused, is_occupied, place_of}
-use Rattle.pct_threads.specs.Tables.{slot_at, held_at, place_at, thread_at, is_free_at, next_id_at}
-use Rattle.pct_threads.proofs.TableLemmas.{within-free}
+use Rattle.pct_threads.specs.Slots.{Held, Slot, unused, is_occupied, has_id, place_of}
+use Rattle.pct_threads.specs.Tables.{slot_at, held_at, is_occupied_at, place_at, thread_at, is_free_at, next_id_at}
+use Rattle.pct_threads.proofs.TableLemmas.{within-free, within-occupied}
 use Rattle.pct_engine_laws.specs.Seen.{SeenSlot}
 use Rattle.pct_engine_laws.specs.SeenSteps.{threads_on, thread_on, target_in, is_empty, new_id_on, new_ids_from}
 use Rattle.pct_engine.specs.Views.{thread_of, threads_of, slot_view}
@@ -60,7 +60,7 @@ all_but tid threads b is = all_not (λ t. t.ended || nat_eq t.id tid) (threads_o
 -- ---- the thread with an id
 
 -- a thread as a target
-abbrev target_by : Bool → Thread → Target
+abbrev pub target_by : Bool → Thread → Target
 target_by joining t = record { detached = t.detached; joining = joining; value = exit_value_of t.status }
 
 -- the thread on a slot as a target, if it has an id
@@ -68,7 +68,7 @@ abbrev target_if : Bool → ℕ → Held → Option Target
 target_if joining id h = cond (nat_eq h.id id) (Some (target_by joining (thread_of h))) None
 
 -- some thread joins the one with an id
-abbrev is_joined : List Slot → ℕ → Bool
+abbrev pub is_joined : List Slot → ℕ → Bool
 is_joined threads id = list_any (λ x. is_joining id x.status) (threads_on (map slot_view threads))
 
 target_on : (joining : Bool) (id : ℕ) (here : Option Held) → option_map (target_by joining) (find (λ t. nat_eq t.id id) (threads_of here)) ≡ option_and_then (target_if joining id) here
@@ -104,6 +104,20 @@ pub target_here : (threads : List Slot) (id slot : ℕ) (place : Place) (kept : 
 target_here threads id slot place kept joining value on inside is read named joined ended =
     (λ i. Some (record { detached = place.detached; joining = joined i; value = ended i }))
     ∙ sym (target_read threads id slot on inside ∙ named_here (is_joined threads id) id (held_at threads slot) place kept is read named)
+
+ended_held : (joining : Bool) (id : ℕ) (o : Option Held) (kept : Kept) → option_map_or (λ held. nat_eq held.id id) o false ≡ true → option_map (λ (h : Held). h.thread) o ≡ Some kept
+    → is_some (exit_value_of kept.status) ≡ target_is (λ target. is_some target.value) (option_and_then (target_if joining id) o)
+ended_held joining id None kept named is = absurd (false≢true named)
+ended_held joining id (Some h) kept named is =
+    sym (ap (λ b. target_is (λ target. is_some target.value) (cond b (Some (target_by joining (thread_of h))) None)) named
+    ∙ ap (λ (k : Kept). is_some (exit_value_of k.status)) (same_Some h.thread kept is))
+
+-- whether the thread with an id has ended
+pub ended_here : (threads : List Slot) (id slot : ℕ) (kept : Kept) → slot ≡ slot_of (length threads) id → is_occupied_at threads slot ≡ true → has_id id (slot_at threads slot) ≡ true → thread_at threads slot ≡ Some kept
+    → is_some (exit_value_of kept.status) ≡ target_is (λ target. is_some target.value) (target_in (length threads) id (map slot_view threads))
+ended_here threads id slot kept on occupied named is =
+    ended_held (is_joined threads id) id (held_at threads slot) kept named is
+    ∙ ap (target_is (λ target. is_some target.value)) (sym (target_read threads id slot on (within-occupied threads slot occupied)))
 
 -- ---- new ids
 

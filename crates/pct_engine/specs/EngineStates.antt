@@ -6,9 +6,14 @@ use Rattle.pct_model.specs.declared.schedule.Entry.{Entry}
 use Rattle.pct_model.specs.declared.event.Event.{Event}
 use Rattle.pct_model.specs.declared.stop.Verdict.TheVariants as verdict
 use Rattle.pct_model.specs.Chosen.{chosen}
+use Rattle.pct_model.specs.Kept.{Kept}
+use Rattle.pct_model.specs.Laws.{Laws}
 use Rattle.pct_model.specs.Run.{Run, run, verdict_of}
-use Rattle.pct_engine_laws.specs.Seen.{Seen, seen}
+use Rattle.pct_engine_laws.specs.Seen.{seen}
 use Rattle.pct_engine_laws.specs.RunLaws.{IsLegalWhileOpen}
+use Rattle.pct_engine.specs.declared.machine.Machine.{Machine}
+use Rattle.pct_engine.specs.Views.{machine_view}
+use Rattle.pct_engine.specs.Joiners.{HaveJoiners}
 
 -- the value of an engine: a script, a configuration, and the entries of the run so far
 pub record EngineValue : Type 0 where
@@ -18,12 +23,14 @@ pub record EngineValue : Type 0 where
 
 -- ---- what its parts are
 
--- the run of the history is defined, the events are those of the run, and the parts are what is kept of its state
-pub record StandsFor (script : Script) (config : Config) (history : List Entry) (events : List Event) (parts : Seen) : Type 0 where
+-- the run of the history is defined, the events are those of the run, the machine has what is kept of its state, and the
+-- joiner of each thread is the one that is suspended in pthread_join for it
+pub record StandsFor (script : Script) (config : Config) (history : List Entry) (events : List Event) (machine : Machine) : Type 0 where
   pub after : Run
   pub is_run : run script config history ≡ Some after
   pub events_are : reverse events ≡ after.events
-  pub parts_are : parts ≡ seen config.slots after.world
+  pub parts_are : machine_view script machine ≡ seen config.slots after.world
+  pub joiners_are : HaveJoiners machine.threads
 
 -- the lengths and the capacities of the lists of entries and of events: there is room for `budget` entries, with three
 -- events each
@@ -38,6 +45,11 @@ pub record HasRoom (budget entries entries_capacity events events_capacity : ℕ
 -- the run of an engine
 abbrev pub IsRunOf : EngineValue → Run → Type 0
 IsRunOf engine after = run engine.script engine.config engine.history ≡ Some after
+
+-- the events of the run of an engine keep the laws of how threads end, and its state keeps the invariant
+pub record KeepsLaws (engine : EngineValue) (after : Run) : Type 0 where
+  pub laws : Laws after.events engine.config.passes engine.config.slots
+  pub kept : Kept engine.script engine.config after.world after.events
 
 -- the history with one entry more is a run
 abbrev pub IsRunWith : EngineValue → Entry → Type 0

@@ -1,5 +1,6 @@
 -- What a step reads of a thread, and of the state that the threads of its process share.
-use Rattle.std.specs.Prelude.{◌≡◌, ℕ, List, [], length, Option, Some, None, IfSome, slice_get}
+use denote.Ref.{Bor}
+use Rattle.std.specs.Prelude.{◌≡◌, ℕ, List, [], length, Option, Some, None, IfSome}
 use Rattle.pct_model.specs.declared.script.Script.{Script}
 use Rattle.pct_model.specs.declared.statement.Stmt.{Stmt}
 use Rattle.pct_model.specs.declared.frame.Frame.{Frame}
@@ -8,23 +9,22 @@ use Rattle.pct_model.specs.NextStatement.{NextStatement, NoStatement, StatementI
 use Rattle.pct_engine.specs.declared.position.Position.{Position}
 
 -- a frame and a statement as the next statement of a thread
-abbrev pub next_at : Option (Frame × Stmt) → NextStatement
+abbrev pub next_at : Option (Bor Frame × Bor Stmt) → NextStatement
 next_at None = NoStatement
-next_at (Some (frame, s)) = StatementIn frame s
+next_at (Some (frame, s)) = StatementIn frame.now s.now
 
 -- the statement is the one at the frame's pc
-abbrev pub IsDecoded : Script → Option (Frame × Stmt) → Type 0
-IsDecoded script next = IfSome next (λ n. statement_at script n.0 ≡ Some n.1)
+abbrev pub IsDecoded : Script → Option (Bor Frame × Bor Stmt) → Type 0
+IsDecoded script next = IfSome next (λ n. statement_at script n.0.now ≡ Some n.1.now)
 
 -- this is the position of the thread
 pub record IsPosition (script : Script) (position : Position) (t : Thread) : Type 0 where
   pub id_is : position.id ≡ t.id
   pub next_is : next_at position.next ≡ next_of script t.frames
   pub depth_is : position.depth ≡ length t.frames
-  pub newest_is : position.newest ≡ slice_get t.handlers 0
-  pub handlers_are : position.handlers ≡ length t.handlers
-  pub status_is : position.status ≡ t.status
-  pub reason_is : position.reason ≡ t.reason
+  pub handlers_are : position.thread.now.handlers ≡ t.handlers
+  pub status_is : position.thread.now.status ≡ t.status
+  pub reason_is : position.thread.now.reason ≡ t.reason
 
 -- these are the globals and the value of exit of the shared state, in which no exit function is registered
 pub record AreShared (globals : List ℕ) (exit_value : Option ℕ) (shared : SharedState) : Type 0 where

@@ -1,6 +1,6 @@
 //! What a transition changes: in the thread that makes it, in what the threads of its process share, and in the other threads.
 
-ghost use Rattle.std.specs.Prelude.{◌≡◌, length, Some, true};
+ghost use Rattle.std.specs.Prelude.{◌≡◌, drop, length, Some, true};
 ghost use Rattle.pct_model.specs.Actions.{for_each, stop_after};
 ghost use Rattle.pct_threads.specs.Slots.{Held};
 ghost use Rattle.pct_threads.specs.Tables.{held_at, is_occupied_at, on_held};
@@ -21,7 +21,7 @@ pub(crate) fn change(machine: &mut Machine, slot: u32, transition: &Transition)
     ensures { machine.new ≡ machine_moved slot transition.now machine.old }
 {
     act_own(machine, slot, transition);
-    name_all(&mut machine.threads, slot, &transition.actions);
+    name_all(&mut machine.threads, slot, &transition.actions, 0);
     settle(&mut machine.threads, slot);
     create(&mut machine.threads, transition.created);
 }
@@ -33,18 +33,18 @@ fn act_own(machine: &mut Machine, slot: u32, transition: &Transition)
     ensures { machine.new ≡ machine_acted slot transition.now machine.old }
 {
     go_on(&mut machine.threads, slot, transition.next);
-    act_all(machine, slot, &transition.actions);
+    act_all(machine, slot, &transition.actions, 0);
 }
 
-// Makes the changes of actions, in order.
-fn act_all(machine: &mut Machine, slot: u32, actions: &UpToThree<Action>)
+// Makes the changes of the actions from an index on, in order.
+fn act_all(machine: &mut Machine, slot: u32, actions: &UpToThree<Action>, from: usize)
     requires occupied { is_occupied_at machine.old.threads slot ≡ true }
-    requires fits { (held : Held) → held_at machine.old.threads slot ≡ Some held → AllFit (length held.frames) (length held.thread.handlers) actions.now }
-    ensures { machine.new ≡ for_each (machine_after slot) actions.now machine.old }
+    requires fits { (held : Held) → held_at machine.old.threads slot ≡ Some held → AllFit (length held.frames) (length held.thread.handlers) (drop from actions.now) }
+    ensures { machine.new ≡ for_each (machine_after slot) (drop from actions.now) machine.old }
 {
-    if let Some((action, rest)) = actions.split_first() {
+    if let Some(action) = actions.get(from) {
         act(machine, slot, action);
-        act_all(machine, slot, &rest);
+        act_all(machine, slot, actions, from + 1);
     }
 }
 

@@ -7,7 +7,7 @@ ghost use Rattle.pct_model.specs.declared.state.Status.TheVariants as status;
 ghost use Rattle.pct_model.specs.World.{Thread};
 ghost use Rattle.pct_model.specs.NextStatement.{next_of};
 ghost use Rattle.pct_model.specs.OtherThreads.{Others as SeenOthers, target_is};
-ghost use Rattle.pct_model.specs.ChoiceTable.{choices_at, running_choices, new_or_go, go_if, offers, is_enabled};
+ghost use Rattle.pct_model.specs.ChoiceTable.{choices_at, running_choices, new_or_go, go_if, offers};
 ghost use Rattle.pct_threads.specs.Slots.{Slot};
 ghost use Rattle.pct_threads.specs.Tables.{next_id_at};
 ghost use Rattle.pct_engine.specs.Answers.{IsAnswer, IdsFit};
@@ -45,17 +45,6 @@ impl Choices {
                 Alt::New(id) => offers_id(threads, free, id),
                 _ => false,
             },
-        }
-    }
-
-    /// Whether there is a choice.
-    pub(crate) fn is_enabled(&self) -> bool
-        ensures { (threads : List Slot) → result ≡ is_enabled (listed threads self.now) }
-    {
-        match self {
-            Choices::None => false,
-            Choices::Go => true,
-            Choices::New(free) => free.len() > 0,
         }
     }
 
@@ -121,7 +110,7 @@ pub(crate) fn choices_at(others: &Others, position: &Position) -> Choices
         → listed threads result ≡ choices_at seen (next_of script t.frames) t.status }
     ensures within { (slots : ℕ) → All (λ s. s < slots) others.now.free → AreWithin slots result }
 {
-    match position.status {
+    match position.thread.status {
         Status::Running => at_next(others, position),
         Status::Joining(_) => go_if(has_ended(others.target)),
         Status::Ending => Choices::Go,
@@ -144,8 +133,8 @@ fn at_next(others: &Others, position: &Position) -> Choices
 
 // The choices of a running thread at a statement.
 #[tactic(auto, unfolding(pct_model::specs::ChoiceTable::running_choices))]
-fn running_choices(others: &Others, statement: Stmt) -> Choices
-    ensures value { (threads : List Slot) (seen : SeenOthers) → IsAnswer threads others.now seen → listed threads result ≡ running_choices seen statement }
+fn running_choices(others: &Others, statement: &Stmt) -> Choices
+    ensures value { (threads : List Slot) (seen : SeenOthers) → IsAnswer threads others.now seen → listed threads result ≡ running_choices seen statement.now }
     ensures within { (slots : ℕ) → All (λ s. s < slots) others.now.free → AreWithin slots result }
 {
     match statement {

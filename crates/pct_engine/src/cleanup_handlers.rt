@@ -21,12 +21,13 @@ pub(crate) fn pushes(next: u32, func: u32, arg: u32) -> Transition
 /// pthread_cleanup_pop with a value, in a thread whose newest handler is this one: it is removed, and called if the value is
 /// not 0. Without a handler nothing changes.
 #[tactic(auto, unfolding(pct_model::specs::CleanupHandlers::pops))]
-pub(crate) fn pops(next: u32, value: u32, newest: Option<(u32, u32)>) -> Transition
-    ensures { (handlers : List (ℕ × ℕ)) → newest ≡ slice_get handlers 0 → result ≡ pops next value handlers }
+#[inline(never)]
+pub(crate) fn pops(next: u32, value: u32, newest: Option<(u32, u32)>, transition: &mut Transition)
+    ensures { (handlers : List (ℕ × ℕ)) → newest ≡ slice_get handlers 0 → transition.new ≡ pops next value handlers }
 {
     match newest {
-        None => no_change(),
-        Some((func, arg)) => pops_newest(next, value, func, arg),
+        None => *transition = no_change(),
+        Some((func, arg)) => *transition = pops_newest(next, value, func, arg),
     }
 }
 

@@ -1,6 +1,6 @@
 //! The next statement of a thread, and the values that it reads.
 
-ghost use Rattle.std.specs.Prelude.{◌≡◌, ◌<◌, List, IfSome, slice_get, suc};
+ghost use Rattle.std.specs.Prelude.{◌≡◌, ◌<◌, List, IfSome, option_map, slice_get, suc};
 ghost use Rattle.pct_model.specs.declared.frame.Frame.{Frame as FrameRecord};
 ghost use Rattle.pct_model.specs.declared.limits.TheConstants.{MAX_STATEMENTS};
 ghost use Rattle.pct_model.specs.World.{statement_at, value_of};
@@ -12,13 +12,16 @@ use pct_model::{Dest, Frame, Operand, Script, Stmt};
 
 /// The next statement of a thread with this top frame, and the frame. `None` if there is no frame, or no statement at its
 /// program counter.
-pub(crate) fn next_of(script: &Script, top: Option<Frame>) -> Option<(Frame, Stmt)>
-    ensures next { (frames : List FrameRecord) → top ≡ slice_get frames 0 → next_at result ≡ next_of script.now frames }
+pub(crate) fn next_of<'a>(
+    script: &'a Script,
+    top: Option<&'a Frame>,
+) -> Option<(&'a Frame, &'a Stmt)>
+    ensures next { (frames : List FrameRecord) → option_map (λ frame. frame.now) top.entry ≡ slice_get frames 0 → next_at result ≡ next_of script.now frames }
     ensures decoded { IsDecoded script.now result }
 {
     match top {
         None => None,
-        Some(frame) => match statement_at(script, &frame) {
+        Some(frame) => match statement_at(script, frame) {
             None => None,
             Some(statement) => Some((frame, statement)),
         },
@@ -27,15 +30,15 @@ pub(crate) fn next_of(script: &Script, top: Option<Frame>) -> Option<(Frame, Stm
 
 /// The statement at a frame's program counter. `None` if the function has no statement there.
 #[tactic(auto, using(std::proofs::lemmas::Option::slice_get_past), unfolding(pct_model::specs::World::statement_at))]
-pub(crate) fn statement_at(script: &Script, frame: &Frame) -> Option<Stmt>
-    ensures value { result ≡ statement_at script.now frame.now }
+pub(crate) fn statement_at<'a>(script: &'a Script, frame: &Frame) -> Option<&'a Stmt>
+    ensures value { option_map (λ statement. statement.now) result ≡ statement_at script.now frame.now }
     ensures pc { IfSome result (λ _. frame.now.pc < MAX_STATEMENTS) }
 {
     let func = script.funcs.as_slice().get(frame.func as usize)?;
     let body = func.body.as_slice();
     let pc = frame.pc as usize;
     if pc < body.len() {
-        Some(body[pc])
+        Some(&body[pc])
     } else {
         None
     }

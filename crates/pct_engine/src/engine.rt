@@ -5,7 +5,9 @@ ghost use Rattle.pct_model.specs.World.{opening};
 ghost use Rattle.pct_model.specs.Run.{is_config, run};
 ghost use Rattle.pct_engine_laws.specs.Seen.{seen};
 ghost use Rattle.pct_engine.specs.Views.{machine_view};
+ghost use Rattle.pct_engine.specs.Joiners.{HaveJoiners};
 ghost use Rattle.pct_engine.specs.EngineStates.{StandsFor, HasRoom};
+ghost use Rattle.pct_engine.specs.UsedSlots.{Covers};
 
 use crate::globals::Globals;
 use crate::machine::Machine;
@@ -13,8 +15,11 @@ use crate::program::Program;
 use crate::scheduler::{chosen, verdict_after};
 use crate::steps::step;
 use crate::trace::{record_entry, record_events};
+use crate::transitions::no_change;
+use crate::used_slots::{add_created, occupied_slots};
 use pct_io::NoMemory;
 use pct_model::{Config, Entry, Event, Script, Verdict, main_of};
+use pct_set::SlotSet;
 use pct_threads::Threads;
 use std::alloc::Global;
 use std::marker::Model;
@@ -29,6 +34,8 @@ pub struct NotLegal;
 pub struct Engine {
     program: Program,
     machine: Machine,
+    /// Each slot that a thread holds is one of these.
+    used: SlotSet,
     history: Vec<Entry>,
     events: Vec<Event>,
 }
@@ -39,19 +46,19 @@ impl Model for Engine {
 
     ghost Value = { EngineValue };
 
-    ghost use Rattle.pct_engine.specs.Views.{machine_view};
     ghost use Rattle.pct_engine.specs.EngineStates.{StandsFor, HasRoom};
+    ghost use Rattle.pct_engine.specs.UsedSlots.{Covers};
 
     ghost view = { λ e. record { script = e.program.script; config = e.program.config; history = e.history.items } };
 
-    ghost invariant = { λ e. StandsFor e.program.script e.program.config e.history.items e.events.items (machine_view e.program.script e.machine) × HasRoom e.program.config.budget (vec_len e.history) (vec_capacity e.history) (vec_len e.events) (vec_capacity e.events) };
+    ghost invariant = { λ e. StandsFor e.program.script e.program.config e.history.items e.events.items e.machine × HasRoom e.program.config.budget (vec_len e.history) (vec_capacity e.history) (vec_len e.events) (vec_capacity e.events) × Covers e.used e.machine.threads };
 }
 
 impl Engine {
     ghost use Rattle.std.specs.Prelude.{◌≡◌, ◌↔◌, ◌*◌, ◌≤◌, [], ◌∷◌, ◌++◌, length, reverse, IfOk, IsOk, OnOk, OnErr, IsTrue};
     ghost use Rattle.pct_model.specs.declared.limits.TheConstants.{MAX_WORKER};
     ghost use Rattle.pct_model.specs.Run.{Run, is_config, verdict_of};
-    ghost use Rattle.pct_engine.specs.EngineStates.{IsRunOf, IsRunWith, IsAllowed, IsChoice};
+    ghost use Rattle.pct_engine.specs.EngineStates.{IsRunOf, IsRunWith, IsAllowed, IsChoice, KeepsLaws};
 
     /// The engine of the run without entries. It takes the memory of the whole run: `budget` entries, three events for each,
     /// and all tables; no other call takes memory. `NoMemory` is returned if that does not fit into memory.
@@ -64,9 +71,11 @@ impl Engine {
         let events = Vec::with_capacity(alloc, 3 * budget)?;
         let machine = opening(alloc, &script, config)?;
         let program = Program::new(alloc, script, config)?;
+        let used = occupied_slots(&machine.threads);
         Ok(Engine {
             program,
             machine,
+            used,
             history,
             events,
         })
@@ -79,10 +88,14 @@ impl Engine {
         ensures legal { IsOk result ↔ IsRunWith self.old entry }
         ensures cause { (after : Run) → IsRunOf self.old after → IsOk result ↔ IsAllowed self.old after entry }
         ensures same { OnErr result (self.new ≡ self.old) }
+        // Of every legal schedule: no cleanup handler is removed twice, the newest is removed first, a thread that has ended has
+        // none left, and the state keeps the invariant.
+        ensures laws { (after : Run) → IsRunOf self.new after → KeepsLaws self.new after }
     {
         step_with(
             &self.program,
             &mut self.machine,
+            &mut self.used,
             &mut self.history,
             &mut self.events,
             entry,
@@ -100,6 +113,7 @@ impl Engine {
         chosen(
             &self.program,
             &self.machine,
+            self.used,
             self.history.len(),
             worker,
             a,
@@ -114,7 +128,7 @@ impl Engine {
         // The run of the entries is defined, for every engine.
         ensures runs { (after : Run) × IsRunOf self.now after }
     {
-        verdict_after(&self.program, &self.machine, self.history.len())
+        verdict_after(&self.program, &self.machine, self.used, self.history.len())
     }
 
     /// The entries of the run so far, in order. There are at most as many as the budget allows.
@@ -154,7 +168,8 @@ impl Engine {
 // The state before the first step.
 fn opening(alloc: Global, script: &Script, config: Config) -> Result<Machine, NoMemory>
     requires { IsTrue (is_config config) }
-    ensures { IfOk result (λ machine. machine_view script.now machine ≡ seen config.slots (opening script.now)) }
+    ensures view { IfOk result (λ machine. machine_view script.now machine ≡ seen config.slots (opening script.now)) }
+    ensures joiners { IfOk result (λ machine. HaveJoiners machine.threads) }
 {
     let main = main_of(script.funcs.as_slice()) as u32;
     let mut threads = Threads::new(alloc, config.slots)?;
@@ -174,25 +189,30 @@ fn opening(alloc: Global, script: &Script, config: Config) -> Result<Machine, No
 fn step_with(
     program: &Program,
     machine: &mut Machine,
+    used: &mut SlotSet,
     history: &mut Vec<Entry>,
     events: &mut Vec<Event>,
     entry: Entry,
 ) -> Result<(), NotLegal>
-    requires stands { StandsFor program.now.script program.now.config history.old.items events.old.items (machine_view program.now.script machine.old) }
+    requires stands { StandsFor program.now.script program.now.config history.old.items events.old.items machine.old }
     requires room { HasRoom program.now.config.budget (vec_len history.old) (vec_capacity history.old) (vec_len events.old) (vec_capacity events.old) }
+    requires used { Covers used.old machine.old.threads }
     ensures made { OnOk result (history.new.items ≡ history.old.items ++ entry ∷ []) }
     ensures legal { IsOk result ↔ (is_some (run program.now.script program.now.config (history.old.items ++ entry ∷ [])) ≡ true) }
     ensures same { OnErr result (history.new.items ≡ history.old.items) }
-    ensures stands { StandsFor program.now.script program.now.config history.new.items events.new.items (machine_view program.now.script machine.new) }
+    ensures stands { StandsFor program.now.script program.now.config history.new.items events.new.items machine.new }
     ensures room { HasRoom program.now.config.budget (vec_len history.new) (vec_capacity history.new) (vec_len events.new) (vec_capacity events.new) }
+    ensures used { Covers used.new machine.new.threads }
 {
     if history.len() >= program.config.budget as usize {
         return Err(NotLegal);
     }
-    let Some(new_events) = step(program, machine, entry) else {
+    let mut transition = no_change();
+    if !step(program, machine, entry, &mut transition) {
         return Err(NotLegal);
-    };
-    record_events(events, entry, &new_events);
+    }
+    add_created(used, &machine.threads, transition.created);
+    record_events(events, &entry, &transition.events, 0);
     record_entry(history, entry);
     Ok(())
 }

@@ -23,5 +23,6 @@ mod thread_ends;
 mod trace;
 mod transition_table;
 mod transitions;
+mod used_slots;
 
 pub use engine::{Engine, NotLegal};

@@ -1,6 +1,6 @@
 //! What a transition changes in the other threads: in those that its actions name, and by the thread that it creates.
 
-ghost use Rattle.std.specs.Prelude.{◌≡◌, ◌<◌, length, true};
+ghost use Rattle.std.specs.Prelude.{◌≡◌, ◌<◌, drop, length, true};
 ghost use Rattle.pct_model.specs.Actions.{for_each};
 ghost use Rattle.pct_threads.specs.Slots.{with_joiner, after_detach, after_change, with_change, freed};
 ghost use Rattle.pct_threads.specs.Tables.{id_at, is_occupied_at};
@@ -11,14 +11,14 @@ ghost use Rattle.pct_threads.specs.Tables.{is_reclaimable_at};
 use pct_model::{Action, NewThread, Status, UpToThree};
 use pct_threads::Threads;
 
-/// Makes the changes of the actions of the thread on a slot in the threads that they name, in order.
-pub(crate) fn name_all(threads: &mut Threads, slot: u32, actions: &UpToThree<Action>)
-    requires { NamesFit slot actions.now threads.old }
-    ensures { threads.new ≡ for_each (named_on slot) actions.now threads.old }
+/// Makes the changes of the actions of the thread on a slot, from an index on, in the threads that they name, in order.
+pub(crate) fn name_all(threads: &mut Threads, slot: u32, actions: &UpToThree<Action>, from: usize)
+    requires { NamesFit slot (drop from actions.now) threads.old }
+    ensures { threads.new ≡ for_each (named_on slot) (drop from actions.now) threads.old }
 {
-    if let Some((action, rest)) = actions.split_first() {
+    if let Some(action) = actions.get(from) {
         name(threads, slot, action);
-        name_all(threads, slot, &rest);
+        name_all(threads, slot, actions, from + 1);
     }
 }
 

@@ -1,13 +1,14 @@
 //! What the next step of a thread depends on, of the other threads of its process.
 
-ghost use Rattle.std.specs.Prelude.{◌≡◌, ◌<◌, ◌||◌, [], None, All, false, length, map, nat_eq};
+ghost use Rattle.std.specs.Prelude.{◌≡◌, ◌<◌, ◌≤◌, ◌||◌, [], None, All, IfSome, IfNone, true, false, length, map, nat_eq, is_some};
 ghost use Rattle.std.specs.List.{list_all, list_any};
 ghost use Rattle.pct_model.specs.declared.script.Script.{Script};
 ghost use Rattle.pct_model.specs.World.{Thread, SharedState};
 ghost use Rattle.pct_model.specs.ThreadSlots.{slot_of};
-ghost use Rattle.pct_model.specs.OtherThreads.{statement_query, running_query, query_at, is_joining, exit_value_of};
-ghost use Rattle.pct_threads.specs.Tables.{held_at, next_id_at};
-ghost use Rattle.pct_engine_laws.specs.SeenSteps.{threads_on, target_in, new_ids_from, answer_in, others_in};
+ghost use Rattle.pct_model.specs.OtherThreads.{statement_query, running_query, query_at, is_joining, exit_value_of, target_is};
+ghost use Rattle.pct_threads.specs.Slots.{has_id};
+ghost use Rattle.pct_threads.specs.Tables.{slot_at, held_at, is_occupied_at, next_id_at};
+ghost use Rattle.pct_engine_laws.specs.SeenSteps.{threads_on, thread_with, target_in, new_ids_from, answer_in, others_in};
 ghost use Rattle.pct_engine.specs.Positions.{next_at, IsPosition};
 ghost use Rattle.pct_engine.specs.Views.{slot_view, process_view};
 ghost use Rattle.pct_engine.specs.Answers.{any_on, is_other_running, IsAnswer};
@@ -34,10 +35,11 @@ pub(crate) struct Others {
 
 /// The query of a thread in this position, in a process with these globals.
 #[tactic(auto, unfolding(pct_model::specs::OtherThreads::query_at))]
+#[inline(always)]
 pub(crate) fn query_at(globals: &[u32], position: &Position) -> Query
-    ensures { (shared : SharedState) → globals.now ≡ shared.globals → result ≡ query_at shared (next_at position.now.next) position.now.status }
+    ensures { (shared : SharedState) → globals.now ≡ shared.globals → result ≡ query_at shared (next_at position.now.next) position.now.thread.now.status }
 {
-    match position.status {
+    match position.thread.status {
         Status::Running => running_query(globals, position),
         Status::Joining(id) => Query::Thread(id),
         Status::Ending => Query::IsLast,
@@ -46,24 +48,26 @@ pub(crate) fn query_at(globals: &[u32], position: &Position) -> Query
 }
 
 // The query of a running thread.
+#[inline(always)]
 fn running_query(globals: &[u32], position: &Position) -> Query
     ensures { (shared : SharedState) → globals.now ≡ shared.globals → result ≡ running_query shared (next_at position.now.next) }
 {
     match position.next {
         None => Query::Nothing,
-        Some((frame, statement)) => statement_query(globals, &frame, statement),
+        Some((frame, statement)) => statement_query(globals, frame, statement),
     }
 }
 
 // The query of a running thread at a statement.
 #[tactic(auto, unfolding(pct_model::specs::OtherThreads::statement_query))]
-fn statement_query(globals: &[u32], frame: &Frame, statement: Stmt) -> Query
-    ensures { (shared : SharedState) → globals.now ≡ shared.globals → result ≡ statement_query shared frame.now statement }
+#[inline(always)]
+fn statement_query(globals: &[u32], frame: &Frame, statement: &Stmt) -> Query
+    ensures { (shared : SharedState) → globals.now ≡ shared.globals → result ≡ statement_query shared frame.now statement.now }
 {
     match statement {
         Stmt::Create { .. } => Query::NewIds,
-        Stmt::Join { id, .. } => Query::Thread(value_of(globals, frame, id)),
-        Stmt::Detach(id) => Query::Thread(value_of(globals, frame, id)),
+        Stmt::Join { id, .. } => Query::Thread(value_of(globals, frame, *id)),
+        Stmt::Detach(id) => Query::Thread(value_of(globals, frame, *id)),
         _ => Query::Nothing,
     }
 }
@@ -71,6 +75,7 @@ fn statement_query(globals: &[u32], frame: &Frame, statement: Stmt) -> Query
 // ---- answers
 
 /// What the next step of a thread of a machine in this position depends on, of the other threads.
+#[inline(always)]
 pub(crate) fn others_of(machine: &Machine, position: &Position) -> Others
     ensures value { (script : Script) (t : Thread) → IsPosition script position.now t → IsAnswer machine.now.threads result (others_in script (length machine.now.threads) (process_view script machine.now) t) }
     ensures within { All (λ s. s < length machine.now.threads) result.free }
@@ -81,6 +86,7 @@ pub(crate) fn others_of(machine: &Machine, position: &Position) -> Others
 
 /// The answer to a query of the thread with an id, in a process with these threads.
 #[tactic(auto, unfolding(pct_engine_laws::specs::SeenSteps::answer_in))]
+#[inline(always)]
 pub(crate) fn answer_to(threads: &Threads, tid: u32, query: Query) -> Others
     ensures value { IsAnswer threads.now result (answer_in (length threads.now) tid (map slot_view threads.now) query) }
     ensures within { All (λ s. s < length threads.now) result.free }
@@ -135,6 +141,31 @@ fn target_with(threads: &Threads, id: u32) -> Option<Target>
     })
 }
 
+/// The slot of the thread with an id. `None` if no thread with the id holds its slot.
+pub(crate) fn slot_with(threads: &Threads, id: u32) -> Option<u32>
+    ensures named { IfSome result (λ slot. has_id id (slot_at threads.now slot) ≡ true) }
+    ensures occupied { IfSome result (λ slot. is_occupied_at threads.now slot ≡ true) }
+    ensures placed { IfSome result (λ slot. slot ≡ slot_of (length threads.now) id) }
+    ensures none { IfNone result (thread_with (length threads.now) id (map slot_view threads.now) ≡ None) }
+{
+    let slot = slot_of(threads, id);
+    if threads.has_id(slot, id) {
+        Some(slot)
+    } else {
+        None
+    }
+}
+
+/// The thread with an id has ended, and holds its slot.
+pub(crate) fn has_ended(threads: &Threads, id: u32) -> bool
+    ensures { result ≡ target_is (λ target. is_some target.value) (target_in (length threads.now) id (map slot_view threads.now)) }
+{
+    match slot_with(threads, id) {
+        None => false,
+        Some(slot) => exit_value_of(threads.read(slot).status).is_some(),
+    }
+}
+
 // The slots on which a new thread can be created.
 fn free_slots(threads: &Threads) -> SlotSet
     ensures value { map (next_id_at threads.now) result ≡ new_ids_from (length threads.now) 0 (map slot_view threads.now) }
@@ -145,10 +176,11 @@ fn free_slots(threads: &Threads) -> SlotSet
     threads.free()
 }
 
-// The slot of a thread id.
-fn slot_of(threads: &Threads, id: u32) -> u32
+/// The slot of a thread id.
+pub(crate) fn slot_of(threads: &Threads, id: u32) -> u32
     ensures value { result ≡ slot_of (length threads.now) id }
     ensures within { result < length threads.now }
+    ensures few { length threads.now ≤ 64 }
 {
     id.saturating_sub(1) % threads.slot_count()
 }

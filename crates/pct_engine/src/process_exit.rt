@@ -20,33 +20,37 @@ pub(crate) fn exits(value: u32) -> Transition
 /// `return` of a value, by the kind of the top frame. A return from `main` in the initial thread acts as exit, one from the
 /// start routine of another thread as pthread_exit (XSH pthread_create).
 #[tactic(auto, unfolding(pct_model::specs::ProcessExit::returns_by))]
-pub(crate) fn returns_by(kind: FrameKind, value: u32) -> Transition
-    ensures { result ≡ returns_by kind value }
+#[inline(never)]
+pub(crate) fn returns_by(kind: FrameKind, value: u32, transition: &mut Transition)
+    ensures { transition.new ≡ returns_by kind value }
 {
     match kind {
-        FrameKind::Main => exits(value),
-        FrameKind::Start => ends_by_exit(value),
-        FrameKind::Call => leaves(Status::Running),
-        FrameKind::PopHandler => leaves(Status::Running),
-        FrameKind::Handler => leaves(Status::Ending),
-        FrameKind::Destructor => leaves(Status::Ending),
-        FrameKind::ExitFn => leaves(Status::Exiting),
-        FrameKind::ForkFn => no_change(),
+        FrameKind::Main => *transition = exits(value),
+        FrameKind::Start => *transition = ends_by_exit(value),
+        FrameKind::Call => *transition = leaves(Status::Running),
+        FrameKind::PopHandler => *transition = leaves(Status::Running),
+        FrameKind::Handler => *transition = leaves(Status::Ending),
+        FrameKind::Destructor => *transition = leaves(Status::Ending),
+        FrameKind::ExitFn => *transition = leaves(Status::Exiting),
+        FrameKind::ForkFn => *transition = no_change(),
     }
 }
 
 /// A thread that exits its process, in which no function is registered with atexit, ends it, with the value of exit modulo
 /// 256 (XSH exit, _exit, atexit).
 #[tactic(auto, unfolding(pct_model::specs::ProcessExit::ends_process))]
-pub(crate) fn ends_process(exit_value: Option<u32>) -> Transition
-    ensures { result ≡ ends_process [] exit_value }
+#[inline(never)]
+pub(crate) fn ends_process(exit_value: Option<u32>, transition: &mut Transition)
+    ensures { transition.new ≡ ends_process [] exit_value }
 {
     match exit_value {
-        None => no_change(),
-        Some(value) => acts(
-            Action::EndProcess(value % 256),
-            What::ProcessEnded(value % 256),
-        ),
+        None => *transition = no_change(),
+        Some(value) => {
+            *transition = acts(
+                Action::EndProcess(value % 256),
+                What::ProcessEnded(value % 256),
+            );
+        }
     }
 }
 

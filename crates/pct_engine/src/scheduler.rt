@@ -3,24 +3,34 @@
 ghost use Rattle.std.specs.Prelude.{◌≡◌, ◌<◌, ◌≤◌, is_some, length, Some, true, false, IfSome, option_and_then, slice_get};
 ghost use Rattle.pct_model.specs.declared.limits.TheConstants.{MAX_WORKER};
 ghost use Rattle.pct_model.specs.Chosen.{item_at, entry_for};
+ghost use Rattle.pct_set.specs.Slots.{slots_where};
 ghost use Rattle.pct_threads.specs.Slots.{Held};
 ghost use Rattle.pct_threads.specs.Tables.{held_at, is_occupied_at};
 ghost use Rattle.pct_engine_laws.specs.SeenSteps.{seen_chosen, seen_verdict};
 ghost use Rattle.pct_engine.specs.Listed.{listed, AreWithin};
 ghost use Rattle.pct_engine.specs.Views.{machine_view};
 ghost use Rattle.pct_engine.specs.Answers.{IdsFit};
-ghost use Rattle.pct_engine.specs.ReadyThreads.{choices_of_held, is_ready_on, ready_held, candidate_held};
+ghost use Rattle.pct_engine.specs.ReadyThreads.{choices_of_held, is_ready_held, is_ready_on, ready_held, candidate_held};
+ghost use Rattle.pct_engine.specs.UsedSlots.{Covers};
 ghost use Rattle.pct_engine.specs.Steps.{legal_transition, ArePlacedIn, IdsFitIn, IsSeenChoice};
 
 use crate::choice_table::{Choices, choices_at};
+use crate::current::next_of;
 use crate::machine::Machine;
-use crate::other_threads::others_of;
+use crate::other_threads::{has_ended, others_of};
 use crate::position::position_of;
 use crate::program::Program;
-use pct_model::{Entry, Verdict};
+use pct_model::{Entry, Status, Verdict};
+use pct_set::SlotSet;
 
 /// The verdict of a run of this many entries.
-pub(crate) fn verdict_after(program: &Program, machine: &Machine, count: usize) -> Verdict
+pub(crate) fn verdict_after(
+    program: &Program,
+    machine: &Machine,
+    used: SlotSet,
+    count: usize,
+) -> Verdict
+    requires used { Covers used machine.now.threads }
     requires slots { machine.now.has_ended ≡ false → length machine.now.threads ≡ program.now.config.slots }
     ensures { result ≡ seen_verdict program.now.script program.now.config (machine_view program.now.script machine.now) count }
 {
@@ -28,7 +38,7 @@ pub(crate) fn verdict_after(program: &Program, machine: &Machine, count: usize) 
         Verdict::Undefined(why)
     } else if machine.has_ended {
         Verdict::Complete
-    } else if ready_count(program, machine) == 0 {
+    } else if ready_slots(program, machine, used).len() == 0 {
         Verdict::Deadlock
     } else if count == program.config.budget as usize {
         Verdict::Budget
@@ -43,11 +53,13 @@ pub(crate) fn verdict_after(program: &Program, machine: &Machine, count: usize) 
 pub(crate) fn chosen(
     program: &Program,
     machine: &Machine,
+    used: SlotSet,
     count: usize,
     worker: u32,
     a: u32,
     b: u32,
 ) -> Option<Entry>
+    requires used { Covers used machine.now.threads }
     requires count { count ≤ program.now.config.budget }
     requires slots { machine.now.has_ended ≡ false → length machine.now.threads ≡ program.now.config.slots }
     requires ids { IdsFitIn machine.now }
@@ -56,14 +68,22 @@ pub(crate) fn chosen(
         → IfSome result (λ e. is_some (legal_transition program.now.script program.now.config (machine_view program.now.script machine.now) e) ≡ true) }
 {
     if count < program.config.budget as usize {
-        chosen_in(program, machine, worker, a, b)
+        chosen_in(program, machine, used, worker, a, b)
     } else {
         None
     }
 }
 
 // The same, whether or not the budget is used up.
-fn chosen_in(program: &Program, machine: &Machine, worker: u32, a: u32, b: u32) -> Option<Entry>
+fn chosen_in(
+    program: &Program,
+    machine: &Machine,
+    used: SlotSet,
+    worker: u32,
+    a: u32,
+    b: u32,
+) -> Option<Entry>
+    requires used { Covers used machine.now.threads }
     requires slots { machine.now.has_ended ≡ false → length machine.now.threads ≡ program.now.config.slots }
     requires ids { IdsFitIn machine.now }
     ensures value { result ≡ seen_chosen program.now.script program.now.config.slots (machine_view program.now.script machine.now) worker a b }
@@ -76,22 +96,24 @@ fn chosen_in(program: &Program, machine: &Machine, worker: u32, a: u32, b: u32) 
     if machine.has_ended {
         return None;
     }
-    let Some(slot) = chosen_slot(program, machine, a) else {
+    let Some(slot) = chosen_slot(program, machine, used, a) else {
         return None;
     };
     entry_on(program, machine, slot, worker, b)
 }
 
 // The slot of the ready thread that a number chooses, if a thread is ready.
-fn chosen_slot(program: &Program, machine: &Machine, a: u32) -> Option<u32>
+fn chosen_slot(program: &Program, machine: &Machine, used: SlotSet, a: u32) -> Option<u32>
+    requires { Covers used machine.now.threads }
     ensures value { option_and_then (held_at machine.now.threads) result ≡ item_at (ready_held program.now.script machine.now) a }
     ensures occupied { IfSome result (λ slot. is_occupied_at machine.now.threads slot ≡ true) }
 {
-    let count = ready_count(program, machine);
+    let ready = ready_slots(program, machine, used);
+    let count = ready.len();
     if count == 0 {
         return None;
     }
-    nth_ready(program, machine, a % count)
+    ready.nth(a % count)
 }
 
 // The entry of a worker for the thread on a slot, by a number that chooses one of its choices.
@@ -116,35 +138,25 @@ fn entry_on(program: &Program, machine: &Machine, slot: u32, worker: u32, b: u32
     })
 }
 
-// The slot of the ready thread with this number, counted from 0 by rising slot.
-fn nth_ready(program: &Program, machine: &Machine, n: u32) -> Option<u32>
-    ensures value { option_and_then (held_at machine.now.threads) result ≡ slice_get (ready_held program.now.script machine.now) n }
-    ensures occupied { IfSome result (λ slot. is_occupied_at machine.now.threads slot ≡ true) }
+// The slots whose threads are ready.
+fn ready_slots(program: &Program, machine: &Machine, used: SlotSet) -> SlotSet
+    requires { Covers used machine.now.threads }
+    ensures set { result ≡ slots_where (is_ready_on program.now.script machine.now) }
+    ensures count { length result ≡ length (ready_held program.now.script machine.now) }
+    ensures few { length machine.now.threads ≤ 64 }
 {
     let slots = machine.threads.slot_count();
-    let mut left = n;
-    for slot in 0..slots {
-        if is_ready(program, machine, slot) {
-            if left == 0 {
-                return Some(slot);
-            }
-            left -= 1;
+    // A set is determined by the slots that it has.
+    let _count = used.len();
+    let mut ready = SlotSet::new();
+    let mut rest = used;
+    while let Some(slot) = rest.nth(0) {
+        if slot < slots && is_ready(program, machine, slot) {
+            ready.insert(slot);
         }
+        rest.remove(slot);
     }
-    None
-}
-
-// The number of threads that are ready.
-fn ready_count(program: &Program, machine: &Machine) -> u32
-    ensures { result ≡ length (ready_held program.now.script machine.now) }
-{
-    let mut count = 0;
-    for slot in 0..machine.threads.slot_count() {
-        if is_ready(program, machine, slot) {
-            count += 1;
-        }
-    }
-    count
+    ready
 }
 
 // The thread on a slot has a choice. A free slot has no thread.
@@ -152,7 +164,23 @@ fn is_ready(program: &Program, machine: &Machine, slot: u32) -> bool
     requires { slot < length machine.now.threads }
     ensures { result ≡ is_ready_on program.now.script machine.now slot }
 {
-    machine.threads.is_occupied(slot) && choices_on(program, machine, slot).is_enabled()
+    machine.threads.is_occupied(slot) && has_choice(program, machine, slot)
+}
+
+// The thread on a slot has a choice: it has a next statement, the thread that it joins has ended, or it is ending or exits its
+// process.
+fn has_choice(program: &Program, machine: &Machine, slot: u32) -> bool
+    requires { is_occupied_at machine.now.threads slot ≡ true }
+    ensures { (held : Held) → held_at machine.now.threads slot ≡ Some held → result ≡ is_ready_held program.now.script machine.now held }
+{
+    let threads = &machine.threads;
+    match threads.read(slot).status {
+        Status::Running => next_of(&program.script, threads.top_frame_ref(slot)).is_some(),
+        Status::Joining(id) => has_ended(threads, id),
+        Status::Ending => true,
+        Status::Exiting => true,
+        _ => false,
+    }
 }
 
 // The choices of the thread on a slot.

@@ -1,10 +1,11 @@
 //! The script language's own statements: the transition of each, and where it jumps to. `next` is the program counter of the
 //! next statement.
 
-ghost use Rattle.std.specs.Prelude.{◌≡◌, ◌+◌, ◌%◌, ◌<◌, Some, true};
+ghost use Rattle.std.specs.Prelude.{◌≡◌, ◌+◌, ◌%◌, ◌<◌, [], ◌∷◌, Some, true};
 ghost use Rattle.pct_model.specs.declared.limits.TheConstants.{MAX_STATEMENTS};
 ghost use Rattle.pct_model.specs.Jumps.{holds, is_while, open_of};
 ghost use Rattle.pct_model.specs.World.{body_of, statement_at};
+ghost use Rattle.pct_model.specs.Transitions.{goes_on};
 ghost use Rattle.pct_model.specs.ScriptStatements.{jumps, emits, sets, adds, calls, after_block, after_test, after_end};
 ghost use Rattle.pct_model.specs.TransitionTable.{ends_block};
 ghost use Rattle.pct_jumps.specs.JumpTable.{opens_block};
@@ -12,7 +13,7 @@ ghost use Rattle.pct_jumps.specs.JumpTable.{opens_block};
 use crate::current::next_pc;
 use crate::process_exit::returns_by;
 use crate::program::Program;
-use crate::transitions::{goes_on, written};
+use crate::transitions::goes_on;
 use pct_model::{Action, Dest, Frame, FrameKind, Script, Stmt, Transition, UpToThree, What};
 
 /// `nop`, and each statement that only goes to a program counter.
@@ -32,19 +33,23 @@ pub(crate) fn emits(next: u32, value: u32) -> Transition
 }
 
 /// `set`: a variable gets a value.
-#[tactic(auto, unfolding(pct_model::specs::ScriptStatements::sets))]
-pub(crate) fn sets(next: u32, dest: Dest, value: u32) -> Transition
-    ensures { result ≡ sets next dest value }
+#[tactic(auto, unfolding(pct_model::specs::ScriptStatements::sets, pct_model::specs::ScriptStatements::jumps))]
+pub(crate) fn sets(next: u32, dest: Dest, value: u32, transition: &mut Transition)
+    ensures { transition.new ≡ sets next dest value }
 {
-    goes_on(next, written(dest, value), UpToThree::none())
+    match dest {
+        Dest::Drop => *transition = jumps(next),
+        Dest::Local(i) => *transition = acts_at(next, Action::SetLocal(i, value)),
+        Dest::Global(i) => *transition = acts_at(next, Action::SetGlobal(i, value)),
+    }
 }
 
 /// `add`: a variable with the value `old` is increased by a value, modulo 2^32.
 #[tactic(auto, unfolding(pct_model::specs::ScriptStatements::adds))]
-pub(crate) fn adds(next: u32, dest: Dest, old: u32, value: u32) -> Transition
-    ensures { result ≡ adds next dest old value }
+pub(crate) fn adds(next: u32, dest: Dest, old: u32, value: u32, transition: &mut Transition)
+    ensures { transition.new ≡ adds next dest old value }
 {
-    sets(next, dest, old.wrapping_add(value))
+    sets(next, dest, old.wrapping_add(value), transition);
 }
 
 /// `do`: a call of a function.
@@ -61,31 +66,38 @@ pub(crate) fn calls(next: u32, func: u32, arg: u32) -> Transition
 }
 
 /// `end`: of a block, or of the function, which returns 0.
-pub(crate) fn ends_block(program: &Program, frame: &Frame) -> Transition
+pub(crate) fn ends_block(program: &Program, frame: &Frame, transition: &mut Transition)
     requires { frame.now.pc < MAX_STATEMENTS }
-    ensures { let body = body_of program.now.script frame.now.func in result ≡ ends_block (open_of body frame.now.pc) body frame.now }
+    ensures { let body = body_of program.now.script frame.now.func in transition.new ≡ ends_block (open_of body frame.now.pc) body frame.now }
 {
     match program.jumps.open_of(frame.func, frame.pc) {
-        Some(opened) => jumps(after_end(&program.script, frame, opened)),
-        None => returns_by(frame.kind, 0),
+        Some(opened) => *transition = jumps(after_end(&program.script, frame, opened)),
+        None => returns_by(frame.kind, 0, transition),
     }
+}
+
+// The thread goes on at a program counter after an action.
+fn acts_at(next: u32, action: Action) -> Transition
+    ensures { result ≡ goes_on next (action ∷ []) [] }
+{
+    goes_on(next, UpToThree::one(action), UpToThree::none())
 }
 
 // ---- jumps
 
 /// The program counter after the end of the block that a frame's statement opens.
-pub(crate) fn after_block(program: &Program, frame: &Frame, statement: Stmt) -> u32
-    requires at { statement_at program.now.script frame.now ≡ Some statement }
-    requires opens { opens_block statement ≡ true }
+pub(crate) fn after_block(program: &Program, frame: &Frame, statement: &Stmt) -> u32
+    requires at { statement_at program.now.script frame.now ≡ Some statement.now }
+    requires opens { opens_block statement.now ≡ true }
     ensures { result ≡ after_block (body_of program.now.script frame.now.func) frame.now.pc }
 {
     program.jumps.close_of(frame.func, frame.pc) + 1
 }
 
 /// The program counter after a frame's `if` or `while` with this value.
-pub(crate) fn after_test(program: &Program, frame: &Frame, statement: Stmt, value: u32) -> u32
-    requires at { statement_at program.now.script frame.now ≡ Some statement }
-    requires opens { opens_block statement ≡ true }
+pub(crate) fn after_test(program: &Program, frame: &Frame, statement: &Stmt, value: u32) -> u32
+    requires at { statement_at program.now.script frame.now ≡ Some statement.now }
+    requires opens { opens_block statement.now ≡ true }
     requires pc { frame.now.pc < MAX_STATEMENTS }
     ensures { result ≡ after_test (body_of program.now.script frame.now.func) frame.now.pc value }
 {

@@ -1,51 +1,63 @@
 //! One step: which transition an entry takes, and what it changes.
 
-ghost use Rattle.std.specs.Prelude.{◌≡◌, ◌<◌, Some, true, IfSome, option_map};
+ghost use Rattle.std.specs.Prelude.{◌≡◌, ◌<◌, Some, None, true, IfSome, if◌then◌else◌, option_map};
 ghost use Rattle.pct_model.specs.World.{World};
 ghost use Rattle.pct_engine_laws.specs.Seen.{seen};
 ghost use Rattle.pct_engine.specs.Views.{machine_view};
+ghost use Rattle.pct_engine.specs.Joiners.{HaveJoiners};
+ghost use Rattle.pct_engine.specs.UsedSlots.{HeldOrCreated};
 ghost use Rattle.pct_engine.specs.Steps.{legal_transition, may_step, ArePlacedIn, IdsFitIn, IsFound, StepsBy};
 
 use crate::actions::change;
 use crate::choice_table::choices_at;
 use crate::machine::Machine;
-use crate::other_threads::{answer_to, query_at};
+use crate::other_threads::{answer_to, query_at, slot_with};
 use crate::position::position_of;
 use crate::program::Program;
 use crate::transition_table::transition_at;
-use pct_model::{Entry, MAX_WORKER, Transition, UpToThree, What};
+use pct_model::{Entry, MAX_WORKER, Transition};
 
-/// Makes the step of an entry, and returns its events. `None` is returned exactly if the entry is not legal, and then nothing
-/// changes. The state may be any to which the machine corresponds.
+/// Makes the step of an entry, and writes the transition that it takes to `transition`. The result is false exactly if the
+/// entry is not legal, and then the machine is as it was. The state may be any to which the machine corresponds.
 pub(crate) fn step(
     program: &Program,
     machine: &mut Machine,
     entry: Entry,
-) -> Option<UpToThree<What>>
+    transition: &mut Transition,
+) -> bool
     requires some { 0 < program.now.config.slots }
     requires placed { ArePlacedIn program.now.config.slots machine.old }
     requires ids { IdsFitIn machine.old }
-    ensures { (w : World) → machine_view program.now.script machine.old ≡ seen program.now.config.slots w
-        → StepsBy program.now.script program.now.config w machine.old machine.new entry result }
+    requires joiners { HaveJoiners machine.old.threads }
+    ensures step { (w : World) → machine_view program.now.script machine.old ≡ seen program.now.config.slots w
+        → StepsBy program.now.script program.now.config w machine.old machine.new entry (if result then Some transition.new.events else None) }
+    ensures slots { result ≡ true → HeldOrCreated machine.old.threads machine.new.threads transition.new.created }
+    ensures joiners { HaveJoiners machine.new.threads }
 {
-    let Some((slot, transition)) = transition_of(program, machine, entry) else {
-        return None;
+    let Some(slot) = transition_of(program, machine, entry, transition) else {
+        return false;
     };
-    change(machine, slot, &transition);
-    Some(transition.events)
+    change(machine, slot, transition);
+    true
 }
 
-// The slot of the thread that an entry names, and the transition that the entry takes. It is `None` if the entry is not legal.
-fn transition_of(program: &Program, machine: &Machine, entry: Entry) -> Option<(u32, Transition)>
+// The slot of the thread that an entry names; the transition that the entry takes is written to `transition`. It is `None` if
+// the entry is not legal.
+fn transition_of(
+    program: &Program,
+    machine: &Machine,
+    entry: Entry,
+    transition: &mut Transition,
+) -> Option<u32>
     requires placed { ArePlacedIn program.now.config.slots machine.now }
     requires ids { IdsFitIn machine.now }
-    ensures found { IfSome result (λ found. IsFound machine.now entry found.0 found.1) }
-    ensures value { legal_transition program.now.script program.now.config (machine_view program.now.script machine.now) entry ≡ option_map (λ found. found.1) result }
+    ensures found { IfSome result (λ slot. IsFound machine.now entry slot transition.new) }
+    ensures value { legal_transition program.now.script program.now.config (machine_view program.now.script machine.now) entry ≡ option_map (λ slot. transition.new) result }
 {
     if !may_step(machine, entry) {
         return None;
     }
-    let Some(slot) = machine.threads.find(entry.tid) else {
+    let Some(slot) = slot_with(&machine.threads, entry.tid) else {
         return None;
     };
     let position = position_of(program, &machine.threads, slot);
@@ -54,15 +66,16 @@ fn transition_of(program: &Program, machine: &Machine, entry: Entry) -> Option<(
     if !choices_at(&others, &position).offers(&machine.threads, entry.alt) {
         return None;
     }
-    let transition = transition_at(
+    transition_at(
         program,
         globals,
         machine.exit_value,
         &position,
         &others,
         entry.alt,
+        transition,
     );
-    Some((slot, transition))
+    Some(slot)
 }
 
 // What an entry needs of a machine, whichever thread it names.

@@ -7,13 +7,13 @@ ghost use Rattle.pct_model.specs.declared.limits.TheConstants.{MAX_HANDLERS};
 ghost use Rattle.pct_model.specs.Jumps.{open_of};
 ghost use Rattle.pct_model.specs.World.{Thread, SharedState, body_of};
 ghost use Rattle.pct_model.specs.OtherThreads.{Others, target_is};
-ghost use Rattle.pct_model.specs.StopTable.{stop_at, stops_of, first_stop, is_stack_full, exits_twice, is_built};
+ghost use Rattle.pct_model.specs.StopTable.{stop_at, stops_of, first_stop, is_stack_full, has_begun_to_end, exits_twice, is_built};
 ghost use Rattle.pct_engine.specs.Positions.{AreShared, IsPosition};
 
 use crate::current::value_of;
 use crate::position::Position;
 use crate::program::Program;
-use pct_model::{Frame, FrameKind, MAX_FRAMES, MAX_HANDLERS, Stmt, Target, Why};
+use pct_model::{Frame, FrameKind, MAX_FRAMES, MAX_HANDLERS, Reason, Stmt, Target, Why};
 
 /// The stop of a running thread at this statement of its top frame, in a process with these globals and this value of exit,
 /// where the thread that it names, if it names one that holds its slot, is this target: whether the statement is implemented is tested first, and then the statement's own stops in their order. `None` if the
@@ -26,10 +26,10 @@ pub(crate) fn stop_at(
     position: &Position,
     target: Option<Target>,
     frame: &Frame,
-    statement: Stmt,
+    statement: &Stmt,
 ) -> Option<Why>
     ensures { (shared : SharedState) (t : Thread) (others : Others) → AreShared globals.now exit_value shared → IsPosition program.now.script position.now t → target ≡ others.target
-        → result ≡ stop_at (body_of program.now.script frame.now.func) shared t others frame.now statement }
+        → result ≡ stop_at (body_of program.now.script frame.now.func) shared t others frame.now statement.now }
 {
     if is_built(statement) {
         own_stop(
@@ -49,14 +49,18 @@ fn own_stop(
     position: &Position,
     target: Option<Target>,
     frame: &Frame,
-    statement: Stmt,
+    statement: &Stmt,
 ) -> Option<Why>
     ensures { (shared : SharedState) (t : Thread) (others : Others) → AreShared globals.now exit_value shared → IsPosition program.now.script position.now t → target ≡ others.target
-        → result ≡ first_stop (stops_of (body_of program.now.script frame.now.func) shared t others frame.now statement) }
+        → result ≡ first_stop (stops_of (body_of program.now.script frame.now.func) shared t others frame.now statement.now) }
 {
     match statement {
-        Stmt::Join { id, .. } => stop_of_join(target, position.id, value_of(globals, frame, id)),
+        Stmt::Join { id, .. } => stop_of_join(target, position.id, value_of(globals, frame, *id)),
         Stmt::Detach(_) => stop_of_detach(target),
+        Stmt::ThreadExit(_) => first_stop(&[(
+            has_begun_to_end(position.thread.reason),
+            Why::ExitInEnding,
+        )]),
         Stmt::Return(_) => first_stop(&[(exits_twice(frame.kind, exit_value), Why::ExitTwice)]),
         Stmt::End => first_stop(&[(
             closes_function(program, frame) && exits_twice(frame.kind, exit_value),
@@ -64,10 +68,13 @@ fn own_stop(
         )]),
         Stmt::Do(_, _) => first_stop(&[(is_stack_full(position.depth), Why::StackFull)]),
         Stmt::Pop(operand) => first_stop(&[(
-            value_of(globals, frame, operand) != 0 && is_stack_full(position.depth),
+            value_of(globals, frame, *operand) != 0 && is_stack_full(position.depth),
             Why::StackFull,
         )]),
-        Stmt::Push(_, _) => first_stop(&[(is_cleanup_full(position.handlers), Why::CleanupFull)]),
+        Stmt::Push(_, _) => first_stop(&[(
+            is_cleanup_full(position.thread.handlers.len()),
+            Why::CleanupFull,
+        )]),
         _ => None,
     }
 }
@@ -139,6 +146,16 @@ fn is_cleanup_full(handlers: u32) -> bool
     handlers as usize >= MAX_HANDLERS
 }
 
+// Whether a thread has begun to end, by the reason for its end.
+fn has_begun_to_end(reason: Reason) -> bool
+    ensures { result ≡ has_begun_to_end reason }
+{
+    match reason {
+        Reason::None => false,
+        Reason::Exit(_) | Reason::Canceled => true,
+    }
+}
+
 // Whether a return from a frame of this kind exits the process, where exit has begun before.
 fn exits_twice(kind: FrameKind, exit_value: Option<u32>) -> bool
     ensures { (shared : SharedState) → exit_value ≡ shared.exit_value → result ≡ exits_twice kind shared }
@@ -157,8 +174,8 @@ fn closes_function(program: &Program, frame: &Frame) -> bool
 }
 
 // Whether the statement is implemented.
-fn is_built(statement: Stmt) -> bool
-    ensures { result ≡ is_built statement }
+fn is_built(statement: &Stmt) -> bool
+    ensures { result ≡ is_built statement.now }
 {
     matches!(
         statement,
@@ -176,6 +193,7 @@ fn is_built(statement: Stmt) -> bool
             | Stmt::Join { .. }
             | Stmt::Detach(_)
             | Stmt::SelfId(_)
+            | Stmt::ThreadExit(_)
             | Stmt::Push(_, _)
             | Stmt::Pop(_)
     )

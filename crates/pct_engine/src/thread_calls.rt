@@ -19,6 +19,7 @@ use pct_model::{
 
 /// pthread_create, by the choice of the scheduler: with an id, a thread is created with it; with `go`, no slot is free and no
 /// thread is created.
+#[inline(never)]
 pub(crate) fn creates_by(
     choice: Alt,
     next: u32,
@@ -27,13 +28,14 @@ pub(crate) fn creates_by(
     func: u32,
     arg: u32,
     detached: bool,
-) -> Transition
-    ensures { result ≡ creates_by choice next answer id func arg detached }
+    transition: &mut Transition,
+)
+    ensures { transition.new ≡ creates_by choice next answer id func arg detached }
 {
     match choice {
-        Alt::New(new) => creates(next, answer, id, new, func, arg, detached),
-        Alt::Go => fails_to_create(next, answer),
-        _ => no_change(),
+        Alt::New(new) => *transition = creates(next, answer, id, new, func, arg, detached),
+        Alt::Go => *transition = fails_to_create(next, answer),
+        _ => *transition = no_change(),
     }
 }
 
@@ -101,43 +103,45 @@ pub(crate) fn begins_join(id: u32) -> Transition
 /// A thread that is suspended in pthread_join for the thread with this id returns from it, once its target has ended with a
 /// value.
 #[tactic(auto, using(crate::proofs::Bodies::pc_within))]
+#[inline(never)]
 pub(crate) fn joins_at(
     program: &Program,
     target: Option<Target>,
     id: u32,
-    next: Option<(Frame, Stmt)>,
-) -> Transition
+    next: Option<(&Frame, &Stmt)>,
+    transition: &mut Transition,
+)
     requires { IsDecoded program.now.script next }
-    ensures { result ≡ joins_at target id (next_at next) }
+    ensures { transition.new ≡ joins_at target id (next_at next.entry) }
 {
     match target {
-        None => no_change(),
+        None => *transition = no_change(),
         Some(target) => match target.value {
-            None => no_change(),
-            Some(value) => joins_with(program, value, id, next),
+            None => *transition = no_change(),
+            Some(value) => *transition = joins_with(program, value, id, next),
         },
     }
 }
 
 // It returns from it with the exit value of its target.
-fn joins_with(program: &Program, value: u32, id: u32, next: Option<(Frame, Stmt)>) -> Transition
+fn joins_with(program: &Program, value: u32, id: u32, next: Option<(&Frame, &Stmt)>) -> Transition
     requires { IsDecoded program.now.script next }
-    ensures { result ≡ joins_with (Some value) id (next_at next) }
+    ensures { result ≡ joins_with (Some value) id (next_at next.entry) }
 {
     match next {
         None => no_change(),
-        Some((frame, statement)) => joins_in(program, value, id, &frame, statement),
+        Some((frame, statement)) => joins_in(program, value, id, frame, statement),
     }
 }
 
 // The same, at a statement of its top frame.
 #[tactic(auto, using(crate::proofs::Bodies::pc_within))]
-fn joins_in(program: &Program, value: u32, id: u32, frame: &Frame, statement: Stmt) -> Transition
-    requires { statement_at program.now.script frame.now ≡ Some statement }
-    ensures { result ≡ joins_with (Some value) id (StatementIn frame.now statement) }
+fn joins_in(program: &Program, value: u32, id: u32, frame: &Frame, statement: &Stmt) -> Transition
+    requires { statement_at program.now.script frame.now ≡ Some statement.now }
+    ensures { result ≡ joins_with (Some value) id (StatementIn frame.now statement.now) }
 {
     match statement {
-        Stmt::Join { value: dest, .. } => ends_join(next_pc(frame), dest, id, value),
+        Stmt::Join { value: dest, .. } => ends_join(next_pc(frame), *dest, id, value),
         _ => no_change(),
     }
 }

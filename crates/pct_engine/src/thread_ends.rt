@@ -8,7 +8,8 @@ ghost use Rattle.pct_model.specs.ThreadEnds.{ends_by_exit, end_value, ends_threa
 use crate::transitions::{acts, no_next};
 use pct_model::{Action, FrameKind, Reason, Transition, UpToThree, What};
 
-/// A return from a start routine with a value acts as pthread_exit (XSH pthread_create): the thread begins to end.
+/// pthread_exit with a value, or a return from a start routine, which acts as pthread_exit (XSH pthread_create): the thread
+/// begins to end.
 #[tactic(auto, unfolding(pct_model::specs::ThreadEnds::ends_by_exit))]
 pub(crate) fn ends_by_exit(value: u32) -> Transition
     ensures { result ≡ ends_by_exit value }
@@ -22,16 +23,18 @@ pub(crate) fn ends_by_exit(value: u32) -> Transition
 /// A thread that is ending for a reason, and so has no frame, removes its newest cleanup handler and calls it; without a handler it ends (XSH
 /// 2.9.5.3). The last thread of a process begins to exit it with 0.
 #[tactic(auto, unfolding(pct_model::specs::ThreadEnds::goes_on_ending))]
+#[inline(never)]
 pub(crate) fn goes_on_ending(
     is_last: bool,
     reason: Reason,
     newest: Option<(u32, u32)>,
-) -> Transition
-    ensures { (handlers : List (ℕ × ℕ)) → newest ≡ slice_get handlers 0 → result ≡ goes_on_ending is_last reason handlers }
+    transition: &mut Transition,
+)
+    ensures { (handlers : List (ℕ × ℕ)) → newest ≡ slice_get handlers 0 → transition.new ≡ goes_on_ending is_last reason handlers }
 {
     match newest {
-        None => ends_thread(is_last, end_value(reason)),
-        Some((func, arg)) => runs_handler(func, arg),
+        None => *transition = ends_thread(is_last, end_value(reason)),
+        Some((func, arg)) => *transition = runs_handler(func, arg),
     }
 }
 

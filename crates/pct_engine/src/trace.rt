@@ -1,6 +1,6 @@
 //! The entries and the events of a run, in vectors that have room for them.
 
-ghost use Rattle.std.specs.Prelude.{◌≡◌, ◌+◌, ◌<◌, ◌≤◌, [], ◌∷◌, ◌++◌, length, map, vec_len, vec_capacity};
+ghost use Rattle.std.specs.Prelude.{◌≡◌, ◌+◌, ◌-◌, ◌<◌, ◌≤◌, [], ◌∷◌, ◌++◌, drop, map, vec_len, vec_capacity};
 ghost use Rattle.pct_model.specs.Run.{event_of};
 
 use pct_model::{Entry, Event, UpToThree, What};
@@ -14,22 +14,28 @@ pub(crate) fn record_entry(history: &mut Vec<Entry>, entry: Entry)
     history.push(entry).unwrap();
 }
 
-/// Records the events of the step of an entry.
-pub(crate) fn record_events(events: &mut Vec<Event>, entry: Entry, new_events: &UpToThree<What>)
-    requires { vec_len events.old + length new_events.now ≤ vec_capacity events.old }
-    ensures last { events.new.items ≡ events.old.items ++ map (event_of entry) new_events.now }
+/// Records the events of the step of an entry, from an index on. There are at most three.
+pub(crate) fn record_events(
+    events: &mut Vec<Event>,
+    entry: &Entry,
+    new_events: &UpToThree<What>,
+    from: usize,
+)
+    requires { vec_len events.old + (3 - from) ≤ vec_capacity events.old }
+    ensures last { events.new.items ≡ events.old.items ++ map (event_of entry.now) (drop from new_events.now) }
+    ensures few { vec_len events.new ≤ vec_len events.old + (3 - from) }
     ensures capacity { vec_capacity events.old ≤ vec_capacity events.new }
 {
-    if let Some((what, rest)) = new_events.split_first() {
+    if let Some(what) = new_events.get(from) {
         record_event(events, entry, what);
-        record_events(events, entry, &rest);
+        record_events(events, entry, new_events, from + 1);
     }
 }
 
 // Records one event of the step of an entry.
-fn record_event(events: &mut Vec<Event>, entry: Entry, what: What)
+fn record_event(events: &mut Vec<Event>, entry: &Entry, what: What)
     requires { vec_len events.old < vec_capacity events.old }
-    ensures last { events.new.items ≡ events.old.items ++ event_of entry what ∷ [] }
+    ensures last { events.new.items ≡ events.old.items ++ event_of entry.now what ∷ [] }
     ensures capacity { vec_capacity events.old ≤ vec_capacity events.new }
 {
     events

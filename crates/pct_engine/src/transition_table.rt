@@ -22,15 +22,15 @@ use crate::script_statements::{
 };
 use crate::stop_table::stop_at;
 use crate::thread_calls::{begins_join, creates_by, detaches, gets_self, joins_at};
-use crate::thread_ends::goes_on_ending;
+use crate::thread_ends::{ends_by_exit, goes_on_ending};
 use crate::transitions::{no_change, stops};
 use pct_model::{Alt, Frame, Status, Stmt, Target, Transition};
 
-/// What a thread in this position does by a choice, with this answer to its query, in a process with these globals and this
-/// value of exit (`None` before exit has begun), in which no function is registered with atexit. A running thread stops the run,
-/// or makes the transition of its next statement; one that joins another returns, once that has ended; one that is ending runs
-/// its handlers and ends; one that exits its process ends it; every other thread changes nothing. The program counter and the
-/// actions, one after another, keep the limits.
+/// Writes to `transition` what a thread in this position does by a choice, with this answer to its query, in a process with
+/// these globals and this value of exit (`None` before exit has begun), in which no function is registered with atexit. A
+/// running thread stops the run, or makes the transition of its next statement; one that joins another returns, once that has
+/// ended; one that is ending runs its handlers and ends; one that exits its process ends it; every other thread changes
+/// nothing. The program counter and the actions, one after another, keep the limits.
 pub(crate) fn transition_at(
     program: &Program,
     globals: &[u32],
@@ -38,13 +38,16 @@ pub(crate) fn transition_at(
     position: &Position,
     others: &Others,
     choice: Alt,
-) -> Transition
+    transition: &mut Transition,
+)
     requires decoded { IsDecoded program.now.script position.now.next }
     ensures value { (shared : SharedState) (t : Thread) (seen : SeenOthers) → AreShared globals.now exit_value shared → IsPosition program.now.script position.now t → SeesAlike others.now seen
-        → result ≡ transition_at (body_at program.now.script t.frames) shared t seen choice (next_of program.now.script t.frames) t.status }
-    ensures fits { (t : Thread) → IsPosition program.now.script position.now t → TransitionFits (length t.frames) (length t.handlers) result }
+        → transition.new ≡ transition_at (body_at program.now.script t.frames) shared t seen choice (next_of program.now.script t.frames) t.status }
+    ensures fits { (t : Thread) → IsPosition program.now.script position.now t → TransitionFits (length t.frames) (length t.handlers) transition.new }
 {
-    by_status(program, globals, exit_value, position, others, choice)
+    by_status(
+        program, globals, exit_value, position, others, choice, transition,
+    );
 }
 
 // The same, by the status of the thread.
@@ -56,12 +59,14 @@ fn by_status(
     position: &Position,
     others: &Others,
     choice: Alt,
-) -> Transition
+    transition: &mut Transition,
+)
     requires decoded { IsDecoded program.now.script position.now.next }
     ensures { (shared : SharedState) (t : Thread) (seen : SeenOthers) → AreShared globals.now exit_value shared → IsPosition program.now.script position.now t → SeesAlike others.now seen
-        → result ≡ transition_at (body_at program.now.script t.frames) shared t seen choice (next_of program.now.script t.frames) t.status }
+        → transition.new ≡ transition_at (body_at program.now.script t.frames) shared t seen choice (next_of program.now.script t.frames) t.status }
 {
-    match position.status {
+    let thread = position.thread;
+    match thread.status {
         Status::Running => running(
             program,
             globals,
@@ -69,11 +74,15 @@ fn by_status(
             position,
             others.target,
             choice,
+            transition,
         ),
-        Status::Joining(id) => joins_at(program, others.target, id, position.next),
-        Status::Ending => goes_on_ending(others.is_last, position.reason, position.newest),
-        Status::Exiting => ends_process(exit_value),
-        _ => no_change(),
+        Status::Joining(id) => joins_at(program, others.target, id, position.next, transition),
+        Status::Ending => {
+            let newest = thread.handlers.newest();
+            goes_on_ending(others.is_last, thread.reason, newest, transition);
+        }
+        Status::Exiting => ends_process(exit_value, transition),
+        _ => *transition = no_change(),
     }
 }
 
@@ -86,15 +95,16 @@ fn running(
     position: &Position,
     target: Option<Target>,
     choice: Alt,
-) -> Transition
+    transition: &mut Transition,
+)
     requires decoded { IsDecoded program.now.script position.now.next }
     ensures { (shared : SharedState) (t : Thread) (seen : SeenOthers) → AreShared globals.now exit_value shared → IsPosition program.now.script position.now t → target ≡ seen.target
-        → result ≡ transition_at (body_at program.now.script t.frames) shared t seen choice (next_of program.now.script t.frames) status.Running }
+        → transition.new ≡ transition_at (body_at program.now.script t.frames) shared t seen choice (next_of program.now.script t.frames) status.Running }
 {
     match position.next {
-        None => no_change(),
+        None => *transition = no_change(),
         Some((frame, statement)) => stops_or_runs(
-            program, globals, exit_value, position, target, choice, &frame, statement,
+            program, globals, exit_value, position, target, choice, frame, statement, transition,
         ),
     }
 }
@@ -108,18 +118,21 @@ fn stops_or_runs(
     target: Option<Target>,
     choice: Alt,
     frame: &Frame,
-    statement: Stmt,
-) -> Transition
-    requires at { statement_at program.now.script frame.now ≡ Some statement }
+    statement: &Stmt,
+    transition: &mut Transition,
+)
+    requires at { statement_at program.now.script frame.now ≡ Some statement.now }
     ensures { (shared : SharedState) (t : Thread) (seen : SeenOthers) → AreShared globals.now exit_value shared → IsPosition program.now.script position.now t → target ≡ seen.target
         → let body = body_of program.now.script frame.now.func in
-        result ≡ stops_or (stop_at body shared t seen frame.now statement) (runs body shared t seen choice frame.now statement) }
+        transition.new ≡ stops_or (stop_at body shared t seen frame.now statement.now) (runs body shared t seen choice frame.now statement.now) }
 {
     match stop_at(
         program, globals, exit_value, position, target, frame, statement,
     ) {
-        Some(why) => stops(why),
-        None => runs(program, globals, position, choice, frame, statement),
+        Some(why) => *transition = stops(why),
+        None => runs(
+            program, globals, position, choice, frame, statement, transition,
+        ),
     }
 }
 
@@ -131,38 +144,49 @@ fn runs(
     position: &Position,
     choice: Alt,
     frame: &Frame,
-    statement: Stmt,
-) -> Transition
-    requires at { statement_at program.now.script frame.now ≡ Some statement }
+    statement: &Stmt,
+    transition: &mut Transition,
+)
+    requires at { statement_at program.now.script frame.now ≡ Some statement.now }
     ensures { (shared : SharedState) (t : Thread) (seen : SeenOthers) → globals.now ≡ shared.globals → IsPosition program.now.script position.now t
-        → result ≡ runs (body_of program.now.script frame.now.func) shared t seen choice frame.now statement }
+        → transition.new ≡ runs (body_of program.now.script frame.now.func) shared t seen choice frame.now statement.now }
 {
     match statement {
-        Stmt::Emit(operand) => emits(next_pc(frame), value_of(globals, frame, operand)),
-        Stmt::Set(dest, operand) => sets(next_pc(frame), dest, value_of(globals, frame, operand)),
+        Stmt::Emit(operand) => {
+            *transition = emits(next_pc(frame), value_of(globals, frame, *operand));
+        }
+        Stmt::Set(dest, operand) => sets(
+            next_pc(frame),
+            *dest,
+            value_of(globals, frame, *operand),
+            transition,
+        ),
         Stmt::Add(dest, operand) => adds(
             next_pc(frame),
-            dest,
-            variable_value(globals, frame, dest),
-            value_of(globals, frame, operand),
+            *dest,
+            variable_value(globals, frame, *dest),
+            value_of(globals, frame, *operand),
+            transition,
         ),
-        Stmt::Nop => jumps(next_pc(frame)),
-        Stmt::If(operand) => jumps(after_test(
-            program,
-            frame,
-            statement,
-            value_of(globals, frame, operand),
-        )),
-        Stmt::Else => jumps(after_block(program, frame, statement)),
-        Stmt::While(operand) => jumps(after_test(
-            program,
-            frame,
-            statement,
-            value_of(globals, frame, operand),
-        )),
-        Stmt::End => ends_block(program, frame),
-        Stmt::Do(func, operand) => calls(next_pc(frame), func, value_of(globals, frame, operand)),
-        Stmt::Return(operand) => returns_by(frame.kind, value_of(globals, frame, operand)),
+        Stmt::Nop => *transition = jumps(next_pc(frame)),
+        Stmt::If(operand) => {
+            let value = value_of(globals, frame, *operand);
+            *transition = jumps(after_test(program, frame, statement, value));
+        }
+        Stmt::Else => *transition = jumps(after_block(program, frame, statement)),
+        Stmt::While(operand) => {
+            let value = value_of(globals, frame, *operand);
+            *transition = jumps(after_test(program, frame, statement, value));
+        }
+        Stmt::End => ends_block(program, frame, transition),
+        Stmt::Do(func, operand) => {
+            *transition = calls(next_pc(frame), *func, value_of(globals, frame, *operand));
+        }
+        Stmt::Return(operand) => returns_by(
+            frame.kind,
+            value_of(globals, frame, *operand),
+            transition,
+        ),
         Stmt::Create {
             result: answer,
             id,
@@ -172,25 +196,30 @@ fn runs(
         } => creates_by(
             choice,
             next_pc(frame),
-            answer,
-            id,
-            func,
-            value_of(globals, frame, arg),
-            detached,
+            *answer,
+            *id,
+            *func,
+            value_of(globals, frame, *arg),
+            *detached,
+            transition,
         ),
-        Stmt::Join { id, .. } => begins_join(value_of(globals, frame, id)),
-        Stmt::Detach(operand) => detaches(next_pc(frame), value_of(globals, frame, operand)),
-        Stmt::SelfId(dest) => gets_self(next_pc(frame), dest, position.id),
-        Stmt::Push(func, operand) => pushes(
-            next_pc(frame),
-            func,
-            value_of(globals, frame, operand),
-        ),
+        Stmt::Join { id, .. } => *transition = begins_join(value_of(globals, frame, *id)),
+        Stmt::Detach(operand) => {
+            *transition = detaches(next_pc(frame), value_of(globals, frame, *operand));
+        }
+        Stmt::SelfId(dest) => *transition = gets_self(next_pc(frame), *dest, position.id),
+        Stmt::ThreadExit(operand) => {
+            *transition = ends_by_exit(value_of(globals, frame, *operand));
+        }
+        Stmt::Push(func, operand) => {
+            *transition = pushes(next_pc(frame), *func, value_of(globals, frame, *operand));
+        }
         Stmt::Pop(operand) => pops(
             next_pc(frame),
-            value_of(globals, frame, operand),
-            position.newest,
+            value_of(globals, frame, *operand),
+            position.thread.handlers.newest(),
+            transition,
         ),
-        _ => no_change(),
+        _ => *transition = no_change(),
     }
 }

@@ -11,4 +11,6 @@ pub mod OpeningSeen
 pub mod PlacedThreads
 pub mod LongerRuns
 pub mod OpenRuns
+pub mod OfferedChoices
+pub mod RunNumbers
 pub mod FewThreads

@@ -3,3 +3,4 @@ pub mod SeenSteps
 pub mod SeenLaws
 pub mod RunLaws
 pub mod ThreadCounts
+pub mod RunNumbers

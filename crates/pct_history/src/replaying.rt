@@ -2,7 +2,7 @@
 
 ghost use Rattle.std.specs.Prelude.{◌≡◌, ◌≤◌, true, [], length, is_some, Some, IfErr, IfNone, IfOk, IfSome, IsTrue};
 ghost use Rattle.pct_model.specs.Run.{Run, first_illegal, is_config};
-ghost use Rattle.pct_engine.specs.EngineStates.{IsRunOf};
+ghost use Rattle.pct_engine.specs.EngineStates.{IsRunOf, KeepsLaws};
 ghost use Rattle.pct_history.specs.Replays.{StopsReplay};
 
 use crate::replay_fault::ReplayFault;
@@ -25,6 +25,9 @@ pub fn replay(
     requires few { length entries.now ≤ config.budget }
     ensures ran { IfOk result (λ engine. engine ≡ record { script = script; config = config; history = entries.now }) }
     ensures runs { IfOk result (λ engine. (after : Run) × IsRunOf engine after) }
+    // Of every legal schedule: no cleanup handler is removed twice, the newest is removed first, a thread that has ended has none
+    // left, and the state keeps the invariant.
+    ensures laws { IfOk result (λ engine. (after : Run) → IsRunOf engine after → KeepsLaws engine after) }
     ensures stopped { IfErr result (λ fault. StopsReplay script config entries.now fault) }
 {
     let mut engine = Engine::open(alloc, script, config)?;

@@ -1,6 +1,7 @@
 -- Lemmas on a text that is written in several calls.
-use Rattle.std.proofs.Common.{ℕ, ◌+◌, ◌<◌, ◌≤◌, List, [], ◌++◌, Option, Result, Ok, Err, length, get_or, drop, refl, sym, subst, arith, ◌∙◌}
+use Rattle.std.proofs.Common.{◌≡◌, ℕ, ◌+◌, ◌<◌, ◌≤◌, List, [], ◌++◌, Option, Result, Ok, Err, length, get_or, drop, refl, sym, ap, subst, arith, ◌∙◌}
 use Rattle.std.specs.List.{flat_map}
+use Rattle.std.proofs.lemmas.Grind.{flat_map-append}
 use Rattle.std.proofs.lemmas.List.{at_drop_more, at_drop_all}
 use Rattle.std.proofs.KnownBytes.{Appends-trans, Appends-nil}
 use Rattle.pct_io.specs.declared.failed.Failed.{Failed}
@@ -73,3 +74,16 @@ module _ {S : Type 0} {written_of : S → Option (List ℕ)} {errors_of : S → 
       → Writes written_of errors_of inners_of old new (text_of (get_or xs i d)) (Err e) → Writes written_of errors_of inners_of old new (flat_map text_of (drop i xs)) (Err e)
   Writes-next_fails text_of xs i d {old = old} {new = new} {e = e} within failed =
       subst (λ text. Writes written_of errors_of inners_of old new text (Err e)) (sym (at_drop_more (flat_map text_of) xs i d within)) (Writes-fails (flat_map text_of (drop (i + 1) xs)) failed)
+
+  -- the whole texts of the first items, followed by the result of the remaining items
+  pub Writes-first : {X : Type 0} (text_of : X → List ℕ) (xs front after : List X) {old mid new : S} {x : Unit {0}} (r : Result (Unit {0}) Failed) → xs ≡ front ++ after
+      → Writes written_of errors_of inners_of old mid (flat_map text_of front) (Ok x) → Writes written_of errors_of inners_of mid new (flat_map text_of after) r
+      → Writes written_of errors_of inners_of old new (flat_map text_of xs) r
+  Writes-first text_of xs front after {old = old} {new = new} r e first next =
+      subst (λ text. Writes written_of errors_of inners_of old new text r) (sym (ap (flat_map text_of) e ∙ flat_map-append text_of front after)) (Writes-then r first next)
+
+  -- the failed texts of the first items, followed by nothing
+  pub Writes-first_fails : {X : Type 0} (text_of : X → List ℕ) (xs front after : List X) {old new : S} {e : Failed} → xs ≡ front ++ after
+      → Writes written_of errors_of inners_of old new (flat_map text_of front) (Err e) → Writes written_of errors_of inners_of old new (flat_map text_of xs) (Err e)
+  Writes-first_fails text_of xs front after {old = old} {new = new} {e = e} split failed =
+      subst (λ text. Writes written_of errors_of inners_of old new text (Err e)) (sym (ap (flat_map text_of) split ∙ flat_map-append text_of front after)) (Writes-fails (flat_map text_of after) failed)

@@ -6,3 +6,4 @@ pub mod Reads
 pub mod Memory
 pub mod Buffered
 pub mod Fields
+pub mod Prepends

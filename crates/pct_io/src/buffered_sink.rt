@@ -35,6 +35,8 @@ impl<'a, K: Sink> BufferedSink<'a, K> {
 
     /// Writes the buffered bytes to the wrapped sink. `Failed` means that the wrapped sink recorded one error. The bytes
     /// that it did not accept stay in the buffer, and a later call can write them.
+    #[cold]
+    #[inline(never)]
     pub fn flush(&mut self) -> Result<(), Failed>
         ensures kept { KeepsWritten K.written K.errors K.inners self.old self.new result }
         ensures passes { PassesThrough K.written self.old self.new [] }
@@ -46,6 +48,7 @@ impl<'a, K: Sink> BufferedSink<'a, K> {
     }
 
     // Flushes the buffer if it is full.
+    #[inline(always)]
     fn flush_if_full(&mut self) -> Result<(), Failed>
         ensures kept { KeepsWritten K.written K.errors K.inners self.old self.new result }
         ensures passes { PassesThrough K.written self.old self.new [] }
@@ -65,6 +68,7 @@ impl<K: Sink> Sink for BufferedSink<'_, K> {
 
     ghost inners = { inners_through K.written K.inners };
 
+    #[inline(always)]
     fn write(&mut self, piece: &[u8]) -> Result<usize, Failed>
         ensures bound { IfOk result (λ n. Accepts n piece.now) }
         ensures bytes { WriteAppends (buffered K.written self.old) (buffered K.written self.new) result piece.now }

@@ -1,11 +1,12 @@
 //! Output lines, built from fields.
 
-ghost use Rattle.std.specs.Prelude.{◌≡◌, [], ◌∷◌, ◌++◌, map, IsTrue};
+ghost use Rattle.std.specs.Prelude.{◌≤◌, [], ◌∷◌, ◌++◌, length, map, decimal};
 ghost use Rattle.std.specs.List.{flat_map, join_with_byte};
+ghost use Rattle.pct_io.specs.Prepends.{Prepends};
 ghost use Rattle.pct_io.specs.Writes.{Writes};
 ghost use Rattle.pct_io.specs.Fields.{field_text};
 
-use crate::line_buffer::LineBuffer;
+use crate::line_buffer::{CAPACITY, prepend, prepend_number};
 use crate::read_write::{write_all, write_parts};
 use crate::{Failed, Sink};
 use itoa::Buffer;
@@ -28,60 +29,76 @@ pub enum Field<'a> {
 pub fn write_line<K: Sink>(sink: &mut K, fields: &[Field]) -> Result<(), Failed>
     ensures { Writes K.written K.errors K.inners sink.old sink.new (join_with_byte 32 (map field_text fields.now) ++ 10 ∷ []) result }
 {
-    let mut line = LineBuffer::new();
-    if prepend_line(&mut line, fields) {
-        write_all(sink, line.as_slice())
-    } else {
-        write_by_fields(sink, fields)
+    let mut bytes = [0; CAPACITY];
+    match prepend_line(fields, &mut bytes, CAPACITY) {
+        Some(start) => write_all(sink, &bytes[start..]),
+        None => write_by_fields(sink, fields),
     }
 }
 
-// Prepends the line to the buffer. Returns false if it does not fit.
-fn prepend_line(buffer: &mut LineBuffer, fields: &[Field]) -> bool
-    ensures { IsTrue result → buffer.new ≡ join_with_byte 32 (map field_text fields.now) ++ 10 ∷ buffer.old }
+/// Writes a line, as `write_line` does, to a buffer so that it ends at `end`, and returns where it starts. `None` means
+/// that it does not fit before `end`.
+#[inline(always)]
+pub fn prepend_line(fields: &[Field], buffer: &mut [u8], end: usize) -> Option<usize>
+    requires { end ≤ length buffer.old }
+    ensures { Prepends buffer.old buffer.new end (join_with_byte 32 (map field_text fields.now) ++ 10 ∷ []) result }
 {
-    buffer.prepend(b"\n")
-        && match fields.split_first() {
-            None => true,
-            Some((first, rest)) => prepend_spaced(buffer, rest) && prepend_field(buffer, first),
-        }
+    let line_end = prepend(b"\n", buffer, end)?;
+    let start = prepend_spaced(fields, buffer, line_end)?;
+    if fields.is_empty() {
+        return Some(start);
+    }
+    // The space before the first field is left out.
+    Some(start + 1)
 }
 
-// Prepends the fields, each preceded by a space. Returns false if they do not fit.
-fn prepend_spaced(buffer: &mut LineBuffer, fields: &[Field]) -> bool
-    ensures { IsTrue result → buffer.new ≡ flat_map (λ field. 32 ∷ field_text field) fields.now ++ buffer.old }
+// Writes the fields, each preceded by a space, so that they end at `end`, and returns where they start. It is `None` if
+// they do not fit.
+#[inline(always)]
+fn prepend_spaced(fields: &[Field], buffer: &mut [u8], end: usize) -> Option<usize>
+    requires { end ≤ length buffer.old }
+    ensures { Prepends buffer.old buffer.new end (flat_map (λ field. 32 ∷ field_text field) fields.now) result }
 {
+    let mut start = end;
     for position in (0..fields.len()).rev() {
-        if !prepend_spaced_field(buffer, &fields[position]) {
-            return false;
-        }
+        start = prepend_spaced_field(&fields[position], buffer, start)?;
     }
-    true
+    Some(start)
 }
 
-// Prepends a space and the field. Returns false if they do not fit.
-#[inline]
-fn prepend_spaced_field(buffer: &mut LineBuffer, field: &Field) -> bool
-    ensures { IsTrue result → buffer.new ≡ 32 ∷ (field_text field.now ++ buffer.old) }
+// Writes a space and the field, as `prepend` writes a text.
+#[inline(always)]
+fn prepend_spaced_field(field: &Field, buffer: &mut [u8], end: usize) -> Option<usize>
+    requires { end ≤ length buffer.old }
+    ensures { Prepends buffer.old buffer.new end (32 ∷ field_text field.now) result }
 {
-    prepend_field(buffer, field) && buffer.prepend(b" ")
+    let start = prepend_field(field, buffer, end)?;
+    prepend(b" ", buffer, start)
 }
 
-// Prepends the field. Returns false if it does not fit.
-#[inline]
-fn prepend_field(buffer: &mut LineBuffer, field: &Field) -> bool
-    ensures { IsTrue result → buffer.new ≡ field_text field.now ++ buffer.old }
+// Writes the field, as `prepend` writes a text.
+#[inline(always)]
+fn prepend_field(field: &Field, buffer: &mut [u8], end: usize) -> Option<usize>
+    requires { end ≤ length buffer.old }
+    ensures { Prepends buffer.old buffer.new end (field_text field.now) result }
 {
     match field {
-        Field::Text(text) => buffer.prepend(text),
-        Field::Number(number) => buffer.prepend_number(*number as u64),
-        Field::Count(count) => buffer.prepend_number(*count as u64),
-        Field::Dotted(first, second) => {
-            buffer.prepend_number(*second as u64)
-                && buffer.prepend(b".")
-                && buffer.prepend_number(*first as u64)
-        }
+        Field::Text(text) => prepend(text, buffer, end),
+        Field::Number(number) => prepend_number(*number as u64, buffer, end),
+        Field::Count(count) => prepend_number(*count as u64, buffer, end),
+        Field::Dotted(first, second) => prepend_dotted(*first, *second, buffer, end),
     }
+}
+
+// Writes two numbers separated by a dot, as `prepend` writes a text.
+#[inline(always)]
+fn prepend_dotted(first: u32, second: u32, buffer: &mut [u8], end: usize) -> Option<usize>
+    requires { end ≤ length buffer.old }
+    ensures { Prepends buffer.old buffer.new end (decimal first ++ 46 ∷ decimal second) result }
+{
+    let after_dot = prepend_number(second as u64, buffer, end)?;
+    let dot = prepend(b".", buffer, after_dot)?;
+    prepend_number(first as u64, buffer, dot)
 }
 
 // Writes the line field by field, for a line that is too long for the buffer.

@@ -1,69 +1,41 @@
-//! A small buffer that is filled from its end to its start.
-ghost use Rattle.std.specs.Prelude.{◌≡◌, ℕ, ◌≤◌, List, [], ◌++◌, drop, decimal, IsTrue};
+//! Filling of a buffer from its end to its start.
+ghost use Rattle.std.specs.Prelude.{◌≤◌, length, decimal};
+ghost use Rattle.pct_io.specs.Prepends.{Prepends};
 
 use itoa::write_digits;
-use std::marker::Model;
 
-// The capacity of the buffer in bytes. A longer line is written field by field.
-const CAPACITY: usize = 128;
+/// The size of the buffer of a line in bytes. A longer line is written field by field.
+pub(crate) const CAPACITY: usize = 128;
 
 // The largest number of decimal digits of a 64-bit number.
 const MOST_DIGITS: usize = 20;
 
-// At most CAPACITY bytes: those of an array from `start` on.
-#[derive(Drop)]
-pub(crate) struct LineBuffer {
-    bytes: [u8; CAPACITY],
-    start: usize,
+/// Writes the text so that it ends at `end`, and returns where it starts. It is `None` if the text does not fit.
+#[inline(always)]
+pub(crate) fn prepend(text: &[u8], buffer: &mut [u8], end: usize) -> Option<usize>
+    requires { end ≤ length buffer.old }
+    ensures { Prepends buffer.old buffer.new end text.now result }
+{
+    if text.len() > end {
+        return None;
+    }
+    let start = end - text.len();
+    buffer[start..end].copy_from_slice(text);
+    Some(start)
 }
 
-impl Model for LineBuffer {
-    ghost Value = { List ℕ };
-
-    ghost view = { λ line. drop line.start line.bytes };
-
-    ghost invariant = { λ line. line.start ≤ 128 };
-}
-
-impl LineBuffer {
-    pub(crate) fn new() -> LineBuffer
-        ensures { result ≡ [] }
-    {
-        LineBuffer {
-            bytes: [0; CAPACITY],
-            start: CAPACITY,
-        }
+/// Writes the number in decimal, as `prepend` writes a text. It is `None` if the longest number does not fit.
+#[inline(always)]
+pub(crate) fn prepend_number(number: u64, buffer: &mut [u8], end: usize) -> Option<usize>
+    requires { end ≤ length buffer.old }
+    ensures { Prepends buffer.old buffer.new end (decimal number) result }
+{
+    if end < MOST_DIGITS {
+        return None;
     }
-
-    pub(crate) fn as_slice(&self) -> &[u8]
-        ensures { result.now ≡ self.now }
-    {
-        &self.bytes[self.start..]
+    if number < 10 {
+        buffer[end - 1] = b'0' + number as u8;
+        return Some(end - 1);
     }
-
-    // Prepends the text. Returns false, and changes nothing, if it does not fit.
-    #[inline]
-    pub(crate) fn prepend(&mut self, text: &[u8]) -> bool
-        ensures { IsTrue result → self.new ≡ text.now ++ self.old }
-    {
-        if text.len() > self.start {
-            return false;
-        }
-        let (start, end) = (self.start - text.len(), self.start);
-        self.bytes[start..end].copy_from_slice(text);
-        self.start = start;
-        true
-    }
-
-    // Prepends the number in decimal. Returns false, and changes nothing, if the longest number does not fit.
-    #[inline]
-    pub(crate) fn prepend_number(&mut self, number: u64) -> bool
-        ensures { IsTrue result → self.new ≡ decimal number ++ self.old }
-    {
-        if self.start < MOST_DIGITS {
-            return false;
-        }
-        self.start = write_digits(number, &mut self.bytes, self.start);
-        true
-    }
+    Some(write_digits(number, buffer, end))
 }

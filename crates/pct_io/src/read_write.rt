@@ -34,6 +34,7 @@ pub fn read_all<S: Source>(alloc: Global, source: &mut S, limit: u32) -> Result<
 
 /// Writes the whole piece. `Failed` means that a prefix of the piece was written and that the sink recorded one error.
 /// It allocates no memory.
+#[inline]
 pub fn write_all<K: Sink>(sink: &mut K, piece: &[u8]) -> Result<(), Failed>
     ensures { Writes K.written K.errors K.inners sink.old sink.new piece.now result }
 {
@@ -41,6 +42,7 @@ pub fn write_all<K: Sink>(sink: &mut K, piece: &[u8]) -> Result<(), Failed>
 }
 
 // Writes the piece until a write fails, and returns the number of bytes written.
+#[inline]
 pub(crate) fn write_prefix<K: Sink>(sink: &mut K, piece: &[u8]) -> (usize, Result<(), Failed>)
     ensures bound { result.0 ≤ length piece.now }
     ensures whole { OnOk result.1 (result.0 ≡ length piece.now) }

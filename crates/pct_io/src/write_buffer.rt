@@ -50,6 +50,7 @@ impl WriteBuffer {
     }
 
     // Appends as long a prefix of the piece as fits, and returns its length.
+    #[inline(always)]
     pub(crate) fn fill(&mut self, piece: &[u8]) -> usize
         ensures count { result ≡ min (length piece.now) (8192 - length self.old) }
         ensures buffer { self.new ≡ self.old ++ take result piece.now }

@@ -2,7 +2,7 @@
 
 use pct_io::{
     BufferedSink, Failed, Field, Gate, MemSink, MemSource, NoGate, ReadEnd, StdSink, StdSource,
-    read_all, write_all, write_buffered, write_line, write_parts,
+    prepend_line, read_all, write_all, write_buffered, write_line, write_parts,
 };
 use std::io;
 use std::io::{Read, Write};
@@ -122,6 +122,18 @@ fn a_line_is_its_fields(rt: HostRuntime) -> Result<(), Fail> {
         write_line(&mut sink, fields)?;
         assert_eq!(rt; sink.written(), line);
     }
+    Ok(())
+}
+
+#[test]
+fn a_line_ends_at_the_given_index(rt: HostRuntime) -> Result<(), Fail> {
+    let fields = [Field::Dotted(1, 2), Field::Text(b"emit"), Field::Number(10)];
+    let mut buffer = [b'-'; 60];
+    let Some(start) = prepend_line(&fields, &mut buffer, 50) else {
+        return Err("the line does not fit".into());
+    };
+    assert!(rt; &buffer[start..] == b"1.2 emit 10\n----------".as_slice());
+    assert!(rt; prepend_line(&fields, &mut buffer, 11).is_none());
     Ok(())
 }
 

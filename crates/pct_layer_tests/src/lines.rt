@@ -2,7 +2,7 @@
 
 use pct_text::{
     are_allowed, count_words, first_line, next_word, number_of, numeral, spells_something,
-    split_once, strip_cr,
+    split_number, split_once, strip_cr,
 };
 use std::test::*;
 
@@ -67,6 +67,22 @@ fn reads_numbers(rt: HostRuntime) -> Result<(), Fail> {
     for (word, value, exact) in rows.as_slice() {
         assert!(rt; numeral(word) == *value);
         assert!(rt; number_of(word) == *exact);
+    }
+    Ok(())
+}
+
+#[test]
+fn splits_off_a_number(rt: HostRuntime) -> Result<(), Fail> {
+    match split_number(b"4294967295 go 1") {
+        Some((number, after)) => {
+            assert!(rt; number == 4_294_967_295);
+            assert!(rt; after == b"go 1".as_slice());
+        }
+        None => return Err("no number".into()),
+    }
+    let rows: [&[u8]; 5] = [b"", b"12", b" 12", b"07 a", b"4294967296 a"];
+    for bytes in rows.as_slice() {
+        assert!(rt; split_number(bytes).is_none());
     }
     Ok(())
 }

@@ -16,6 +16,7 @@ pub mod Static
 pub mod Spells
 pub mod Canon
 pub mod Jumps
+pub mod OpenPushes
 pub mod World
 pub mod ThreadSlots
 pub mod NextStatement
@@ -32,6 +33,13 @@ pub mod TransitionTable
 pub mod Actions
 pub mod Step
 pub mod Run
+pub mod OwnEvents
+pub mod ThreadNumbers
+pub mod KnownThreads
+pub mod ThreadSummary
+pub mod Once
+pub mod Laws
+pub mod Kept
 pub mod Chosen
 pub mod StopTexts
 pub mod EventTexts

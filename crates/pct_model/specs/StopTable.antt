@@ -5,9 +5,11 @@ use Rattle.pct_model.specs.declared.statement.Stmt.TheVariants as statement
 use Rattle.pct_model.specs.declared.frame.Frame.{Frame}
 use Rattle.pct_model.specs.declared.state.FrameKind.{FrameKind}
 use Rattle.pct_model.specs.declared.state.FrameKind.TheVariants as kind
+use Rattle.pct_model.specs.declared.state.Reason.{Reason}
+use Rattle.pct_model.specs.declared.state.Reason.TheVariants as reason
 use Rattle.pct_model.specs.declared.limits.TheConstants.{MAX_FRAMES, MAX_HANDLERS}
 use Rattle.pct_model.specs.declared.stop.Why.{Why}
-use Rattle.pct_model.specs.declared.stop.Why.TheVariants.{Unbuilt, ThreadId, JoinSelf, NotJoinable, JoinTwice, DetachJoined, ExitTwice, StackFull, CleanupFull}
+use Rattle.pct_model.specs.declared.stop.Why.TheVariants.{Unbuilt, ThreadId, JoinSelf, NotJoinable, JoinTwice, DetachJoined, ExitInEnding, ExitTwice, StackFull, CleanupFull}
 use Rattle.pct_model.specs.Jumps.{open_of}
 use Rattle.pct_model.specs.World.{Thread, SharedState, value_of}
 use Rattle.pct_model.specs.OtherThreads.{Others, target_is}
@@ -31,6 +33,12 @@ abbrev pub exits_twice : FrameKind → SharedState → Bool
 exits_twice kind.Main shared = is_some shared.exit_value
 exits_twice _ shared = false
 
+-- the thread has begun to end, for a reason
+abbrev pub has_begun_to_end : Reason → Bool
+has_begun_to_end reason.None = false
+has_begun_to_end (reason.Exit v) = true
+has_begun_to_end reason.Canceled = true
+
 -- the statement is implemented
 abbrev pub is_built : Stmt → Bool
 is_built (statement.Emit v) = true
@@ -47,6 +55,7 @@ is_built (statement.Create result id f v detached) = true
 is_built (statement.Join id d) = true
 is_built (statement.Detach id) = true
 is_built (statement.SelfId d) = true
+is_built (statement.ThreadExit v) = true
 is_built (statement.Push f v) = true
 is_built (statement.Pop v) = true
 is_built _ = false
@@ -70,6 +79,8 @@ module _ (body : List Stmt) (shared : SharedState) (t : Thread) (others : Others
       ∷ (target_is (λ target. target.detached) others.target, NotJoinable)
       ∷ (target_is (λ target. target.joining) others.target, DetachJoined)
       ∷ []
+  -- XSH pthread_exit: a call from a cleanup handler or a destructor that runs as its thread ends is undefined
+  stops_of frame (statement.ThreadExit v) = (has_begun_to_end t.reason, ExitInEnding) ∷ []
   -- XSH exit: a second call is undefined, and a return from `main` is a call of exit
   stops_of frame (statement.Return v) = (exits_twice frame.kind shared, ExitTwice) ∷ []
   stops_of frame statement.End = (is_none (open_of body frame.pc) && exits_twice frame.kind shared, ExitTwice) ∷ []

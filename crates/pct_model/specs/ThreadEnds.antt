@@ -8,7 +8,8 @@ use Rattle.pct_model.specs.declared.transition.Action.TheVariants as action
 use Rattle.pct_model.specs.declared.transition.Transition.{Transition}
 use Rattle.pct_model.specs.Transitions.{acts}
 
--- a thread begins to end by a return from its start routine, which acts as pthread_exit (XSH pthread_create, pthread_exit)
+-- a thread begins to end by pthread_exit, or by a return from its start routine, which acts as pthread_exit (XSH
+-- pthread_create, pthread_exit)
 unfoldable pub ends_by_exit : ℕ → Transition
 ends_by_exit v = acts (action.BeginEnd (reason.Exit v) ∷ []) (what.EndingExit v ∷ [])
 
@@ -24,7 +25,7 @@ ends_thread false v = acts (action.EndThread v ∷ []) (what.EndedWith v ∷ [])
 ends_thread true v = acts (action.MarkEnded ∷ action.BeginExit 0 ∷ []) (what.EndedWith v ∷ what.ExitBegun 0 ∷ [])
 
 -- a thread that is ending, and so has no frame, removes its newest cleanup handler and calls it; without a handler it ends
--- (XSH 2.9.5.3). No thread that ends has a handler yet, and none has thread-specific data.
+-- (XSH 2.9.5.3). No thread has thread-specific data yet.
 unfoldable pub goes_on_ending : Bool → Reason → List (ℕ × ℕ) → Transition
 goes_on_ending is_last why ((f, a) ∷ handlers) = acts (action.PopHandler ∷ action.CallAlone f a kind.Handler ∷ []) (what.HandlerRun f a ∷ [])
 goes_on_ending is_last why [] = ends_thread is_last (end_value why)

@@ -19,7 +19,7 @@ use Rattle.pct_model.specs.Transitions.{no_change, stops}
 use Rattle.pct_model.specs.ScriptStatements.{jumps, emits, sets, adds, variable_value, calls, after_block, after_test, after_end}
 use Rattle.pct_model.specs.CleanupHandlers.{pushes, pops}
 use Rattle.pct_model.specs.ThreadCalls.{creates_by, begins_join, joins_at, detaches, gets_self}
-use Rattle.pct_model.specs.ThreadEnds.{goes_on_ending}
+use Rattle.pct_model.specs.ThreadEnds.{ends_by_exit, goes_on_ending}
 use Rattle.pct_model.specs.ProcessExit.{returns_by, ends_process}
 use Rattle.pct_model.specs.StopTable.{stop_at}
 
@@ -52,6 +52,7 @@ module _ (body : List Stmt) (shared : SharedState) (t : Thread) (others : Others
   runs frame (statement.Join id d) = begins_join (value_of shared.globals frame id)
   runs frame (statement.Detach id) = detaches (suc frame.pc) (value_of shared.globals frame id)
   runs frame (statement.SelfId d) = gets_self (suc frame.pc) d t.id
+  runs frame (statement.ThreadExit v) = ends_by_exit (value_of shared.globals frame v)
   runs frame (statement.Push f v) = pushes (suc frame.pc) f (value_of shared.globals frame v)
   runs frame (statement.Pop v) = pops (suc frame.pc) (value_of shared.globals frame v) t.handlers
   runs frame s = no_change

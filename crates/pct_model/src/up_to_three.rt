@@ -1,6 +1,6 @@
 //! Short lists without an allocation.
 
-ghost use Rattle.std.specs.Prelude.{◌≡◌, ◌≤◌, [], ◌∷◌, length, IfSome, IfNone};
+ghost use Rattle.std.specs.Prelude.{◌≡◌, ◌≤◌, [], ◌∷◌, length, slice_get};
 
 use std::marker::Model;
 
@@ -63,17 +63,29 @@ impl<T: Copy + Drop> UpToThree<T> {
         }
     }
 
-    /// The first item, and the list of the others. `None` exactly if the list is empty.
-    pub fn split_first(&self) -> Option<(T, UpToThree<T>)>
-        ensures some { IfSome result (λ split. self.now ≡ split.0 ∷ split.1) }
-        ensures none { IfNone result (self.now ≡ []) }
+    /// The item at an index. `None` exactly if there are not more items than that.
+    #[tactic(auto, using(std::proofs::lemmas::Option::slice_get_past))]
+    pub fn get(&self, index: usize) -> Option<T>
+        ensures value { result ≡ slice_get self.now index }
         ensures few { length self.now ≤ 3 }
     {
-        match self.items {
+        match &self.items {
             Items::Zero => None,
-            Items::One(a) => Some((a, UpToThree::none())),
-            Items::Two(a, b) => Some((a, UpToThree::one(b))),
-            Items::Three(a, b, c) => Some((a, UpToThree::two(b, c))),
+            Items::One(a) => match index {
+                0 => Some(*a),
+                _ => None,
+            },
+            Items::Two(a, b) => match index {
+                0 => Some(*a),
+                1 => Some(*b),
+                _ => None,
+            },
+            Items::Three(a, b, c) => match index {
+                0 => Some(*a),
+                1 => Some(*b),
+                2 => Some(*c),
+                _ => None,
+            },
         }
     }
 }

@@ -1,7 +1,8 @@
 //! The report of a run.
 
-ghost use Rattle.std.specs.Prelude.{◌++◌};
+ghost use Rattle.std.specs.Prelude.{◌≤◌, ◌++◌, length};
 ghost use Rattle.std.specs.List.{flat_map};
+ghost use Rattle.pct_io.specs.Prepends.{Prepends};
 ghost use Rattle.pct_io.specs.Writes.{Writes};
 ghost use Rattle.pct_model.specs.Keywords.{line_text, text_of};
 ghost use Rattle.pct_model.specs.Report.{event_line, verdict_line, report_lines, report_of, schedule_lines, title_line};
@@ -9,9 +10,9 @@ ghost use Rattle.pct_model.specs.Run.{Run};
 ghost use Rattle.pct_engine.specs.EngineStates.{IsRunOf};
 
 use crate::event_fields::event_fields;
-use crate::fields::write_words;
+use crate::fields::{prepend_words, write_words};
 use pct_engine::Engine;
-use pct_io::{BufferedSink, Failed, Field, Sink, write_line};
+use pct_io::{BufferedSink, Failed, Field, Sink, prepend_line, write_all, write_line};
 use pct_model::{Config, Entry, Event, Keyword, Script, Verdict};
 use pct_schedule::write_schedule;
 
@@ -87,7 +88,49 @@ fn write_title<K: Sink>(sink: &mut K) -> Result<(), Failed>
     )
 }
 
+// The size in bytes of the buffer in which lines are gathered, and how many lines at most are gathered in it.
+const CAPACITY: usize = 1024;
+
+const MOST_LINES: usize = 16;
+
 fn write_events<K: Sink>(sink: &mut K, script: &Script, events: &[Event]) -> Result<(), Failed>
+    ensures { Writes K.written K.errors K.inners sink.old sink.new (flat_map (λ e. line_text (event_line script.now e)) events.now) result }
+{
+    let mut rest = events;
+    while !rest.is_empty() {
+        let (few, after) = rest.split_at(rest.len().min(MOST_LINES));
+        write_together(sink, script, few)?;
+        rest = after;
+    }
+    Ok(())
+}
+
+// Gathers the lines of the events and writes them at once. Lines that do not fit together are written one by one.
+fn write_together<K: Sink>(sink: &mut K, script: &Script, events: &[Event]) -> Result<(), Failed>
+    ensures { Writes K.written K.errors K.inners sink.old sink.new (flat_map (λ e. line_text (event_line script.now e)) events.now) result }
+{
+    let mut buffer = [0; CAPACITY];
+    match prepend_events(script, events, &mut buffer, CAPACITY) {
+        Some(start) => write_all(sink, &buffer[start..]),
+        None => write_each(sink, script, events),
+    }
+}
+
+// Writes the lines of the events, as `prepend_line` writes one.
+fn prepend_events(script: &Script, events: &[Event], buffer: &mut [u8], end: usize) -> Option<usize>
+    requires { end ≤ length buffer.old }
+    ensures { Prepends buffer.old buffer.new end (flat_map (λ e. line_text (event_line script.now e)) events.now) result }
+{
+    let mut start = end;
+    for position in (0..events.len()).rev() {
+        start = prepend_event(script, events[position], buffer, start)?;
+    }
+    Some(start)
+}
+
+// Writes the lines of the events one by one.
+#[cold]
+fn write_each<K: Sink>(sink: &mut K, script: &Script, events: &[Event]) -> Result<(), Failed>
     ensures { Writes K.written K.errors K.inners sink.old sink.new (flat_map (λ e. line_text (event_line script.now e)) events.now) result }
 {
     for event in events {
@@ -128,6 +171,16 @@ fn write_verdict<K: Sink>(sink: &mut K, verdict: Verdict) -> Result<(), Failed>
             ],
         ),
     }
+}
+
+// Writes the line of an event, as `prepend_line` does.
+#[tactic(auto, unfolding(pct_model::specs::Report::event_line, pct_model::specs::Report::thread_text))]
+fn prepend_event(script: &Script, event: Event, buffer: &mut [u8], end: usize) -> Option<usize>
+    requires { end ≤ length buffer.old }
+    ensures { Prepends buffer.old buffer.new end (line_text (event_line script.now event)) result }
+{
+    let thread = Field::Dotted(event.pid, event.tid);
+    prepend_words(thread, event_fields(script, event.what), buffer, end)
 }
 
 // The line of one event.

@@ -4,8 +4,12 @@ mod ScriptRows
 mod StaticRows
 mod MachineRows
 mod ThreadRows
+mod ThreadEdgeRows
+mod EndingRows
 mod Rows
 mod ChoiceRows
 mod EventRows
+mod OwnEventRows
+mod OnceRows
 mod ScheduleRows
 mod Outcomes

@@ -1,7 +1,9 @@
 -- Splitting a line at one space after the other gives what its words give.
-use Rattle.std.proofs.Common.{◌≡◌, ℕ, ◌<◌, Bool, true, false, ◌&&◌, cond, List, [], ◌∷◌, Option, Some, None, length, refl, sym, ap, ◌∙◌, arith, nat_eq, nat_le, eq-eqb, eqb-true, ne_eqb, bytes_eq, option_map, true≢false}
+use Rattle.std.proofs.Common.{◌≡◌, ℕ, ◌-◌, ◌<◌, Bool, true, false, ◌&&◌, cond, List, [], ◌∷◌, Option, Some, None, length, take, drop, refl, sym, ap, ◌∙◌, arith, nat_eq, nat_le, eq-eqb, eqb-true, ne_eqb, bytes_eq, option_map, true≢false}
 use Rattle.std.specs.Prelude.{codes}
+use Rattle.std.specs.List.{starts_with}
 use Rattle.std.specs.Option.{option_map_or}
+use Rattle.std.proofs.lemmas.List.{take_rest}
 use Rattle.pct_model.specs.declared.schedule.Alt.{Alt}
 use Rattle.pct_model.specs.declared.schedule.Config.{Config}
 use Rattle.pct_model.specs.declared.keyword.Keyword.TheVariants as keyword
@@ -9,6 +11,8 @@ use Rattle.pct_model.specs.Keywords.{keyword_text}
 use Rattle.pct_model.specs.Lines.{◌>>=◌, split_once, words_of, number_of}
 use Rattle.pct_model.specs.Run.{is_config}
 use Rattle.pct_model.specs.Schedule.{begins, config_of, header_of_words, header_of, numbered_choice, choice_of, entry_of_parts, entry_of_words, entry_of, is_number, is_end_of_words, is_end}
+use Rattle.pct_model.proofs.Bytes.{same_bytes}
+use Rattle.pct_text.specs.FirstNumber.{split_number}
 use Rattle.pct_text.proofs.SplitOnce.{lacks-uncons}
 use Rattle.pct_text.proofs.Numbers.{number_lacks}
 use Rattle.pct_text.proofs.Lines.{words_of-split_once, words_of-last, words_of-some}
@@ -17,6 +21,10 @@ use Rattle.pct_schedule.specs.Reader.{begins_with, config_in, header_in, choice_
 and_false : (b : Bool) → (b && false) ≡ false
 and_false true = refl
 and_false false = refl
+
+and_more : (first word space rest : Bool) → (word && space) ≡ rest → ((first && word) && space) ≡ (first && rest)
+and_more true word space rest e = e
+and_more false word space rest e = refl
 
 or_none : {A : Type 0} (b : Bool) → cond b (let none : Option A = None in none) None ≡ None
 or_none true = refl
@@ -64,15 +72,32 @@ pub begins-end : (line : List ℕ) → begins_with (keyword_text keyword.End) li
 unfolding begins_with keyword_text split_once
 begins-end line = sym (begins_by_split (keyword_text keyword.End) line refl)
 
+-- a line begins with a word and a space where the word is at its start and the space after the word
+begins_apart : (word line : List ℕ) → (starts_with nat_eq line word && starts_with nat_eq (drop (length word) line) (32 ∷ [])) ≡ begins word line
+begins_apart [] line = refl
+begins_apart (c ∷ cs) [] = refl
+begins_apart (c ∷ cs) (b ∷ bs) = and_more (nat_eq c b) (starts_with nat_eq bs cs) (starts_with nat_eq (drop (length cs) bs) (32 ∷ [])) (begins cs bs) (begins_apart cs bs)
+
+-- where the word is at the start of the line, the space after it decides
+pub begins_after_word : (word line : List ℕ) (first space : Bool) → first ≡ starts_with nat_eq line word → first ≡ true
+    → space ≡ starts_with nat_eq (take (length line - length word) (drop (length word) line)) (32 ∷ []) → space ≡ begins word line
+begins_after_word word line first space is found after =
+    after ∙ ap (λ (bytes : List ℕ). starts_with nat_eq bytes (32 ∷ [])) (take_rest line (length word))
+    ∙ ap (λ t. t && starts_with nat_eq (drop (length word) line) (32 ∷ [])) (sym found ∙ is) ∙ begins_apart word line
+
+pub begins_otherwise : (word line : List ℕ) (first : Bool) → first ≡ starts_with nat_eq line word → first ≡ false → first ≡ begins word line
+begins_otherwise word line first is other =
+    other ∙ ap (λ t. t && starts_with nat_eq (drop (length word) line) (32 ∷ [])) (sym other ∙ is) ∙ begins_apart word line
+
 -- ---- the last word
+
+none_is_none : (parts : List ℕ × List ℕ) → None ≡ Some parts → ⊥
+none_is_none parts e = cc
 
 -- a word with a space in it is not a number
 no_number : (o : Option ℕ) (w : List ℕ) (parts : List ℕ × List ℕ) → number_of w ≡ o → split_once 32 w ≡ Some parts → o ≡ None
 no_number None w parts e is = refl
 no_number (Some n) w parts e is = absurd (none_is_none parts (sym (number_lacks 32 w n refl e) ∙ is))
-  where
-    none_is_none : (parts : List ℕ × List ℕ) → None ≡ Some parts → ⊥
-    none_is_none parts e = cc
 
 -- ---- headers
 
@@ -146,14 +171,6 @@ header_same line = header_by_one line (split_once 32 line) refl
 
 -- ---- entries
 
-bind_parts : (a b c : Option ℕ) (d : Option Alt)
-    → (a >>= λ worker. b >>= λ pid. c >>= λ tid. d >>= λ choice. cond (nat_le worker 16) (Some (record { worker = worker; pid = pid; tid = tid; alt = choice })) None) ≡ entry_of_parts a b c d
-bind_parts None b c d = refl
-bind_parts (Some worker) None c d = refl
-bind_parts (Some worker) (Some pid) None d = refl
-bind_parts (Some worker) (Some pid) (Some tid) None = refl
-bind_parts (Some worker) (Some pid) (Some tid) (Some choice) = refl
-
 no_choice : (a b c : Option ℕ) → entry_of_parts a b c None ≡ None
 no_choice None b c = refl
 no_choice (Some worker) None c = refl
@@ -170,31 +187,60 @@ numbered_same kind number (Some parts) e =
     ap (λ (o : Option ℕ). o >>= λ n. numbered_choice kind n) (no_number (number_of number) number parts refl e)
     ∙ sym (many_words kind parts.0 (words_of parts.1) (words_of-some parts.1)) ∙ ap (λ (words : List (List ℕ)). choice_of (kind ∷ words)) (sym (words_of-split_once number parts e))
 
+not_go : (words : List ℕ) (parts : List ℕ × List ℕ) (is : Bool) → split_once 32 words ≡ Some parts → bytes_eq words (keyword_text keyword.Go) ≡ is → is ≡ false
+unfolding split_once keyword_text
+not_go words parts true e is = absurd (none_is_none parts (ap (split_once 32) (sym (same_bytes words (keyword_text keyword.Go) is)) ∙ e))
+not_go words parts false e is = refl
+
 choice_by_split : (words : List ℕ) (o : Option (List ℕ × List ℕ)) → split_once 32 words ≡ o → choice_in words ≡ choice_of (words_of words)
 unfolding choice_in
 choice_by_split words None e = rw (words_of-last words e, e) refl
-choice_by_split words (Some parts) e = rw (words_of-split_once words parts e, e) (numbered_same parts.0 parts.1 (split_once 32 parts.1) refl)
+choice_by_split words (Some parts) e =
+    rw (words_of-split_once words parts e, e, not_go words parts (bytes_eq words (keyword_text keyword.Go)) e refl) (numbered_same parts.0 parts.1 (split_once 32 parts.1) refl)
 
 choice_same : (words : List ℕ) → choice_in words ≡ choice_of (words_of words)
 choice_same words = choice_by_split words (split_once 32 words) refl
 
+entry_by_numbers : (line : List ℕ) (first second third : List ℕ × List ℕ) (a b c : Option ℕ) → split_once 32 line ≡ Some first → split_once 32 first.1 ≡ Some second → split_once 32 second.1 ≡ Some third
+    → number_of first.0 ≡ a → number_of second.0 ≡ b → number_of third.0 ≡ c → entry_in line ≡ entry_of_parts a b c (choice_in third.1)
+unfolding entry_in split_number
+entry_by_numbers line first second third None b c e f g x y z = rw (e, x) refl
+entry_by_numbers line first second third (Some worker) None c e f g x y z = rw (e, x, f, y) refl
+entry_by_numbers line first second third (Some worker) (Some pid) None e f g x y z = rw (e, x, f, y, g, z) refl
+entry_by_numbers line first second third (Some worker) (Some pid) (Some tid) e f g x y z = rw (e, x, f, y, g, z) (by_choice (choice_in third.1))
+  where
+    by_choice : (o : Option Alt) → (o >>= λ choice. cond (nat_le worker 16) (Some (record { worker = worker; pid = pid; tid = tid; alt = choice })) None) ≡ entry_of_parts (Some worker) (Some pid) (Some tid) o
+    by_choice None = refl
+    by_choice (Some choice) = refl
+
+no_third : (line : List ℕ) (first second : List ℕ × List ℕ) (a b : Option ℕ) → split_once 32 line ≡ Some first → split_once 32 first.1 ≡ Some second → split_once 32 second.1 ≡ None
+    → number_of first.0 ≡ a → number_of second.0 ≡ b → entry_in line ≡ None
+unfolding entry_in split_number
+no_third line first second None b e f g x y = rw (e, x) refl
+no_third line first second (Some worker) None e f g x y = rw (e, x, f, y) refl
+no_third line first second (Some worker) (Some pid) e f g x y = rw (e, x, f, y, g) refl
+
+no_second : (line : List ℕ) (first : List ℕ × List ℕ) (a : Option ℕ) → split_once 32 line ≡ Some first → split_once 32 first.1 ≡ None → number_of first.0 ≡ a → entry_in line ≡ None
+unfolding entry_in split_number
+no_second line first None e f x = rw (e, x) refl
+no_second line first (Some worker) e f x = rw (e, x, f) refl
+
 entry_by_three : (line : List ℕ) (first second : List ℕ × List ℕ) (o : Option (List ℕ × List ℕ)) → split_once 32 line ≡ Some first → split_once 32 first.1 ≡ Some second → split_once 32 second.1 ≡ o
     → entry_in line ≡ entry_of_words (words_of line)
-unfolding entry_in
 entry_by_three line first second None e f g =
-    rw (words_of-split_once line first e, words_of-split_once first.1 second f, words_of-last second.1 g, e, f, g) (sym (no_choice (number_of first.0) (number_of second.0) (number_of second.1)))
+    rw (words_of-split_once line first e, words_of-split_once first.1 second f, words_of-last second.1 g)
+    (no_third line first second (number_of first.0) (number_of second.0) e f g refl refl ∙ sym (no_choice (number_of first.0) (number_of second.0) (number_of second.1)))
 entry_by_three line first second (Some third) e f g =
-    rw (words_of-split_once line first e, words_of-split_once first.1 second f, words_of-split_once second.1 third g, e, f, g)
-    (bind_parts (number_of first.0) (number_of second.0) (number_of third.0) (choice_in third.1)
+    rw (words_of-split_once line first e, words_of-split_once first.1 second f, words_of-split_once second.1 third g)
+    (entry_by_numbers line first second third (number_of first.0) (number_of second.0) (number_of third.0) e f g refl refl refl
     ∙ ap (entry_of_parts (number_of first.0) (number_of second.0) (number_of third.0)) (choice_same third.1))
 
 entry_by_two : (line : List ℕ) (first : List ℕ × List ℕ) (o : Option (List ℕ × List ℕ)) → split_once 32 line ≡ Some first → split_once 32 first.1 ≡ o → entry_in line ≡ entry_of_words (words_of line)
-unfolding entry_in
-entry_by_two line first None e f = rw (words_of-split_once line first e, words_of-last first.1 f, e, f) refl
+entry_by_two line first None e f = rw (words_of-split_once line first e, words_of-last first.1 f) (no_second line first (number_of first.0) e f refl)
 entry_by_two line first (Some second) e f = entry_by_three line first second (split_once 32 second.1) e f refl
 
 entry_by_one : (line : List ℕ) (o : Option (List ℕ × List ℕ)) → split_once 32 line ≡ o → entry_in line ≡ entry_of_words (words_of line)
-unfolding entry_in
+unfolding entry_in split_number
 entry_by_one line None e = rw (words_of-last line e, e) refl
 entry_by_one line (Some first) e = entry_by_two line first (split_once 32 first.1) e refl
 

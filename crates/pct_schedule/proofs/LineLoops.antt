@@ -17,8 +17,7 @@ use Rattle.pct_schedule.specs.declared.fault.ScheduleFault.{ScheduleFault}
 use Rattle.pct_schedule.specs.declared.fault.ScheduleFault.TheVariants as fault
 use Rattle.pct_schedule.specs.Gives.{Fails, Refuses}
 use Rattle.pct_schedule.specs.Memory.{entry_is_first, has_entry_after, stores_an_entry}
-use Rattle.pct_schedule.specs.Reader.{begins_with, ended, with_entry, entries_in, schedule_in, header_line, from_header, entry_at, nothing_after, end_at}
-use Rattle.pct_schedule.proofs.BySplits.{begins-schedule, begins-end}
+use Rattle.pct_schedule.specs.Reader.{ended, with_entry, entries_in, schedule_in, header_line, from_header, entry_at, nothing_after, end_at}
 use Rattle.pct_schedule.proofs.ByEntries.{by_lines}
 
 -- the first line of a text, without its CR
@@ -41,19 +40,19 @@ Header = Option (ℕ × List ℕ × List (List ℕ))
 abbrev at_line : ℕ → List (List ℕ) → List ℕ → Bool → Header
 at_line n lines line found = cond found (Some (n, line, lines)) (header_line (n + 1) lines)
 
-by_first_line : (n : ℕ) (rest line after : List ℕ) (found : Bool) → ReadsLine rest line after → begins_with (keyword_text keyword.Schedule) line ≡ found
+by_first_line : (n : ℕ) (rest line after : List ℕ) (found : Bool) → ReadsLine rest line after → begins (keyword_text keyword.Schedule) line ≡ found
     → header_line n (lines_of rest) ≡ at_line n (lines_of after) line found
 unfolding header_line
 by_first_line n rest line after found reads is =
     ap (header_line n) reads.first.lines
     ∙ ap (λ (l : List ℕ). at_line n (lines_of after) l (begins (keyword_text keyword.Schedule) l)) reads.read
-    ∙ ap (at_line n (lines_of after) line) (sym (begins-schedule line) ∙ is)
+    ∙ ap (at_line n (lines_of after) line) is
 
-pub header_found : (n : ℕ) (rest line after : List ℕ) (all : Header) → ReadsLine rest line after → begins_with (keyword_text keyword.Schedule) line ≡ true
+pub header_found : (n : ℕ) (rest line after : List ℕ) (all : Header) → ReadsLine rest line after → begins (keyword_text keyword.Schedule) line ≡ true
     → all ≡ header_line n (lines_of rest) → all ≡ Some (n, line, lines_of after)
 header_found n rest line after all reads is so_far = so_far ∙ by_first_line n rest line after true reads is
 
-pub header_later : (n : ℕ) (rest line after : List ℕ) (all : Header) → ReadsLine rest line after → begins_with (keyword_text keyword.Schedule) line ≡ false
+pub header_later : (n : ℕ) (rest line after : List ℕ) (all : Header) → ReadsLine rest line after → begins (keyword_text keyword.Schedule) line ≡ false
     → all ≡ header_line n (lines_of rest) → all ≡ header_line (n + 1) (lines_of after)
 header_later n rest line after all reads is so_far = so_far ∙ by_first_line n rest line after false reads is
 
@@ -88,12 +87,12 @@ at_entry n config entries lines line last =
     (with_entry n config (length entries) (entry_of line) (λ e. entries_in (n + 1) config (entries ++ e ∷ []) lines))
 
 by_entry_line : (n : ℕ) (config : Config) (entries : List Entry) (rest line after : List ℕ) (last : Bool) → ReadsLine rest line after
-    → begins_with (keyword_text keyword.End) line ≡ last → entries_in n config entries (lines_of rest) ≡ at_entry n config entries (lines_of after) line last
+    → begins (keyword_text keyword.End) line ≡ last → entries_in n config entries (lines_of rest) ≡ at_entry n config entries (lines_of after) line last
 unfolding entries_in
 by_entry_line n config entries rest line after last reads is =
     ap (entries_in n config entries) reads.first.lines
     ∙ ap (λ (l : List ℕ). at_entry n config entries (lines_of after) l (begins (keyword_text keyword.End) l)) reads.read
-    ∙ ap (at_entry n config entries (lines_of after) line) (sym (begins-end line) ∙ is)
+    ∙ ap (at_entry n config entries (lines_of after) line) is
 
 ended_at : (n : ℕ) (config : Config) (entries : List Entry) (after : List ℕ) → ended (n + 1) config entries (lines_of after) ≡ and_then (nothing_after n after) (λ _. Ok (config, entries))
 ended_at n config entries [] = ap (ended (n + 1) config entries) lines_of-nil
@@ -114,14 +113,14 @@ by_entry n config count None go = refl
 by_entry n config count (Some e) go = if_in_budget n e go (nat_lt count config.budget)
 
 pub at_last_line : (n count : ℕ) (config : Config) (entries : List Entry) (rest line after : List ℕ) (all : Schedule) → ReadsLine rest line after
-    → begins_with (keyword_text keyword.End) line ≡ true → all ≡ entries_in n config entries (lines_of rest)
+    → begins (keyword_text keyword.End) line ≡ true → all ≡ entries_in n config entries (lines_of rest)
     → count ≡ length entries → all ≡ and_then (end_at n count line after) (λ _. Ok (config, entries))
 at_last_line n count config entries rest line after all reads is so_far many =
     so_far ∙ by_entry_line n config entries rest line after true reads is ∙ by_end n config entries after (is_end (length entries) line)
     ∙ ap (λ (k : ℕ). and_then (end_at n k line after) (λ _. Ok (config, entries))) (sym many)
 
 pub at_entry_line : (n count : ℕ) (config : Config) (entries : List Entry) (rest line after : List ℕ) (all : Schedule) → ReadsLine rest line after
-    → begins_with (keyword_text keyword.End) line ≡ false → all ≡ entries_in n config entries (lines_of rest)
+    → begins (keyword_text keyword.End) line ≡ false → all ≡ entries_in n config entries (lines_of rest)
     → count ≡ length entries → all ≡ and_then (entry_at n config.budget count line) (λ e. entries_in (n + 1) config (entries ++ e ∷ []) (lines_of after))
 at_entry_line n count config entries rest line after all reads is so_far many =
     so_far ∙ by_entry_line n config entries rest line after false reads is
@@ -154,13 +153,12 @@ abbrev first_by : List ℕ → Bool
 first_by line = not (begins (keyword_text keyword.End) line) && is_some (entry_of line)
 
 -- the line of an entry that is read is an entry
-pub first_is_entry : (n budget count : ℕ) (text line after : List ℕ) (e : Entry) → ReadsLine text line after → begins_with (keyword_text keyword.End) line ≡ false
+pub first_is_entry : (n budget count : ℕ) (text line after : List ℕ) (e : Entry) → ReadsLine text line after → begins (keyword_text keyword.End) line ≡ false
     → entry_at n budget count line ≡ Ok e → entry_is_first (lines_of text) ≡ true
 unfolding entry_is_first
 first_is_entry n budget count text line after e reads other is =
     let some : is_some (entry_of line) ≡ true = read_is_some n budget count (entry_of line) e is in
-    let begins : begins (keyword_text keyword.End) line ≡ false = sym (begins-end line) ∙ other in
-    ap entry_is_first reads.first.lines ∙ ap first_by reads.read ∙ ap (λ t. not t && is_some (entry_of line)) begins ∙ some
+    ap entry_is_first reads.first.lines ∙ ap first_by reads.read ∙ ap (λ t. not t && is_some (entry_of line)) other ∙ some
 
 -- an entry after a header with legal numbers is stored
 pub stored_after : (text : List ℕ) (n : ℕ) (line : List ℕ) (lines : List (List ℕ)) → header_line 1 (lines_of text) ≡ Some (n, line, lines) → is_some (header_of line) ≡ true → entry_is_first lines ≡ true

@@ -12,6 +12,7 @@ use Rattle.pct_model.specs.declared.keyword.Keyword.TheVariants as keyword
 use Rattle.pct_model.specs.Keywords.{keyword_text}
 use Rattle.pct_model.specs.Lines.{◌>>=◌, split_once, strip_cr, number_of}
 use Rattle.pct_model.specs.Run.{is_config}
+use Rattle.pct_text.specs.FirstNumber.{split_number}
 use Rattle.pct_model.specs.Schedule.{Schedule, begins, numbered_choice, is_number, header_of, entry_of, is_end}
 
 -- whether a line begins with a fixed word and a space
@@ -40,20 +41,17 @@ header_in line = do
 -- `go`, or a word and a number
 unfoldable pub choice_in : List ℕ → Option Alt
 choice_in words =
-    option_map_or (λ parts. number_of parts.1 >>= λ n. numbered_choice parts.0 n) (split_once 32 words)
-    (if bytes_eq words (keyword_text keyword.Go) then Some alt.Go else None)
+    if bytes_eq words (keyword_text keyword.Go) then Some alt.Go
+    else (split_once 32 words >>= λ parts. number_of parts.1 >>= λ n. numbered_choice parts.0 n)
 
 -- `W P T` and the choice
 unfoldable pub entry_in : List ℕ → Option Entry
 entry_in line = do
-  first ← split_once 32 line
-  second ← split_once 32 first.1
-  third ← split_once 32 second.1
-  worker ← number_of first.0
-  pid ← number_of second.0
-  tid ← number_of third.0
-  choice ← choice_in third.1
-  if nat_le worker 16 then Some (record { worker = worker; pid = pid; tid = tid; alt = choice }) else None
+  worker ← split_number line
+  pid ← split_number worker.1
+  tid ← split_number pid.1
+  choice ← choice_in tid.1
+  if nat_le worker.0 16 then Some (record { worker = worker.0; pid = pid.0; tid = tid.0; alt = choice }) else None
 
 -- `end N`
 unfoldable pub end_in : ℕ → List ℕ → Bool

@@ -4,23 +4,21 @@ ghost use Rattle.std.specs.Prelude.{◌≡◌};
 ghost use Rattle.pct_model.specs.Keywords.{keyword_text};
 ghost use Rattle.pct_model.specs.Lines.{number_of};
 ghost use Rattle.pct_model.specs.Run.{is_config};
-ghost use Rattle.pct_model.specs.Schedule.{numbered_choice, is_number};
-ghost use Rattle.pct_schedule.specs.Reader.{begins_with, config_in, header_in, choice_in, entry_in, end_in};
+ghost use Rattle.pct_model.specs.Schedule.{begins, numbered_choice, is_number};
+ghost use Rattle.pct_schedule.specs.Reader.{config_in, header_in, choice_in, entry_in, end_in};
 
 use pct_model::{
     Alt, Config, Entry, Keyword, MAX_BUDGET, MAX_PASSES, MAX_SLOTS, MAX_WORKER, MIN_PASSES,
 };
-use pct_text::{number_of, split_once};
+use pct_text::{number_of, split_number, split_once};
 
 /// Whether a line begins with the keyword and a space.
-#[tactic(auto, unfolding(crate::specs::Reader::begins_with))]
+#[inline(always)]
 pub fn begins_with(line: &[u8], keyword: Keyword) -> bool
-    ensures { result ≡ begins_with (keyword_text keyword) line.now }
+    ensures { result ≡ begins (keyword_text keyword) line.now }
 {
-    match split_once(line, b' ') {
-        Some((word, _)) => word == keyword.text(),
-        None => false,
-    }
+    let word = keyword.text();
+    line.starts_with(word) && line[word.len()..].starts_with(b" ")
 }
 
 // `BUDGET PASSES SLOTS`, a configuration within the limits.
@@ -90,16 +88,11 @@ fn numbered_choice(kind: &[u8], number: u32) -> Option<Alt>
 fn choice_of(words: &[u8]) -> Option<Alt>
     ensures { result ≡ choice_in words.now }
 {
-    match split_once(words, b' ') {
-        Some((kind, number)) => numbered_choice(kind, number_of(number)?),
-        None => {
-            if words == Keyword::Go.text() {
-                Some(Alt::Go)
-            } else {
-                None
-            }
-        }
+    if words == Keyword::Go.text() {
+        return Some(Alt::Go);
     }
+    let (kind, number) = split_once(words, b' ')?;
+    numbered_choice(kind, number_of(number)?)
 }
 
 /// The entry of a line: worker, process, thread and alternative.
@@ -107,17 +100,17 @@ fn choice_of(words: &[u8]) -> Option<Alt>
 pub fn entry_of(line: &[u8]) -> Option<Entry>
     ensures { result ≡ entry_in line.now }
 {
-    let (worker, words) = split_once(line, b' ')?;
-    let (pid, words) = split_once(words, b' ')?;
-    let (tid, words) = split_once(words, b' ')?;
-    let entry = Entry {
-        worker: number_of(worker)?,
-        pid: number_of(pid)?,
-        tid: number_of(tid)?,
-        alt: choice_of(words)?,
-    };
-    if entry.worker <= MAX_WORKER {
-        Some(entry)
+    let (worker, words) = split_number(line)?;
+    let (pid, words) = split_number(words)?;
+    let (tid, words) = split_number(words)?;
+    let alt = choice_of(words)?;
+    if worker <= MAX_WORKER {
+        Some(Entry {
+            worker,
+            pid,
+            tid,
+            alt,
+        })
     } else {
         None
     }

@@ -1,12 +1,14 @@
 //! Writing a schedule.
 
-ghost use Rattle.std.specs.Prelude.{◌++◌, length};
+ghost use Rattle.std.specs.Prelude.{◌≡◌, ◌≤◌, ◌++◌, length, map, take};
 ghost use Rattle.std.specs.List.{flat_map};
+ghost use Rattle.pct_io.specs.Fields.{field_text};
+ghost use Rattle.pct_io.specs.Prepends.{Prepends};
 ghost use Rattle.pct_io.specs.Writes.{Writes};
 ghost use Rattle.pct_model.specs.Keywords.{line_text, text_of};
 ghost use Rattle.pct_model.specs.Report.{header_line, entry_line, end_line, schedule_lines};
 
-use pct_io::{Failed, Field, Sink, write_line};
+use pct_io::{Failed, Field, Sink, prepend_line, write_all, write_line};
 use pct_model::{Alt, Config, Entry, Keyword};
 
 /// Writes the schedule: the numbers under which the run goes, its entries, and the number of entries. `read_schedule`
@@ -49,7 +51,49 @@ fn write_list<K: Sink>(sink: &mut K, entries: &[Entry]) -> Result<(), Failed>
     write_count(sink, entries.len())
 }
 
+// The size in bytes of the buffer in which lines are gathered, and how many lines at most are gathered in it.
+const CAPACITY: usize = 1024;
+
+const MOST_LINES: usize = 16;
+
 fn write_entries<K: Sink>(sink: &mut K, entries: &[Entry]) -> Result<(), Failed>
+    ensures { Writes K.written K.errors K.inners sink.old sink.new (flat_map (λ e. line_text (entry_line e)) entries.now) result }
+{
+    let mut rest = entries;
+    while !rest.is_empty() {
+        let (few, after) = rest.split_at(rest.len().min(MOST_LINES));
+        write_together(sink, few)?;
+        rest = after;
+    }
+    Ok(())
+}
+
+// Gathers the lines of the entries and writes them at once. Lines that do not fit together are written one by one.
+fn write_together<K: Sink>(sink: &mut K, entries: &[Entry]) -> Result<(), Failed>
+    ensures { Writes K.written K.errors K.inners sink.old sink.new (flat_map (λ e. line_text (entry_line e)) entries.now) result }
+{
+    let mut buffer = [0; CAPACITY];
+    match prepend_entries(entries, &mut buffer, CAPACITY) {
+        Some(start) => write_all(sink, &buffer[start..]),
+        None => write_each(sink, entries),
+    }
+}
+
+// Writes the lines of the entries, as `prepend_line` writes one.
+fn prepend_entries(entries: &[Entry], buffer: &mut [u8], end: usize) -> Option<usize>
+    requires { end ≤ length buffer.old }
+    ensures { Prepends buffer.old buffer.new end (flat_map (λ e. line_text (entry_line e)) entries.now) result }
+{
+    let mut start = end;
+    for position in (0..entries.len()).rev() {
+        start = prepend_entry(entries[position], buffer, start)?;
+    }
+    Some(start)
+}
+
+// Writes the lines of the entries one by one.
+#[cold]
+fn write_each<K: Sink>(sink: &mut K, entries: &[Entry]) -> Result<(), Failed>
     ensures { Writes K.written K.errors K.inners sink.old sink.new (flat_map (λ e. line_text (entry_line e)) entries.now) result }
 {
     for entry in entries {
@@ -68,30 +112,43 @@ fn write_count<K: Sink>(sink: &mut K, count: usize) -> Result<(), Failed>
     )
 }
 
-#[tactic(auto, unfolding(pct_model::specs::Report::entry_line, pct_model::specs::Report::alt_words))]
+// Writes the line of an entry, as `prepend_line` does.
+#[inline(always)]
+fn prepend_entry(entry: Entry, buffer: &mut [u8], end: usize) -> Option<usize>
+    requires { end ≤ length buffer.old }
+    ensures { Prepends buffer.old buffer.new end (line_text (entry_line entry)) result }
+{
+    let (fields, count) = fields_of(entry);
+    prepend_line(&fields[..count], buffer, end)
+}
+
 fn write_entry<K: Sink>(sink: &mut K, entry: Entry) -> Result<(), Failed>
     ensures { Writes K.written K.errors K.inners sink.old sink.new (line_text (entry_line entry)) result }
 {
-    let worker = Field::Number(entry.worker);
-    let pid = Field::Number(entry.pid);
-    let tid = Field::Number(entry.tid);
-    let (kind, number) = match entry.alt {
-        Alt::Go => {
-            return write_line(sink, &[worker, pid, tid, Field::Text(Keyword::Go.text())]);
-        }
-        Alt::Act(n) => (Keyword::Act, n),
-        Alt::New(n) => (Keyword::New, n),
-        Alt::Pick(n) => (Keyword::Pick, n),
-        Alt::Dtor(n) => (Keyword::Dtor, n),
+    let (fields, count) = fields_of(entry);
+    write_line(sink, &fields[..count])
+}
+
+// The fields of an entry's line: the first fields of the array, as many as the count says.
+#[inline(always)]
+#[tactic(auto, unfolding(pct_model::specs::Report::entry_line, pct_model::specs::Report::alt_words))]
+fn fields_of(entry: Entry) -> ([Field<'static>; 5], usize)
+    ensures count { result.1 ≤ 5 }
+    ensures fields { map field_text (take result.1 result.0) ≡ entry_line entry }
+{
+    let (kind, number, count) = match entry.alt {
+        Alt::Go => (Keyword::Go, 0, 4),
+        Alt::Act(n) => (Keyword::Act, n, 5),
+        Alt::New(n) => (Keyword::New, n, 5),
+        Alt::Pick(n) => (Keyword::Pick, n, 5),
+        Alt::Dtor(n) => (Keyword::Dtor, n, 5),
     };
-    write_line(
-        sink,
-        &[
-            worker,
-            pid,
-            tid,
-            Field::Text(kind.text()),
-            Field::Number(number),
-        ],
-    )
+    let fields = [
+        Field::Number(entry.worker),
+        Field::Number(entry.pid),
+        Field::Number(entry.tid),
+        Field::Text(kind.text()),
+        Field::Number(number),
+    ];
+    (fields, count)
 }

@@ -1,12 +1,15 @@
 -- The schedule of a report is read back from its text.
-use Rattle.std.proofs.Common.{◌≡◌, ℕ, ◌+◌, ◌≤◌, ◌<◌, Bool, true, false, ◌&&◌, cond, List, [], ◌∷◌, ◌++◌, Option, Some, None, Ok, Err, length, map, refl, sym, ap, ◌∙◌, append_assoc, append-nil, arith, nat_eq, nat_le, leb-true, lt-ltb, eq-eqb, true≢false, bytes_eq, decimal, length-append, option_map, reverse}
+use Rattle.std.proofs.Common.{◌≡◌, ℕ, ◌+◌, ◌≤◌, ◌<◌, Bool, true, false, ◌&&◌, cond, List, [], ◌∷◌, ◌++◌, Option, Some, None, Ok, Err, length, map, refl, sym, ap, ◌∙◌, append_assoc, append-nil, arith, nat_eq, nat_le, leb-true, lt-ltb, eq-eqb, true≢false, bytes_eq, decimal, length-append, option_map, reverse, le-leb}
+use Rattle.std.specs.Prelude.{All}
 use Rattle.std.specs.List.{list_all, join_with_byte}
 use Rattle.std.specs.Fmt.{digits}
 use Rattle.std.specs.Option.{option_map_or}
-use Rattle.std.proofs.lemmas.Bool.{and_parts, false_from_ne_true}
+use Rattle.std.proofs.lemmas.Bool.{and_from, and_parts, false_from_ne_true}
 use Rattle.std.proofs.lemmas.List.Concat.{flat_map-cons}
+use Rattle.std.proofs.lemmas.List.Elements.{All-head, All-tail}
 use Rattle.std.proofs.lemmas.List.Folds.{list_all-append}
 use Rattle.std.proofs.lemmas.Option.{same_Some}
+use Rattle.pct_model.specs.declared.limits.TheConstants.{MAX_WORKER}
 use Rattle.pct_model.specs.declared.script.Script.{Script}
 use Rattle.pct_model.specs.declared.event.Event.{Event}
 use Rattle.pct_model.specs.declared.schedule.Alt.{Alt}
@@ -24,10 +27,14 @@ use Rattle.pct_model.specs.Lines.{split_once, lines_of, strip_cr}
 use Rattle.pct_model.specs.Run.{Run, is_config, run, verdict_of}
 use Rattle.pct_model.specs.Schedule.{Schedule, begins, header_of, entry_of, is_end, sched_of}
 use Rattle.pct_model.proofs.Bytes.{same_bytes, bytes_eq-refl}
+use Rattle.pct_engine_laws.specs.RunNumbers.{IsChoiceWithin, IsEntryWithin}
+use Rattle.pct_engine_laws.proofs.LongerRuns.{run_parts}
+use Rattle.pct_engine_laws.proofs.RunNumbers.{run_numbers_fit}
 use Rattle.pct_text.proofs.SplitOnce.{split_again, lacks_other, lacks-append, lacks-cons}
 use Rattle.pct_text.proofs.Numbers.{number_again, decimal_lacks, digits_of_decimal}
 use Rattle.pct_text.proofs.Lines.{strip_cr-lacks, lines_of-nil, lines_of-line}
 use Rattle.pct_schedule.specs.Schedules.{fits, is_choice, is_entry, IsSchedule}
+use Rattle.pct_text.specs.FirstNumber.{split_number}
 use Rattle.pct_schedule.specs.Reader.{begins_with, config_in, header_in, choice_in, entry_in, end_in, ended, with_entry, entries_in, with_header, schedule_in}
 use Rattle.pct_schedule.proofs.BySplits.{begins-schedule, begins-end, header_same, entry_same, end_same}
 use Rattle.pct_schedule.proofs.ByEntries.{by_lines}
@@ -220,11 +227,11 @@ fits_entry e is =
     record { worker = c.0; pid = leb-true e.pid 4294967295 c.1; tid = leb-true e.tid 4294967295 b.1; choice = a.1 }
 
 entry_parts_again : (e : Entry) → FitsEntry e → entry_in (decimal e.worker ++ 32 ∷ (decimal e.pid ++ 32 ∷ (decimal e.tid ++ 32 ∷ join_with_byte 32 (alt_words e.alt)))) ≡ Some e
-unfolding entry_in
+unfolding entry_in split_number
 entry_parts_again e is =
     let choice = join_with_byte 32 (alt_words e.alt) in
     let few : e.worker ≤ 16 = leb-true e.worker 16 is.worker in
-    rw (split_again 32 (decimal e.worker) (decimal e.pid ++ 32 ∷ (decimal e.tid ++ 32 ∷ choice)) (number_lacks_blank e.worker), split_again 32 (decimal e.pid) (decimal e.tid ++ 32 ∷ choice) (number_lacks_blank e.pid), split_again 32 (decimal e.tid) choice (number_lacks_blank e.tid), number_again e.worker (omega arith), number_again e.pid is.pid, number_again e.tid is.tid, choice_again e.alt is.choice, is.worker)
+    rw (split_again 32 (decimal e.worker) (decimal e.pid ++ 32 ∷ (decimal e.tid ++ 32 ∷ choice)) (number_lacks_blank e.worker), number_again e.worker (omega arith), split_again 32 (decimal e.pid) (decimal e.tid ++ 32 ∷ choice) (number_lacks_blank e.pid), number_again e.pid is.pid, split_again 32 (decimal e.tid) choice (number_lacks_blank e.tid), number_again e.tid is.tid, choice_again e.alt is.choice, is.worker)
     refl
 
 entry_again : (e : Entry) → is_entry e ≡ true → entry_of (join_with_byte 32 (entry_line e)) ≡ Some e
@@ -312,15 +319,40 @@ report_again script config events v entries is =
     ∙ title_passed 1 (encoded ++ (verdict_line v ∷ schedule))
     ∙ events_passed script events (verdict_line v ∷ schedule) (Ok (config, entries)) (λ n. verdict_passed n v schedule ∙ schedule_again config entries is (n + 1)) 2
 
-by_run : (script : Script) (config : Config) (entries : List Entry) (text : List ℕ) (o : Option Run) → option_map (report_of script config entries) o ≡ Some text → IsSchedule config entries
-    → sched_of text ≡ Ok (config, entries)
-by_run script config entries text None e is = absurd cc
-by_run script config entries text (Some r) e is =
+-- ---- runs
+
+choice_fits : (choice : Alt) → IsChoiceWithin 4294967295 choice → is_choice choice ≡ true
+choice_fits alt.Go within = refl
+choice_fits (alt.Act n) within = le-leb n 4294967295 within
+choice_fits (alt.New n) within = le-leb n 4294967295 within
+choice_fits (alt.Pick n) within = le-leb n 4294967295 within
+choice_fits (alt.Dtor n) within = le-leb n 4294967295 within
+
+entry_fits : (e : Entry) → IsEntryWithin 4294967295 e → is_entry e ≡ true
+entry_fits e within =
+    let worker : Bool = nat_le e.worker MAX_WORKER in
+    and_from (worker && fits e.pid && fits e.tid) (is_choice e.alt)
+    (and_from (worker && fits e.pid) (fits e.tid) (and_from worker (fits e.pid) (le-leb e.worker MAX_WORKER within.worker) (le-leb e.pid 4294967295 within.pid)) (le-leb e.tid 4294967295 within.tid))
+    (choice_fits e.alt within.choice)
+
+entries_fit : (entries : List Entry) → All (IsEntryWithin 4294967295) entries → list_all is_entry entries ≡ true
+entries_fit [] all = refl
+entries_fit (e ∷ entries) all =
+    and_from (is_entry e) (list_all is_entry entries) (entry_fits e (All-head (IsEntryWithin 4294967295) e entries all)) (entries_fit entries (All-tail (IsEntryWithin 4294967295) e entries all))
+
+-- the entries of a run are a schedule
+pub run_is_schedule : (script : Script) (config : Config) (entries : List Entry) (after : Run) → run script config entries ≡ Some after → IsSchedule config entries
+run_is_schedule script config entries after is =
+    let parts = run_parts script config entries after is in
+    record { config_fits = parts.limits; few = parts.within; each = entries_fit entries (run_numbers_fit script config entries after is) }
+
+by_run : (script : Script) (config : Config) (entries : List Entry) (text : List ℕ) (o : Option Run) → run script config entries ≡ o → option_map (report_of script config entries) o ≡ Some text → sched_of text ≡ Ok (config, entries)
+by_run script config entries text None ran e = absurd cc
+by_run script config entries text (Some r) ran e =
     ap sched_of (sym (same_Some (report_of script config entries r) text e))
-    ∙ report_again script config (reverse r.events) (verdict_of script config r.world (length entries)) entries is
+    ∙ report_again script config (reverse r.events) (verdict_of script config r.world (length entries)) entries (run_is_schedule script config entries r ran)
 
 -- the schedule of a run is read back from the run's report
-pub report_is_read_back : (script : Script) (config : Config) (entries : List Entry) (text : List ℕ) → report script config entries ≡ Some text → IsSchedule config entries
-    → sched_of text ≡ Ok (config, entries)
+pub report_is_read_back : (script : Script) (config : Config) (entries : List Entry) (text : List ℕ) → report script config entries ≡ Some text → sched_of text ≡ Ok (config, entries)
 unfolding report
-report_is_read_back script config entries text e is = by_run script config entries text (run script config entries) e is
+report_is_read_back script config entries text e = by_run script config entries text (run script config entries) refl e

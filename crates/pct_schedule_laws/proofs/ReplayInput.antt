@@ -10,6 +10,7 @@ use Rattle.pct_model.specs.Keywords.{keyword_text, text_of}
 use Rattle.pct_model.specs.Spells.{contents_of}
 use Rattle.pct_model.specs.Canon.{script_lines, canon}
 use Rattle.pct_model.specs.Report.{schedule_lines}
+use Rattle.pct_model.specs.Run.{Run, run}
 use Rattle.pct_model.specs.Lines.{lines_of}
 use Rattle.pct_model.specs.Schedule.{marker_in, split_at_marker, replay_parts, sched_of}
 use Rattle.pct_model.specs.Outcome.{is_asked, script_part, schedule_part}
@@ -18,7 +19,7 @@ use Rattle.pct_schedule_laws.specs.ReplayInput.{replay_input, IsSplit, IsReplayI
 use Rattle.pct_schedule.proofs.ByEntries.{by_lines}
 use Rattle.pct_schedule_laws.proofs.FirstMarker.{marker_after}
 use Rattle.pct_schedule_laws.proofs.ScriptLines.{script_is_lines}
-use Rattle.pct_schedule_laws.proofs.ReadBack.{schedule_again}
+use Rattle.pct_schedule_laws.proofs.ReadBack.{schedule_again, run_is_schedule}
 use Rattle.pct_schedule_laws.proofs.Sizes.{schedule_size}
 use Rattle.pct_schedule_laws.proofs.CanonSize.{canon_size}
 use Rattle.pct_schedule.proofs.WithinLimits.{sched_within}
@@ -66,6 +67,10 @@ replay_input_exists script config entries is =
       schedule_is = ap sched_of (text_again script text) ∙ schedule_read config entries is;
       fits = omega (arith, input_size script text, canon_size script, schedule_size config entries is);
     }
+
+-- for that of each run
+pub run_has_input : (script : Script) (config : Config) (entries : List Entry) (after : Run) → run script config entries ≡ Some after → IsReplayInput script config entries
+run_has_input script config entries after is = replay_input_exists script config entries (run_is_schedule script config entries after is)
 
 -- and for each schedule that is read from a text
 pub read_schedule_has_input : (script : Script) (text : List ℕ) (config : Config) (entries : List Entry) → sched_of text ≡ Ok (config, entries) → IsReplayInput script config entries

@@ -16,8 +16,8 @@ ReportsAreReadBack =
     (script : Script) (config : Config) (events : List Event) (verdict : Verdict) (entries : List Entry)
     → IsSchedule config entries → sched_of (text_of (report_lines script config events verdict entries)) ≡ Ok (config, entries)
 
--- the schedule of a run is read back from the report of that run
+-- the schedule of every run is read back from the report of that run
 abbrev pub RunReportsAreReadBack : Type 0
 RunReportsAreReadBack =
     (script : Script) (config : Config) (entries : List Entry) (text : List ℕ)
-    → report script config entries ≡ Some text → IsSchedule config entries → sched_of text ≡ Ok (config, entries)
+    → report script config entries ≡ Some text → sched_of text ≡ Ok (config, entries)

@@ -1,5 +1,5 @@
 -- The law that a script and a schedule form an input of `replay`, and that the input is split into them again.
-use Rattle.std.specs.Prelude.{◌≡◌, ℕ, ◌≤◌, List, [], ◌∷◌, ◌++◌, length, Ok, codes}
+use Rattle.std.specs.Prelude.{◌≡◌, ℕ, ◌≤◌, List, [], ◌∷◌, ◌++◌, length, Some, Ok, codes}
 use Rattle.pct_model.specs.declared.script.Script.{Script}
 use Rattle.pct_model.specs.declared.schedule.Config.{Config}
 use Rattle.pct_model.specs.declared.schedule.Entry.{Entry}
@@ -8,6 +8,7 @@ use Rattle.pct_model.specs.declared.keyword.Keyword.TheVariants as keyword
 use Rattle.pct_model.specs.Keywords.{keyword_text, text_of}
 use Rattle.pct_model.specs.Canon.{canon}
 use Rattle.pct_model.specs.Report.{schedule_lines}
+use Rattle.pct_model.specs.Run.{Run, run}
 use Rattle.pct_model.specs.Schedule.{sched_of}
 use Rattle.pct_model.specs.Outcome.{script_part, schedule_part}
 use Rattle.pct_schedule.specs.Schedules.{IsSchedule}
@@ -39,6 +40,10 @@ pub record IsReplayInput (script : Script) (config : Config) (entries : List Ent
 abbrev pub ReplayInputsExist : Type 0
 ReplayInputsExist = (script : Script) (config : Config) (entries : List Entry) → IsSchedule config entries → IsReplayInput script config entries
 
--- so do each script and the schedule of a text, such as the report of a run
+-- so do each script and the schedule of a run of it
+abbrev pub RunsHaveInputs : Type 0
+RunsHaveInputs = (script : Script) (config : Config) (entries : List Entry) (after : Run) → run script config entries ≡ Some after → IsReplayInput script config entries
+
+-- and each script and the schedule of a text, such as the report of a run
 abbrev pub ReadSchedulesHaveInputs : Type 0
 ReadSchedulesHaveInputs = (script : Script) (text : List ℕ) (config : Config) (entries : List Entry) → sched_of text ≡ Ok (config, entries) → IsReplayInput script config entries

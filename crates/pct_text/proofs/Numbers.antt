@@ -1,15 +1,14 @@
 -- The decimal text of a number, and the number that is read from it.
-use Rattle.std.proofs.Common.{◌≡◌, ℕ, ◌+◌, ◌-◌, ◌*◌, ◌/◌, ◌%◌, ◌≤◌, ◌<◌, Bool, true, false, not, ◌&&◌, cond, List, [], ◌∷◌, ◌++◌, Option, Some, None, length, refl, sym, ap, ◌∙◌, arith, nat_eq, nat_le, le-leb, leb-true, lt-ltb, bytes_eq, decimal, true≢false, zero, suc}
-use Rattle.std.specs.Prelude.{IfSome}
+use Rattle.std.proofs.Common.{◌≡◌, ℕ, ◌+◌, ◌-◌, ◌*◌, ◌/◌, ◌%◌, ◌≤◌, ◌<◌, Bool, true, false, not, ◌&&◌, cond, List, [], ◌∷◌, ◌++◌, Option, Some, None, length, refl, sym, ap, ◌∙◌, arith, nat_eq, nat_le, le-leb, leb-true, ne_eqb, lt-ltb, bytes_eq, decimal, true≢false, zero, suc, append-nil, append_assoc}
 use Rattle.std.specs.Fmt.{digit_glyph, digits_onto, digits}
 use Rattle.std.specs.List.{list_all}
 use Rattle.std.specs.Str.Parse.{digits_value}
-use Rattle.std.proofs.lemmas.Bool.{and_parts, and_from, cond_both, false_from_ne_true, not-true}
-use Rattle.std.proofs.lemmas.Fmt.{decimal_by_steps, decimal_is_IsNumeral}
+use Rattle.std.proofs.lemmas.Bool.{and_parts, and_from, not-true}
+use Rattle.std.proofs.lemmas.Fmt.{decimal_by_steps, decimal_digit, decimal_step, decimal_is_IsNumeral}
 use Rattle.std.proofs.lemmas.Option.{cond_some}
 use Rattle.pct_model.specs.Names.{is_digit, is_name_byte, is_name}
 use Rattle.pct_model.specs.Lines.{◌>>=◌, split_once, number_of}
-use Rattle.pct_text.specs.Digits.{with_digit, value_from, number_in}
+use Rattle.pct_text.specs.Digits.{with_digit, with_next, number_from, number_in}
 use Rattle.pct_text.proofs.SplitOnce.{lacks_other}
 use Rattle.pct_model.proofs.Bytes.{same_bytes, bytes_eq-refl}
 
@@ -22,61 +21,122 @@ digit_again n d lt fits =
     let worth : 48 + d - 48 ≡ d = omega arith in
     rw (worth, is_digit-glyph d lt, le-leb (n * 10 + d) 4294967295 fits) refl
 
+positive : (n : ℕ) → nat_eq n 0 ≡ false → 0 < n
+positive zero e = absurd (true≢false e)
+positive (suc n) e = omega arith
+
+none_is_some : (n : ℕ) → None ≡ Some n → ⊥
+none_is_some n e = cc
+
 bind_again : (o : Option ℕ) → (o >>= λ n. Some n) ≡ o
 bind_again None = refl
 bind_again (Some n) = refl
 
-push_step : (o : Option ℕ) (xs : List ℕ) (d : ℕ) → ((m : ℕ) → value_from m (xs ++ d ∷ []) ≡ (value_from m xs >>= λ k. with_digit k d))
-    → (o >>= λ m. value_from m (xs ++ d ∷ [])) ≡ ((o >>= λ m. value_from m xs) >>= λ k. with_digit k d)
+push_step : (o : Option ℕ) (xs : List ℕ) (d : ℕ) → ((m : ℕ) → number_from m (xs ++ d ∷ []) ≡ (number_from m xs >>= λ k. with_next k d))
+    → (o >>= λ m. number_from m (xs ++ d ∷ [])) ≡ ((o >>= λ m. number_from m xs) >>= λ k. with_next k d)
 push_step None xs d more = refl
 push_step (Some m) xs d more = more m
 
-value_from-push : (n : ℕ) (xs : List ℕ) (d : ℕ) → value_from n (xs ++ d ∷ []) ≡ (value_from n xs >>= λ k. with_digit k d)
-unfolding value_from
-value_from-push n [] d = bind_again (with_digit n d)
-value_from-push n (x ∷ xs) d = push_step (with_digit n x) xs d (λ m. value_from-push m xs d)
+number_from-push : (n : ℕ) (xs : List ℕ) (d : ℕ) → number_from n (xs ++ d ∷ []) ≡ (number_from n xs >>= λ k. with_next k d)
+unfolding number_from
+number_from-push n [] d = bind_again (with_next n d)
+number_from-push n (x ∷ xs) d = push_step (with_next n x) xs d (λ m. number_from-push m xs d)
+
+number_in-push : (x : ℕ) (xs : List ℕ) (d : ℕ) → number_in ((x ∷ xs) ++ d ∷ []) ≡ (number_in (x ∷ xs) >>= λ k. with_next k d)
+unfolding number_in
+number_in-push x xs d = push_step (with_digit 0 x) xs d (λ m. number_from-push m xs d)
 
 -- digits are read as the number n
 abbrev IsWorth : ℕ → List ℕ → Type 0
-IsWorth n ds = n ≤ 4294967295 → value_from 0 ds ≡ Some n
+IsWorth n ds = n ≤ 4294967295 → number_in ds ≡ Some n
 
 worth_one : (n : ℕ) → n < 10 → IsWorth n ((48 + n) ∷ [])
-unfolding value_from
+unfolding number_in number_from
 worth_one n lt fits =
     let e : 0 * 10 + n ≡ n = omega arith in
     bind_again (with_digit 0 (48 + n)) ∙ digit_again 0 n lt (omega arith) ∙ ap (λ (k : ℕ). Some k) e
 
+next_again : (n d : ℕ) → 0 < n → d < 10 → n * 10 + d ≤ 4294967295 → with_next n (48 + d) ≡ Some (n * 10 + d)
+unfolding with_next
+next_again n d some lt fits = ap (λ t. cond t None (with_digit n (48 + d))) (ne_eqb n 0 (omega (arith, some))) ∙ digit_again n d lt fits
+
 worth_more : (n : ℕ) (ds : List ℕ) → 10 ≤ n → IsWorth (n / 10) ds → IsWorth n (ds ++ (48 + n % 10) ∷ [])
-worth_more n ds le more fits =
+unfolding number_in
+worth_more n [] le more fits = absurd (none_is_some (n / 10) (more (omega arith)))
+worth_more n (x ∷ xs) le more fits =
     let e : n / 10 * 10 + n % 10 ≡ n = omega arith in
-    value_from-push 0 ds (48 + n % 10) ∙ ap (λ (o : Option ℕ). o >>= λ k. with_digit k (48 + n % 10)) (more (omega arith))
-    ∙ digit_again (n / 10) (n % 10) (omega arith) (omega arith) ∙ ap (λ (k : ℕ). Some k) e
+    number_in-push x xs (48 + n % 10) ∙ ap (λ (o : Option ℕ). o >>= λ k. with_next k (48 + n % 10)) (more (omega arith))
+    ∙ next_again (n / 10) (n % 10) (omega arith) (omega arith) (omega arith) ∙ ap (λ (k : ℕ). Some k) e
 
 -- a number of 32 bits is read from its decimal text
 in_again : (n : ℕ) → n ≤ 4294967295 → number_in (decimal n) ≡ Some n
-unfolding number_in
-in_again n fits =
-    let value : value_from 0 (decimal n) ≡ Some n = decimal_by_steps IsWorth worth_one worth_more n (omega arith) fits in
-    ap (λ (o : Option ℕ). o >>= λ k. cond (bytes_eq (decimal k) (decimal n)) (Some k) None) value ∙ ap (λ (b : Bool). cond b (Some n) None) (bytes_eq-refl (decimal n))
+in_again n fits = decimal_by_steps IsWorth worth_one worth_more n (omega arith) fits
 
--- the number has 32 bits
-abbrev Fits : Option ℕ → Type 0
-Fits o = IfSome o (λ n. n ≤ 4294967295)
+-- ---- the decimal text of the number that is read
 
-fits_digit : (n digit : ℕ) → Fits (with_digit n digit)
+-- m is the number n with one more digit
+abbrev HasDigit : ℕ → ℕ → ℕ → Type 0
+HasDigit n d m = (48 ≤ d) × (d ≤ 57) × (m ≡ n * 10 + (d - 48)) × (m ≤ 4294967295)
+
+digit_taken : (n d m : ℕ) → with_digit n d ≡ Some m → HasDigit n d m
 unfolding with_digit
-fits_digit n digit =
-    let m = n * 10 + (digit - 48) in
-    cond_both (is_digit digit && nat_le m 4294967295) (Some m) None Fits (λ e. leb-true m 4294967295 (and_parts (is_digit digit) (nat_le m 4294967295) e).1) (λ _. tt)
+digit_taken n d m h =
+    let v = n * 10 + (d - 48) in
+    let found = cond_some (is_digit d && nat_le v 4294967295) v m h in
+    let tests = and_parts (is_digit d) (nat_le v 4294967295) found.0 in
+    let digit = and_parts (nat_le 48 d) (nat_le d 57) tests.0 in
+    let few = leb-true v 4294967295 tests.1 in
+    (leb-true 48 d digit.0, leb-true d 57 digit.1, sym found.1, omega (arith, found.1, few))
 
-fits_bind : (o : Option ℕ) (f : ℕ → Option ℕ) → Fits o → ((n : ℕ) → n ≤ 4294967295 → Fits (f n)) → Fits (o >>= f)
-fits_bind None f fits each = tt
-fits_bind (Some n) f fits each = each n fits
+-- the text of m is the text of n, followed by further bytes
+abbrev Extends : ℕ → List ℕ → ℕ → Type 0
+Extends n ds m = (decimal m ≡ decimal n ++ ds) × (m ≤ 4294967295)
 
-fits_value : (n : ℕ) (ds : List ℕ) → n ≤ 4294967295 → Fits (value_from n ds)
-unfolding value_from
-fits_value n [] fits = fits
-fits_value n (d ∷ ds) fits = fits_bind (with_digit n d) (λ m. value_from m ds) (fits_digit n d) (λ m fit. fits_value m ds fit)
+next_taken : (n d m : ℕ) → with_next n d ≡ Some m → Extends n (d ∷ []) m
+unfolding with_next
+next_taken n d m h = by_zero n (nat_eq n 0) refl h
+  where
+    text : (n m : ℕ) → 0 < n → HasDigit n d m → decimal m ≡ decimal n ++ d ∷ []
+    text n m some has =
+        let tens : m / 10 ≡ n = omega (arith, has.0, has.1, has.2) in
+        let ones : 48 + m % 10 ≡ d = omega (arith, has.0, has.1, has.2) in
+        decimal_step m (omega (arith, has.0, has.2, some)) (omega (arith, has.3))
+        ∙ ap (λ (k : ℕ). decimal k ++ (48 + m % 10) ∷ []) tens ∙ ap (λ (b : ℕ). decimal n ++ b ∷ []) ones
+
+    by_zero : (n : ℕ) (zero_is : Bool) → nat_eq n 0 ≡ zero_is → cond zero_is None (with_digit n d) ≡ Some m → Extends n (d ∷ []) m
+    by_zero n true e h = absurd cc
+    by_zero n false e h =
+        let has = digit_taken n d m h in
+        (text n m (positive n e) has, has.3)
+
+by_next : (n d m : ℕ) (ds : List ℕ) (o : Option ℕ) → with_next n d ≡ o → (o >>= λ k. number_from k ds) ≡ Some m
+    → ((k : ℕ) → k ≤ 4294967295 → number_from k ds ≡ Some m → Extends k ds m) → Extends n (d ∷ ds) m
+by_next n d m ds None e h later = absurd cc
+by_next n d m ds (Some k) e h later =
+    let next = next_taken n d k e in
+    let rest = later k next.1 h in
+    (rest.0 ∙ ap (λ text. text ++ ds) next.0 ∙ append_assoc (decimal n) (d ∷ []) ds, rest.1)
+
+number_taken : (n m : ℕ) (ds : List ℕ) → n ≤ 4294967295 → number_from n ds ≡ Some m → Extends n ds m
+unfolding number_from
+number_taken n m [] fits h =
+    let same : n ≡ m = cc in
+    (ap decimal (sym same) ∙ sym (append-nil (decimal n)), omega (arith, same, fits))
+number_taken n m (d ∷ ds) fits h = by_next n d m ds (with_next n d) refl h (λ k few e. number_taken k m ds few e)
+
+-- a word that is read as a number is its decimal text
+in_taken : (word : List ℕ) (n : ℕ) → number_in word ≡ Some n → (decimal n ≡ word) × (n ≤ 4294967295)
+unfolding number_in
+in_taken [] n h = absurd cc
+in_taken (d ∷ ds) n h = by_first (with_digit 0 d) refl h
+  where
+    by_first : (o : Option ℕ) → with_digit 0 d ≡ o → (o >>= λ k. number_from k ds) ≡ Some n → (decimal n ≡ d ∷ ds) × (n ≤ 4294967295)
+    by_first None e h = absurd cc
+    by_first (Some k) e h =
+        let has = digit_taken 0 d k e in
+        let byte : 48 + k ≡ d = omega (arith, has.0, has.2) in
+        let rest = number_taken k n ds has.3 h in
+        (rest.0 ∙ ap (λ text. text ++ ds) (decimal_digit k (omega (arith, has.1, has.2)) ∙ ap (λ (b : ℕ). b ∷ []) byte), rest.1)
 
 -- the digits of a decimal text have the number's value
 value_again : (n : ℕ) → n ≤ 4294967295 → digits_value 10 (decimal n) ≡ n
@@ -95,34 +155,6 @@ unfolding number_of
 number_again n fits =
     ap (λ (k : ℕ). cond (is_text k (decimal n)) (Some k) None) (value_again n fits) ∙ ap (λ (b : Bool). cond b (Some n) None) (again_is_text n fits)
 
--- a decimal text has the value of its number
-text_of_value : (word : List ℕ) (n : ℕ) → n ≤ 4294967295 → bytes_eq (decimal n) word ≡ true → is_text (digits_value 10 word) word ≡ true
-text_of_value word n fits is =
-    let value : digits_value 10 word ≡ n = ap (digits_value 10) (sym (same_bytes (decimal n) word is)) ∙ value_again n fits in
-    ap (λ (k : ℕ). is_text k word) value ∙ and_from (bytes_eq (decimal n) word) (nat_le n 4294967295) is (le-leb n 4294967295 fits)
-
-none_read : (word : List ℕ) (o : Option ℕ) → Fits o → is_text (digits_value 10 word) word ≡ false → (o >>= λ n. cond (bytes_eq (decimal n) word) (Some n) None) ≡ None
-none_read word None fits e = refl
-none_read word (Some n) fits e =
-    let other = false_from_ne_true (bytes_eq (decimal n) word) (λ (is : bytes_eq (decimal n) word ≡ true). true≢false (sym (text_of_value word n fits is) ∙ e)) in
-    ap (λ (b : Bool). cond b (Some n) None) other
-
-not_read : (word : List ℕ) → is_text (digits_value 10 word) word ≡ false → number_in word ≡ None
-unfolding number_in
-not_read word e = none_read word (value_from 0 word) (fits_value 0 word (omega arith)) e
-
-by_value : (word : List ℕ) (is : Bool) → is_text (digits_value 10 word) word ≡ is → number_in word ≡ cond is (Some (digits_value 10 word)) None
-by_value word true e =
-    let n = digits_value 10 word in
-    let parts = and_parts (bytes_eq (decimal n) word) (nat_le n 4294967295) e in
-    ap number_in (sym (same_bytes (decimal n) word parts.0)) ∙ in_again n (leb-true n 4294967295 parts.1)
-by_value word false e = not_read word e
-
--- the loop over digits gives a word's number
-pub number_as_read : (word : List ℕ) → number_in word ≡ number_of word
-unfolding number_of
-number_as_read word = by_value word (is_text (digits_value 10 word) word) refl
-
 -- a word that has a number is its decimal text
 pub number_takes : (word : List ℕ) (n : ℕ) → number_of word ≡ Some n → word ≡ decimal n
 unfolding number_of
@@ -130,6 +162,25 @@ number_takes word n h =
     let value = digits_value 10 word in
     let found = cond_some (is_text value word) value n h in
     sym (same_bytes (decimal value) word (and_parts (bytes_eq (decimal value) word) (nat_le value 4294967295) found.0).0) ∙ ap decimal found.1
+
+-- such a number has 32 bits
+number_fits : (word : List ℕ) (n : ℕ) → number_of word ≡ Some n → n ≤ 4294967295
+unfolding number_of
+number_fits word n h =
+    let value = digits_value 10 word in
+    let found = cond_some (is_text value word) value n h in
+    omega (arith, found.1, leb-true value 4294967295 (and_parts (bytes_eq (decimal value) word) (nat_le value 4294967295) found.0).1)
+
+-- the loop over digits gives a word's number
+pub number_as_read : (word : List ℕ) → number_in word ≡ number_of word
+number_as_read word = by_number (number_in word) (number_of word) refl refl
+  where
+    by_number : (o p : Option ℕ) → number_in word ≡ o → number_of word ≡ p → o ≡ p
+    by_number None None e f = refl
+    by_number None (Some n) e f = sym e ∙ ap number_in (number_takes word n f) ∙ in_again n (number_fits word n f)
+    by_number (Some n) p e f =
+        let taken = in_taken word n e in
+        sym (number_again n taken.1) ∙ ap number_of taken.0 ∙ f
 
 glyph_is_digit : (d : ℕ) → d < 10 → is_digit (digit_glyph false d) ≡ true
 glyph_is_digit d lt = rw (lt-ltb d 10 lt) (is_digit-glyph d lt)

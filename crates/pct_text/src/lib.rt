@@ -7,5 +7,5 @@ mod number;
 mod tokens;
 
 pub use line::{first_line, split_once, strip_cr};
-pub use number::{is_digit, number_of, numeral};
+pub use number::{is_digit, number_of, numeral, split_number};
 pub use tokens::{are_allowed, count_words, next_word, spells_something};

@@ -178,11 +178,11 @@ impl Row {
     }
 
     /// The newest frame of the thread. It is `None` exactly if there is none.
-    pub(crate) fn top_frame(&self) -> Option<Frame>
+    pub(crate) fn top_frame(&self) -> Option<&Frame>
         requires { is_occupied self.now ≡ true }
-        ensures { result ≡ slice_get (frames_of self.now) 0 }
+        ensures { option_map (λ frame. frame.now) result ≡ slice_get (frames_of self.now) 0 }
     {
-        self.frames.as_slice().last().copied()
+        self.frames.as_slice().last()
     }
 
     /// The thread has a new frame.

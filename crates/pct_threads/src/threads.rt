@@ -34,7 +34,7 @@ impl Model for Threads {
 }
 
 impl Threads {
-    ghost use Rattle.std.specs.Prelude.{◌≡◌, ◌<◌, ◌≤◌, ◌^◌, ◌-◌, true, length, map, position, replicate, slice_get, Some, IfOk, IfSome};
+    ghost use Rattle.std.specs.Prelude.{◌≡◌, ◌<◌, ◌≤◌, ◌^◌, ◌-◌, true, length, map, position, replicate, slice_get, Some, IfOk, IfSome, option_map};
     ghost use Rattle.std.specs.Borrow.{sem};
     ghost use Rattle.pct_model.specs.declared.limits.TheConstants.{MAX_SLOTS};
     ghost use Rattle.pct_set.specs.Slots.{slots_where};
@@ -72,6 +72,14 @@ impl Threads {
         ensures { result ≡ is_occupied_at self.now slot }
     {
         self.row(slot).is_occupied()
+    }
+
+    /// Whether the slot is occupied by the thread with this id.
+    pub fn has_id(&self, slot: u32, id: u32) -> bool
+        requires { slot < length self.now }
+        ensures { result ≡ has_id id (slot_at self.now slot) }
+    {
+        self.row(slot).has_id(id)
     }
 
     /// The first occupied slot whose thread has this id. It is `None` exactly if there is none.
@@ -206,6 +214,14 @@ impl Threads {
     pub fn top_frame(&self, slot: u32) -> Option<Frame>
         requires { is_occupied_at self.now slot ≡ true }
         ensures { result ≡ slice_get (frames_at self.now slot) 0 }
+    {
+        self.row(slot).top_frame().copied()
+    }
+
+    /// The same, without a copy of the frame.
+    pub fn top_frame_ref(&self, slot: u32) -> Option<&Frame>
+        requires { is_occupied_at self.now slot ≡ true }
+        ensures { option_map (λ frame. frame.now) result ≡ slice_get (frames_at self.now slot) 0 }
     {
         self.row(slot).top_frame()
     }

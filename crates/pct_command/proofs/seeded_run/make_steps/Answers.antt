@@ -1,16 +1,12 @@
 use Rattle.std.proofs.Common.{◌≡◌, ◌+◌, ◌≤◌, ◌++◌, ◌∷◌, [], refl, sym, ap, ◌∙◌, subst, arith, length, length-append}
-use Rattle.std.specs.List.{list_all}
-use Rattle.pct_schedule.specs.Schedules.{is_entry}
 use Rattle.pct_engine.specs.EngineStates.{EngineValue}
 use Rattle.pct_command.specs.SeedSchedule.{IsRunBy}
 use Rattle.pct_command.proofs.SeededRuns.{IsChosenSoFar, chosen-none, chosen-legal, chosen-next, chosen-within, chosen-all}
-use Rattle.pct_command.proofs.SeededEntries.{chosen-worker, entries-more}
 use Rattle.pct_command.proofs.seeded_run.make_steps.Goals as goal
 
 pub loop-entry-init : goal.loop-entry-init
 loop-entry-init c = record {
   same = refl;
-  each = ap (list_all is_entry) c.requires.opened;
   so_far = chosen-none c.args.words.now c.args.engine.now.script c.args.engine.now.config c.args.engine.now.history c.requires.config c.requires.opened;
 }
 
@@ -28,12 +24,6 @@ more c =
     let so_far = c.loop-entry.invariant.so_far in
     chosen-next c.args.words.now c.loop-entry.words c.next_entry.new.words c.loop-entry.engine c.step.new.self c.in-Some.entry so_far (c.in-Some.ensures.chosen so_far.after so_far.is_run) c.in-Some.ensures.drawn (made c)
 
--- the worker of the entry
-worker : (c : goal.After-unwrap) → c.in-Some.entry.worker ≡ 1
-worker c =
-    let so_far = c.loop-entry.invariant.so_far in
-    chosen-worker c.loop-entry.engine so_far.after _ _ c.in-Some.entry (c.in-Some.ensures.chosen so_far.after so_far.is_run)
-
 pub loop-entry-preserved : goal.loop-entry-preserved
 loop-entry-preserved c =
     let opened = c.args.engine.now in
@@ -42,9 +32,6 @@ loop-entry-preserved c =
           made c
           ∙ ap (λ (engine : EngineValue). record engine { history = c.loop-entry.engine.history ++ c.in-Some.entry ∷ [] }) c.loop-entry.invariant.same
           ∙ ap (λ (engine : EngineValue). record opened { history = engine.history }) (sym (made c));
-      each =
-          ap (λ (engine : EngineValue). list_all is_entry engine.history) (made c)
-          ∙ entries-more c.loop-entry.engine.history c.in-Some.entry c.loop-entry.invariant.each (c.in-Some.ensures.numbers (omega (arith, worker c)));
       so_far = more c;
     }
 
@@ -62,12 +49,3 @@ returns-clause-run c =
     let so_far = c.loop-entry.invariant.so_far in
     subst (λ (engine : EngineValue). IsRunBy c.args.words.now engine.script engine.config engine.history) c.loop-entry.invariant.same
     (chosen-all c.args.words.now c.loop-entry.words c.loop-entry.engine _ _ so_far (c.in_default.ensures.chosen so_far.after so_far.is_run))
-
-pub returns-clause-within : goal.returns-clause-within
-returns-clause-within c =
-    let so_far = c.loop-entry.invariant.so_far in
-    record {
-      config_fits = c.requires.config;
-      few = subst (λ (engine : EngineValue). length engine.history ≤ engine.config.budget) c.loop-entry.invariant.same (chosen-within _ _ _ _ _ so_far);
-      each = c.loop-entry.invariant.each;
-    }

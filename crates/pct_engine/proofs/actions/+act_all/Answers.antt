@@ -1,16 +1,41 @@
-use Rattle.std.proofs.Common.{◌≡◌, List, ◌∷◌, length, ap, subst, arith}
+use Rattle.std.proofs.Common.{◌≡◌, ◌<◌, ◌+◌, List, ◌∷◌, drop, length, ap, sym, ◌∙◌, subst, arith}
+use Rattle.std.proofs.lemmas.Option.{slice_get_within}
+use Rattle.pct_model.specs.declared.transition.Action.{Action}
+use Rattle.pct_model.specs.Actions.{for_each}
 use Rattle.pct_threads.specs.Slots.{Slot}
 use Rattle.pct_threads.specs.Tables.{on_held}
 use Rattle.pct_engine.specs.declared.machine.Machine.{Machine}
-use Rattle.pct_engine.specs.MachineChanges.{held_after}
+use Rattle.pct_engine.specs.MachineChanges.{held_after, machine_after}
 use Rattle.pct_engine.proofs.HeldChanges.{then_occupied}
+use Rattle.pct_engine.proofs.RestItems.{drop_item, drop_none}
 use Rattle.pct_engine.proofs.RoomAfter.{FitOn, fit_rest}
 use Rattle.pct_engine.proofs.actions.+act_all.Goals as goal
+
+pub act-requires-clause-fits : goal.act-requires-clause-fits
+act-requires-clause-fits t c = λ held here.
+    let rest : drop c.args.from c.args.actions.now ≡ c.in-Some.action ∷ drop (c.args.from + 1) c.args.actions.now = drop_item c.args.actions.now c.args.from c.in-Some.action (sym c.in-Some.ensures.value) in
+    (subst (FitOn c.args.machine.now.threads c.args.slot) rest c.requires.fits held here).0
+
+pub overflow_add-from : goal.overflow_add-from
+overflow_add-from t c =
+    let within : c.args.from < length c.args.actions.now = slice_get_within c.args.actions.now c.args.from c.in-Some.action (sym c.in-Some.ensures.value) in
+    omega (arith, within, c.in-Some.ensures.few)
 
 pub act_all-requires : goal.act_all-requires
 act_all-requires t c =
     let first = c.in-Some.action in
     let slots : List Slot = c.args.machine.now.threads in
+    let rest : drop c.args.from c.args.actions.now ≡ first ∷ drop (c.args.from + 1) c.args.actions.now = drop_item c.args.actions.now c.args.from first (sym c.in-Some.ensures.value) in
     let moved : c.act.new.machine.threads ≡ on_held c.args.slot (held_after first) slots = ap (λ (m : Machine). m.threads) c.act.ensures in
-    let fits : FitOn slots c.args.slot (first ∷ c.in-Some.rest) = subst (FitOn slots c.args.slot) c.in-Some.ensures.some c.requires.fits in
-    (omega (arith, c.decreases, ap length c.in-Some.ensures.some), (then_occupied c.args.slot (held_after first) slots c.act.new.machine.threads moved c.requires.occupied, fit_rest c.args.slot first c.in-Some.rest slots c.act.new.machine.threads moved fits))
+    let fits : FitOn slots c.args.slot (first ∷ drop (c.args.from + 1) c.args.actions.now) = subst (FitOn slots c.args.slot) rest c.requires.fits in
+    (omega (arith, c.decreases, ap length rest), (then_occupied c.args.slot (held_after first) slots c.act.new.machine.threads moved c.requires.occupied, fit_rest c.args.slot first (drop (c.args.from + 1) c.args.actions.now) slots c.act.new.machine.threads moved fits))
+
+pub returns-in-Some : goal.returns-in-Some
+returns-in-Some t c =
+    let rest : drop c.args.from c.args.actions.now ≡ c.in-Some.action ∷ drop (c.args.from + 1) c.args.actions.now = drop_item c.args.actions.now c.args.from c.in-Some.action (sym c.in-Some.ensures.value) in
+    c.act_all.ensures
+    ∙ ap (for_each (machine_after c.args.slot) (drop (c.args.from + 1) c.args.actions.now)) c.act.ensures
+    ∙ ap (λ (actions : List Action). for_each (machine_after c.args.slot) actions c.args.machine.now) (sym rest)
+
+pub returns-in_default : goal.returns-in_default
+returns-in_default t c = ap (λ (actions : List Action). for_each (machine_after c.args.slot) actions c.args.machine.now) (sym (drop_none c.args.actions.now c.args.from (sym c.in_default.ensures.value)))

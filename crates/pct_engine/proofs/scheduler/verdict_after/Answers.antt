@@ -12,12 +12,12 @@ returns-in-Some c = sym (seen_verdict-by c.args.program.now.script c.args.progra
 pub returns-then-machine : goal.returns-then-machine
 returns-then-machine c = sym (seen_verdict-by c.args.program.now.script c.args.program.now.config c.args.machine.now c.args.count None true c.requires.slots c.in_default.is c.if-machine.true)
 
-pub returns-then-ready_count-eq0 : goal.returns-then-ready_count-eq0
-returns-then-ready_count-eq0 c =
+pub returns-then-len-eq0 : goal.returns-then-len-eq0
+returns-then-len-eq0 c =
     let program = c.args.program.now in
     let ready = length (ready_held program.script c.args.machine.now) in
     sym (seen_verdict-by program.script program.config c.args.machine.now c.args.count None false c.requires.slots c.in_default.is c.if-machine.false
-    ∙ ap (λ b. cond b verdict.Deadlock (cond (nat_eq c.args.count program.config.budget) verdict.Budget verdict.Open)) (eq-eqb ready 0 (sym c.ready_count.ensures ∙ c.if-ready_count-eq0.true)))
+    ∙ ap (λ b. cond b verdict.Deadlock (cond (nat_eq c.args.count program.config.budget) verdict.Budget verdict.Open)) (eq-eqb ready 0 (sym c.ready_slots.ensures.count ∙ sym c.len.ensures.value ∙ c.if-len-eq0.true)))
 
 pub returns-then-count-program : goal.returns-then-count-program
 returns-then-count-program c =
@@ -25,7 +25,7 @@ returns-then-count-program c =
     let ready = length (ready_held program.script c.args.machine.now) in
     let budget : c.program.inside.config.budget ≡ program.config.budget = ap (λ (p : ProgramValue). p.config.budget) c.program.view_is in
     sym (seen_verdict-by program.script program.config c.args.machine.now c.args.count None false c.requires.slots c.in_default.is c.if-machine.false
-    ∙ ap (λ b. cond b verdict.Deadlock (cond (nat_eq c.args.count program.config.budget) verdict.Budget verdict.Open)) (ne_eqb ready 0 (λ none. c.if-ready_count-eq0.false (c.ready_count.ensures ∙ none)))
+    ∙ ap (λ b. cond b verdict.Deadlock (cond (nat_eq c.args.count program.config.budget) verdict.Budget verdict.Open)) (ne_eqb ready 0 (λ none. c.if-len-eq0.false (c.len.ensures.value ∙ c.ready_slots.ensures.count ∙ none)))
     ∙ ap (λ b. cond b verdict.Budget verdict.Open) (eq-eqb c.args.count program.config.budget (c.if-count-program.true ∙ budget)))
 
 pub returns-else-count-program : goal.returns-else-count-program
@@ -34,5 +34,5 @@ returns-else-count-program c =
     let ready = length (ready_held program.script c.args.machine.now) in
     let budget : c.program.inside.config.budget ≡ program.config.budget = ap (λ (p : ProgramValue). p.config.budget) c.program.view_is in
     sym (seen_verdict-by program.script program.config c.args.machine.now c.args.count None false c.requires.slots c.in_default.is c.if-machine.false
-    ∙ ap (λ b. cond b verdict.Deadlock (cond (nat_eq c.args.count program.config.budget) verdict.Budget verdict.Open)) (ne_eqb ready 0 (λ none. c.if-ready_count-eq0.false (c.ready_count.ensures ∙ none)))
+    ∙ ap (λ b. cond b verdict.Deadlock (cond (nat_eq c.args.count program.config.budget) verdict.Budget verdict.Open)) (ne_eqb ready 0 (λ none. c.if-len-eq0.false (c.len.ensures.value ∙ c.ready_slots.ensures.count ∙ none)))
     ∙ ap (λ b. cond b verdict.Budget verdict.Open) (ne_eqb c.args.count program.config.budget (λ full. c.if-count-program.false (full ∙ sym budget))))

@@ -7,7 +7,7 @@ use Rattle.pct_engine.proofs.script_statements.after_block.Goals as goal
 pub close_of-requires : goal.close_of-requires
 close_of-requires c =
     let made = c.program.invariant.made ∙ ap (λ (v : ProgramValue). jumps_of v.script.funcs) c.program.view_is in
-    is_opening c.args.program.now.script c.program.inside.jumps c.args.frame.now c.args.statement made c.requires.at c.requires.opens
+    is_opening c.args.program.now.script c.program.inside.jumps c.args.frame.now c.args.statement.now made c.requires.at c.requires.opens
 
 pub overflow_add-result : goal.overflow_add-result
 overflow_add-result c =

@@ -1,15 +1,28 @@
 use Rattle.std.proofs.Common.{None, refl}
+use Rattle.pct_engine.proofs.JoinersAfter.{joiners_made}
 use Rattle.pct_engine.proofs.StepViews.{step_by_view, step_made}
+use Rattle.pct_engine.proofs.UsedSlots.{slots_moved}
+use Rattle.std.proofs.Common.{ap}
+use Rattle.std.specs.Prelude.{is_some}
 use Rattle.pct_engine.proofs.steps.step.Goals as goal
 
-pub returns-in_default : goal.returns-in_default
-returns-in_default c = λ w view.
+pub returns-in_default-clause-step : goal.returns-in_default-clause-step
+returns-in_default-clause-step c = λ w view.
     let program = c.args.program.now in
-    let machine = c.args.machine.now in
     (step_by_view program.script program.config w c.args.entry _ None c.requires.some view c.in_default.ensures.value, refl)
 
-pub returns : goal.returns
-returns c = λ w view.
+pub returns-clause-step : goal.returns-clause-step
+returns-clause-step c = λ w view.
     let program = c.args.program.now in
     let machine = c.args.machine.now in
-    step_made program.script program.config w machine c.change.new.machine c.args.entry c.in-Some.slot c.in-Some.transition c.requires.some view c.in-Some.ensures.found c.in-Some.ensures.value c.change.ensures
+    step_made program.script program.config w machine c.change.new.machine c.args.entry c.in-Some.slot c.transition_of.new.transition c.requires.some view c.in-Some.ensures.found c.in-Some.ensures.value c.change.ensures
+
+pub returns-clause-slots : goal.returns-clause-slots
+returns-clause-slots c = λ made.
+    slots_moved c.in-Some.slot c.transition_of.new.transition c.args.machine.now c.change.new.machine (ap is_some c.in-Some.ensures.found.here) c.change.ensures
+
+pub returns-clause-joiners : goal.returns-clause-joiners
+returns-clause-joiners c =
+    let program = c.args.program.now in
+    let machine = c.args.machine.now in
+    joiners_made program.script program.config machine c.change.new.machine c.args.entry c.in-Some.slot c.transition_of.new.transition c.requires.placed c.requires.joiners c.in-Some.ensures.found c.in-Some.ensures.value c.change.ensures

@@ -1,5 +1,5 @@
-use Rattle.std.proofs.Common.{length}
+use Rattle.std.proofs.Common.{drop, length}
 use Rattle.pct_engine.proofs.trace.+record_events.Given as goal
 
 abbrev pub decreases-record_events : goal.decreases-record_events
-decreases-record_events l = length l.new_events.now
+decreases-record_events l = length (drop l.from l.new_events.now)

@@ -1,4 +1,4 @@
-use Rattle.std.proofs.Common.{Result, drop}
+use Rattle.std.proofs.Common.{Result, length}
 use Rattle.std.specs.List.{flat_map}
 use Rattle.pct_io.specs.declared.failed.Failed.{Failed}
 use Rattle.pct_io.specs.Writes.{Writes}
@@ -7,7 +7,10 @@ use Rattle.pct_model.specs.Report.{event_line}
 use Rattle.pct_report.proofs.report.write_events.Given as goal
 
 -- what completes the rest completes all
-abbrev pub invariant-loop-event : goal.invariant-loop-event
-invariant-loop-event g l = (new : g.row.K.Denot) (r : Result (Unit {0}) Failed)
-    → Writes g.K.Sink.written g.K.Sink.errors g.K.Sink.inners l.sink new (flat_map (λ e. line_text (event_line l.script e)) (drop l.event-index l.events)) r
+abbrev pub invariant-loop-rest : goal.invariant-loop-rest
+invariant-loop-rest g l = (new : g.row.K.Denot) (r : Result (Unit {0}) Failed)
+    → Writes g.K.Sink.written g.K.Sink.errors g.K.Sink.inners l.sink new (flat_map (λ e. line_text (event_line l.script e)) l.rest) r
     → Writes g.K.Sink.written g.K.Sink.errors g.K.Sink.inners l.initial.sink new (flat_map (λ e. line_text (event_line l.script e)) l.events) r
+
+abbrev pub decreases-loop-rest : goal.decreases-loop-rest
+decreases-loop-rest g l = length l.rest

@@ -3,6 +3,7 @@ use Rattle.std.specs.Prelude.{IsOk}
 use Rattle.pct_model.specs.Run.{Run}
 use Rattle.pct_engine_laws.proofs.OpenRuns.{goes_on_while_open}
 use Rattle.pct_engine.specs.EngineStates.{EngineValue, IsRunOf, IsAllowed}
+use Rattle.pct_engine.proofs.EngineLaws.{keeps_laws}
 use Rattle.pct_engine.proofs.engine.Engine.step.Goals as goal
 
 pub returns-clause-cause : goal.returns-clause-cause
@@ -13,3 +14,6 @@ returns-clause-cause c =
     let legal = c.step_with.ensures.legal in
     let goes_on = goes_on_while_open e.program.script e.program.config e.history.items after c.args.entry is in
     (λ ok. goes_on.0 (legal.0 ok), λ allowed. legal.1 (goes_on.1 allowed)))
+
+pub returns-clause-laws : goal.returns-clause-laws
+returns-clause-laws c = keeps_laws _

@@ -9,7 +9,7 @@ use Rattle.pct_engine.proofs.engine.Engine.verdict.Goals as goal
 pub verdict_after-requires : goal.verdict_after-requires
 verdict_after-requires c =
     let e = c.self.inside in
-    record { slots = slots_after e.program.script e.program.config e.history.items e.events.items e.machine c.self.invariant.0 }
+    record { used = c.self.invariant.2; slots = slots_after e.program.script e.program.config e.history.items e.events.items e.machine c.self.invariant.0 }
 
 pub returns-clause-value : goal.returns-clause-value
 returns-clause-value c =
@@ -19,4 +19,4 @@ returns-clause-value c =
     let counted : c.len.result ≡ length e.history.items = omega (arith, c.len.ensures, e.history.ok.0) in
     c.verdict_after.ensures
     ∙ ap (λ (n : ℕ). seen_verdict e.program.script e.program.config (machine_view e.program.script e.machine) n) counted
-    ∙ verdict_after e.program.script e.program.config e.history.items e.events.items (machine_view e.program.script e.machine) after (length e.history.items) c.self.invariant.0 is)
+    ∙ verdict_after e.program.script e.program.config e.history.items e.events.items e.machine after (length e.history.items) c.self.invariant.0 is)

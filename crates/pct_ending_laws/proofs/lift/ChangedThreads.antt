@@ -1,0 +1,94 @@
+-- What no transition changes: the numbers of processes and threads, and which threads a process did not inherit.
+use Rattle.std.proofs.Common.{◌≡◌, ℕ, Bool, true, false, cond, List, [], ◌∷◌, map, nat_eq, Option, Some, None, refl, ap, ◌∙◌}
+use Rattle.pct_model.specs.declared.transition.Action.{Action}
+use Rattle.pct_model.specs.declared.transition.Action.TheVariants as action
+use Rattle.pct_model.specs.declared.transition.Transition.{Transition}
+use Rattle.pct_model.specs.World.{Thread, Process}
+use Rattle.pct_model.specs.ThreadSlots.{is_live_thread}
+use Rattle.pct_model.specs.Actions.{thread_at, thread_after, named_after, shared_after, process_after, has_ended, other_process_after, for_each, moved, thread_moved, threads_moved, changed, is_live_process}
+
+-- ---- any change
+
+-- one of two values that each have the view of a third
+pub either_keeps : {T V : Type 0} (view : T → V) (b : Bool) (x y t : T) → view x ≡ view t → view y ≡ view t → view (cond b x y) ≡ view t
+either_keeps view true x y t first second = first
+either_keeps view false x y t first second = second
+
+-- a view that no action changes is not changed by a list of actions
+pub all_keep : {T V : Type 0} (view : T → V) (change : Action → T → T) → ((a : Action) (t : T) → view (change a t) ≡ view t) → (actions : List Action) (t : T) → view (for_each change actions t) ≡ view t
+all_keep view change keeps [] t = refl
+all_keep view change keeps (a ∷ actions) t = all_keep view change keeps actions (change a t) ∙ keeps a t
+
+-- ---- threads
+
+-- the id of a thread, and whether its process did not inherit it
+abbrev pub identity : Thread → ℕ × Bool
+identity t = (t.id, t.gone)
+
+going_on_keeps : (next : Option ℕ) (t : Thread) → identity (thread_at next t) ≡ identity t
+unfolding thread_at
+going_on_keeps None t = refl
+going_on_keeps (Some pc) t = refl
+
+action_keeps : (a : Action) (t : Thread) → identity (thread_after a t) ≡ identity t
+unfolding thread_after
+action_keeps (action.SetLocal i v) t = refl
+action_keeps _ t = refl
+
+named_keeps : (a : Action) (t : Thread) → identity (named_after a t) ≡ identity t
+unfolding named_after
+named_keeps (action.EndJoin id) t = either_keeps identity (is_live_thread id t) (record t { joined = true }) t t refl refl
+named_keeps (action.Detach id) t = either_keeps identity (is_live_thread id t) (record t { detached = true }) t t refl refl
+named_keeps _ t = refl
+
+moved_keeps : (o : Transition) (t : Thread) → identity (moved o t) ≡ identity t
+moved_keeps o t = all_keep identity thread_after action_keeps o.actions (thread_at o.next t) ∙ going_on_keeps o.next t
+
+-- a thread after a transition of the one with an id
+pub thread_moved_keeps : (tid : ℕ) (o : Transition) (t : Thread) → identity (thread_moved tid o t) ≡ identity t
+thread_moved_keeps tid o t =
+    all_keep identity named_after named_keeps o.actions (cond (is_live_thread tid t) (moved o t) t)
+    ∙ either_keeps identity (is_live_thread tid t) (moved o t) t t (moved_keeps o t) refl
+
+-- ---- processes
+
+-- the pids of these processes
+abbrev pub pids_of : List Process → List ℕ
+pids_of processes = map (λ p. p.pid) processes
+
+-- the pid of a process, and its threads
+abbrev contents : Process → ℕ × List Thread
+contents p = (p.pid, p.threads)
+
+own_action_keeps : (a : Action) (p : Process) → contents (process_after a p) ≡ contents p
+unfolding process_after
+own_action_keeps (action.EndProcess n) p = refl
+own_action_keeps _ p = refl
+
+other_action_keeps : (pid : ℕ) (a : Action) (p : Process) → contents (other_process_after pid a p) ≡ contents p
+unfolding other_process_after
+other_action_keeps pid (action.EndProcess n) p =
+    either_keeps contents (nat_eq p.parent pid) (cond (has_ended p) (record p { reaped = true }) (record p { parent = 0 })) p p
+    (either_keeps contents (has_ended p) (record p { reaped = true }) (record p { parent = 0 }) p refl refl) refl
+other_action_keeps pid _ p = refl
+
+-- a process after a transition of a thread of the one with an id
+abbrev pub process_moved : ℕ → ℕ → Transition → Process → Process
+process_moved pid tid o p = cond (is_live_process pid p) (changed tid o p) (for_each (other_process_after pid) o.actions p)
+
+changed_keeps : (tid : ℕ) (o : Transition) (p : Process) → contents (changed tid o p) ≡ (p.pid, threads_moved tid o p.threads)
+changed_keeps tid o p = all_keep contents process_after own_action_keeps o.actions (record p { threads = threads_moved tid o p.threads; shared = for_each shared_after o.actions p.shared })
+
+-- the threads of the thread's own process
+pub changed_threads : (tid : ℕ) (o : Transition) (p : Process) → (changed tid o p).threads ≡ threads_moved tid o p.threads
+changed_threads tid o p = ap (λ (c : ℕ × List Thread). c.1) (changed_keeps tid o p)
+
+-- the threads of another process
+pub other_threads : (pid : ℕ) (o : Transition) (p : Process) → (for_each (other_process_after pid) o.actions p).threads ≡ p.threads
+other_threads pid o p = ap (λ (c : ℕ × List Thread). c.1) (all_keep contents (other_process_after pid) (other_action_keeps pid) o.actions p)
+
+pub process_moved_pid : (pid tid : ℕ) (o : Transition) (p : Process) → (process_moved pid tid o p).pid ≡ p.pid
+process_moved_pid pid tid o p =
+    either_keeps (λ (q : Process). q.pid) (is_live_process pid p) (changed tid o p) (for_each (other_process_after pid) o.actions p) p
+    (ap (λ (c : ℕ × List Thread). c.0) (changed_keeps tid o p))
+    (ap (λ (c : ℕ × List Thread). c.0) (all_keep contents (other_process_after pid) (other_action_keeps pid) o.actions p))

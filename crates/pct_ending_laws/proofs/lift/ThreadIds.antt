@@ -1,0 +1,122 @@
+-- The ids of the threads of a process: on each slot they are numbered in order, and so no two threads have one id.
+use Rattle.std.proofs.Common.{◌≡◌, ℕ, zero, suc, ◌+◌, ◌-◌, ◌*◌, ◌%◌, ◌<◌, ◌≤◌, Bool, true, false, cond, List, [], ◌∷◌, ◌++◌, length, map, filter, count_by, nat_eq, slice_get, Option, Some, None, ◌⊎◌, inl, inr, refl, sym, ap, ◌∙◌, subst, eqb-true, eq-eqb, append-nil, mul_comm, arith}
+use Rattle.std.specs.List.{list_any, range_with_len}
+use native.Mathlib.Nat.{mul-lt-mul_of_pos_left}
+use Rattle.std.proofs.lemmas.Bool.{false≢true, or_cases, false_from_ne_true}
+use Rattle.std.proofs.lemmas.Nat.{mod-mul-add}
+use Rattle.std.proofs.lemmas.List.{map-append, length-map}
+use Rattle.std.proofs.lemmas.List.Elements.{filter-append}
+use Rattle.std.proofs.lemmas.List.Sums.{length-filter}
+use Rattle.std.proofs.lemmas.Option.{slice_get-map, slice_get_within}
+use Rattle.pct_model.specs.declared.transition.NewThread.{NewThread}
+use Rattle.pct_model.specs.declared.state.FrameKind.TheVariants.{Start}
+use Rattle.pct_model.specs.World.{Thread, new_frame, new_thread}
+use Rattle.pct_model.specs.ThreadSlots.{slot_of, is_on, is_free, next_id, free_ids}
+use Rattle.pct_model.specs.Actions.{thread_created}
+use Rattle.pct_model.specs.ThreadNumbers.{HasThreadNumbers}
+use Rattle.pct_ending_laws.proofs.lift.KeyedLists.{AreDistinct, distinct_push, index_among, keys_changed, filter_changed, item_pushed, mapped_some}
+
+-- the ids of these threads
+abbrev pub ids_of : List Thread → List ℕ
+ids_of threads = map (λ t. t.id) threads
+
+-- the threads are numbered, and no two have one id
+pub record HaveIds (slots : ℕ) (threads : List Thread) : Type 0 where
+  pub numbers : HasThreadNumbers slots threads
+  pub distinct : AreDistinct (ids_of threads)
+
+-- ---- the id of a new thread
+
+-- the id is the next one of a slot
+abbrev IsNextId : ℕ → List Thread → ℕ → Type 0
+IsNextId slots threads id = (s : ℕ) × (s < slots) × (id ≡ next_id slots threads s)
+
+next_id_by : (slots : ℕ) (threads : List Thread) (id s : ℕ) (ids : List ℕ) (free : Bool) → s < slots → (list_any (nat_eq id) (map (next_id slots threads) ids) ≡ true → IsNextId slots threads id)
+    → list_any (nat_eq id) (map (next_id slots threads) (cond free (s ∷ ids) ids)) ≡ true → IsNextId slots threads id
+next_id_by slots threads id s ids true low later among = elim (or_cases (nat_eq id (next_id slots threads s)) (list_any (nat_eq id) (map (next_id slots threads) ids)) among) [
+  | inl here ↦ (s, low, eqb-true id (next_id slots threads s) here)
+  | inr there ↦ later there
+]
+next_id_by slots threads id s ids false low later among = later among
+
+next_id_from : (slots : ℕ) (threads : List Thread) (id s n : ℕ) → s + n ≤ slots → list_any (nat_eq id) (map (next_id slots threads) (filter (is_free slots threads) (range_with_len s n))) ≡ true → IsNextId slots threads id
+next_id_from slots threads id s zero within among = absurd (false≢true among)
+next_id_from slots threads id s (suc n) within among =
+    next_id_by slots threads id s (filter (is_free slots threads) (range_with_len (s + 1) n)) (is_free slots threads s) (omega (arith, within))
+    (next_id_from slots threads id (s + 1) n (omega (arith, within))) among
+
+-- an id that is free is the next one of a slot
+pub is_next_id : (slots : ℕ) (threads : List Thread) (id : ℕ) → list_any (nat_eq id) (free_ids slots threads) ≡ true → IsNextId slots threads id
+unfolding free_ids
+is_next_id slots threads id among = next_id_from slots threads id 0 slots (omega arith) among
+
+-- the next id of a slot is on that slot
+slot_of_next : (slots s n : ℕ) → s < slots → slot_of slots (1 + s + slots * n) ≡ s
+slot_of_next slots s n low =
+    let product : slots * n ≡ n * slots = mul_comm slots n in
+    let before : 1 + s + slots * n - 1 ≡ n * slots + s = omega (arith, product) in
+    ap (λ (id : ℕ). id % slots) before ∙ mod-mul-add n slots s low
+
+-- ---- a new thread
+
+module _ (slots : ℕ) (threads : List Thread) (have : HaveIds slots threads) (new : Thread) (next : IsNextId slots threads new.id) where
+  -- no thread has the id of the new one: the threads on its slot have lesser ids
+  pub is_fresh : 0 < slots → list_any (λ id. nat_eq id new.id) (ids_of threads) ≡ false
+  is_fresh some = false_from_ne_true (list_any (λ id. nat_eq id new.id) (ids_of threads)) (λ among.
+      let s : ℕ = next.0 in
+      let on : (t : Thread) → nat_eq t.id new.id ≡ true → is_on slots s t ≡ true = λ t named.
+      eq-eqb (slot_of slots t.id) s (ap (slot_of slots) (eqb-true t.id new.id named ∙ next.2) ∙ slot_of_next slots s (count_by (is_on slots s) threads) next.1) in
+      let at = index_among (λ (t : Thread). t.id) (is_on slots s) new.id on threads among in
+      let k : ℕ = at.0 in
+      let number : at.1.id ≡ 1 + s + slots * k = have.numbers s k at.1 next.1 at.2 in
+      let before : k < count_by (is_on slots s) threads = subst (λ (n : ℕ). k < n) (length-filter (is_on slots s) threads) (slice_get_within (filter (is_on slots s) threads) k at.1 at.2) in
+      let less : slots * k < slots * count_by (is_on slots s) threads = mul-lt-mul_of_pos_left before some in
+      omega (arith, number, less, at.3, next.2))
+
+  numbered_by : (s k : ℕ) (t : Thread) → s < slots → (slice_get (filter (is_on slots s) threads) k ≡ Some t) ⊎ ((is_on slots s new ≡ true) × (k ≡ length (filter (is_on slots s) threads)) × (new ≡ t)) → t.id ≡ 1 + s + slots * k
+  numbered_by s k t low (inl at) = have.numbers s k t low at
+  numbered_by s k t low (inr last) =
+      let on : slot_of slots new.id ≡ s = eqb-true (slot_of slots new.id) s last.0 in
+      let same : next.0 ≡ s = sym (slot_of_next slots next.0 (count_by (is_on slots next.0) threads) next.1) ∙ ap (slot_of slots) (sym next.2) ∙ on in
+      let number : new.id ≡ next_id slots threads s = next.2 ∙ ap (next_id slots threads) same in
+      let index : k ≡ count_by (is_on slots s) threads = last.1 ∙ length-filter (is_on slots s) threads in
+      ap (λ (u : Thread). u.id) (sym last.2) ∙ number ∙ ap (λ n. 1 + s + slots * n) (sym index)
+
+  -- the threads with the new one
+  pub ids_pushed : 0 < slots → HaveIds slots (threads ++ new ∷ [])
+  ids_pushed some = record {
+    numbers = λ s k t low at. numbered_by s k t low (item_pushed (filter (is_on slots s) threads) new (is_on slots s new) k t (ap (λ (on : List Thread). slice_get on k) (sym (filter-append (is_on slots s) threads (new ∷ []))) ∙ at));
+    distinct = subst AreDistinct (sym (map-append (λ (t : Thread). t.id) threads (new ∷ []))) (distinct_push (ids_of threads) new.id (is_fresh some) have.distinct);
+  }
+
+-- ---- changed threads
+
+module _ (slots : ℕ) (change : Thread → Thread) (same_id : (t : Thread) → (change t).id ≡ t.id) (threads : List Thread) where
+  -- the threads on a slot
+  changed_on : (s : ℕ) → filter (is_on slots s) (map change threads) ≡ map change (filter (is_on slots s) threads)
+  changed_on s = filter_changed (is_on slots s) change (λ t. ap (λ (id : ℕ). nat_eq (slot_of slots id) s) (same_id t)) threads
+
+  numbers_changed : HasThreadNumbers slots threads → HasThreadNumbers slots (map change threads)
+  numbers_changed have s k t low at =
+      let on : List Thread = filter (is_on slots s) threads in
+      let from = mapped_some change (slice_get on k) t (sym (slice_get-map change on k) ∙ ap (λ (found : List Thread). slice_get found k) (sym (changed_on s)) ∙ at) in
+      ap (λ (u : Thread). u.id) (sym from.2) ∙ same_id from.0 ∙ have s k from.0 low from.1
+
+  ids_changed : HaveIds slots threads → HaveIds slots (map change threads)
+  ids_changed have = record {
+    numbers = numbers_changed have.numbers;
+    distinct = subst AreDistinct (sym (keys_changed (λ (t : Thread). t.id) change same_id threads)) have.distinct;
+  }
+
+  -- as many threads are on a slot as before
+  count_changed : (s : ℕ) → count_by (is_on slots s) (map change threads) ≡ count_by (is_on slots s) threads
+  count_changed s =
+      sym (length-filter (is_on slots s) (map change threads)) ∙ ap length (changed_on s) ∙ length-map (filter (is_on slots s) threads) change ∙ length-filter (is_on slots s) threads
+
+  -- the ids after a transition that changes the threads so, and may create one
+  pub ids_after : (created : Option NewThread) → 0 < slots → ((new : NewThread) → created ≡ Some new → list_any (nat_eq new.id) (free_ids slots threads) ≡ true) → HaveIds slots threads → HaveIds slots (map change threads ++ thread_created created)
+  ids_after None some next have = subst (HaveIds slots) (sym (append-nil (map change threads))) (ids_changed have)
+  ids_after (Some new) some next have =
+      let id = is_next_id slots threads new.id (next new refl) in
+      ids_pushed slots (map change threads) (ids_changed have) (new_thread new.id new.detached (new_frame new.func new.arg Start))
+      (id.0, id.1, id.2 ∙ ap (λ n. 1 + id.0 + slots * n) (sym (count_changed id.0))) some

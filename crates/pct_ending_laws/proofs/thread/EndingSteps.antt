@@ -1,0 +1,206 @@
+-- Which transitions let a thread end, and what a thread does that has ended.
+use Rattle.std.proofs.Common.{◌≡◌, ℕ, suc, ◌+◌, ◌%◌, Bool, true, false, cond, List, [], ◌∷◌, ◌++◌, nat_eq, Option, Some, None, ◌⊎◌, inl, inr, refl, sym, ap, ◌∙◌}
+use Rattle.std.specs.Prelude.{is_some}
+use Rattle.std.specs.List.{list_all}
+use Rattle.std.proofs.lemmas.Bool.{false≢true, and_parts}
+use Rattle.pct_model.specs.declared.event.What.TheVariants.{Popped}
+use Rattle.pct_model.specs.declared.frame.Frame.{Frame}
+use Rattle.pct_model.specs.declared.other_threads.Target.{Target}
+use Rattle.pct_model.specs.declared.schedule.Alt.{Alt}
+use Rattle.pct_model.specs.declared.schedule.Alt.TheVariants as alt
+use Rattle.pct_model.specs.declared.script.Script.{Script}
+use Rattle.pct_model.specs.declared.state.FrameKind.{FrameKind}
+use Rattle.pct_model.specs.declared.state.FrameKind.TheVariants as kind
+use Rattle.pct_model.specs.declared.state.Reason.{Reason}
+use Rattle.pct_model.specs.declared.state.Status.{Status}
+use Rattle.pct_model.specs.declared.state.Status.TheVariants as status
+use Rattle.pct_model.specs.declared.statement.Dest.{Dest}
+use Rattle.pct_model.specs.declared.statement.Dest.TheVariants as destination
+use Rattle.pct_model.specs.declared.statement.Stmt.{Stmt}
+use Rattle.pct_model.specs.declared.statement.Stmt.TheVariants as statement
+use Rattle.pct_model.specs.declared.stop.Why.{Why}
+use Rattle.pct_model.specs.declared.transition.Action.{Action}
+use Rattle.pct_model.specs.declared.transition.Action.TheVariants as action
+use Rattle.pct_model.specs.declared.transition.Transition.{Transition}
+use Rattle.pct_model.specs.Actions.{thread_at, thread_after, for_each, moved}
+use Rattle.pct_model.specs.ChoiceTable.{choices_at, offers}
+use Rattle.pct_model.specs.CleanupHandlers.{pushes, pops}
+use Rattle.pct_model.specs.Jumps.{open_of}
+use Rattle.pct_model.specs.NextStatement.{NextStatement, NoStatement, StatementIn}
+use Rattle.pct_model.specs.OtherThreads.{Others}
+use Rattle.pct_model.specs.ProcessExit.{exits, returns_by, ends_process}
+use Rattle.pct_model.specs.ScriptStatements.{jumps, emits, sets, adds, variable_value, calls}
+use Rattle.pct_model.specs.StopTable.{stop_at}
+use Rattle.pct_model.specs.ThreadCalls.{creates, fails_to_create, creates_by, begins_join, ends_join, joins_with, joins_at, detaches, gets_self}
+use Rattle.pct_model.specs.ThreadEnds.{ends_by_exit, end_value, ends_thread, goes_on_ending}
+use Rattle.pct_model.specs.ThreadSlots.{is_ended_status}
+use Rattle.pct_model.specs.ThreadSummary.{ThreadSummary}
+use Rattle.pct_model.specs.Transitions.{goes_on, written}
+use Rattle.pct_model.specs.TransitionTable.{ends_block, stops_or, runs, transition_at}
+use Rattle.pct_model.specs.World.{Thread, SharedState, value_of}
+use Rattle.pct_ending_laws.proofs.thread.ThreadRule.{ByStatus}
+
+-- ---- actions
+
+-- the action does not end the thread
+abbrev pub keeps_end : Action → Bool
+keeps_end (action.EndThread v) = false
+keeps_end action.MarkEnded = false
+keeps_end _ = true
+
+-- no action of the transition ends the thread
+abbrev pub NeverEnds : Transition → Type 0
+NeverEnds o = list_all keeps_end o.actions ≡ true
+
+action_end : (a : Action) → keeps_end a ≡ true → (t : Thread) → (thread_after a t).ended ≡ t.ended
+unfolding thread_after
+action_end (action.EndThread v) keeps t = absurd (false≢true keeps)
+action_end action.MarkEnded keeps t = absurd (false≢true keeps)
+action_end _ keeps t = refl
+
+actions_end : (actions : List Action) → list_all keeps_end actions ≡ true → (t : Thread) → (for_each thread_after actions t).ended ≡ t.ended
+actions_end [] all t = refl
+actions_end (a ∷ actions) all t =
+    let parts = and_parts (keeps_end a) (list_all keeps_end actions) all in
+    actions_end actions parts.1 (thread_after a t) ∙ action_end a parts.0 t
+
+going_on_end : (next : Option ℕ) (t : Thread) → (thread_at next t).ended ≡ t.ended
+unfolding thread_at
+going_on_end None t = refl
+going_on_end (Some pc) t = refl
+
+-- such a transition leaves it open whether the thread has ended
+pub moved_end : (o : Transition) → NeverEnds o → (t : Thread) → (moved o t).ended ≡ t.ended
+moved_end o never t = actions_end o.actions never (thread_at o.next t) ∙ going_on_end o.next t
+
+-- ---- the table of statements
+
+one_written : (d : Dest) (v : ℕ) → list_all keeps_end (written d v) ≡ true
+one_written (destination.Local i) v = refl
+one_written (destination.Global i) v = refl
+one_written destination.Drop v = refl
+
+two_written : (d e : Dest) (v w : ℕ) → list_all keeps_end (written d v ++ written e w) ≡ true
+two_written (destination.Local i) e v w = one_written e w
+two_written (destination.Global i) e v w = one_written e w
+two_written destination.Drop e v w = one_written e w
+
+either_never : (b : Bool) (x y : Transition) → NeverEnds x → NeverEnds y → NeverEnds (cond b x y)
+either_never true x y first second = first
+either_never false x y first second = second
+
+pops_never : (next v : ℕ) (handlers : List (ℕ × ℕ)) → NeverEnds (pops next v handlers)
+unfolding pops
+pops_never next v [] = refl
+pops_never next v ((f, a) ∷ handlers) =
+    either_never (nat_eq v 0) (goes_on next (action.PopHandler ∷ []) (Popped f a false ∷ [])) (goes_on next (action.PopHandler ∷ action.Call f a kind.PopHandler ∷ []) (Popped f a true ∷ [])) refl refl
+
+returns_never : (k : FrameKind) (v : ℕ) → NeverEnds (returns_by k v)
+unfolding returns_by exits ends_by_exit
+returns_never kind.Main v = refl
+returns_never _ v = refl
+
+block_never : (opened : Option ℕ) (body : List Stmt) (frame : Frame) → NeverEnds (ends_block opened body frame)
+unfolding jumps
+block_never (Some opened) body frame = refl
+block_never None body frame = returns_never frame.kind 0
+
+create_never : (choice : Alt) (next : ℕ) (result id : Dest) (f v : ℕ) (detached : Bool) → NeverEnds (creates_by choice next result id f v detached)
+unfolding creates fails_to_create
+create_never (alt.New n) next result id f v detached = two_written result id 0 n
+create_never alt.Go next result id f v detached = one_written result 1
+create_never _ next result id f v detached = refl
+
+joined_never : (value : Option ℕ) (id : ℕ) (next : NextStatement) → NeverEnds (joins_with value id next)
+unfolding ends_join
+joined_never (Some v) id (StatementIn frame (statement.Join operand d)) = one_written d v
+joined_never _ id next = refl
+
+joins_never : (target : Option Target) (id : ℕ) (next : NextStatement) → NeverEnds (joins_at target id next)
+joins_never (Some target) id next = joined_never target.value id next
+joins_never None id next = refl
+
+stops_never : (stop : Option Why) (other : Transition) → NeverEnds other → NeverEnds (stops_or stop other)
+stops_never (Some why) other never = refl
+stops_never None other never = never
+
+exit_never : (functions : List ℕ) (value : Option ℕ) → NeverEnds (ends_process functions value)
+unfolding ends_process
+exit_never [] (Some v) = refl
+exit_never _ _ = refl
+
+exit_creates_none : (functions : List ℕ) (value : Option ℕ) → (ends_process functions value).created ≡ None
+unfolding ends_process
+exit_creates_none [] (Some v) = refl
+exit_creates_none _ _ = refl
+
+-- ---- a thread that ends
+
+-- the end of a thread that is not the last one of its process gives it the status of its end
+pub is_last_if : (last : Bool) (v : ℕ) (t : Thread) → is_ended_status (moved (ends_thread last v) t).status ≡ false → last ≡ true
+unfolding ends_thread thread_at thread_after
+is_last_if true v t alive = refl
+is_last_if false v t alive = absurd (false≢true (sym alive))
+
+pub end_creates_none : (last : Bool) (v : ℕ) → (ends_thread last v).created ≡ None
+unfolding ends_thread
+end_creates_none true v = refl
+end_creates_none false v = refl
+
+module _ (body : List Stmt) (shared : SharedState) (t : Thread) (others : Others) (choice : Alt) where
+  -- the transition is the end of the thread
+  abbrev pub IsEnd : Transition → Type 0
+  IsEnd o = o ≡ ends_thread others.is_last (end_value t.reason)
+
+  ending_ends : (handlers : List (ℕ × ℕ)) → NeverEnds (goes_on_ending others.is_last t.reason handlers) ⊎ IsEnd (goes_on_ending others.is_last t.reason handlers)
+  unfolding goes_on_ending
+  ending_ends [] = inr refl
+  ending_ends ((f, a) ∷ handlers) = inl refl
+
+  statement_never : (frame : Frame) (s : Stmt) → NeverEnds (runs body shared t others choice frame s)
+  unfolding runs emits sets adds jumps calls begins_join detaches gets_self ends_by_exit pushes
+  statement_never frame (statement.Set d v) = one_written d (value_of shared.globals frame v)
+  statement_never frame (statement.Add d v) = one_written d ((variable_value shared.globals frame d + value_of shared.globals frame v) % 4294967296)
+  statement_never frame statement.End = block_never (open_of body frame.pc) body frame
+  statement_never frame (statement.Return v) = returns_never frame.kind (value_of shared.globals frame v)
+  statement_never frame (statement.Create result id f v detached) = create_never choice (suc frame.pc) result id f (value_of shared.globals frame v) detached
+  statement_never frame (statement.SelfId d) = one_written d t.id
+  statement_never frame (statement.Pop v) = pops_never (suc frame.pc) (value_of shared.globals frame v) t.handlers
+  statement_never frame s = refl
+
+  -- a transition does not end its thread, or is the end of a thread
+  pub ends_only : (next : NextStatement) (s : Status) → NeverEnds (transition_at body shared t others choice next s) ⊎ IsEnd (transition_at body shared t others choice next s)
+  unfolding transition_at
+  ends_only (StatementIn frame s) status.Running = inl (stops_never (stop_at body shared t others frame s) (runs body shared t others choice frame s) (statement_never frame s))
+  ends_only next (status.Joining id) = inl (joins_never others.target id next)
+  ends_only next status.Ending = ending_ends t.handlers
+  ends_only next status.Exiting = inl (exit_never shared.exit_functions shared.exit_value)
+  ends_only next _ = inl refl
+
+  -- ---- a thread that has ended
+
+  -- a thread that has ended and has a choice does not have the status of its end, and its transition ends nothing and creates nothing
+  pub record GoesOn (s : Status) (o : Transition) : Type 0 where
+    pub alive : is_ended_status s ≡ false
+    pub never : NeverEnds o
+    pub none : o.created ≡ None
+
+  module _ (script : Script) (why : Reason) (frames : List Frame) (handlers : List (ℕ × ℕ)) (reported : ThreadSummary) (ended : is_some reported.ended ≡ true) where
+    not_ended : reported.ended ≡ None → ⊥
+    not_ended none = false≢true (sym (ap is_some none) ∙ ended)
+
+    pub after_end : (next : NextStatement) (s : Status) → ByStatus script s why frames handlers reported → offers (choices_at others next s) choice ≡ true → GoesOn s (transition_at body shared t others choice next s)
+    unfolding transition_at choices_at
+    after_end next status.Running fits offered = absurd (not_ended fits.not_ended)
+    after_end next (status.Joining id) fits offered = absurd (not_ended fits.0.not_ended)
+    after_end next status.Ending fits offered = absurd (not_ended fits.not_ended)
+    after_end NoStatement (status.Ended v) fits offered = absurd (false≢true offered)
+    after_end (StatementIn frame s) (status.Ended v) fits offered = absurd (false≢true offered)
+    after_end NoStatement status.Exiting fits offered = record { alive = refl; never = exit_never shared.exit_functions shared.exit_value; none = exit_creates_none shared.exit_functions shared.exit_value }
+    after_end (StatementIn frame s) status.Exiting fits offered = record { alive = refl; never = exit_never shared.exit_functions shared.exit_value; none = exit_creates_none shared.exit_functions shared.exit_value }
+    after_end next _ fits offered = absurd fits
+
+-- a thread with the status of its end has ended
+pub ended_by_status : (script : Script) (s : Status) (why : Reason) (frames : List Frame) (handlers : List (ℕ × ℕ)) (reported : ThreadSummary) → is_ended_status s ≡ true → ByStatus script s why frames handlers reported → is_some reported.ended ≡ true
+ended_by_status script (status.Ended v) why frames handlers reported is fits = ap is_some fits.value
+ended_by_status script _ why frames handlers reported is fits = absurd (false≢true is)

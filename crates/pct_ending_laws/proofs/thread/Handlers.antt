@@ -1,0 +1,143 @@
+-- Cleanup handlers that are pushed and popped, and calls of functions.
+use Rattle.std.proofs.Common.{◌≡◌, ℕ, suc, ◌+◌, ◌<◌, Bool, true, false, cond, List, [], ◌∷◌, ◌++◌, length, map, Some, nat_eq, refl, sym, ap, ◌∙◌, subst, arith, length-append}
+use Rattle.pct_model.specs.declared.event.What.{What}
+use Rattle.pct_model.specs.declared.event.What.TheVariants.{Popped}
+use Rattle.pct_model.specs.declared.frame.Frame.{Frame}
+use Rattle.pct_model.specs.declared.script.Script.{Script}
+use Rattle.pct_model.specs.declared.state.FrameKind.{FrameKind}
+use Rattle.pct_model.specs.declared.state.FrameKind.TheVariants as kind
+use Rattle.pct_model.specs.declared.statement.Operand.{Operand}
+use Rattle.pct_model.specs.declared.statement.Stmt.TheVariants as statement
+use Rattle.pct_model.specs.declared.transition.Action.TheVariants as action
+use Rattle.pct_model.specs.Actions.{without_first, thread_at, thread_after}
+use Rattle.pct_model.specs.CleanupHandlers.{pushes, pops}
+use Rattle.pct_model.specs.Kept.{AreOpen, open_functions}
+use Rattle.pct_model.specs.Once.{newest}
+use Rattle.pct_model.specs.OpenPushes.{open_pushes}
+use Rattle.pct_model.specs.ScriptStatements.{calls}
+use Rattle.pct_model.specs.ThreadSummary.{ThreadSummary}
+use Rattle.pct_model.specs.Transitions.{goes_on}
+use Rattle.pct_model.specs.World.{Thread, body_of, statement_at, new_frame}
+use Rattle.pct_ending_laws.proofs.StaticPushes.{PushesMatch}
+use Rattle.pct_ending_laws.proofs.thread.OwnSummary.{summary, AreLawful}
+use Rattle.pct_ending_laws.proofs.thread.ThreadRule.{FramesFit, Fits, Keeps}
+use Rattle.pct_ending_laws.proofs.thread.GoingOn.{running, none_created, no_change_keeps, at_pc_fits}
+
+-- ---- lists of handlers
+
+open_after_pop : (f : ℕ) (functions : List ℕ) (handler : ℕ × ℕ) (handlers left pushed : List (ℕ × ℕ)) → handler ∷ handlers ≡ pushed ++ left → map (λ (h : ℕ × ℕ). h.0) pushed ≡ f ∷ functions → AreOpen functions handlers left
+open_after_pop f functions handler handlers left [] parts named = absurd (cc)
+open_after_pop f functions handler handlers left (first ∷ pushed) parts named = record { pushed = pushed; parts = cc; named = cc }
+
+-- the handlers without the newest, if that is one of a push
+pub pop_open : (f : ℕ) (functions : List ℕ) (handler : ℕ × ℕ) (handlers left : List (ℕ × ℕ)) → AreOpen (f ∷ functions) (handler ∷ handlers) left → AreOpen functions handlers left
+pop_open f functions handler handlers left are = open_after_pop f functions handler handlers left are.pushed are.parts are.named
+
+-- fewer handlers are left than the newest and these
+pub left_below : (functions : List ℕ) (handler : ℕ × ℕ) (handlers left : List (ℕ × ℕ)) → AreOpen functions handlers left → length left < length (handler ∷ handlers)
+left_below functions handler handlers left are =
+    let parts : length handlers ≡ length are.pushed + length left = ap length are.parts ∙ length-append are.pushed left in
+    omega arith
+
+module _ (script : Script) (matches : PushesMatch script) where
+  -- ---- calls
+
+  -- a running thread that calls a function
+  pub call_fits : (f a : ℕ) (k : FrameKind) (t : Thread) (frames : List Frame) (s : ThreadSummary) → f < length script.funcs → FramesFit t.reason (new_frame f a k ∷ frames) → Fits script (running t frames) s → Fits script (running t (new_frame f a k ∷ frames)) s
+  call_fits f a k t frames s in_script fit fits = record {
+    agrees = fits.agrees;
+    placed = (matches.first_within f in_script, fits.placed);
+    by_status = record {
+      not_ended = fits.by_status.not_ended;
+      not_exiting = fits.by_status.not_exiting;
+      fit = fit;
+      pushes = fits.by_status.pushes;
+    };
+  }
+
+  module _ (t : Thread) (frame : Frame) (below : List Frame) (events : List What) (lawful : AreLawful events) where
+    -- `do`
+    pub call_keeps : (f : ℕ) (x : Operand) (v : ℕ) → statement_at script frame ≡ Some (statement.Do f x) → f < length script.funcs → Fits script (running t (frame ∷ below)) (summary events) → Keeps script (running t (frame ∷ below)) events (calls (suc frame.pc) f v)
+    unfolding calls thread_at thread_after
+    call_keeps f x v at in_script fits =
+        let next : Fits script (running t (record frame { pc = suc frame.pc } ∷ below)) (summary events) = at_pc_fits script t frame below (suc frame.pc) (matches.next frame (statement.Do f x) at) (matches.next_within frame (statement.Do f x) at refl) (summary events) fits in
+        record {
+          own = (call_fits f v kind.Call t (record frame { pc = suc frame.pc } ∷ below) (summary events) in_script next.by_status.fit next, lawful);
+          created = none_created script;
+        }
+
+    -- pthread_cleanup_push
+    pub push_keeps : (f : ℕ) (x : Operand) (v : ℕ) → statement_at script frame ≡ Some (statement.Push f x) → f < length script.funcs → Fits script (running t (frame ∷ below)) (summary events) → Keeps script (running t (frame ∷ below)) events (pushes (suc frame.pc) f v)
+    unfolding pushes thread_at thread_after
+    push_keeps f x v at in_script fits = record {
+      own = (
+        record {
+          agrees = record {
+            handlers_agree = ap (λ (hs : List (ℕ × ℕ)). (f, v) ∷ hs) fits.agrees.handlers_agree;
+            reason = fits.agrees.reason;
+            end = fits.agrees.end;
+            functions = (in_script, fits.agrees.functions);
+            disabled = fits.agrees.disabled;
+          };
+          placed = (matches.next_within frame (statement.Push f x) at refl, fits.placed.1);
+          by_status = record {
+            not_ended = fits.by_status.not_ended;
+            not_exiting = fits.by_status.not_exiting;
+            fit = fits.by_status.fit;
+            pushes = record {
+              pushed = (f, v) ∷ fits.by_status.pushes.pushed;
+              parts = ap (λ (hs : List (ℕ × ℕ)). (f, v) ∷ hs) fits.by_status.pushes.parts;
+              named = ap (λ (fs : List ℕ). f ∷ fs) fits.by_status.pushes.named ∙ sym (ap (λ (fs : List ℕ). fs ++ open_functions script below) (matches.next frame (statement.Push f x) at));
+            };
+          };
+        },
+        (refl, tt, lawful),
+      );
+      created = none_created script;
+    }
+
+    -- ---- pthread_cleanup_pop
+
+    module _ (f a : ℕ) (handlers : List (ℕ × ℕ)) (fits : Fits script (running (record t { handlers = (f, a) ∷ handlers }) (frame ∷ below)) (summary events)) (popped : AreOpen (open_functions script (record frame { pc = suc frame.pc } ∷ below)) handlers (summary events).left) (within : suc frame.pc < length (body_of script frame.func)) where
+      -- the thread after a pop
+      pop_fits : (run : Bool) → Fits script (running (record t { handlers = handlers }) (record frame { pc = suc frame.pc } ∷ below)) (summary (Popped f a run ∷ events))
+      pop_fits run = record {
+        agrees = record {
+          handlers_agree = ap without_first fits.agrees.handlers_agree;
+          reason = fits.agrees.reason;
+          end = fits.agrees.end;
+          functions = fits.agrees.functions.1;
+          disabled = fits.agrees.disabled;
+        };
+        placed = (within, fits.placed.1);
+        by_status = record {
+          not_ended = fits.by_status.not_ended;
+          not_exiting = fits.by_status.not_exiting;
+          fit = fits.by_status.fit;
+          pushes = popped;
+        };
+      }
+
+      -- the event of a pop
+      pop_lawful : (run : Bool) → AreLawful (Popped f a run ∷ events)
+      pop_lawful run =
+          let fewer : length (summary events).left < length ((f, a) ∷ handlers) = left_below (open_functions script (record frame { pc = suc frame.pc } ∷ below)) (f, a) handlers (summary events).left popped in
+          (refl, (ap newest fits.agrees.handlers_agree, λ begun. subst (λ (hs : List (ℕ × ℕ)). length (summary events).left < length hs) (sym fits.agrees.handlers_agree) fewer), lawful)
+
+      -- by the argument of the pop
+      pop_by : (drop : Bool) → Keeps script (running (record t { handlers = (f, a) ∷ handlers }) (frame ∷ below)) events (cond drop (goes_on (suc frame.pc) (action.PopHandler ∷ []) (Popped f a false ∷ [])) (goes_on (suc frame.pc) (action.PopHandler ∷ action.Call f a kind.PopHandler ∷ []) (Popped f a true ∷ [])))
+      unfolding thread_at thread_after
+      pop_by true = record { own = (pop_fits false, pop_lawful false); created = none_created script }
+      pop_by false = record {
+        own = (call_fits f a kind.PopHandler (record t { handlers = handlers }) (record frame { pc = suc frame.pc } ∷ below) (summary (Popped f a true ∷ events)) fits.agrees.functions.0 fits.by_status.fit (pop_fits true), pop_lawful true);
+        created = none_created script;
+      }
+
+    -- pthread_cleanup_pop
+    pub pop_keeps : (handlers : List (ℕ × ℕ)) (x : Operand) (v : ℕ) → statement_at script frame ≡ Some (statement.Pop x) → Fits script (running (record t { handlers = handlers }) (frame ∷ below)) (summary events) → Keeps script (running (record t { handlers = handlers }) (frame ∷ below)) events (pops (suc frame.pc) v handlers)
+    unfolding pops
+    pop_keeps [] x v at fits = no_change_keeps script (running (record t { handlers = [] }) (frame ∷ below)) events (fits, lawful)
+    pop_keeps ((f, a) ∷ handlers) x v at fits =
+        let top : (g : ℕ) × (open_pushes (body_of script frame.func) frame.pc ≡ g ∷ open_pushes (body_of script frame.func) (suc frame.pc)) = matches.pop frame x at in
+        let are : AreOpen (top.0 ∷ open_functions script (record frame { pc = suc frame.pc } ∷ below)) ((f, a) ∷ handlers) (summary events).left = subst (λ (fs : List ℕ). AreOpen (fs ++ open_functions script below) ((f, a) ∷ handlers) (summary events).left) top.1 fits.by_status.pushes in
+        pop_by f a handlers fits (pop_open top.0 (open_functions script (record frame { pc = suc frame.pc } ∷ below)) (f, a) handlers (summary events).left are) (matches.next_within frame (statement.Pop x) at refl) (nat_eq v 0)

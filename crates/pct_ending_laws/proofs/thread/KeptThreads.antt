@@ -1,0 +1,183 @@
+-- What a thread keeps, in the sentences of Kept.antt.
+use Rattle.std.proofs.Common.{◌≡◌, ℕ, Bool, true, false, ◌||◌, List, [], ◌∷◌, None, refl, sym, ap, ◌∙◌, subst}
+use Rattle.std.specs.Prelude.{is_some}
+use Rattle.std.specs.List.{list_any}
+use Rattle.std.specs.Option.{option_map_or}
+use Rattle.std.proofs.lemmas.Bool.{false≢true}
+use Rattle.std.proofs.lemmas.List.Elements.{All-from_recursion}
+use Rattle.pct_model.specs.declared.frame.Frame.{Frame}
+use Rattle.pct_model.specs.declared.script.Script.{Script}
+use Rattle.pct_model.specs.declared.state.FrameKind.{FrameKind}
+use Rattle.pct_model.specs.declared.state.FrameKind.TheVariants as kind
+use Rattle.pct_model.specs.declared.state.Reason.{Reason}
+use Rattle.pct_model.specs.declared.state.Status.{Status}
+use Rattle.pct_model.specs.declared.state.Status.TheVariants as status
+use Rattle.pct_model.specs.Kept.{AreOpen, open_functions, HasOneBottom, bottom_kind, is_bottom_kind, is_end_kind, is_exit_kind, has_no_frame, is_ending_status, is_exiting, ThreadKept}
+use Rattle.pct_model.specs.LineParsing.{is_empty}
+use Rattle.pct_model.specs.StopTable.{has_begun_to_end}
+use Rattle.pct_model.specs.ThreadSlots.{is_ended_status}
+use Rattle.pct_model.specs.ThreadSummary.{ThreadSummary}
+use Rattle.pct_model.specs.World.{Thread}
+use Rattle.pct_ending_laws.proofs.thread.ThreadRule.{Below, FramesFit, IsHandler, IsPlaced, HasFrames, GoesToHandlers, HasEnded, ByStatus, Fits}
+
+-- ---- frames
+
+-- what fits a thread with a reason to end, of its frames
+pub record FrameFacts (why : Reason) (frames : List Frame) : Type 0 where
+  pub some : is_empty frames ≡ false
+  pub bottom : HasOneBottom frames
+  pub has_reason : has_begun_to_end why ≡ option_map_or is_end_kind (bottom_kind frames) false
+  pub no_exit : list_any (λ (frame : Frame). is_exit_kind frame.kind) frames ≡ false
+  pub not_exiting : is_exiting status.Running frames ≡ false
+
+module _ (why : Reason) (frame : Frame) where
+  -- the frame, with a kind
+  abbrev of_kind : FrameKind → Frame
+  of_kind k = record frame { kind = k }
+
+  -- a bottom frame
+  alone : (k : FrameKind) (below : List Frame) → below ≡ [] → FrameFacts why (of_kind k ∷ []) → FrameFacts why (of_kind k ∷ below)
+  alone k below none facts = subst (λ (fs : List Frame). FrameFacts why (of_kind k ∷ fs)) (sym none) facts
+
+  -- a frame above others
+  above : (k : FrameKind) (below : List Frame) → is_bottom_kind k ≡ false → is_exit_kind k ≡ false → FrameFacts why below → FrameFacts why (of_kind k ∷ below)
+  above k [] inner not_exit facts = absurd (false≢true (sym facts.some))
+  above k (next ∷ below) inner not_exit facts = record {
+    some = refl;
+    bottom = (inner, facts.bottom);
+    has_reason = facts.has_reason;
+    no_exit = ap (λ (b : Bool). b || list_any (λ (f : Frame). is_exit_kind f.kind) (next ∷ below)) not_exit ∙ facts.no_exit;
+    not_exiting = refl;
+  }
+
+  facts_by : (k : FrameKind) (below : List Frame) → (FramesFit why below → FrameFacts why below) → Below k why below (FramesFit why below) → FrameFacts why (of_kind k ∷ below)
+  facts_by kind.Main below rest fit = alone kind.Main below fit.1 (record { some = refl; bottom = (refl, tt); has_reason = ap has_begun_to_end fit.0; no_exit = refl; not_exiting = refl })
+  facts_by kind.Start below rest fit = alone kind.Start below fit.1 (record { some = refl; bottom = (refl, tt); has_reason = ap has_begun_to_end fit.0; no_exit = refl; not_exiting = refl })
+  facts_by kind.Handler below rest fit = alone kind.Handler below fit.1 (record { some = refl; bottom = (refl, tt); has_reason = fit.0; no_exit = refl; not_exiting = refl })
+  facts_by kind.Call below rest fit = above kind.Call below refl refl (rest fit)
+  facts_by kind.PopHandler below rest fit = above kind.PopHandler below refl refl (rest fit)
+  facts_by kind.Destructor below rest fit = absurd fit
+  facts_by kind.ForkFn below rest fit = absurd fit
+  facts_by kind.ExitFn below rest fit = absurd fit
+
+-- the frames of a thread that has not begun to exit its process
+pub frame_facts : (why : Reason) (frames : List Frame) → FramesFit why frames → FrameFacts why frames
+frame_facts why [] fit = absurd fit
+frame_facts why (frame ∷ below) fit = facts_by why frame frame.kind below (λ rest. frame_facts why below rest) fit
+
+-- ---- statuses
+
+module _ (script : Script) where
+  -- the facts of ThreadKept that depend on the status
+  record StatusFacts (st : Status) (why : Reason) (frames : List Frame) (handlers : List (ℕ × ℕ)) (s : ThreadSummary) : Type 0 where
+    ended_status : is_some s.ended ≡ true → s.exiting ≡ false → is_ended_status st ≡ true
+    pushes : s.exiting ≡ false → AreOpen (open_functions script frames) handlers s.left
+    no_frame : is_empty frames ≡ has_no_frame st
+    bottom : HasOneBottom frames
+    has_reason : s.exiting ≡ false → has_begun_to_end why ≡ (is_ending_status st || option_map_or is_end_kind (bottom_kind frames) false)
+    exiting : s.exiting ≡ is_exiting st frames
+    exit_functions : s.exiting ≡ false → list_any (λ (frame : Frame). is_exit_kind frame.kind) frames ≡ false
+
+  module _ (why : Reason) (handlers : List (ℕ × ℕ)) (s : ThreadSummary) where
+    -- where no thread has begun to end
+    no_end : s.ended ≡ None → is_some s.ended ≡ true → ⊥
+    no_end none some = false≢true (sym (ap is_some none) ∙ some)
+
+    joining_never_exits : (id : ℕ) (frames : List Frame) → is_exiting (status.Joining id) frames ≡ false
+    joining_never_exits id [] = refl
+    joining_never_exits id (frame ∷ below) = refl
+
+    of_running : (frames : List Frame) → HasFrames script why frames handlers s → StatusFacts status.Running why frames handlers s
+    of_running frames has =
+        let facts : FrameFacts why frames = frame_facts why frames has.fit in
+        record {
+          ended_status = λ some alive. absurd (no_end has.not_ended some);
+          pushes = λ alive. has.pushes;
+          no_frame = facts.some;
+          bottom = facts.bottom;
+          has_reason = λ alive. facts.has_reason;
+          exiting = has.not_exiting ∙ sym facts.not_exiting;
+          exit_functions = λ alive. facts.no_exit;
+        }
+
+    of_joining : (id : ℕ) (frames : List Frame) → HasFrames script why frames handlers s → StatusFacts (status.Joining id) why frames handlers s
+    of_joining id frames has =
+        let facts : FrameFacts why frames = frame_facts why frames has.fit in
+        record {
+          ended_status = λ some alive. absurd (no_end has.not_ended some);
+          pushes = λ alive. has.pushes;
+          no_frame = facts.some;
+          bottom = facts.bottom;
+          has_reason = λ alive. facts.has_reason;
+          exiting = has.not_exiting ∙ sym (joining_never_exits id frames);
+          exit_functions = λ alive. facts.no_exit;
+        }
+
+    of_ending : GoesToHandlers script why [] handlers s → StatusFacts status.Ending why [] handlers s
+    of_ending goes = record {
+      ended_status = λ some alive. absurd (no_end goes.not_ended some);
+      pushes = λ alive. record { pushed = []; parts = goes.are_left; named = refl };
+      no_frame = refl;
+      bottom = tt;
+      has_reason = λ alive. goes.has_reason;
+      exiting = goes.not_exiting;
+      exit_functions = λ alive. refl;
+    }
+
+    of_ended : (v : ℕ) → HasEnded script v why [] handlers s → StatusFacts (status.Ended v) why [] handlers s
+    of_ended v has = record {
+      ended_status = λ some alive. refl;
+      pushes = λ alive. record { pushed = []; parts = has.no_handlers ∙ sym has.none_left; named = refl };
+      no_frame = refl;
+      bottom = tt;
+      has_reason = λ alive. has.has_reason;
+      exiting = has.not_exiting;
+      exit_functions = λ alive. refl;
+    }
+
+    of_exiting : s.exiting ≡ true → StatusFacts status.Exiting why [] handlers s
+    of_exiting exits = record {
+      ended_status = λ some alive. absurd (false≢true (sym alive ∙ exits));
+      pushes = λ alive. absurd (false≢true (sym alive ∙ exits));
+      no_frame = refl;
+      bottom = tt;
+      has_reason = λ alive. absurd (false≢true (sym alive ∙ exits));
+      exiting = exits;
+      exit_functions = λ alive. refl;
+    }
+
+    without_frames : (st : Status) (frames : List Frame) → frames ≡ [] → (ByStatus script st why [] handlers s → StatusFacts st why [] handlers s) → ByStatus script st why frames handlers s → StatusFacts st why frames handlers s
+    without_frames st frames none facts by =
+        subst (λ (fs : List Frame). StatusFacts st why fs handlers s) (sym none) (facts (subst (λ (fs : List Frame). ByStatus script st why fs handlers s) none by))
+
+    of_status : (st : Status) (frames : List Frame) → ByStatus script st why frames handlers s → StatusFacts st why frames handlers s
+    of_status status.Running frames by = of_running frames by
+    of_status (status.Joining id) frames by = of_joining id frames by.0
+    of_status status.Ending frames by = without_frames status.Ending frames by.no_frames of_ending by
+    of_status (status.Ended v) frames by = without_frames (status.Ended v) frames by.no_frames (of_ended v) by
+    of_status status.Exiting frames by = without_frames status.Exiting frames by.0 (λ exits. of_exiting exits.1) by
+    of_status _ frames by = absurd by
+
+  -- ---- threads
+
+  -- a thread, in the sentences of Kept.antt
+  pub kept_thread : (t : Thread) (s : ThreadSummary) → Fits script t s → ThreadKept script t s
+  kept_thread t s fits =
+      let facts : StatusFacts t.status t.reason t.frames t.handlers s = of_status t.reason t.handlers s t.status t.frames fits.by_status in
+      record {
+        handlers = fits.agrees.handlers_agree;
+        reason = fits.agrees.reason;
+        ended = fits.agrees.end;
+        value = λ v is. (subst (λ (st : Status). ByStatus script st t.reason t.frames t.handlers s) is fits.by_status).value;
+        ended_status = λ ended alive. facts.ended_status (fits.agrees.end ∙ ended) alive;
+        pushes = facts.pushes;
+        functions = All-from_recursion (IsHandler script) t.handlers fits.agrees.functions;
+        places = All-from_recursion (IsPlaced script) t.frames fits.placed;
+        frames = facts.no_frame;
+        bottom = facts.bottom;
+        has_reason = facts.has_reason;
+        exiting = facts.exiting;
+        exit_functions = facts.exit_functions;
+        disabled = fits.agrees.disabled;
+        joining = λ id is. (subst (λ (st : Status). ByStatus script st t.reason t.frames t.handlers s) is fits.by_status).1;
+      }

@@ -1,0 +1,140 @@
+-- Each statement of a running thread keeps the rule of the thread.
+use Rattle.std.proofs.Common.{◌≡◌, ℕ, suc, ◌+◌, ◌%◌, ◌<◌, Bool, true, false, List, [], ◌∷◌, ◌++◌, length, reverse, Option, Some, None, refl, sym, ap, ◌∙◌, subst, inl, inr}
+use Rattle.std.specs.List.{list_all}
+use Rattle.std.proofs.lemmas.Bool.{false≢true}
+use Rattle.std.proofs.lemmas.Option.{none-some, same_Some}
+use Rattle.pct_model.specs.declared.event.Caller.TheVariants as caller
+use Rattle.pct_model.specs.declared.event.What.{What}
+use Rattle.pct_model.specs.declared.event.What.TheVariants as what
+use Rattle.pct_model.specs.declared.frame.Frame.{Frame}
+use Rattle.pct_model.specs.declared.schedule.Alt.{Alt}
+use Rattle.pct_model.specs.declared.schedule.Alt.TheVariants as alt
+use Rattle.pct_model.specs.declared.script.Script.{Script}
+use Rattle.pct_model.specs.declared.state.FrameKind.{FrameKind}
+use Rattle.pct_model.specs.declared.state.FrameKind.TheVariants as kind
+use Rattle.pct_model.specs.declared.state.Reason.{Reason}
+use Rattle.pct_model.specs.declared.state.Reason.TheVariants as reason
+use Rattle.pct_model.specs.declared.state.Status.TheVariants as status
+use Rattle.pct_model.specs.declared.statement.Dest.{Dest}
+use Rattle.pct_model.specs.declared.statement.Operand.{Operand}
+use Rattle.pct_model.specs.declared.statement.Stmt.{Stmt}
+use Rattle.pct_model.specs.declared.statement.Stmt.TheVariants as statement
+use Rattle.pct_model.specs.declared.stop.Why.TheVariants.{Unbuilt, ExitInEnding}
+use Rattle.pct_model.specs.declared.transition.Action.{Action}
+use Rattle.pct_model.specs.declared.transition.Action.TheVariants as action
+use Rattle.pct_model.specs.declared.transition.NewThread.{NewThread}
+use Rattle.pct_model.specs.Actions.{thread_at, thread_after}
+use Rattle.pct_model.specs.Jumps.{is_end, open_of}
+use Rattle.pct_model.specs.Kept.{is_join}
+use Rattle.pct_model.specs.NextStatement.{next_in}
+use Rattle.pct_model.specs.OpenPushes.{pushes_after, open_pushes}
+use Rattle.pct_model.specs.OtherThreads.{Others}
+use Rattle.pct_model.specs.ScriptStatements.{jumps, emits, sets, adds, variable_value, after_block, after_test, after_end}
+use Rattle.pct_model.specs.StopTable.{has_begun_to_end, first_stop, stops_of, stop_at}
+use Rattle.pct_model.specs.ThreadCalls.{creates, fails_to_create, creates_by, begins_join, detaches, gets_self}
+use Rattle.pct_model.specs.Transitions.{goes_on, written}
+use Rattle.pct_model.specs.TransitionTable.{ends_block, runs}
+use Rattle.pct_model.specs.World.{Thread, SharedState, body_of, statement_at, value_of, new_frame, new_thread}
+use Rattle.pct_ending_laws.proofs.StaticPushes.{PushesMatch}
+use Rattle.pct_ending_laws.proofs.lift.EveryThread.{created_thread}
+use Rattle.pct_ending_laws.proofs.thread.OwnSummary.{summary, AreLawful}
+use Rattle.pct_ending_laws.proofs.thread.ThreadRule.{Below, Fits, Rule, Keeps}
+use Rattle.pct_ending_laws.proofs.thread.NamedFunctions.{NamesFunctions}
+use Rattle.pct_ending_laws.proofs.thread.GoingOn.{writes, one_written, two_written, running, none_created, no_change_keeps, going_on_keeps}
+use Rattle.pct_ending_laws.proofs.thread.Handlers.{call_keeps, push_keeps, pop_keeps}
+use Rattle.pct_ending_laws.proofs.thread.Ends.{begin_keeps, return_keeps}
+
+-- where pthread_exit does not stop, the thread has not begun to end
+not_begun : (why : Reason) → first_stop ((false, Unbuilt) ∷ (has_begun_to_end why, ExitInEnding) ∷ []) ≡ None → why ≡ reason.None
+not_begun reason.None e = refl
+not_begun (reason.Exit v) e = absurd (none-some ExitInEnding (sym e))
+not_begun reason.Canceled e = absurd (none-some ExitInEnding (sym e))
+
+module _ (script : Script) (matches : PushesMatch script) (names : NamesFunctions script) where
+  -- a new thread, in a frame of a kind that may be its only one
+  pub new_fits : (id f a : ℕ) (detached : Bool) (k : FrameKind) → f < length script.funcs → Below k reason.None [] ⊥ → Rule script (new_thread id detached (new_frame f a k)) []
+  new_fits id f a detached k in_script alone = (
+    record {
+      agrees = record { handlers_agree = refl; reason = refl; end = refl; functions = tt; disabled = λ any. absurd (false≢true any) };
+      placed = (matches.first_within f in_script, tt);
+      by_status = record {
+        not_ended = refl;
+        not_exiting = refl;
+        fit = alone;
+        pushes = record { pushed = []; parts = refl; named = refl };
+      };
+    },
+    tt,
+  )
+
+  module _ (shared : SharedState) (t : Thread) (others : Others) (choice : Alt) (frame : Frame) (below : List Frame) (events : List What) (lawful : AreLawful events) (fits : Fits script (running t (frame ∷ below)) (summary events)) where
+    -- the thread
+    abbrev own : Thread
+    own = running t (frame ∷ below)
+
+    -- the body of the function of its top frame
+    abbrev body : List Stmt
+    body = body_of script frame.func
+
+    -- the thread goes on at the next statement
+    next_keeps : (s : Stmt) → statement_at script frame ≡ Some s → pushes_after (s ∷ []) (open_pushes body frame.pc) ≡ open_pushes body frame.pc → is_end s ≡ false → (actions : List Action) (added : List What) → list_all writes actions ≡ true → summary (reverse added ++ events) ≡ summary events → AreLawful (reverse added ++ events) → Keeps script own events (goes_on (suc frame.pc) actions added)
+    next_keeps s at same inner actions added all unchanged added_lawful =
+        going_on_keeps script t frame below status.Running events (suc frame.pc) actions added (matches.next frame s at ∙ same) (matches.next_within frame s at inner) all unchanged added_lawful fits
+
+    -- the thread goes on at a pc
+    jump_keeps : (pc : ℕ) → open_pushes body pc ≡ open_pushes body frame.pc → pc < length body → Keeps script own events (jumps pc)
+    unfolding jumps
+    jump_keeps pc same within = going_on_keeps script t frame below status.Running events pc [] [] same within refl refl lawful fits
+
+    -- `end`
+    end_keeps : statement_at script frame ≡ Some statement.End → (opened : Option ℕ) → open_of body frame.pc ≡ opened → Keeps script own events (ends_block opened body frame)
+    end_keeps at (Some opened) opens = jump_keeps (after_end body frame.pc opened) (matches.end frame opened at opens) (matches.end_within frame opened at opens)
+    end_keeps at None opens = return_keeps script t frame below events fits lawful (matches.closes frame at opens) frame.kind 0 fits.by_status.fit
+
+    -- pthread_create
+    create_keeps : (result id : Dest) (f : ℕ) (x : Operand) (v : ℕ) (detached : Bool) → statement_at script frame ≡ Some (statement.Create result id f x detached) → (by : Alt) → Keeps script own events (creates_by by (suc frame.pc) result id f v detached)
+    unfolding creates fails_to_create
+    create_keeps result id f x v detached at (alt.New new) = record {
+      own = (next_keeps (statement.Create result id f x detached) at refl refl (written result 0 ++ written id new) (what.Created new detached ∷ []) (two_written result id 0 new) refl (refl, tt, lawful)).own;
+      created = λ made e. subst (λ (n : NewThread). Rule script (created_thread n) []) (same_Some (record { id = new; detached = detached; func = f; arg = v }) made e) (new_fits new f v detached kind.Start (names.created frame result id f x detached at) (refl, refl));
+    }
+    create_keeps result id f x v detached at alt.Go = next_keeps (statement.Create result id f x detached) at refl refl (written result 1) (what.Answer caller.Create 1 ∷ []) (one_written result 1) refl (refl, tt, lawful)
+    create_keeps result id f x v detached at _ = no_change_keeps script own events (fits, lawful)
+
+    -- pthread_join
+    join_keeps : (id : Operand) (d : Dest) (v : ℕ) → statement_at script frame ≡ Some (statement.Join id d) → Keeps script own events (begins_join v)
+    unfolding begins_join thread_at thread_after
+    join_keeps id d v at = record {
+      own = (record { agrees = fits.agrees; placed = fits.placed; by_status = (fits.by_status, ap (λ (s : Option Stmt). is_join (next_in frame s)) at) }, (refl, tt, lawful));
+      created = none_created script;
+    }
+
+    -- a statement that does not stop
+    pub statement_keeps : (s : Stmt) → statement_at script frame ≡ Some s → stop_at body shared own others frame s ≡ None → Keeps script own events (runs body shared own others choice frame s)
+    unfolding stop_at stops_of runs emits sets adds jumps detaches gets_self
+    statement_keeps (statement.Emit v) at quiet = next_keeps (statement.Emit v) at refl refl [] (what.Emit (value_of shared.globals frame v) ∷ []) refl refl (refl, tt, lawful)
+    statement_keeps (statement.Set d v) at quiet = next_keeps (statement.Set d v) at refl refl (written d (value_of shared.globals frame v)) [] (one_written d (value_of shared.globals frame v)) refl lawful
+    statement_keeps (statement.Add d v) at quiet =
+        let sum : ℕ = (variable_value shared.globals frame d + value_of shared.globals frame v) % 4294967296 in
+        next_keeps (statement.Add d v) at refl refl (written d sum) [] (one_written d sum) refl lawful
+    statement_keeps statement.Nop at quiet = next_keeps statement.Nop at refl refl [] [] refl refl lawful
+    statement_keeps (statement.If v) at quiet =
+        let n : ℕ = value_of shared.globals frame v in
+        jump_keeps (after_test body frame.pc n) (matches.test frame v n (inl at)) (matches.test_within frame v n (inl at))
+    statement_keeps statement.Else at quiet = jump_keeps (after_block body frame.pc) (matches.block frame at) (matches.block_within frame at)
+    statement_keeps (statement.While v) at quiet =
+        let n : ℕ = value_of shared.globals frame v in
+        jump_keeps (after_test body frame.pc n) (matches.test frame v n (inr at)) (matches.test_within frame v n (inr at))
+    statement_keeps statement.End at quiet = end_keeps at (open_of body frame.pc) refl
+    statement_keeps (statement.Do f v) at quiet = call_keeps script matches t frame below events lawful f v (value_of shared.globals frame v) at (names.called frame f v at) fits
+    statement_keeps (statement.Return v) at quiet = return_keeps script t frame below events fits lawful (matches.returns frame v at) frame.kind (value_of shared.globals frame v) fits.by_status.fit
+    statement_keeps (statement.Create result id f v detached) at quiet = create_keeps result id f v (value_of shared.globals frame v) detached at choice
+    statement_keeps (statement.Join id d) at quiet = join_keeps id d (value_of shared.globals frame id) at
+    statement_keeps (statement.Detach id) at quiet =
+        let n : ℕ = value_of shared.globals frame id in
+        next_keeps (statement.Detach id) at refl refl (action.Detach n ∷ []) (what.Detached n ∷ []) refl refl (refl, tt, lawful)
+    statement_keeps (statement.SelfId d) at quiet = next_keeps (statement.SelfId d) at refl refl (written d t.id) [] (one_written d t.id) refl lawful
+    statement_keeps (statement.ThreadExit v) at quiet = begin_keeps script t (frame ∷ below) events fits lawful (value_of shared.globals frame v) (not_begun t.reason quiet)
+    statement_keeps (statement.Push f v) at quiet = push_keeps script matches t frame below events lawful f v (value_of shared.globals frame v) at (names.pushed frame f v at) fits
+    statement_keeps (statement.Pop v) at quiet = pop_keeps script matches t frame below events lawful t.handlers v (value_of shared.globals frame v) at fits
+    statement_keeps s at quiet = no_change_keeps script own events (fits, lawful)

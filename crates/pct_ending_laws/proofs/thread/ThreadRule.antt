@@ -1,0 +1,120 @@
+-- What each thread keeps, beside its own events: the facts of Kept.antt, arranged by the status of the thread.
+use Rattle.std.proofs.Common.{◌≡◌, ℕ, ◌<◌, Bool, true, false, ◌||◌, List, [], ◌∷◌, ◌++◌, length, reverse, Some, None}
+use Rattle.std.specs.Prelude.{is_some}
+use Rattle.std.specs.List.{AllByRecursion}
+use Rattle.pct_model.specs.declared.event.What.{What}
+use Rattle.pct_model.specs.declared.frame.Frame.{Frame}
+use Rattle.pct_model.specs.declared.script.Script.{Script}
+use Rattle.pct_model.specs.declared.state.FrameKind.{FrameKind}
+use Rattle.pct_model.specs.declared.state.FrameKind.TheVariants as kind
+use Rattle.pct_model.specs.declared.state.Reason.{Reason}
+use Rattle.pct_model.specs.declared.state.Reason.TheVariants as reason
+use Rattle.pct_model.specs.declared.state.State.{State}
+use Rattle.pct_model.specs.declared.state.State.TheVariants.{Disable}
+use Rattle.pct_model.specs.declared.state.Status.{Status}
+use Rattle.pct_model.specs.declared.state.Status.TheVariants as status
+use Rattle.pct_model.specs.declared.transition.NewThread.{NewThread}
+use Rattle.pct_model.specs.declared.transition.Transition.{Transition}
+use Rattle.pct_model.specs.Actions.{moved}
+use Rattle.pct_model.specs.Kept.{AreOpen, open_functions, is_join}
+use Rattle.pct_model.specs.NextStatement.{next_of}
+use Rattle.pct_model.specs.StopTable.{has_begun_to_end}
+use Rattle.pct_model.specs.ThreadSummary.{ThreadSummary}
+use Rattle.pct_model.specs.World.{Thread, body_of}
+use Rattle.pct_ending_laws.proofs.lift.EveryThread.{created_thread}
+use Rattle.pct_ending_laws.proofs.thread.OwnSummary.{summary, AreLawful}
+
+-- ---- frames
+
+-- what is below a frame of a kind, in a thread with a reason to end; `below_fits` is that the frames below fit it
+abbrev pub Below : FrameKind → Reason → List Frame → Type 0 → Type 0
+Below kind.Main why below below_fits = (why ≡ reason.None) × (below ≡ [])
+Below kind.Start why below below_fits = (why ≡ reason.None) × (below ≡ [])
+Below kind.Handler why below below_fits = (has_begun_to_end why ≡ true) × (below ≡ [])
+Below kind.Call why below below_fits = below_fits
+Below kind.PopHandler why below below_fits = below_fits
+Below _ why below below_fits = ⊥
+
+-- the frames of a thread with a reason to end fit it
+abbrev pub FramesFit : Reason → List Frame → Type 0
+FramesFit why [] = ⊥
+FramesFit why (frame ∷ below) = Below frame.kind why below (FramesFit why below)
+
+module _ (script : Script) where
+  -- the function of a handler is one of the script
+  abbrev pub IsHandler : ℕ × ℕ → Type 0
+  IsHandler handler = handler.0 < length script.funcs
+
+  -- a frame is at a place of its function
+  abbrev pub IsPlaced : Frame → Type 0
+  IsPlaced frame = frame.pc < length (body_of script frame.func)
+
+  -- ---- by status
+
+  -- a thread with frames: it has not begun to exit its process
+  abbrev pub HasFrames : Reason → List Frame → List (ℕ × ℕ) → ThreadSummary → Type 0
+  HasFrames why frames handlers s = record {
+    not_ended : s.ended ≡ None;
+    not_exiting : s.exiting ≡ false;
+    fit : FramesFit why frames;
+    pushes : AreOpen (open_functions script frames) handlers s.left;
+  }
+
+  -- a thread that goes on to run its handlers
+  abbrev pub GoesToHandlers : Reason → List Frame → List (ℕ × ℕ) → ThreadSummary → Type 0
+  GoesToHandlers why frames handlers s = record {
+    no_frames : frames ≡ [];
+    has_reason : has_begun_to_end why ≡ true;
+    are_left : handlers ≡ s.left;
+    not_ended : s.ended ≡ None;
+    not_exiting : s.exiting ≡ false;
+  }
+
+  -- a thread that has ended with a value
+  abbrev pub HasEnded : ℕ → Reason → List Frame → List (ℕ × ℕ) → ThreadSummary → Type 0
+  HasEnded v why frames handlers s = record {
+    no_frames : frames ≡ [];
+    has_reason : has_begun_to_end why ≡ true;
+    no_handlers : handlers ≡ [];
+    none_left : s.left ≡ [];
+    value : s.ended ≡ Some v;
+    not_exiting : s.exiting ≡ false;
+  }
+
+  -- a thread, by its status; no thread has one of the other statuses yet
+  abbrev pub ByStatus : Status → Reason → List Frame → List (ℕ × ℕ) → ThreadSummary → Type 0
+  ByStatus status.Running why frames handlers s = HasFrames why frames handlers s
+  ByStatus (status.Joining id) why frames handlers s = HasFrames why frames handlers s × (is_join (next_of script frames) ≡ true)
+  ByStatus status.Ending why frames handlers s = GoesToHandlers why frames handlers s
+  ByStatus (status.Ended v) why frames handlers s = HasEnded v why frames handlers s
+  ByStatus status.Exiting why frames handlers s = (frames ≡ []) × (s.exiting ≡ true)
+  ByStatus _ why frames handlers s = ⊥
+
+  -- ---- threads
+
+  -- the handlers, the reason and the end of a thread are those that its events report
+  pub record Agrees (handlers : List (ℕ × ℕ)) (why : Reason) (ended : Bool) (state : State) (s : ThreadSummary) : Type 0 where
+    pub handlers_agree : s.handlers ≡ handlers
+    pub reason : s.reason ≡ why
+    pub end : is_some s.ended ≡ ended
+    pub functions : AllByRecursion IsHandler handlers
+    pub disabled : (has_begun_to_end why || s.exiting) ≡ true → state ≡ Disable
+
+  -- a thread and what its events report
+  abbrev pub Fits : Thread → ThreadSummary → Type 0
+  Fits t s = record {
+    agrees : Agrees t.handlers t.reason t.ended t.state s;
+    placed : AllByRecursion IsPlaced t.frames;
+    by_status : ByStatus t.status t.reason t.frames t.handlers s;
+  }
+
+  -- what each thread keeps, beside its own events
+  abbrev pub Rule : Thread → List What → Type 0
+  Rule t events = Fits t (summary events) × AreLawful events
+
+  -- ---- transitions
+
+  -- a transition of a thread keeps the rule, for it and for a thread that it creates
+  pub record Keeps (t : Thread) (events : List What) (o : Transition) : Type 0 where
+    pub own : Rule (moved o t) (reverse o.events ++ events)
+    pub created : (new : NewThread) → o.created ≡ Some new → Rule (created_thread new) []

@@ -1,0 +1,16 @@
+-- What holds of every run, by any schedule.
+use Rattle.std.specs.Prelude.{◌≡◌, List, Some}
+use Rattle.pct_model.specs.declared.script.Script.{Script}
+use Rattle.pct_model.specs.declared.schedule.Config.{Config}
+use Rattle.pct_model.specs.declared.schedule.Entry.{Entry}
+use Rattle.pct_model.specs.Kept.{Kept}
+use Rattle.pct_model.specs.Laws.{Laws}
+use Rattle.pct_model.specs.Run.{Run, run}
+
+-- the events of every run keep the laws
+abbrev pub RunsKeepLaws : Type 0
+RunsKeepLaws = (script : Script) (config : Config) (entries : List Entry) (r : Run) → run script config entries ≡ Some r → Laws r.events config.passes config.slots
+
+-- every run ends in a state that keeps the invariant
+abbrev pub StatesAreKept : Type 0
+StatesAreKept = (script : Script) (config : Config) (entries : List Entry) (r : Run) → run script config entries ≡ Some r → Kept script config r.world r.events

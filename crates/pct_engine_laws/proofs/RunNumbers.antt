@@ -1,0 +1,308 @@
+-- The numbers of a run that is limited in its entries: of its threads, and those in its entries.
+use Rattle.std.proofs.Common.{◌≡◌, ℕ, ◌+◌, ◌*◌, ◌<◌, ◌≤◌, Bool, true, false, not, ◌&&◌, ◌||◌, cond, List, [], ◌∷◌, length, map, filter, count_by, get_or, Option, Some, None, refl, sym, ap, ◌∙◌, subst, arith, length-append, zero-add, eqb-true}
+use Rattle.std.specs.Prelude.{All, nat_eq, nat_le, is_none, find, option_map, option_and_then}
+use Rattle.std.specs.List.{list_any, range_with_len}
+use Rattle.std.proofs.lemmas.Bool.{and_parts, leb-true, false≢true}
+use Rattle.std.proofs.lemmas.List.{length-map}
+use Rattle.std.proofs.lemmas.List.Elements.{All-nil, All-cons, All-head, All-tail, All-append, All-map, All-weaker, All-filter, All-from_get_or}
+use Rattle.std.proofs.lemmas.List.FromFn.{length-range_with_len, get_or-range_with_len}
+use Rattle.std.proofs.lemmas.List.Sums.{count_by-le-length}
+use Rattle.std.proofs.lemmas.Option.{none-some, same_Some}
+use Rattle.std.proofs.Math.Nat.{mul-le-mul}
+use Rattle.pct_model.specs.declared.limits.TheConstants.{MAX_BUDGET, MIN_PASSES, MAX_PASSES, MAX_SLOTS, MAX_WORKER}
+use Rattle.pct_model.specs.declared.other_threads.Query.{Query}
+use Rattle.pct_model.specs.declared.other_threads.Query.TheVariants as query
+use Rattle.pct_model.specs.declared.script.Script.{Script}
+use Rattle.pct_model.specs.declared.schedule.Alt.{Alt}
+use Rattle.pct_model.specs.declared.schedule.Alt.TheVariants as alt
+use Rattle.pct_model.specs.declared.schedule.Config.{Config}
+use Rattle.pct_model.specs.declared.schedule.Entry.{Entry}
+use Rattle.pct_model.specs.declared.transition.Action.{Action}
+use Rattle.pct_model.specs.declared.transition.Action.TheVariants as action
+use Rattle.pct_model.specs.declared.transition.NewThread.{NewThread}
+use Rattle.pct_model.specs.declared.transition.Transition.{Transition}
+use Rattle.pct_model.specs.World.{Thread, Process, World, first_process, opening}
+use Rattle.pct_model.specs.Actions.{shared_after, process_after, has_ended, other_process_after, for_each, thread_moved, thread_created, threads_moved, changed, is_live_process, after_transition}
+use Rattle.pct_model.specs.ChoiceTable.{choices_of, offers}
+use Rattle.pct_model.specs.NextStatement.{next_of, body_at}
+use Rattle.pct_model.specs.OtherThreads.{query_at, answer_to, others_of}
+use Rattle.pct_model.specs.ThreadSlots.{holds_slot, is_on, is_free, next_id, free_ids, is_live_thread, with_id}
+use Rattle.pct_model.specs.TransitionTable.{transition_by}
+use Rattle.pct_model.specs.Step.{Successor, if_offered, step, transition_of}
+use Rattle.pct_model.specs.Run.{Run, run_step, run_from, run}
+use Rattle.pct_engine_laws.specs.RunNumbers.{IsChoiceWithin, IsEntryWithin}
+use Rattle.pct_engine_laws.proofs.LongerRuns.{run_parts, run_step-is, run_after}
+use Rattle.pct_engine_laws.proofs.OfferedChoices.{IsChosen, offered_case, transition_chosen}
+use Rattle.pct_engine_laws.proofs.StepSeen.{successor_of, may_step}
+use Rattle.pct_engine_laws.proofs.ThreadChanges.{transition_keeps}
+
+-- ---- the numbers of a process
+
+-- a process has an id of at most n, and at most n threads, with ids that are limited by n
+pub record HasFew (n pid : ℕ) (threads : List Thread) : Type 0 where
+  pub pid_few : pid ≤ n
+  pub few : length threads ≤ n
+  pub ids : All (λ (t : Thread). t.id ≤ 64 + 64 * n) threads
+
+-- a thread that is created has an id of at most a limit
+abbrev CreatedWithin : ℕ → Option NewThread → Type 0
+CreatedWithin limit None = Unit {0}
+CreatedWithin limit (Some new) = new.id ≤ limit
+
+created_within : (limit : ℕ) (choice : Alt) (created : Option NewThread) → IsChosen choice created → IsChoiceWithin limit choice → CreatedWithin limit created
+created_within limit choice None chosen within = tt
+created_within limit choice (Some new) chosen within = subst (IsChoiceWithin limit) chosen within
+
+-- ---- the ids of new threads
+
+next_within : (slots made s n m : ℕ) → slots ≤ 64 → s < slots → made ≤ n → n ≤ m → 1 + s + slots * made ≤ 64 + 64 * m
+next_within slots made s n m few low made_few within =
+    let made_all : made ≤ m = omega (arith, made_few, within) in
+    let many : slots * made ≤ 64 * m = mul-le-mul few made_all in
+    omega (arith, few, low, many)
+
+-- the ids that are offered
+free_within : (slots n : ℕ) (threads : List Thread) → slots ≤ 64 → length threads ≤ n → All (λ (id : ℕ). id ≤ 64 + 64 * n) (free_ids slots threads)
+unfolding free_ids
+free_within slots n threads few within =
+    let all : List ℕ = range_with_len 0 slots in
+    All-map (λ (id : ℕ). id ≤ 64 + 64 * n) (next_id slots threads) (filter (is_free slots threads) all)
+    (All-filter (is_free slots threads) (λ (s : ℕ). next_id slots threads s ≤ 64 + 64 * n) all
+    (All-from_get_or (λ (s : ℕ). next_id slots threads s ≤ 64 + 64 * n) all 0 (λ i low.
+    let below : i < slots = subst (λ (k : ℕ). i < k) (length-range_with_len 0 slots) low in
+    let at : i ≡ get_or all i 0 = sym (get_or-range_with_len 0 slots i 0 below ∙ zero-add i) in
+    subst (λ (s : ℕ). next_id slots threads s ≤ 64 + 64 * n) at
+    (next_within slots (count_by (is_on slots i) threads) i (length threads) n few below (count_by-le-length (is_on slots i) threads) within))))
+
+asked_within : (slots tid n : ℕ) (threads : List Thread) (q : Query) → slots ≤ 64 → length threads ≤ n → All (λ (id : ℕ). id ≤ 64 + 64 * n) (answer_to slots tid threads q).new_ids
+unfolding answer_to
+asked_within slots tid n threads query.NewIds few within = free_within slots n threads few within
+asked_within slots tid n threads _ few within = All-nil (λ (id : ℕ). id ≤ 64 + 64 * n)
+
+-- a number among others with a property has it
+any_all : (P : ℕ → Type 0) (n : ℕ) (ids : List ℕ) → list_any (nat_eq n) ids ≡ true → All P ids → P n
+any_all P n [] among all = absurd (false≢true among)
+any_all P n (id ∷ ids) among all = either (nat_eq n id) refl among (λ later. any_all P n ids later (All-tail P id ids all)) where
+  either : (b : Bool) → nat_eq n id ≡ b → (b || list_any (nat_eq n) ids) ≡ true → (list_any (nat_eq n) ids ≡ true → P n) → P n
+  either true same found rest = subst P (sym (eqb-true n id same)) (All-head P id ids all)
+  either false same found rest = rest found
+
+-- a choice that a thread is offered
+choice_within : (script : Script) (config : Config) (p : Process) (t : Thread) (choice : Alt) (n : ℕ) → config.slots ≤ 64 → length p.threads ≤ n → offers (choices_of script config p t) choice ≡ true → IsChoiceWithin (64 + 64 * n) choice
+choice_within script config p t choice n few within offered =
+    offered_case (IsChoiceWithin (64 + 64 * n)) tt (others_of script config p t)
+    (λ id among. any_all (λ (k : ℕ). k ≤ 64 + 64 * n) id (others_of script config p t).new_ids among (asked_within config.slots t.id n p.threads (query_at p.shared (next_of script t.frames) t.status) few within))
+    (next_of script t.frames) t.status choice offered
+
+-- ---- a process after a transition
+
+-- the id of a process, and its threads
+abbrev numbered : Process → ℕ × List Thread
+numbered p = (p.pid, p.threads)
+
+own_action_same : (a : Action) (p : Process) → numbered (process_after a p) ≡ numbered p
+unfolding process_after
+own_action_same (action.EndProcess n) p = refl
+own_action_same _ p = refl
+
+own_same : (actions : List Action) (p : Process) → numbered (for_each process_after actions p) ≡ numbered p
+own_same [] p = refl
+own_same (a ∷ actions) p = own_same actions (process_after a p) ∙ own_action_same a p
+
+same_if : (child ended : Bool) (p : Process) → numbered (cond child (cond ended (record p { reaped = true }) (record p { parent = 0 })) p) ≡ numbered p
+same_if true true p = refl
+same_if true false p = refl
+same_if false ended p = refl
+
+other_action_same : (pid : ℕ) (a : Action) (p : Process) → numbered (other_process_after pid a p) ≡ numbered p
+unfolding other_process_after
+other_action_same pid (action.EndProcess n) p = same_if (nat_eq p.parent pid) (has_ended p) p
+other_action_same pid _ p = refl
+
+other_same : (pid : ℕ) (actions : List Action) (p : Process) → numbered (for_each (other_process_after pid) actions p) ≡ numbered p
+other_same pid [] p = refl
+other_same pid (a ∷ actions) p = other_same pid actions (other_process_after pid a p) ∙ other_action_same pid a p
+
+few_created : (created : Option NewThread) → length (thread_created created) ≤ 1
+few_created None = omega arith
+few_created (Some new) = omega arith
+
+small_created : (limit : ℕ) (created : Option NewThread) → CreatedWithin limit created → All (λ (t : Thread). t.id ≤ limit) (thread_created created)
+small_created limit None within = All-nil (λ (t : Thread). t.id ≤ limit)
+small_created limit (Some new) within = All-cons (λ (t : Thread). t.id ≤ limit) _ [] within (All-nil (λ (t : Thread). t.id ≤ limit))
+
+-- more of all
+few_more : (n m pid : ℕ) (threads : List Thread) → n ≤ m → HasFew n pid threads → HasFew m pid threads
+few_more n m pid threads within has = record {
+  pid_few = omega (arith, has.pid_few, within);
+  few = omega (arith, has.few, within);
+  ids = All-weaker (λ (t : Thread). t.id ≤ 64 + 64 * n) (λ t. t.id ≤ 64 + 64 * m) (λ t id. omega (arith, id, within)) threads has.ids;
+}
+
+-- the process of the thread after its transition
+own_few : (n tid : ℕ) (o : Transition) (p : Process) → CreatedWithin (64 + 64 * n) o.created → HasFew n p.pid p.threads → HasFew (n + 1) (changed tid o p).pid (changed tid o p).threads
+own_few n tid o p created has =
+    let moved : List Thread = map (thread_moved tid o) p.threads in
+    let small = λ (t : Thread). t.id ≤ 64 + 64 * n in
+    let kept : All small moved = All-map small (thread_moved tid o) p.threads (All-weaker small (λ t. (thread_moved tid o t).id ≤ 64 + 64 * n) (λ t id. subst (λ (k : ℕ). k ≤ 64 + 64 * n) (sym ((transition_keeps tid o).same_id t)) id) p.threads has.ids) in
+    let all : All small (threads_moved tid o p.threads) = All-append small moved (thread_created o.created) kept (small_created (64 + 64 * n) o.created created) in
+    subst (λ (q : ℕ × List Thread). HasFew (n + 1) q.0 q.1) (sym (own_same o.actions (record p { threads = threads_moved tid o p.threads; shared = for_each shared_after o.actions p.shared })))
+    (record {
+      pid_few = omega (arith, has.pid_few);
+      few = omega (arith, length-append moved (thread_created o.created), length-map p.threads (thread_moved tid o), few_created o.created, has.few);
+      ids = All-weaker small (λ t. t.id ≤ 64 + 64 * (n + 1)) (λ t id. omega (arith, id)) (threads_moved tid o p.threads) all;
+    })
+
+-- another process
+other_few : (n pid : ℕ) (o : Transition) (p : Process) → HasFew n p.pid p.threads → HasFew (n + 1) (for_each (other_process_after pid) o.actions p).pid (for_each (other_process_after pid) o.actions p).threads
+other_few n pid o p has =
+    subst (λ (q : ℕ × List Thread). HasFew (n + 1) q.0 q.1) (sym (other_same pid o.actions p)) (few_more n (n + 1) p.pid p.threads (omega arith) has)
+
+-- ---- a state
+
+abbrev pub HasFewIn : ℕ → Process → Type 0
+HasFewIn n p = HasFew n p.pid p.threads
+
+-- each process does
+abbrev pub AllHaveFew : ℕ → World → Type 0
+AllHaveFew n w = All (HasFewIn n) w.processes
+
+few_if : (n pid tid : ℕ) (o : Transition) (p : Process) (own : Bool) → CreatedWithin (64 + 64 * n) o.created → HasFewIn n p → HasFewIn (n + 1) (cond own (changed tid o p) (for_each (other_process_after pid) o.actions p))
+few_if n pid tid o p true created has = own_few n tid o p created has
+few_if n pid tid o p false created has = other_few n pid o p has
+
+-- after a transition
+few_after : (n pid tid : ℕ) (o : Transition) (w : World) → CreatedWithin (64 + 64 * n) o.created → AllHaveFew n w → AllHaveFew (n + 1) (after_transition pid tid o w)
+unfolding after_transition
+few_after n pid tid o w created has =
+    let next : Process → Process = λ p. cond (is_live_process pid p) (changed tid o p) (for_each (other_process_after pid) o.actions p) in
+    All-map (HasFewIn (n + 1)) next w.processes (All-weaker (HasFewIn n) (λ p. HasFewIn (n + 1) (next p)) (λ p. few_if n pid tid o p (is_live_process pid p) created) w.processes has)
+
+-- ---- an entry
+
+-- what is found has what all have, and passes the test
+found_all : {X : Type 0} (P : X → Type 0) (test : X → Bool) (xs : List X) (x : X) → find test xs ≡ Some x → All P xs → P x × (test x ≡ true)
+found_all P test [] x is all = absurd (none-some x is)
+found_all {X} P test (y ∷ ys) x is all = either (test y) refl is (λ later. found_all P test ys x later (All-tail P y ys all)) where
+  either : (b : Bool) → test y ≡ b → cond b (Some y) (find test ys) ≡ Some x → (find test ys ≡ Some x → P x × (test x ≡ true)) → P x × (test x ≡ true)
+  either true passes found rest = let same : y ≡ x = same_Some y x found in (subst P same (All-head P y ys all), ap test (sym same) ∙ passes)
+  either false passes found rest = rest found
+
+-- the entry has numbers of at most a limit, and at most n are made with it
+record StepsWithin (n : ℕ) (e : Entry) (w : World) : Type 0 where
+  numbers : IsEntryWithin (64 + 64 * n) e
+  few : AllHaveFew (n + 1) w
+
+module _ (script : Script) (config : Config) (n : ℕ) (w : World) (e : Entry) (slots : config.slots ≤ 64) (has : AllHaveFew n w) (may : may_step w e ≡ true) where
+  offered_within : (p : Process) (t : Thread) (o : Transition) (b : Bool) → HasFewIn n p × (is_live_process e.pid p ≡ true) → (t.id ≤ 64 + 64 * n) × (is_live_thread e.tid t ≡ true) → offers (choices_of script config p t) e.alt ≡ b → cond b (Some (transition_by script config p t e.alt)) None ≡ Some o → StepsWithin n e (successor_of w e o).world
+  offered_within p t o true process thread offered is =
+      let choice : IsChoiceWithin (64 + 64 * n) e.alt = choice_within script config p t e.alt n slots process.0.few offered in
+      let chosen : IsChosen e.alt o.created = subst (λ (x : Transition). IsChosen e.alt x.created) (same_Some (transition_by script config p t e.alt) o is) (transition_chosen e.alt (body_at script t.frames) p.shared t (others_of script config p t) (next_of script t.frames) t.status) in
+      let pid : p.pid ≡ e.pid = eqb-true p.pid e.pid (and_parts (nat_eq p.pid e.pid) (not (has_ended p)) process.1).0 in
+      let tid : t.id ≡ e.tid = eqb-true t.id e.tid (and_parts (nat_eq t.id e.tid) (holds_slot t) thread.1).0 in
+      record {
+        numbers = record {
+          worker = leb-true e.worker MAX_WORKER (and_parts (is_none w.stop) (nat_le e.worker MAX_WORKER) may).1;
+          pid = omega (arith, pid, process.0.pid_few);
+          tid = omega (arith, tid, thread.0);
+          choice = choice;
+        };
+        few = few_after n e.pid e.tid o w (created_within (64 + 64 * n) e.alt o.created chosen choice) has;
+      }
+  offered_within p t o false process thread offered is = absurd (none-some o is)
+
+  thread_within : (p : Process) (t : Option Thread) (o : Transition) → HasFewIn n p × (is_live_process e.pid p ≡ true) → with_id e.tid p.threads ≡ t → option_and_then (if_offered script config p e) t ≡ Some o → StepsWithin n e (successor_of w e o).world
+  thread_within p (Some t) o process at is = offered_within p t o (offers (choices_of script config p t) e.alt) process (found_all (λ (x : Thread). x.id ≤ 64 + 64 * n) (is_live_thread e.tid) p.threads t at process.0.ids) refl is
+  thread_within p None o process at is = absurd (none-some o is)
+
+  process_within : (p : Option Process) (o : Transition) → find (is_live_process e.pid) w.processes ≡ p → option_and_then (λ (x : Process). option_and_then (if_offered script config x e) (with_id e.tid x.threads)) p ≡ Some o → StepsWithin n e (successor_of w e o).world
+  process_within (Some p) o at is = thread_within p (with_id e.tid p.threads) o (found_all (HasFewIn n) (is_live_process e.pid) w.processes p at has) refl is
+  process_within None o at is = absurd (none-some o is)
+
+step_by : (script : Script) (config : Config) (n : ℕ) (w : World) (e : Entry) (may : Bool) (o : Option Transition) (s : Successor) → config.slots ≤ 64 → may_step w e ≡ may → transition_of script config w e ≡ o → cond may (option_map (successor_of w e) o) None ≡ Some s → AllHaveFew n w → StepsWithin n e s.world
+step_by script config n w e true (Some o) s slots may taken is has =
+    subst (λ (x : Successor). StepsWithin n e x.world) (same_Some (successor_of w e o) s is) (process_within script config n w e slots has may (find (is_live_process e.pid) w.processes) o refl taken)
+step_by script config n w e true None s slots may taken is has = absurd (none-some s is)
+step_by script config n w e false o s slots may taken is has = absurd (none-some s is)
+
+-- a step
+step_within : (script : Script) (config : Config) (n : ℕ) (w : World) (e : Entry) (s : Successor) → config.slots ≤ 64 → step script config w e ≡ Some s → AllHaveFew n w → StepsWithin n e s.world
+unfolding step
+step_within script config n w e s slots is has = step_by script config n w e (may_step w e) (transition_of script config w e) s slots refl refl is has
+
+-- ---- runs
+
+choice_more : (limit more : ℕ) (choice : Alt) → limit ≤ more → IsChoiceWithin limit choice → IsChoiceWithin more choice
+choice_more limit more alt.Go within small = tt
+choice_more limit more (alt.Act n) within small = omega (arith, within, small)
+choice_more limit more (alt.New n) within small = omega (arith, within, small)
+choice_more limit more (alt.Pick n) within small = omega (arith, within, small)
+choice_more limit more (alt.Dtor n) within small = omega (arith, within, small)
+
+entry_more : (limit more : ℕ) (e : Entry) → limit ≤ more → IsEntryWithin limit e → IsEntryWithin more e
+entry_more limit more e within small = record { worker = small.worker; pid = omega (arith, within, small.pid); tid = omega (arith, within, small.tid); choice = choice_more limit more e.alt within small.choice }
+
+-- the numbers of a run of these entries, with at most m entries in all
+pub record RunsWithin (m : ℕ) (entries : List Entry) (after : Run) : Type 0 where
+  pub numbers : All (IsEntryWithin (64 + 64 * m)) entries
+  pub few : AllHaveFew m after.world
+
+module _ (script : Script) (config : Config) (m : ℕ) (slots : config.slots ≤ 64) (after : Run) where
+  by_step : (n : ℕ) (r next : Run) (e : Entry) (o : Option Successor) → step script config r.world e ≡ o → option_map (run_after r e) o ≡ Some next → AllHaveFew n r.world → StepsWithin n e next.world
+  by_step n r next e None at is has = absurd (none-some next is)
+  by_step n r next e (Some s) at is has = subst (λ (x : Run). StepsWithin n e x.world) (same_Some (run_after r e s) next is) (step_within script config n r.world e s slots at has)
+
+  runs_then : (n : ℕ) (r : Run) (e : Entry) (entries : List Entry) (o : Option Run) → run_step script config r e ≡ o → option_and_then (λ (next : Run). run_from script config next entries) o ≡ Some after → n ≤ m → AllHaveFew n r.world
+      → ((next : Run) → run_from script config next entries ≡ Some after → AllHaveFew (n + 1) next.world → RunsWithin m entries after) → RunsWithin m (e ∷ entries) after
+  runs_then n r e entries None at is within has rest = absurd (none-some after is)
+  runs_then n r e entries (Some next) at is within has rest =
+      let made = by_step n r next e (step script config r.world e) refl (sym (run_step-is script config r e (step script config r.world e) refl) ∙ at) has in
+      let later = rest next is made.few in
+      record { numbers = All-cons (IsEntryWithin (64 + 64 * m)) e entries (entry_more (64 + 64 * n) (64 + 64 * m) e (omega (arith, within)) made.numbers) later.numbers; few = later.few }
+
+  runs_from : (n : ℕ) (r : Run) (entries : List Entry) → run_from script config r entries ≡ Some after → n + length entries ≤ m → AllHaveFew n r.world → RunsWithin m entries after
+  unfolding run_from
+  runs_from n r [] is within has = record {
+    numbers = All-nil (IsEntryWithin (64 + 64 * m));
+    few = subst (λ (x : Run). AllHaveFew m x.world) (same_Some r after is) (All-weaker (HasFewIn n) (HasFewIn m) (λ p. few_more n m p.pid p.threads (omega (arith, within))) r.world.processes has);
+  }
+  runs_from n r (e ∷ entries) is within has =
+      runs_then n r e entries (run_step script config r e) refl is (omega (arith, within)) has (λ next ran more. runs_from (n + 1) next entries ran (omega (arith, within)) more)
+
+-- the limits of a configuration, and of the entries of a run
+pub record IsLimited (config : Config) (entries : List Entry) : Type 0 where
+  pub slots : config.slots ≤ 64
+  pub budget : length entries ≤ 200000
+
+pub run_limited : (script : Script) (config : Config) (entries : List Entry) (after : Run) → run script config entries ≡ Some after → IsLimited config entries
+run_limited script config entries after is =
+    let b1 : Bool = nat_le 1 config.budget in
+    let b2 : Bool = nat_le config.budget MAX_BUDGET in
+    let b3 : Bool = nat_le MIN_PASSES config.passes in
+    let b4 : Bool = nat_le config.passes MAX_PASSES in
+    let b5 : Bool = nat_le 1 config.slots in
+    let b6 : Bool = nat_le config.slots MAX_SLOTS in
+    let parts = run_parts script config entries after is in
+    let p6 = and_parts (b1 && b2 && b3 && b4 && b5) b6 parts.limits in
+    let p5 = and_parts (b1 && b2 && b3 && b4) b5 p6.0 in
+    let p4 = and_parts (b1 && b2 && b3) b4 p5.0 in
+    let p3 = and_parts (b1 && b2) b3 p4.0 in
+    let p2 = and_parts b1 b2 p3.0 in
+    let budget = leb-true config.budget MAX_BUDGET p2.1 in
+    record { slots = leb-true config.slots MAX_SLOTS p6.1; budget = omega (arith, parts.within, budget) }
+
+-- a run makes at most one thread for each entry, beside the initial one
+pub run_within : (script : Script) (config : Config) (entries : List Entry) (after : Run) → run script config entries ≡ Some after → RunsWithin (1 + length entries) entries after
+unfolding opening
+run_within script config entries after is =
+    let parts = run_parts script config entries after is in
+    let small = λ (t : Thread). t.id ≤ 64 + 64 * 1 in
+    let first : HasFewIn 1 (first_process script) = record { pid_few = omega arith; few = omega arith; ids = All-cons small _ [] (omega arith) (All-nil small) } in
+    runs_from script config (1 + length entries) (run_limited script config entries after is).slots after 1 (record { world = opening script; events = [] }) entries parts.ran (omega arith) (All-cons (HasFewIn 1) (first_process script) [] first (All-nil (HasFewIn 1)))
+
+-- the entries of a run have numbers of 32 bits
+pub run_numbers_fit : (script : Script) (config : Config) (entries : List Entry) (after : Run) → run script config entries ≡ Some after → All (IsEntryWithin 4294967295) entries
+run_numbers_fit script config entries after is =
+    let limit : ℕ = 64 + 64 * (1 + length entries) in
+    let few : limit ≤ 4294967295 = omega (arith, (run_limited script config entries after is).budget) in
+    All-weaker (IsEntryWithin limit) (IsEntryWithin 4294967295) (λ e. entry_more limit 4294967295 e few) entries (run_within script config entries after is).numbers

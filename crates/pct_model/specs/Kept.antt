@@ -1,0 +1,148 @@
+-- The invariant of reachable states: what each state that a run reaches keeps, beside the events that led to it.
+use Rattle.std.specs.Prelude.{◌≡◌, ℕ, ◌<◌, Bool, true, false, not, ◌||◌, List, [], ◌∷◌, ◌++◌, length, map, Option, Some, None, is_some, All}
+use Rattle.std.specs.List.{list_any}
+use Rattle.std.specs.Option.{option_map_or}
+use Rattle.pct_model.specs.declared.event.Event.{Event}
+use Rattle.pct_model.specs.declared.frame.Frame.{Frame}
+use Rattle.pct_model.specs.declared.script.Script.{Script}
+use Rattle.pct_model.specs.declared.schedule.Config.{Config}
+use Rattle.pct_model.specs.declared.state.FrameKind.{FrameKind}
+use Rattle.pct_model.specs.declared.state.FrameKind.TheVariants as kind
+use Rattle.pct_model.specs.declared.state.State.TheVariants.{Disable}
+use Rattle.pct_model.specs.declared.state.Status.{Status}
+use Rattle.pct_model.specs.declared.state.Status.TheVariants as status
+use Rattle.pct_model.specs.declared.statement.Stmt.TheVariants as statement
+use Rattle.pct_model.specs.KnownThreads.{is_known}
+use Rattle.pct_model.specs.LineParsing.{is_empty}
+use Rattle.pct_model.specs.NextStatement.{NextStatement, StatementIn, next_of}
+use Rattle.pct_model.specs.OpenPushes.{open_pushes}
+use Rattle.pct_model.specs.OwnEvents.{made_process, thread_with, made_thread}
+use Rattle.pct_model.specs.StopTable.{has_begun_to_end}
+use Rattle.pct_model.specs.ThreadNumbers.{NumbersThreads}
+use Rattle.pct_model.specs.ThreadSlots.{is_ended_status}
+use Rattle.pct_model.specs.ThreadSummary.{ThreadSummary, summary_of}
+use Rattle.pct_model.specs.World.{Thread, Process, World, body_of}
+
+-- ---- handlers
+
+-- the functions of the pushes that are open at the pcs of frames, newest first
+abbrev pub open_functions : Script → List Frame → List ℕ
+open_functions script [] = []
+open_functions script (frame ∷ below) = open_pushes (body_of script frame.func) frame.pc ++ open_functions script below
+
+-- handlers, newest first: one for each of these functions, which pushes name, and below them those that are left of the ones that
+-- were open at the ending event
+pub record AreOpen (functions : List ℕ) (handlers left : List (ℕ × ℕ)) : Type 0 where
+  pub pushed : List (ℕ × ℕ)
+  pub parts : handlers ≡ pushed ++ left
+  pub named : map (λ (handler : ℕ × ℕ). handler.0) pushed ≡ functions
+
+-- ---- frames
+
+-- a frame of this kind is the bottom one of its thread
+abbrev pub is_bottom_kind : FrameKind → Bool
+is_bottom_kind kind.Main = true
+is_bottom_kind kind.Start = true
+is_bottom_kind kind.Handler = true
+is_bottom_kind kind.Destructor = true
+is_bottom_kind kind.ExitFn = true
+is_bottom_kind _ = false
+
+-- the bottom frame is of such a kind, and no other frame is
+abbrev pub HasOneBottom : List Frame → Type 0
+HasOneBottom [] = Unit {0}
+HasOneBottom (frame ∷ below) = (is_bottom_kind frame.kind ≡ is_empty below) × HasOneBottom below
+
+-- the kind of the bottom frame, if there is a frame
+abbrev pub bottom_kind : List Frame → Option FrameKind
+bottom_kind [] = None
+bottom_kind (frame ∷ []) = Some frame.kind
+bottom_kind (frame ∷ next ∷ below) = bottom_kind (next ∷ below)
+
+-- a frame of this kind runs as its thread ends: it is that of a cleanup handler or of a destructor
+abbrev pub is_end_kind : FrameKind → Bool
+is_end_kind kind.Handler = true
+is_end_kind kind.Destructor = true
+is_end_kind _ = false
+
+-- a frame of this kind is that of a function registered with atexit
+abbrev pub is_exit_kind : FrameKind → Bool
+is_exit_kind kind.ExitFn = true
+is_exit_kind _ = false
+
+-- ---- status
+
+-- a thread with this status has no frame
+abbrev pub has_no_frame : Status → Bool
+has_no_frame status.Ending = true
+has_no_frame status.Exiting = true
+has_no_frame (status.Ended v) = true
+has_no_frame _ = false
+
+-- the status is Ending or Ended
+abbrev pub is_ending_status : Status → Bool
+is_ending_status status.Ending = true
+is_ending_status (status.Ended v) = true
+is_ending_status _ = false
+
+-- a thread with this status and these frames exits its process: it is Exiting, or runs a function registered with atexit and has no
+-- other frame
+abbrev pub is_exiting : Status → List Frame → Bool
+is_exiting status.Exiting frames = true
+is_exiting status.Running (frame ∷ []) = is_exit_kind frame.kind
+is_exiting _ _ = false
+
+-- the next statement is pthread_join
+abbrev pub is_join : NextStatement → Bool
+is_join (StatementIn frame (statement.Join id d)) = true
+is_join _ = false
+
+-- ---- threads
+
+-- a thread, and what the events so far report of it
+pub record ThreadKept (script : Script) (t : Thread) (s : ThreadSummary) : Type 0 where
+  -- the open handlers are its handlers
+  pub handlers : s.handlers ≡ t.handlers
+  -- it has an ending event exactly if it has a reason, and the event is that of the reason
+  pub reason : s.reason ≡ t.reason
+  -- it has an event of its end exactly if it has ended
+  pub ended : is_some s.ended ≡ t.ended
+  -- the value of this event is that of its status
+  pub value : (v : ℕ) → t.status ≡ status.Ended v → s.ended ≡ Some v
+  -- a thread that has ended has such a status, unless it exits its process
+  pub ended_status : t.ended ≡ true → s.exiting ≡ false → is_ended_status t.status ≡ true
+  -- unless it exits its process, its handlers are those of the pushes that are open at the pcs of its frames, above those that
+  -- were open at its ending event and have not run (XSH pthread_cleanup_push, 2.9.5.3)
+  pub pushes : s.exiting ≡ false → AreOpen (open_functions script t.frames) t.handlers s.left
+  -- the function of each handler is one of the script
+  pub functions : All (λ (handler : ℕ × ℕ). handler.0 < length script.funcs) t.handlers
+  -- the pc of each frame is that of a statement of its function
+  pub places : All (λ (frame : Frame). frame.pc < length (body_of script frame.func)) t.frames
+  -- it has no frame exactly if it is Ending, Exiting or Ended
+  pub frames : is_empty t.frames ≡ has_no_frame t.status
+  -- its bottom frame is that of `main`, of a start routine, of a handler, a destructor or an exit function, and no other is
+  pub bottom : HasOneBottom t.frames
+  -- unless it exits its process, it has a reason exactly if it is Ending or Ended, or its bottom frame is that of a handler or of a
+  -- destructor
+  pub has_reason : s.exiting ≡ false → has_begun_to_end t.reason ≡ (is_ending_status t.status || option_map_or is_end_kind (bottom_kind t.frames) false)
+  -- it has begun to exit its process exactly if it is Exiting, or runs an exit function and has no other frame; no other thread has
+  -- such a frame
+  pub exiting : s.exiting ≡ is_exiting t.status t.frames
+  pub exit_functions : s.exiting ≡ false → list_any (λ (frame : Frame). is_exit_kind frame.kind) t.frames ≡ false
+  -- a thread that has a reason, or exits its process, has its cancelability disabled (XSH 2.9.5.3)
+  pub disabled : (has_begun_to_end t.reason || s.exiting) ≡ true → t.state ≡ Disable
+  -- the next statement of a thread that is suspended in pthread_join is a pthread_join
+  pub joining : (id : ℕ) → t.status ≡ status.Joining id → is_join (next_of script t.frames) ≡ true
+
+-- ---- states
+
+-- the state after a run, and the events of the run, newest first
+pub record Kept (script : Script) (config : Config) (w : World) (events : List Event) : Type 0 where
+  -- the numbers of processes and threads, and the threads and forks of the events
+  pub numbers : NumbersThreads config.slots w events
+  -- the threads that were made and are not gone are the known ones
+  pub known : (pid tid : ℕ) → is_known pid tid events ≡ option_map_or (λ t. not t.gone) (made_thread pid tid w) false
+  -- each thread that was made and is not gone
+  pub threads : (pid tid : ℕ) (t : Thread) → made_thread pid tid w ≡ Some t → t.gone ≡ false → ThreadKept script t (summary_of pid tid events)
+  -- if a thread that has ended exits its process, each thread of the process has ended (XSH pthread_exit)
+  pub last : (pid : ℕ) (p : Process) → made_process pid w ≡ Some p → (tid : ℕ) (t : Thread) → thread_with tid p ≡ Some t → t.gone ≡ false → t.ended ≡ true → (summary_of pid tid events).exiting ≡ true → (id : ℕ) (other : Thread) → thread_with id p ≡ Some other → other.gone ≡ false → other.ended ≡ true

@@ -1,0 +1,61 @@
+-- What the events of a run report of a thread: its cleanup handlers and its end. A thread is given by the id of its process and
+-- its own. The events are listed newest first, as in the trace of a run.
+use Rattle.std.specs.Prelude.{ℕ, Bool, true, false, if◌then◌else◌, List, [], ◌∷◌, Option, Some, None, nat_eq}
+use Rattle.pct_model.specs.declared.event.Event.{Event}
+use Rattle.pct_model.specs.declared.event.What.{What}
+use Rattle.pct_model.specs.declared.event.What.TheVariants as what
+use Rattle.pct_model.specs.declared.state.Reason.{Reason}
+use Rattle.pct_model.specs.declared.state.Reason.TheVariants as reason
+use Rattle.pct_model.specs.Actions.{without_first}
+use Rattle.pct_model.specs.OwnEvents.{makes_process}
+
+-- what the events so far report of a thread
+pub record ThreadSummary : Type 0 where
+  -- the open handlers: those that were pushed and since then neither popped nor run; function and argument, newest first
+  pub handlers : List (ℕ × ℕ)
+  -- the reason for its end that its ending event gives, or `None` if it has no ending event
+  pub reason : Reason
+  -- the handlers that were open at its ending event and have not run: each handler that runs is the newest of them
+  pub left : List (ℕ × ℕ)
+  -- the value with which it ended, if it has
+  pub ended : Option ℕ
+  -- it has begun to exit its process
+  pub exiting : Bool
+
+-- the summary of a thread without events
+abbrev pub no_events : ThreadSummary
+no_events = record { handlers = []; reason = reason.None; left = []; ended = None; exiting = false }
+
+-- the summary after an ending event
+abbrev pub with_ending : Reason → ThreadSummary → ThreadSummary
+with_ending why s = record s { reason = why; left = s.handlers }
+
+-- the summary after an event of the thread
+abbrev pub with_event : What → ThreadSummary → ThreadSummary
+with_event (what.Pushed f a) s = record s { handlers = (f, a) ∷ s.handlers }
+with_event (what.Popped f a run) s = record s { handlers = without_first s.handlers }
+with_event (what.HandlerRun f a) s = record s { handlers = without_first s.handlers; left = without_first s.left }
+with_event (what.EndingExit v) s = with_ending (reason.Exit v) s
+with_event what.EndingCanceled s = with_ending reason.Canceled s
+with_event (what.EndingInWait c m) s = with_ending reason.Canceled s
+with_event (what.EndedWith v) s = record s { ended = Some v }
+with_event (what.ExitBegun v) s = record s { exiting = true }
+with_event _ s = s
+
+-- the summary of a thread that fork replicates if the event makes its process: it inherits the open handlers of the thread that
+-- called fork (XSH fork); `of_process` gives the summary of the thread with its id in each process
+abbrev pub replicated : Bool → ℕ → (ℕ → ThreadSummary) → ThreadSummary → ThreadSummary
+replicated true parent of_process s = record s { handlers = (of_process parent).handlers }
+replicated false parent of_process s = s
+
+-- the summary of a thread after an event of any thread, from those of the threads with its id
+abbrev pub summary_after : ℕ → ℕ → Event → (ℕ → ThreadSummary) → ThreadSummary → ThreadSummary
+summary_after pid tid e of_process s =
+    if nat_eq e.tid tid
+    then (if nat_eq e.pid pid then with_event e.what s else replicated (makes_process pid e.what) e.pid of_process s)
+    else s
+
+-- the summary of thread tid of process pid
+abbrev pub summary_of : ℕ → ℕ → List Event → ThreadSummary
+summary_of pid tid [] = no_events
+summary_of pid tid (e ∷ earlier) = summary_after pid tid e (λ process. summary_of process tid earlier) (summary_of pid tid earlier)

@@ -1,0 +1,13 @@
+use Rattle.std.proofs.Common.{Result, drop}
+use Rattle.std.specs.List.{flat_map}
+use Rattle.pct_io.specs.declared.failed.Failed.{Failed}
+use Rattle.pct_io.specs.Writes.{Writes}
+use Rattle.pct_model.specs.Keywords.{line_text}
+use Rattle.pct_model.specs.Report.{event_line}
+use Rattle.pct_report.proofs.report.write_each.Given as goal
+
+-- what completes the rest completes all
+abbrev pub invariant-loop-event : goal.invariant-loop-event
+invariant-loop-event g l = (new : g.row.K.Denot) (r : Result (Unit {0}) Failed)
+    → Writes g.K.Sink.written g.K.Sink.errors g.K.Sink.inners l.sink new (flat_map (λ e. line_text (event_line l.script e)) (drop l.event-index l.events)) r
+    → Writes g.K.Sink.written g.K.Sink.errors g.K.Sink.inners l.initial.sink new (flat_map (λ e. line_text (event_line l.script e)) l.events) r
