@@ -2,15 +2,18 @@
 use Rattle.std.proofs.Common.{◌≡◌, ℕ, ◌+◌, ◌≤◌, Bool, not, List, [], ◌∷◌, length, map, cond, Option, Some, None, refl, sym, ap, ◌∙◌, position, nat_lt, option_map}
 use Rattle.std.specs.Prelude.{bytes_eq, slice_get, option_and_then}
 use Rattle.std.specs.Option.{option_map_or}
-use Rattle.std.specs.List.{position_or_len}
+use Rattle.std.specs.List.{flat_map, position_or_len}
 use Rattle.std.proofs.lemmas.List.{length-map}
+use Rattle.std.proofs.lemmas.List.Folds.{flat_map-map}
 use Rattle.std.proofs.lemmas.Option.{slice_get-map, slice_get_past}
 use Rattle.pct_model.specs.declared.point.PointKind.{PointKind}
 use Rattle.pct_model.specs.declared.point.PointWait.{PointWait}
-use Rattle.pct_model.specs.Points.{Row, points, point_at, point_of, point_name}
+use Rattle.pct_model.specs.Keywords.{line_text}
+use Rattle.pct_model.specs.Points.{Row, points, point_at, point_of, point_name, row_words, points_text}
 use Rattle.pct_cancel.specs.declared.call.Call.{Call}
 use Rattle.pct_cancel.specs.declared.point.TheConstants.{POINTS}
 use Rattle.pct_cancel.specs.Calls.{call_name}
+use Rattle.pct_cancel.specs.Rows.{as_row}
 
 -- ---- positions in a list that was mapped
 
@@ -28,10 +31,6 @@ position-map : {X Y : Type 0} (p : Y → Bool) (f : X → Y) (xs : List X) → p
 position-map p f xs = ap (λ n. index_in n (length (map f xs))) (position_or_len-map p f xs) ∙ ap (λ n. index_in (position_or_len (λ x. p (f x)) xs) n) (length-map xs f)
 
 -- ---- the table
-
--- the row of the definitions that a row of the code represents
-abbrev as_row : Call × PointKind × PointWait → Row
-as_row r = record { name = call_name r.0; kind = r.1; wait = r.2 }
 
 -- the rows of both tables, in the same order
 rows_are : points ≡ map as_row POINTS
@@ -60,7 +59,21 @@ pub name_in_row : (index : ℕ) (r : Call × PointKind × PointWait) → slice_g
 unfolding point_name
 name_in_row index r at = sym (ap (λ row. option_map_or (λ row. row.name) row []) (row_is index r at))
 
+-- the point in one of its rows
+pub point_in_row : (index : ℕ) (r : Call × PointKind × PointWait) → slice_get POINTS index ≡ Some r → Some (record { index = index; kind = r.1; wait = r.2 }) ≡ point_at index
+point_in_row index r at = sym (ap (option_map (λ row. record { index = index; kind = row.kind; wait = row.wait })) (row_is index r at))
+
+-- an index that is not in the table has no point
+pub no_point_past : (index : ℕ) → 58 ≤ index → None ≡ point_at index
+unfolding points
+no_point_past index past = sym (ap (option_map (λ row. record { index = index; kind = row.kind; wait = row.wait })) (slice_get_past points index past))
+
 -- an index that is not in the table
 pub past_the_table : (index : ℕ) → 58 ≤ index → [] ≡ point_name index
 unfolding points point_name
 past_the_table index past = sym (ap (λ row. option_map_or (λ r. r.name) row []) (slice_get_past points index past))
+
+-- the text of the code's table
+pub text_is : flat_map (λ row. line_text (row_words (as_row row))) POINTS ≡ points_text
+unfolding points_text
+text_is = sym (ap (flat_map (λ (row : Row). line_text (row_words row))) rows_are ∙ flat_map-map (λ (row : Row). line_text (row_words row)) as_row POINTS)

@@ -7,4 +7,4 @@ mod point;
 
 pub use cancel::Cancel;
 pub use pct_model::{Mode, Point, PointKind, PointWait, State};
-pub use point::{POINT_COUNT, point_name, point_of, write_point};
+pub use point::{POINT_COUNT, point_at, point_name, point_of, write_point, write_points};

@@ -1,16 +1,18 @@
 //! The table of cancellation points (XSH 2.9.5.2).
 
-ghost use Rattle.std.specs.Prelude.{◌≡◌, ◌<◌, Some, bytes_eq, position, slice_get};
+ghost use Rattle.std.specs.Prelude.{◌≡◌, ◌<◌, Some, bytes_eq, position, slice_get, flat_map};
 ghost use Rattle.pct_io.specs.Writes.{Writes};
-ghost use Rattle.pct_model.specs.Points.{point_of, point_name};
+ghost use Rattle.pct_model.specs.Keywords.{line_text};
+ghost use Rattle.pct_model.specs.Points.{point_at, point_of, point_name, row_words, points_text};
 ghost use Rattle.pct_cancel.specs.declared.point.TheConstants.{POINTS, POINT_COUNT};
 ghost use Rattle.pct_cancel.specs.Calls.{call_name};
+ghost use Rattle.pct_cancel.specs.Rows.{as_row};
 
 use crate::PointKind::{Optional, Required};
 use crate::PointWait::{Inside, Never, NoWait, Outside};
 use crate::call::Call;
 use crate::{Point, PointKind, PointWait};
-use pct_io::{Failed, Sink, write_all};
+use pct_io::{BufferedSink, Failed, Field, Sink, write_all, write_line};
 
 /// The number of cancellation points; their indexes are below it.
 pub const POINT_COUNT: usize = 58;
@@ -91,6 +93,18 @@ pub fn point_of(name: &[u8]) -> Option<Point>
     })
 }
 
+/// The cancellation point with this index, or `None` if the index is not in the table.
+pub fn point_at(index: u32) -> Option<Point>
+    ensures { result ≡ point_at index }
+{
+    if (index as usize) < POINT_COUNT {
+        let (_, kind, wait) = row_at(index as usize);
+        Some(Point { index, kind, wait })
+    } else {
+        None
+    }
+}
+
 /// Writes the name of the point with this index to the sink. After `Failed` a prefix of the name was written, and the
 /// sink recorded an error.
 pub fn write_point<K: Sink>(index: u32, sink: &mut K) -> Result<(), Failed>
@@ -98,6 +112,39 @@ pub fn write_point<K: Sink>(index: u32, sink: &mut K) -> Result<(), Failed>
     ensures { Writes K.written K.errors K.inners sink.old sink.new (point_name index) result }
 {
     write_all(sink, row_at(index as usize).0.name())
+}
+
+/// Writes the table to the sink: a line `NAME KIND WAIT` for each point, in the order of the indexes. After `Failed` a
+/// prefix of this text was written, and the sink recorded an error. It allocates no memory.
+pub fn write_points<K: Sink>(sink: &mut K) -> Result<(), Failed>
+    ensures { Writes K.written K.errors K.inners sink.old sink.new points_text result }
+{
+    let mut out = BufferedSink::new(sink);
+    write_rows(&mut out, &POINTS)?;
+    out.flush()
+}
+
+fn write_rows<K: Sink>(sink: &mut K, rows: &[(Call, PointKind, PointWait)]) -> Result<(), Failed>
+    ensures { Writes K.written K.errors K.inners sink.old sink.new (flat_map (λ row. line_text (row_words (as_row row))) rows.now) result }
+{
+    for row in rows {
+        write_row(sink, *row)?;
+    }
+    Ok(())
+}
+
+fn write_row<K: Sink>(sink: &mut K, row: (Call, PointKind, PointWait)) -> Result<(), Failed>
+    ensures { Writes K.written K.errors K.inners sink.old sink.new (line_text (row_words (as_row row))) result }
+{
+    let (call, kind, wait) = row;
+    write_line(
+        sink,
+        &[
+            Field::Text(call.name()),
+            Field::Text(kind.text()),
+            Field::Text(wait.text()),
+        ],
+    )
 }
 
 /// The name of the point with this index, or the empty name if the index is not in the table.

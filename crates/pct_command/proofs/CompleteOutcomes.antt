@@ -67,6 +67,7 @@ not_refused words input schedule code text accepted valid (outcome.EntryRefused 
 not_refused words input schedule code text accepted valid (outcome.Replayed replays) = rw replays.code_is (verdict_code _)
 not_refused words input schedule code text accepted valid (outcome.Ran runs) = rw runs.code_is (verdict_code _)
 not_refused words input schedule code text accepted valid (outcome.Checked checks) = omega (arith, checks.code_is)
+not_refused words input schedule code text accepted valid (outcome.PointsWritten written) = omega (arith, written.code_is)
 
 -- ---- all that a source had left
 

@@ -2,12 +2,14 @@
 use Rattle.std.proofs.Common.{◌≡◌, ℕ, suc, ◌≤◌, Bool, true, false, ◌&&◌, cond, List, [], ◌∷◌, length, Option, Some, None, Ok, Err, refl, sym, ap, ◌∙◌, subst}
 use Rattle.std.specs.Prelude.{nat_le, nat_lt, option_and_then, option_map}
 use Rattle.std.specs.Option.{option_map_or}
-use Rattle.std.proofs.lemmas.Bool.{le-ltb, lt-ltb}
+use Rattle.std.proofs.lemmas.Bool.{le-ltb, lt-ltb, or_parts}
 use Rattle.std.proofs.lemmas.Option.{none-some, some_pair_parts}
 use Rattle.pct_model.specs.declared.script.Script.{Script}
 use Rattle.pct_model.specs.declared.schedule.Config.{Config}
 use Rattle.pct_model.specs.declared.schedule.Entry.{Entry}
+use Rattle.pct_model.specs.declared.keyword.Keyword.TheVariants as keyword
 use Rattle.pct_model.specs.Keywords.{line_text}
+use Rattle.pct_model.specs.Points.{points_text}
 use Rattle.pct_model.specs.World.{opening}
 use Rattle.pct_model.specs.Schedule.{Schedule, sched_of}
 use Rattle.pct_model.specs.Run.{Run, run_step, run_from, illegal_in, first_illegal, is_config, run, verdict_of}
@@ -16,13 +18,13 @@ use Rattle.pct_model.specs.Spelling.{Fault}
 use Rattle.pct_model.specs.Checks.{first_fault}
 use Rattle.pct_model.specs.Spells.{Spells}
 use Rattle.pct_model.specs.Canon.{canon}
-use Rattle.pct_model.specs.Outcome.{is_accepted, script_part, schedule_part, default_config, refused_words, refused_input, refused_script, refused_schedule, refused_entry, code_of_verdict, Outcome}
+use Rattle.pct_model.specs.Outcome.{is_asked, needs_input, script_part, schedule_part, default_config, refused_words, refused_input, refused_script, refused_schedule, refused_entry, code_of_verdict, Outcome}
 use Rattle.pct_model.specs.Outcome as outcome
 use Rattle.pct_grammar.proofs.Scripts.{spelled_is_faultless, spells_one_script}
 use Rattle.pct_command.specs.declared.words.Job.{Job}
 use Rattle.pct_command.specs.declared.words.Job.TheVariants as job
-use Rattle.pct_command.specs.Words.{Asks, default_options, job_asked}
-use Rattle.pct_command.proofs.AskedWords.{names_job, job_is_accepted, part_of_run, part_of_check}
+use Rattle.pct_command.specs.Words.{Asks, HasInput, default_options, job_asked}
+use Rattle.pct_command.proofs.AskedWords.{names_job, job_needs_input, points_need_none, part_of_run, part_of_check}
 
 -- ---- legal runs
 
@@ -48,14 +50,19 @@ run_is_legal script config after entries ran = legal_run script config (record {
 
 -- ---- the code and the text, by the order of the checks
 
--- before the script is known
-abbrev by_checks : Bool → Bool → Option Fault → Option (ℕ × List ℕ)
-by_checks false too_long fault = Some (5, line_text refused_words)
-by_checks true true fault = Some (8, line_text refused_input)
-by_checks true false fault = option_map (λ f. (6, line_text (refused_script f.0 f.1))) fault
+-- of words without an input
+abbrev by_words : Bool → ℕ × List ℕ
+by_words true = (0, points_text)
+by_words false = (5, line_text refused_words)
 
-abbrev refused_of : List (List ℕ) → List ℕ → Option (ℕ × List ℕ)
-refused_of words input = by_checks (is_accepted words) (nat_lt 16777216 (length input)) (first_fault (script_part words input))
+-- before the script is known
+abbrev by_checks : Bool → Bool → Bool → Option Fault → Option (ℕ × List ℕ)
+by_checks false points too_long fault = Some (by_words points)
+by_checks true points true fault = Some (8, line_text refused_input)
+by_checks true points false fault = option_map (λ f. (6, line_text (refused_script f.0 f.1))) fault
+
+abbrev decided_of : List (List ℕ) → List ℕ → Option (ℕ × List ℕ)
+decided_of words input = by_checks (needs_input words) (is_asked keyword.Points words) (nat_lt 16777216 (length input)) (first_fault (script_part words input))
 
 -- of a run
 abbrev by_run : Script → Config → List Entry → Option Run → Option (List ℕ) → Option (ℕ × List ℕ)
@@ -80,29 +87,41 @@ abbrev by_job : Option Job → List ℕ → List Entry → Script → Option (�
 by_job (Some (job.Run options)) input schedule script = run_of script default_config schedule
 by_job (Some job.Replay) input schedule script = by_schedule script (sched_of (schedule_part input))
 by_job (Some job.Check) input schedule script = Some (0, canon script)
+by_job (Some job.Points) input schedule script = None
 by_job None input schedule script = None
 
 -- the code and the text are these
 data Found (words : List (List ℕ)) (input : List ℕ) (schedule : List Entry) (code : ℕ) (text : List ℕ) : Type 0 where
-  Refused : refused_of words input ≡ Some (code, text) → Found words input schedule code text
-  Spelled : refused_of words input ≡ None → (script : Script) → Spells (script_part words input) script → by_job (job_asked words) input schedule script ≡ Some (code, text) → Found words input schedule code text
+  Decided : decided_of words input ≡ Some (code, text) → Found words input schedule code text
+  Spelled : decided_of words input ≡ None → (script : Script) → Spells (script_part words input) script → by_job (job_asked words) input schedule script ≡ Some (code, text) → Found words input schedule code text
 
 -- ---- every outcome is found
 
 these : (c code : ℕ) (t text : List ℕ) → code ≡ c → text ≡ t → ◌≡◌ {A = Option (ℕ × List ℕ)} (Some (c, t)) (Some (code, text))
 these c code t text code_is text_is = ap (λ (x : ℕ). Some (x, t)) (sym code_is) ∙ ap (λ (x : List ℕ). Some (code, x)) (sym text_is)
 
+-- words without an input
+without_input : (words : List (List ℕ)) (input : List ℕ) (points : Bool) → needs_input words ≡ false → is_asked keyword.Points words ≡ points → decided_of words input ≡ Some (by_words points)
+without_input words input points none asked =
+    ap (λ (b : Bool). by_checks b (is_asked keyword.Points words) (nat_lt 16777216 (length input)) (first_fault (script_part words input))) none
+    ∙ ap (λ (b : Bool). Some (by_words b)) asked
+
+-- words with an input
+with_input : (words : List (List ℕ)) (input : List ℕ) (too_long : Bool) → needs_input words ≡ true → nat_lt 16777216 (length input) ≡ too_long → decided_of words input ≡ by_checks true (is_asked keyword.Points words) too_long (first_fault (script_part words input))
+with_input words input too_long needs long =
+    ap (λ (b : Bool). by_checks b (is_asked keyword.Points words) (nat_lt 16777216 (length input)) (first_fault (script_part words input))) needs
+    ∙ ap (λ (b : Bool). by_checks true (is_asked keyword.Points words) b (first_fault (script_part words input))) long
+
 -- an input within the limit is refused for its script alone
-fitting : (words : List (List ℕ)) (input : List ℕ) (fault : Option Fault) → is_accepted words ≡ true → length input ≤ 16777216 → first_fault (script_part words input) ≡ fault → refused_of words input ≡ by_checks true false fault
-fitting words input fault accepted fits first =
-    ap (λ (b : Bool). by_checks b (nat_lt 16777216 (length input)) (first_fault (script_part words input))) accepted
-    ∙ ap (λ (b : Bool). by_checks true b (first_fault (script_part words input))) (le-ltb 16777216 (length input) fits)
-    ∙ ap (λ (f : Option Fault). by_checks true false f) first
+fitting : (words : List (List ℕ)) (input : List ℕ) (fault : Option Fault) → needs_input words ≡ true → length input ≤ 16777216 → first_fault (script_part words input) ≡ fault → decided_of words input ≡ by_checks true (is_asked keyword.Points words) false fault
+fitting words input fault needs fits first =
+    with_input words input false needs (le-ltb 16777216 (length input) fits)
+    ∙ ap (λ (f : Option Fault). by_checks true (is_asked keyword.Points words) false f) first
 
 spelled : (words : List (List ℕ)) (named : Job) (input : List ℕ) (schedule : List Entry) (script : Script) (code : ℕ) (text : List ℕ)
-    → Asks words named → length input ≤ 16777216 → Spells (script_part words input) script → by_job (Some named) input schedule script ≡ Some (code, text) → Found words input schedule code text
-spelled words named input schedule script code text asks fits spells is =
-    Spelled (fitting words input None (job_is_accepted words named asks) fits (spelled_is_faultless _ script spells)) script spells
+    → Asks words named → HasInput named → length input ≤ 16777216 → Spells (script_part words input) script → by_job (Some named) input schedule script ≡ Some (code, text) → Found words input schedule code text
+spelled words named input schedule script code text asks has fits spells is =
+    Spelled (fitting words input None (job_needs_input words named asks has) fits (spelled_is_faultless _ script spells)) script spells
     (ap (λ (o : Option Job). by_job o input schedule script) (names_job words named asks) ∙ is)
 
 ran : (script : Script) (config : Config) (entries : List Entry) (after : Run) (code : ℕ) (text : List ℕ) → run script config entries ≡ Some after → report script config entries ≡ Some text
@@ -114,39 +133,41 @@ ran script config entries after code text is_run text_is code_is =
 
 found : (words : List (List ℕ)) (input : List ℕ) (schedule : List Entry) (code : ℕ) (text : List ℕ) → Outcome words input schedule code text → Found words input schedule code text
 found words input schedule code text (outcome.WordsRefused o) =
-    Refused (ap (λ (b : Bool). by_checks b (nat_lt 16777216 (length input)) (first_fault (script_part words input))) o.refused ∙ these 5 code _ text o.code_is o.text_is)
+    let neither = or_parts (needs_input words) (is_asked keyword.Points words) o.refused in
+    Decided (without_input words input false neither.0 neither.1 ∙ these 5 code _ text o.code_is o.text_is)
+found words input schedule code text (outcome.PointsWritten o) =
+    Decided (without_input words input true (points_need_none words o.accepted) o.accepted ∙ these 0 code _ text o.code_is o.text_is)
 found words input schedule code text (outcome.InputRefused o) =
-    Refused (ap (λ (b : Bool). by_checks b (nat_lt 16777216 (length input)) (first_fault (script_part words input))) o.accepted
-    ∙ ap (λ (b : Bool). by_checks true b (first_fault (script_part words input))) (lt-ltb 16777216 (length input) o.too_long) ∙ these 8 code _ text o.code_is o.text_is)
+    Decided (with_input words input true o.accepted (lt-ltb 16777216 (length input) o.too_long) ∙ these 8 code _ text o.code_is o.text_is)
 found words input schedule code text (outcome.ScriptRefused o) =
-    Refused (fitting words input (Some (o.line, o.why)) o.accepted o.fits o.first ∙ these 6 code _ text o.code_is o.text_is)
+    Decided (fitting words input (Some (o.line, o.why)) o.accepted o.fits o.first ∙ these 6 code _ text o.code_is o.text_is)
 found words input schedule code text (outcome.ScheduleRefused o) =
-    spelled words job.Replay input schedule o.script code text o.accepted o.fits o.spelled
+    spelled words job.Replay input schedule o.script code text o.accepted tt o.fits o.spelled
     (ap (λ (s : Schedule). by_schedule o.script s) o.first ∙ these 7 code _ text o.code_is o.text_is)
 found words input schedule code text (outcome.EntryRefused o) =
-    spelled words job.Replay input schedule o.script code text o.accepted o.fits o.spelled
+    spelled words job.Replay input schedule o.script code text o.accepted tt o.fits o.spelled
     (ap (λ (s : Schedule). by_schedule o.script s) o.read
     ∙ ap (λ (n : Option ℕ). by_illegal n (run_of o.script o.config o.entries)) o.illegal ∙ these 7 code _ text o.code_is o.text_is)
 found words input schedule code text (outcome.Replayed o) =
-    spelled words job.Replay input schedule o.script code text o.accepted o.fits o.spelled
+    spelled words job.Replay input schedule o.script code text o.accepted tt o.fits o.spelled
     (ap (λ (s : Schedule). by_schedule o.script s) o.read
     ∙ ap (λ (n : Option ℕ). by_illegal n (run_of o.script o.config o.entries)) (run_is_legal o.script o.config o.after o.entries o.is_run)
     ∙ ran o.script o.config o.entries o.after code text o.is_run o.text_is o.code_is)
 found words input schedule code text (outcome.Ran o) =
-    spelled words (job.Run default_options) input schedule o.script code text (o.accepted, refl) o.fits
+    spelled words (job.Run default_options) input schedule o.script code text (o.accepted, refl) refl o.fits
     (subst (λ (part : List ℕ). Spells part o.script) (sym (part_of_run words input o.accepted)) o.spelled)
     (ran o.script default_config schedule o.after code text o.is_run o.text_is o.code_is)
 found words input schedule code text (outcome.Checked o) =
-    spelled words job.Check input schedule o.script code text o.accepted o.fits
+    spelled words job.Check input schedule o.script code text o.accepted tt o.fits
     (subst (λ (part : List ℕ). Spells part o.script) (sym (part_of_check words input o.accepted)) o.spelled)
     (these 0 code _ text o.code_is o.text_is)
 
 -- ---- and only one
 
 found_once : (words : List (List ℕ)) (input : List ℕ) (schedule : List Entry) (code other : ℕ) (text told : List ℕ) → Found words input schedule code text → Found words input schedule other told → (code ≡ other) × (text ≡ told)
-found_once words input schedule code other text told (Refused a) (Refused b) = some_pair_parts code other text told (sym a ∙ b)
-found_once words input schedule code other text told (Refused a) (Spelled none script spells b) = absurd (none-some (code, text) (sym none ∙ a))
-found_once words input schedule code other text told (Spelled none script spells a) (Refused b) = absurd (none-some (other, told) (sym none ∙ b))
+found_once words input schedule code other text told (Decided a) (Decided b) = some_pair_parts code other text told (sym a ∙ b)
+found_once words input schedule code other text told (Decided a) (Spelled none script spells b) = absurd (none-some (code, text) (sym none ∙ a))
+found_once words input schedule code other text told (Spelled none script spells a) (Decided b) = absurd (none-some (other, told) (sym none ∙ b))
 found_once words input schedule code other text told (Spelled none script spells a) (Spelled _ another also b) =
     some_pair_parts code other text told (sym a ∙ ap (λ (s : Script). by_job (job_asked words) input schedule s) (spells_one_script _ script another spells also) ∙ b)
 

@@ -11,13 +11,14 @@ use Rattle.pct_model.specs.declared.stop.Verdict.{Verdict}
 use Rattle.pct_model.specs.declared.stop.Verdict.TheVariants as verdict
 use Rattle.pct_model.specs.declared.keyword.Keyword.TheVariants as keyword
 use Rattle.pct_model.specs.Keywords.{keyword_text, line_text}
+use Rattle.pct_model.specs.Points.{points_text}
 use Rattle.pct_model.specs.Checks.{FirstFault}
 use Rattle.pct_model.specs.Spells.{Spells}
 use Rattle.pct_model.specs.Canon.{canon}
 use Rattle.pct_model.specs.Schedule.{sched_of}
 use Rattle.pct_model.specs.Run.{Run, first_illegal, verdict_of}
 use Rattle.pct_model.specs.Report.{report_of, report}
-use Rattle.pct_model.specs.Outcome.{is_asked, is_accepted, script_part, schedule_part, default_config, refused_words, refused_input, refused_script, refused_schedule, refused_entry, code_of_verdict, Outcome}
+use Rattle.pct_model.specs.Outcome.{is_asked, is_accepted, needs_input, script_part, schedule_part, default_config, refused_words, refused_input, refused_script, refused_schedule, refused_entry, code_of_verdict, Outcome}
 use Rattle.pct_model.specs.Outcome as outcome
 use Rattle.pct_schedule_laws.proofs.ReadBack.{report_is_read_back}
 use Rattle.pct_grammar.proofs.Scripts.{spells_one_script}
@@ -26,7 +27,7 @@ use Rattle.pct_engine.proofs.EngineLaws.{keeps_laws}
 use Rattle.pct_command.specs.declared.answer.Answer.TheVariants as answer
 use Rattle.pct_command.specs.declared.words.RunOptions.{RunOptions}
 use Rattle.pct_command.specs.declared.words.Job.{Job}
-use Rattle.pct_command.specs.declared.words.Job.TheVariants.{Run as run_job, Replay, Check}
+use Rattle.pct_command.specs.declared.words.Job.TheVariants.{Run as run_job, Replay, Check, Points}
 use Rattle.pct_command.specs.SeedSchedule.{SeedSchedule, IsSeededRun}
 use Rattle.pct_command.specs.Status.{code_of}
 use Rattle.pct_command.specs.Words.{Asks, default_options, job_asked}
@@ -194,6 +195,14 @@ check-answer words input script asked has = record {
   is_report = λ below. of-job words Check input [] _ _ asked tt;
 }
 
+-- the table of points is the answer of `points`
+pub points-answer : (words : List (List ℕ)) (input : List ℕ) → is_asked keyword.Points words ≡ true → IsAnswer words input 0 points_text
+points-answer words input asked = record {
+  schedule = [];
+  is_outcome = outcome.PointsWritten (record { accepted = asked; code_is = refl; text_is = refl });
+  is_report = λ below. of-job words Points input [] _ _ asked tt;
+}
+
 -- ---- refusals
 
 -- a refusal is no report
@@ -203,10 +212,10 @@ refusal words input code text above is_outcome = record { schedule = []; is_outc
 pub words-answer : (words : List (List ℕ)) (input : List ℕ) → is_accepted words ≡ false → IsAnswer words input 5 (line_text refused_words)
 words-answer words input refused = refusal words input 5 _ (omega arith) (outcome.WordsRefused (record { refused = refused; code_is = refl; text_is = refl }))
 
-pub input-answer : (words : List (List ℕ)) (input : List ℕ) → is_accepted words ≡ true → 16777216 < length input → IsAnswer words input 8 (line_text refused_input)
+pub input-answer : (words : List (List ℕ)) (input : List ℕ) → needs_input words ≡ true → 16777216 < length input → IsAnswer words input 8 (line_text refused_input)
 input-answer words input accepted too_long = refusal words input 8 _ (omega arith) (outcome.InputRefused (record { accepted = accepted; too_long = too_long; code_is = refl; text_is = refl }))
 
-pub script-answer : (words : List (List ℕ)) (input : List ℕ) (line : ℕ) (why : ParseWhy) → is_accepted words ≡ true → length input ≤ 16777216 → FirstFault (script_part words input) line why → IsAnswer words input 6 (line_text (refused_script line why))
+pub script-answer : (words : List (List ℕ)) (input : List ℕ) (line : ℕ) (why : ParseWhy) → needs_input words ≡ true → length input ≤ 16777216 → FirstFault (script_part words input) line why → IsAnswer words input 6 (line_text (refused_script line why))
 script-answer words input line why accepted fits first =
     refusal words input 6 _ (omega arith) (outcome.ScriptRefused (record { accepted = accepted; fits = fits; line = line; why = why; first = first; code_is = refl; text_is = refl }))
 

@@ -7,6 +7,7 @@ use Rattle.pct_model.specs.declared.script.Script.{Script}
 use Rattle.pct_model.specs.declared.stop.Verdict.{Verdict}
 use Rattle.pct_model.specs.declared.stop.Verdict.TheVariants as verdict
 use Rattle.pct_model.specs.Keywords.{line_text}
+use Rattle.pct_model.specs.Points.{points_text}
 use Rattle.pct_model.specs.Canon.{canon}
 use Rattle.pct_model.specs.Spells.{Spells}
 use Rattle.pct_model.specs.Run.{run, verdict_of}
@@ -57,6 +58,7 @@ abbrev pub status_of_answer : Answer → Status
 status_of_answer (answer.Refused why) = status_of_refusal why
 status_of_answer (answer.Ran engine) = status_of_verdict (verdict_of_run engine)
 status_of_answer (answer.Checked script) = status.Complete
+status_of_answer answer.Points = status.Complete
 
 -- the code of an answer
 abbrev pub code_of_answer : Answer → ℕ
@@ -70,11 +72,12 @@ line_of_refusal (refusal.Script line why) = refused_script line why
 line_of_refusal (refusal.Schedule line why) = refused_schedule line why
 line_of_refusal (refusal.Entry entry_number) = refused_entry entry_number
 
--- the text of an answer: the line of a refusal, the report of a run, or the canonical text of a script
+-- the text of an answer: the line of a refusal, the report of a run, the canonical text of a script, or the table of points
 abbrev pub text_of_answer : Answer → List ℕ
 text_of_answer (answer.Refused why) = line_text (line_of_refusal why)
 text_of_answer (answer.Ran engine) = text_of_run engine
 text_of_answer (answer.Checked script) = canon script
+text_of_answer answer.Points = points_text
 
 -- ---- the answer to a text
 

@@ -14,7 +14,7 @@ use Rattle.pct_model.specs.Kept.{Kept}
 use Rattle.pct_model.specs.Laws.{Laws}
 use Rattle.pct_model.specs.Report.{report}
 use Rattle.pct_model.specs.Run.{Run, first_illegal, run}
-use Rattle.pct_model.specs.Outcome.{is_asked, is_accepted, script_part, schedule_part, default_config, Outcome}
+use Rattle.pct_model.specs.Outcome.{is_asked, is_accepted, needs_input, script_part, schedule_part, default_config, Outcome}
 use Rattle.pct_command.specs.declared.status.Status.{Status}
 use Rattle.pct_command.specs.declared.status.Status.TheVariants as status
 use Rattle.pct_command.specs.declared.words.Job.{Job}
@@ -75,6 +75,7 @@ abbrev pub IsReportOf : Option Job → List (List ℕ) → List ℕ → List Ent
 IsReportOf (Some (job.Run options)) words input schedule code text = IsClosedRun words input schedule code text × (IsReplayed words input code text × IsLawful words input text)
 IsReportOf (Some job.Replay) words input schedule code text = (sched_of text ≡ sched_of (schedule_part input)) × (IsReplayed words input code text × IsLawful words input text)
 IsReportOf (Some job.Check) words input schedule code text = Unit {0}
+IsReportOf (Some job.Points) words input schedule code text = Unit {0}
 IsReportOf None words input schedule code text = Unit {0}
 
 -- the code and the text are the outcome of the words and the input, and a report is that of the job that the words name
@@ -99,10 +100,10 @@ pub record WrotePrefix (words : List (List ℕ)) (input : List ℕ) (before afte
 
 -- ---- the answers
 
--- what was read is a prefix of what the source had left, and all of it if the words are accepted, unless it is too long
+-- what was read is a prefix of what the source had left, and all of it if the words need an input, unless it is too long
 pub record Reads (words : List (List ℕ)) (before after : Option (List ℕ)) (input : List ℕ) (code : ℕ) : Type 0 where
   pub prefix : Consumes before after input
-  pub to_end : is_accepted words ≡ true → code ≢ 8 → IsAtEnd after
+  pub to_end : needs_input words ≡ true → code ≢ 8 → IsAtEnd after
 
 -- the input that was read, and the whole answer to it was written
 pub record Decides (words : List (List ℕ)) (before after : Outside) (code : ℕ) : Type 0 where
@@ -116,9 +117,9 @@ pub record FailsToWrite (words : List (List ℕ)) (before after : Outside) : Typ
   pub output : WrotePrefix words input before.written after.written before.write_errors after.write_errors
   pub read : Reads words before.left after.left input output.code
 
--- nothing was written, and what was taken is a prefix of what the source had left
+-- the words need an input, nothing was written, and what was taken is a prefix of what the source had left
 pub record Takes (words : List (List ℕ)) (before after : Outside) : Type 0 where
-  pub accepted : is_accepted words ≡ true
+  pub accepted : needs_input words ≡ true
   pub nothing : Keeps before.written after.written
   pub taken : List ℕ
   pub prefix : Consumes before.left after.left taken

@@ -5,7 +5,7 @@ use Rattle.pct_model.specs.Schedule.{replay_parts}
 use Rattle.pct_model.specs.Outcome.{is_asked, default_config}
 use Rattle.pct_command.specs.declared.words.RunOptions.{RunOptions}
 use Rattle.pct_command.specs.declared.words.Job.{Job}
-use Rattle.pct_command.specs.declared.words.Job.TheVariants.{Run, Replay, Check}
+use Rattle.pct_command.specs.declared.words.Job.TheVariants.{Run, Replay, Check, Points}
 
 -- the numbers of a `run` without options
 abbrev pub default_options : RunOptions
@@ -16,6 +16,7 @@ abbrev pub Asks : List (List ℕ) → Job → Type 0
 Asks words (Run options) = (is_asked keyword.Run words ≡ true) × (options ≡ default_options)
 Asks words Replay = is_asked keyword.Replay words ≡ true
 Asks words Check = is_asked keyword.Check words ≡ true
+Asks words Points = is_asked keyword.Points words ≡ true
 
 -- the job that the words name, if they are accepted
 abbrev pub job_asked : List (List ℕ) → Option Job
@@ -23,16 +24,19 @@ job_asked words =
     if is_asked keyword.Run words then Some (Run default_options)
     else if is_asked keyword.Replay words then Some Replay
     else if is_asked keyword.Check words then Some Check
+    else if is_asked keyword.Points words then Some Points
     else None
 
--- a run has the default numbers; a replay has those of its schedule, and a check needs none
-abbrev pub HasDefaults : Job → Type 0
-HasDefaults (Run options) = options ≡ default_options
-HasDefaults Replay = Unit {0}
-HasDefaults Check = Unit {0}
+-- the job reads the input, and a run has the default numbers
+abbrev pub HasInput : Job → Type 0
+HasInput (Run options) = options ≡ default_options
+HasInput Replay = Unit {0}
+HasInput Check = Unit {0}
+HasInput Points = ⊥
 
 -- where the script's part of an input ends, and where its schedule's part begins
 abbrev pub parts_of_job : Job → List ℕ → ℕ × ℕ
 parts_of_job (Run options) input = (length input, length input)
 parts_of_job Replay input = replay_parts input
 parts_of_job Check input = (length input, length input)
+parts_of_job Points input = (length input, length input)

@@ -1,4 +1,4 @@
-//! The answer to an input: a refusal, a run, or a script.
+//! The answers: a refusal, a run, a script, or the table of cancellation points.
 
 ghost use Rattle.std.specs.Prelude.{◌≡◌};
 ghost use Rattle.pct_command.specs.Answer.{status_of_answer, status_of_refusal, status_of_verdict};
@@ -32,6 +32,8 @@ pub(crate) enum Answer {
     Ran(Engine),
     /// The canonical text of the script.
     Checked(Script),
+    /// The table of cancellation points.
+    Points,
 }
 
 /// Why there is no answer to an input.
@@ -67,7 +69,7 @@ impl Answer {
         match self {
             Answer::Refused(refusal) => refusal.status(),
             Answer::Ran(engine) => status_of(engine.verdict()),
-            Answer::Checked(_) => Status::Complete,
+            Answer::Checked(_) | Answer::Points => Status::Complete,
         }
     }
 }

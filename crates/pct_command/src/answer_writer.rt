@@ -8,12 +8,14 @@ ghost use Rattle.pct_model.specs.Keywords.{line_text};
 ghost use Rattle.pct_command.specs.Answer.{line_of_refusal, text_of_answer};
 
 use crate::answer::{Answer, Refusal};
+use pct_cancel::write_points;
 use pct_io::{BufferedSink, Failed, Field, Sink, write_line};
 use pct_model::Keyword;
 use pct_report::write_report;
 use pct_script::print;
 
-/// Writes an answer: the line of a refusal, the report of a run, or the canonical text of a script.
+/// Writes an answer: the line of a refusal, the report of a run, the canonical text of a script, or the table of cancellation
+/// points.
 pub(crate) fn write_answer<K: Sink>(answer: &Answer, sink: &mut K) -> Result<(), Failed>
     ensures { Writes K.written K.errors K.inners sink.old sink.new (text_of_answer answer.now) result }
 {
@@ -21,6 +23,7 @@ pub(crate) fn write_answer<K: Sink>(answer: &Answer, sink: &mut K) -> Result<(),
         Answer::Refused(refusal) => write_refusal(*refusal, sink),
         Answer::Ran(engine) => write_report(engine, sink),
         Answer::Checked(script) => print(script, sink),
+        Answer::Points => write_points(sink),
     }
 }
 

@@ -2,7 +2,7 @@
 
 ghost use Rattle.std.specs.Prelude.{◌≡◌, ◌≤◌, ◌<◌, ℕ, List, length, IsErr};
 ghost use Rattle.pct_command.specs.Answer.{Answered, HasParts};
-ghost use Rattle.pct_command.specs.Words.{Asks, HasDefaults, parts_of_job};
+ghost use Rattle.pct_command.specs.Words.{Asks, HasInput, parts_of_job};
 
 use crate::answer::{Answer, Refusal};
 use crate::replay_command::replay_script;
@@ -17,7 +17,7 @@ use std::alloc::Global;
 /// The answer of a job to a text. `NoMemory` comes only with a text that is not empty.
 pub(crate) fn answer_of(alloc: Global, job: Job, text: &[u8]) -> Result<Answer, NoMemory>
     requires fits { length text.now ≤ 16777216 }
-    requires defaults { HasDefaults job }
+    requires input { HasInput job }
     ensures answer { (words : List (List ℕ)) → Asks words job → Answered words text.now result }
     ensures memory { IsErr result → 0 < length text.now }
 {
@@ -37,8 +37,8 @@ fn parts_of(job: Job, text: &[u8]) -> (usize, usize)
     ensures within { (result.0 ≤ length text.now) × (result.1 ≤ length text.now) }
 {
     match job {
-        Job::Run(_) | Job::Check => (text.len(), text.len()),
         Job::Replay => split_replay(text),
+        _ => (text.len(), text.len()),
     }
 }
 
@@ -50,12 +50,13 @@ fn answer_script(
     schedule: &[u8],
 ) -> Result<Answer, NoMemory>
     requires fits { length schedule.now ≤ 16777216 }
-    requires defaults { HasDefaults job }
+    requires input { HasInput job }
     ensures { (words : List (List ℕ)) (input : List ℕ) → Asks words job → HasParts words job input script schedule.now → Answered words input result }
 {
     match job {
         Job::Run(options) => run_script(alloc, options, script),
         Job::Replay => replay_script(alloc, script, schedule),
         Job::Check => Ok(Answer::Checked(script)),
+        Job::Points => unreachable!(),
     }
 }

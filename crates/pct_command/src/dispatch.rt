@@ -1,11 +1,12 @@
 //! The top call: which command the words name, the input, and the answer.
 
-ghost use Rattle.std.specs.Prelude.{◌≡◌, ◌⊎◌, List, ℕ, true, false, map, string_bytes, IfOk, IfErr};
-ghost use Rattle.pct_model.specs.Outcome.{is_accepted};
+ghost use Rattle.std.specs.Prelude.{◌≡◌, ◌⊎◌, List, ℕ, true, false, map, string_bytes, Ok as Gives, IfOk, IfErr};
+ghost use Rattle.pct_model.specs.declared.keyword.Keyword.TheVariants as keyword;
+ghost use Rattle.pct_model.specs.Outcome.{is_asked, is_accepted, needs_input};
 ghost use Rattle.pct_io.specs.Inners.{KeepsInners};
 ghost use Rattle.pct_command.specs.Answer.{AnswersRead, ReadsInput};
 ghost use Rattle.pct_command.specs.Command.{Answers, HasRead, IsComplete, Records};
-ghost use Rattle.pct_command.specs.Words.{Asks, HasDefaults};
+ghost use Rattle.pct_command.specs.Words.{Asks, HasInput};
 
 use crate::answer::{Answer, Refusal, Unanswered};
 use crate::answer_writer::write_answer;
@@ -19,14 +20,16 @@ use std::thread::Threads;
 
 /// Performs the command that the words name on the bytes of the source, and writes the answer to the sink.
 ///
-/// The words are `run`, `replay` or `check`, without any further word. `run` reads a script and runs it: worker 1 makes each
-/// step, which two words of its random stream choose under seed 1. `replay` reads a script, a line `%%`, and a schedule or a
-/// whole report, and runs the script under that schedule. Both write a report. `check` reads a script and writes its
-/// canonical text. A refusal is one line that names the reason. `rt` and `gate` are not used yet.
+/// The words are `run`, `replay`, `check` or `points`, without any further word. `run` reads a script and runs it: worker 1
+/// makes each step, which two words of its random stream choose under seed 1. `replay` reads a script, a line `%%`, and a
+/// schedule or a whole report, and runs the script under that schedule. Both write a report. `check` reads a script and
+/// writes its canonical text. `points` reads nothing and writes the table of cancellation points (XSH 2.9.5.2). A refusal is
+/// one line that names the reason. `rt` and `gate` are not used yet.
 ///
 /// The answer is the first of these that holds, unless it is `ReadFault`, `WriteFault` or `NoMemory`:
 ///
 /// - `Usage`: the words are not accepted; nothing is read.
+/// - `Complete`, from `points`: the table was written; nothing is read.
 /// - `TooLong`: more than 16,777,216 bytes were read.
 /// - `ScriptRefused`: the text of the script has a fault.
 /// - `Complete`, from `check`: the canonical text was written.
@@ -34,13 +37,13 @@ use std::thread::Threads;
 /// - `Complete`, `Deadlock`, `Budget`, `Undefined` or `Open`: the report of a run with this verdict was written. `run` never
 ///   answers `Open`.
 ///
-/// With the other answers of this list the input was read to its end. `replay` of a report that was written gives the same
-/// bytes again, if the script, the line `%%` and the report have at most 16,777,216 bytes together.
+/// With the answers of this list from `ScriptRefused` on the input was read to its end. `replay` of a report that was written
+/// gives the same bytes again, if the script, the line `%%` and the report have at most 16,777,216 bytes together.
 ///
-/// - `ReadFault` comes only with accepted words, and only if the source recorded an error in this call. The sink is
-///   unchanged.
+/// - `ReadFault` comes only with `run`, `replay` and `check`, and only if the source recorded an error in this call. The sink
+///   is unchanged.
 /// - `WriteFault` comes only if the sink recorded an error in this call. A prefix of the text was written.
-/// - `NoMemory` comes only with accepted words. The sink is unchanged.
+/// - `NoMemory` comes only with `run`, `replay` and `check`. The sink is unchanged.
 pub fn command<R: Threads + Sync, S: Source, K: Sink, G: Gate>(
     rt: &R,
     alloc: Global,
@@ -62,6 +65,9 @@ pub fn command<R: Threads + Sync, S: Source, K: Sink, G: Gate>(
 
     // With words that are not accepted nothing is read.
     ensures usage { is_accepted (map string_bytes words.now) ≡ false → (source.new ≡ source.old) × ((result ≡ Status.Usage) ⊎ (result ≡ Status.WriteFault)) }
+
+    // With `points` nothing is read.
+    ensures points { is_asked keyword.Points (map string_bytes words.now) ≡ true → (source.new ≡ source.old) × ((result ≡ Status.Complete) ⊎ (result ≡ Status.WriteFault)) }
 
     // Out of memory comes only after a byte was read.
     ensures memory { result ≡ Status.NoMemory → HasRead (S.left source.old) (S.left source.new) }
@@ -86,26 +92,28 @@ pub fn command<R: Threads + Sync, S: Source, K: Sink, G: Gate>(
     }
 }
 
-// The answer to the words, and to the bytes of the source if the words are accepted.
+// The answer to the words, and to the bytes of the source if the words name a command that reads them.
 fn answer_words<S: Source>(
     alloc: Global,
     words: &[String],
     source: &mut S,
 ) -> Result<Answer, Unanswered>
     ensures answer { IfOk result (λ answer. AnswersRead (map string_bytes words.now) (S.left source.old) (S.left source.new) answer) }
-    ensures accepted { IfErr result (λ _. is_accepted (map string_bytes words.now) ≡ true) }
-    ensures usage { is_accepted (map string_bytes words.now) ≡ false → (source.new ≡ source.old) × IfOk result (λ answer. answer ≡ Answer.Refused Refusal.Words) }
+    ensures input { IfErr result (λ _. needs_input (map string_bytes words.now) ≡ true) }
+    ensures usage { is_accepted (map string_bytes words.now) ≡ false → (source.new ≡ source.old) × (result ≡ Gives (Answer.Refused Refusal.Words)) }
+    ensures points { is_asked keyword.Points (map string_bytes words.now) ≡ true → (source.new ≡ source.old) × (result ≡ Gives Answer.Points) }
     ensures reads { ReadsInput S.left S.errors source.old source.new result }
 {
     match read_words(words) {
         Err(Usage) => Ok(Answer::Refused(Refusal::Words)),
+        Ok(Job::Points) => Ok(Answer::Points),
         Ok(job) => answer_input(alloc, job, source),
     }
 }
 
 // The answer of a job to the bytes of the source.
 fn answer_input<S: Source>(alloc: Global, job: Job, source: &mut S) -> Result<Answer, Unanswered>
-    requires { HasDefaults job }
+    requires { HasInput job }
     ensures answer { (words : List (List ℕ)) → Asks words job → IfOk result (λ answer. AnswersRead words (S.left source.old) (S.left source.new) answer) }
     ensures reads { ReadsInput S.left S.errors source.old source.new result }
 {

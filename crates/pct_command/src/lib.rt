@@ -1,5 +1,5 @@
 //! The top call: `command` reads words and an input. It runs the script of the input, replays a schedule of it, or writes
-//! its canonical text.
+//! its canonical text. Without an input it writes the table of cancellation points.
 #![tactic(auto)]
 
 mod answer;

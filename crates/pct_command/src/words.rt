@@ -41,9 +41,11 @@ pub enum Job {
     Replay,
     /// Read the script of the input, and write its canonical text.
     Check,
+    /// Write the table of cancellation points.
+    Points,
 }
 
-/// The command that the words name: exactly one word, which is `run`, `replay` or `check`. `Usage` comes with all other
+/// The command that the words name: exactly one word, which is `run`, `replay`, `check` or `points`. `Usage` comes with all other
 /// words. It allocates no memory.
 #[tactic(auto, unfolding(pct_model::specs::Outcome::is_asked))]
 pub fn read_words(words: &[String]) -> Result<Job, Usage>
@@ -54,6 +56,7 @@ pub fn read_words(words: &[String]) -> Result<Job, Usage>
         [word] if word.as_bytes() == Keyword::Run.text() => Ok(Job::Run(RunOptions::DEFAULT)),
         [word] if word.as_bytes() == Keyword::Replay.text() => Ok(Job::Replay),
         [word] if word.as_bytes() == Keyword::Check.text() => Ok(Job::Check),
+        [word] if word.as_bytes() == Keyword::Points.text() => Ok(Job::Points),
         _ => Err(Usage),
     }
 }

@@ -9,7 +9,7 @@ const SMALLEST: &[u8] = b"fn main x\nreturn 0\nend\n";
 
 #[test]
 fn reports(rt: HostRuntime) -> Result<(), Fail> {
-    let rows: [(&[u8], Status, &[u8], &[u8], usize); 14] = [
+    let rows: [(&[u8], Status, &[u8], &[u8], usize); 16] = [
         // smallest
         (
             SMALLEST,
@@ -108,18 +108,34 @@ fn reports(rt: HostRuntime) -> Result<(), Fail> {
         ),
         // A statement that is not built stops the run.
         (
-            b"fn main x\nemit 1\npthread_testcancel\nend\n",
+            b"fn main x\nemit 1\nfork - -\nend\n",
             Status::Undefined,
             b"1.1 emit 1\n1.1 profile unbuilt\n",
             b"profile unbuilt",
             2,
         ),
         (
-            b"fn main x\nread\nend\n",
+            b"fn main x\nwaitpid - 1 -\nend\n",
             Status::Undefined,
             b"1.1 profile unbuilt\n",
             b"profile unbuilt",
             1,
+        ),
+        // A thread that is suspended at a cancellation point goes on, unless only a signal would end the call.
+        (
+            b"fn main x\nread\npause\nend\n",
+            Status::Deadlock,
+            b"1.1 call read\n1.1 done read\n1.1 call pause\n",
+            b"deadlock",
+            3,
+        ),
+        // With asynchronous cancelability most calls are stops.
+        (
+            b"fn main x\npthread_setcanceltype asynchronous -\nread\nend\n",
+            Status::Undefined,
+            b"1.1 type asynchronous\n1.1 undefined async_call\n",
+            b"undefined async_call",
+            2,
         ),
     ];
     for (script, status, events, verdict, steps) in rows {
@@ -360,7 +376,9 @@ fn the_sections_of_a_replay(rt: HostRuntime) -> Result<(), Fail> {
 
 #[test]
 fn words(rt: HostRuntime) -> Result<(), Fail> {
-    let rows: [&[&str]; 12] = [
+    let rows: [&[&str]; 14] = [
+        &["points", "x"],
+        &["points", "points"],
         &["replay", "x"],
         &["check", "x"],
         &["check", "check"],
@@ -381,6 +399,33 @@ fn words(rt: HostRuntime) -> Result<(), Fail> {
         assert_eq!(rt; answer.text.as_slice(), b"refused words\n".as_slice());
         assert_eq!(rt; answer.left, SMALLEST.len());
     }
+    Ok(())
+}
+
+// The table of cancellation points: 47 that are required, and 11 that are optional.
+const POINTS: &[u8] =
+    b"accept required outside\naio_suspend required outside\nclock_nanosleep required outside\nclose required outside\nconnect required outside\ncreat required outside\nfdatasync required outside\nfsync required outside\nmq_receive required outside\nmq_send required outside\nmsgrcv required outside\nmsgsnd required outside\nmsync required outside\nnanosleep required outside\nopen required outside\nopenat required outside\npause required never\npoll required outside\npread required outside\npselect required outside\npthread_cond_timedwait required inside\npthread_cond_wait required inside\npthread_join required inside\npthread_testcancel required no_wait\npwrite required outside\nread required outside\nreadv required outside\nrecv required outside\nrecvfrom required outside\nrecvmsg required outside\nselect required outside\nsem_timedwait required inside\nsem_wait required inside\nsend required outside\nsendmsg required outside\nsendto required outside\nsigsuspend required never\nsigtimedwait required outside\nsigwait required never\nsigwaitinfo required never\nsleep required outside\ntcdrain required outside\nwait required inside\nwaitid required inside\nwaitpid required inside\nwrite required outside\nwritev required outside\nfclose optional no_wait\nfflush optional no_wait\nfgets optional no_wait\nfopen optional no_wait\nfprintf optional no_wait\nfputs optional no_wait\nprintf optional no_wait\nputs optional no_wait\nopendir optional no_wait\nclosedir optional no_wait\nreaddir optional no_wait\n";
+
+// The source is not read, so its first call, which would fail, is not made.
+#[test]
+fn points(rt: HostRuntime) -> Result<(), Fail> {
+    let read_fails = Outside {
+        read_fails: &[1],
+        ..QUIET
+    };
+    let answer = call(&rt, rt.alloc(), &["points"], SMALLEST, &read_fails)?;
+    assert_eq!(rt; answer.status, Status::Complete);
+    assert_eq!(rt; answer.left, SMALLEST.len());
+    assert_eq!(rt; answer.text.as_slice(), POINTS);
+
+    let write_fails = Outside {
+        read_fails: &[],
+        write_chunk: 1,
+        write_fails: &[2],
+    };
+    let answer = call(&rt, rt.alloc(), &["points"], SMALLEST, &write_fails)?;
+    assert_eq!(rt; answer.status, Status::WriteFault);
+    assert_eq!(rt; answer.text.as_slice(), b"a".as_slice());
     Ok(())
 }
 

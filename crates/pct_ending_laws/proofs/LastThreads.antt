@@ -58,6 +58,7 @@ view t = (t.gone, t.ended, t.status)
 named_keeps : (a : Action) (t : Thread) → view (named_after a t) ≡ view t
 unfolding named_after
 named_keeps (action.EndJoin id) t = either_keeps view (is_live_thread id t) (record t { joined = true }) t t refl refl
+named_keeps (action.Request id) t = either_keeps view (is_live_thread id t && not t.ended) (record t { pending = true }) t t refl refl
 named_keeps (action.Detach id) t = either_keeps view (is_live_thread id t) (record t { detached = true }) t t refl refl
 named_keeps _ t = refl
 

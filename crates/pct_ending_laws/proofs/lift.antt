@@ -1,6 +1,7 @@
 -- What every step keeps of one thread and its own events holds of every thread after every run.
 pub mod KeyedLists
 pub mod TakenSteps
+pub mod Choices
 pub mod CreatedThreads
 pub mod ChangedThreads
 pub mod ThreadIds

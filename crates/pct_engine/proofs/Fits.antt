@@ -7,7 +7,11 @@ use Rattle.pct_model.specs.declared.other_threads.Target.{Target}
 use Rattle.pct_model.specs.declared.schedule.Alt.{Alt}
 use Rattle.pct_model.specs.declared.schedule.Alt.TheVariants as alt
 use Rattle.pct_model.specs.declared.script.Script.{Script}
+use Rattle.pct_model.specs.declared.point.PointKind.{PointKind}
+use Rattle.pct_model.specs.declared.point.PointKind.TheVariants as kinds
+use Rattle.pct_model.specs.declared.state.Mode.{Mode}
 use Rattle.pct_model.specs.declared.state.Reason.{Reason}
+use Rattle.pct_model.specs.declared.state.State.{State}
 use Rattle.pct_model.specs.declared.state.FrameKind.{FrameKind}
 use Rattle.pct_model.specs.declared.state.FrameKind.TheVariants as kind
 use Rattle.pct_model.specs.declared.state.Status.{Status}
@@ -22,9 +26,11 @@ use Rattle.pct_model.specs.declared.transition.Transition.{Transition}
 use Rattle.pct_model.specs.Jumps.{holds, is_while, close_of, open_of}
 use Rattle.pct_model.specs.World.{Thread, SharedState, body_of, statement_at, value_of}
 use Rattle.pct_model.specs.ScriptStatements.{jumps, emits, sets, adds, calls, after_block, after_test}
+use Rattle.pct_model.specs.Cancelability.{is_asynchronous}
 use Rattle.pct_model.specs.CleanupHandlers.{pushes, pops}
+use Rattle.pct_model.specs.CancelCalls.{requests, sets_state, sets_mode, tests_cancel, point_kind, calls_point, passes_point, acts_on_request}
 use Rattle.pct_model.specs.ProcessExit.{exits, returns_by, ends_process}
-use Rattle.pct_model.specs.StopTable.{first_stop, is_stack_full, is_built, stops_of, stop_at}
+use Rattle.pct_model.specs.StopTable.{first_stop, is_stack_full, is_async_safe, is_built, stops_of, stop_at}
 use Rattle.pct_model.specs.NextStatement.{NoStatement, StatementIn, next_in, next_of, body_at}
 use Rattle.pct_model.specs.OtherThreads.{Others}
 use Rattle.pct_model.specs.ThreadCalls.{creates, fails_to_create, creates_by, begins_join, ends_join, joins_with, joins_at, detaches, gets_self}
@@ -103,6 +109,51 @@ module _ (depth handlers : ℕ) where
   returns_fit kind.ExitFn v = record { next = tt; actions = (refl, tt) }
   returns_fit kind.ForkFn v = record { next = tt; actions = tt }
 
+  -- ---- requests, cancelability and points
+
+  requests_fit : (next id : ℕ) → next ≤ 2000 → TransitionFits depth handlers (requests next id)
+  unfolding requests
+  requests_fit next id within = record { next = within; actions = (tt, tt) }
+
+  sets_state_fit : (next : ℕ) (enable : Bool) (d : Dest) (state : State) → next ≤ 2000 → TransitionFits depth handlers (sets_state next enable d state)
+  unfolding sets_state
+  sets_state_fit next enable destination.Drop state within = record { next = within; actions = (tt, tt) }
+  sets_state_fit next enable (destination.Local i) state within = record { next = within; actions = (tt, (tt, tt)) }
+  sets_state_fit next enable (destination.Global i) state within = record { next = within; actions = (tt, (tt, tt)) }
+
+  sets_mode_fit : (next : ℕ) (asynchronous : Bool) (d : Dest) (mode : Mode) → next ≤ 2000 → TransitionFits depth handlers (sets_mode next asynchronous d mode)
+  unfolding sets_mode
+  sets_mode_fit next asynchronous destination.Drop mode within = record { next = within; actions = (tt, tt) }
+  sets_mode_fit next asynchronous (destination.Local i) mode within = record { next = within; actions = (tt, (tt, tt)) }
+  sets_mode_fit next asynchronous (destination.Global i) mode within = record { next = within; actions = (tt, (tt, tt)) }
+
+  tests_cancel_fit : (next : ℕ) → next ≤ 2000 → TransitionFits depth handlers (tests_cancel next)
+  unfolding tests_cancel
+  tests_cancel_fit next within = record { next = within; actions = tt }
+
+  point_fit : (next index : ℕ) (kind : Option PointKind) → next ≤ 2000 → TransitionFits depth handlers (calls_point next index kind)
+  unfolding calls_point
+  point_fit next index (Some kinds.Required) within = record { next = tt; actions = (tt, tt) }
+  point_fit next index (Some kinds.Optional) within = record { next = within; actions = tt }
+  point_fit next index None within = record { next = tt; actions = tt }
+
+  passes_fit : (index : ℕ) (frame : Frame) (s : Stmt) → frame.pc < 2000 → TransitionFits depth handlers (passes_point index (StatementIn frame s))
+  unfolding passes_point
+  passes_fit index frame (statement.PointCall i) within = record { next = omega (arith, within); actions = tt }
+  passes_fit index frame _ within = record { next = tt; actions = tt }
+
+  passes_nowhere : (index : ℕ) → TransitionFits depth handlers (passes_point index NoStatement)
+  unfolding passes_point
+  passes_nowhere index = record { next = tt; actions = tt }
+
+  -- a thread that acts upon a request needs no room
+  pub acting_fits : (s : Status) → TransitionFits depth handlers (acts_on_request s)
+  unfolding acts_on_request
+  acting_fits status.Running = record { next = tt; actions = (tt, tt) }
+  acting_fits (status.AtPoint index) = record { next = tt; actions = (tt, tt) }
+  acting_fits (status.Joining id) = record { next = tt; actions = (tt, (tt, tt)) }
+  acting_fits _ = record { next = tt; actions = tt }
+
   -- ---- threads
 
   creates_fit : (next : ℕ) (a b : Dest) (new f v : ℕ) (detached : Bool) → next ≤ 2000 → TransitionFits depth handlers (creates next a b new f v detached)
@@ -177,10 +228,11 @@ module _ (depth handlers : ℕ) where
 -- ---- stops
 
 -- a statement that does not stop is implemented, and none of its own guards holds
-own_guard : (b c : Bool) (first second : Why) → first_stop ((b, first) ∷ (c, second) ∷ []) ≡ None → c ≡ false
-own_guard true c first second none = absurd cc
-own_guard false true first second none = absurd cc
-own_guard false false first second none = refl
+own_guard : (b asynchronous c : Bool) (second : Why) → first_stop ((b, why.Unbuilt) ∷ (asynchronous, why.AsyncCall) ∷ (c, second) ∷ []) ≡ None → c ≡ false
+own_guard true asynchronous c second none = absurd cc
+own_guard false true c second none = absurd cc
+own_guard false false true second none = absurd cc
+own_guard false false false second none = refl
 
 flipped : (b : Bool) → not b ≡ false → b ≡ true
 flipped true is = refl
@@ -211,18 +263,23 @@ module _ (script : Script) (shared : SharedState) (t : Thread) (others : Others)
   runs_fit frame (statement.While v) within none = jumps_fit _ _ _ (test_within script frame.func frame.pc (value_of shared.globals frame v) within)
   runs_fit frame statement.End within none = ends_fit _ _ script frame _ refl within
   runs_fit frame (statement.Do f v) within none =
-      let room = below_limit (length t.frames) 16 (own_guard (not (is_built (statement.Do f v))) _ why.Unbuilt why.StackFull none) in
+      let room = below_limit (length t.frames) 16 (own_guard (not (is_built (statement.Do f v))) (is_asynchronous t.state t.mode && not (is_async_safe (statement.Do f v))) _ why.StackFull none) in
       calls_fit _ _ _ f _ (omega (arith, within)) (omega (arith, room))
   runs_fit frame (statement.Return v) within none = returns_fit _ _ frame.kind _
   runs_fit frame (statement.Create a b f v detached) within none = creates_by_fit _ _ choice _ a b f _ detached (omega (arith, within))
   runs_fit frame (statement.Join id d) within none = begins_join_fit _ _ _
   runs_fit frame (statement.Detach id) within none = detaches_fit _ _ _ _ (omega (arith, within))
+  runs_fit frame (statement.CancelThread id) within none = requests_fit _ _ _ _ (omega (arith, within))
   runs_fit frame (statement.SelfId d) within none = gets_self_fit _ _ _ d _ (omega (arith, within))
+  runs_fit frame statement.TestCancel within none = tests_cancel_fit _ _ _ (omega (arith, within))
+  runs_fit frame (statement.SetState enable old) within none = sets_state_fit _ _ _ enable old _ (omega (arith, within))
+  runs_fit frame (statement.SetMode asynchronous old) within none = sets_mode_fit _ _ _ asynchronous old _ (omega (arith, within))
+  runs_fit frame (statement.PointCall index) within none = point_fit _ _ _ index (point_kind index) (omega (arith, within))
   runs_fit frame (statement.ThreadExit v) within none = record { next = tt; actions = (tt, tt) }
-  runs_fit frame (statement.Push f v) within none = pushes_fit _ _ _ f _ (omega (arith, within)) (below_limit (length t.handlers) 32 (own_guard (not (is_built (statement.Push f v))) _ why.Unbuilt why.CleanupFull none))
+  runs_fit frame (statement.Push f v) within none = pushes_fit _ _ _ f _ (omega (arith, within)) (below_limit (length t.handlers) 32 (own_guard (not (is_built (statement.Push f v))) (is_asynchronous t.state t.mode && not (is_async_safe (statement.Push f v))) _ why.CleanupFull none))
   runs_fit frame (statement.Pop v) within none =
       pops_fit _ _ _ (value_of shared.globals frame v) t.handlers (omega (arith, within)) (λ called.
-      let room = below_limit (length t.frames) 16 (second_false (nat_eq (value_of shared.globals frame v) 0) (is_stack_full t.frames) (own_guard (not (is_built (statement.Pop v))) _ why.Unbuilt why.StackFull none) called) in
+      let room = below_limit (length t.frames) 16 (second_false (nat_eq (value_of shared.globals frame v) 0) (is_stack_full t.frames) (own_guard (not (is_built (statement.Pop v))) (is_asynchronous t.state t.mode && not (is_async_safe (statement.Pop v))) _ why.StackFull none) called) in
       omega (arith, room))
   runs_fit frame _ within none = record { next = tt; actions = tt }
 
@@ -248,11 +305,13 @@ module _ (script : Script) (shared : SharedState) (t : Thread) (others : Others)
 
   next_fits : (frame : Frame) (o : Option Stmt) (s : Status) → statement_at script frame ≡ o → FitsThread (transition_at (body_of script frame.func) shared t others choice (next_in frame o) s)
   unfolding transition_at
+  next_fits frame None (status.AtPoint index) at = passes_nowhere _ _ index
   next_fits frame None (status.Joining id) at = joins_fit others.target id frame None at
   next_fits frame None status.Ending at = ending_fit _ _ others.is_last t.reason t.handlers
   next_fits frame None status.Exiting at = ends_process_fit _ _ shared.exit_functions shared.exit_value
   next_fits frame None _ at = record { next = tt; actions = tt }
   next_fits frame (Some s) status.Running at = stops_fit _ _ (runs_fit frame s (pc_within script frame s at))
+  next_fits frame (Some s) (status.AtPoint index) at = passes_fit _ _ index frame s (pc_within script frame s at)
   next_fits frame (Some s) (status.Joining id) at = joins_fit others.target id frame (Some s) at
   next_fits frame (Some s) status.Ending at = ending_fit _ _ others.is_last t.reason t.handlers
   next_fits frame (Some s) status.Exiting at = ends_process_fit _ _ shared.exit_functions shared.exit_value
@@ -260,6 +319,7 @@ module _ (script : Script) (shared : SharedState) (t : Thread) (others : Others)
 
   frames_fit : (frames : List Frame) (s : Status) → FitsThread (transition_at (body_at script frames) shared t others choice (next_of script frames) s)
   unfolding transition_at
+  frames_fit [] (status.AtPoint index) = passes_nowhere _ _ index
   frames_fit [] (status.Joining id) = joins_nowhere others.target id
   frames_fit [] status.Ending = ending_fit _ _ others.is_last t.reason t.handlers
   frames_fit [] status.Exiting = ends_process_fit _ _ shared.exit_functions shared.exit_value

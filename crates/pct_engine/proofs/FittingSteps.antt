@@ -8,6 +8,7 @@ use Rattle.pct_model.specs.World.{SharedState}
 use Rattle.pct_model.specs.NextStatement.{next_of, body_at}
 use Rattle.pct_model.specs.OtherThreads.{query_at, Others}
 use Rattle.pct_model.specs.ChoiceTable.{offers}
+use Rattle.pct_model.specs.CancelCalls.{requests, acts_on_request}
 use Rattle.pct_model.specs.Transitions.{written}
 use Rattle.pct_model.specs.ThreadCalls.{begins_join, ends_join, detaches}
 use Rattle.pct_threads.specs.Slots.{Held}
@@ -26,7 +27,7 @@ use Rattle.pct_engine.specs.Views.{thread_of, slot_view, process_view, ArePlaced
 use Rattle.pct_engine.specs.MachineChanges.{held_moved}
 use Rattle.pct_engine.proofs.HeldChanges.{is_occupied_at-on_held}
 use Rattle.pct_engine.proofs.MachineViews.{id-moved}
-use Rattle.pct_engine.proofs.NamedFits.{quiet_all_fit, written_quiet, ByName, transition_case}
+use Rattle.pct_engine.proofs.NamedFits.{quiet_all_fit, written_quiet, ByName, taken_case}
 use Rattle.pct_engine.proofs.NewThreads.{offered_is_next, ids_asked, transition_new}
 use Rattle.pct_engine.proofs.JoinedThreads.{join_fits}
 
@@ -60,7 +61,7 @@ module _ (script : Script) (slots slot : ℕ) (m : Machine) (h : Held) (choice :
   occupied f = is_occupied_at-on_held slot f m.threads ∙ ap is_some here
 
   names_fit : ByName Names slots h.id (map slot_view m.threads) h.thread.status
-  unfolding begins_join ends_join detaches
+  unfolding begins_join ends_join detaches requests acts_on_request
   names_fit = record {
     rests = tt;
     quiet = λ o not quiet. quiet_all_fit slot o.actions (on_held slot (held_moved o) m.threads) quiet;
@@ -69,12 +70,14 @@ module _ (script : Script) (slots slot : ℕ) (m : Machine) (h : Held) (choice :
       join_fits slots slot id v m.threads placed h here joins x seen value (held_moved (ends_join next d id v)) (id-moved (ends_join next d id v)),
       quiet_all_fit slot (written d v) _ (written_quiet d v),
     );
+    canceled = λ id joins. (tt, (tt, tt));
+    requested = λ next id not. (tt, tt);
     detached = λ next id x not seen unjoined. (tt, tt);
   }
 
   -- the threads that it names fit it
   pub taken_names : NamesFit slot taken.actions (on_held slot (held_moved taken) m.threads)
-  taken_names = transition_case Names slots (map slot_view m.threads) (body_at script h.frames) (process_view script m).shared (thread_of h) choice (next_of script h.frames) h.thread.status names_fit
+  taken_names = taken_case Names slots (map slot_view m.threads) (body_at script h.frames) (process_view script m).shared (thread_of h) choice (next_of script h.frames) h.thread.status names_fit
 
   -- the thread that it creates fits the table
   pub taken_new : offers (choices_in script slots (process_view script m) (thread_of h)) choice ≡ true → NewFits taken.created m.threads

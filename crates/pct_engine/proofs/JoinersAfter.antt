@@ -18,6 +18,7 @@ use Rattle.pct_model.specs.Actions.{for_each}
 use Rattle.pct_model.specs.ChoiceTable.{offers}
 use Rattle.pct_model.specs.NextStatement.{next_of, body_at}
 use Rattle.pct_model.specs.ThreadSlots.{is_ended_status}
+use Rattle.pct_model.specs.CancelCalls.{requests, acts_on_request}
 use Rattle.pct_model.specs.ThreadCalls.{begins_join, ends_join, detaches}
 use Rattle.pct_model.specs.Transitions.{written, no_change}
 use Rattle.pct_threads.specs.Slots.{Held, Slot, unused, freed, new_held, with_frame_word}
@@ -33,9 +34,9 @@ use Rattle.pct_engine.specs.Views.{thread_of, slot_view, process_view, machine_v
 use Rattle.pct_engine.proofs.FoundThreads.{admits, legal_transition-found}
 use Rattle.pct_engine.proofs.HeldChanges.{acted_threads, on_held-nothing, held_at-on_held}
 use Rattle.pct_engine.proofs.JoinedThreads.{seen_is, seen_held, seen_unjoined, target_ended}
-use Rattle.pct_engine.proofs.JoinersKept.{IsAlike, own_kept, own_unjoined, end_kept, begin_kept, detach_kept, settled_kept, created_kept, new_kept, more_at}
+use Rattle.pct_engine.proofs.JoinersKept.{IsAlike, own_kept, own_unjoined, end_kept, cancel_kept, begin_kept, request_kept, detach_kept, settled_kept, created_kept, new_kept, more_at}
 use Rattle.pct_engine.proofs.MachineViews.{table_moved}
-use Rattle.pct_engine.proofs.NamedFits.{IsNotJoining, IsQuiet, AreQuiet, quiet_names, written_quiet, ByName, transition_case}
+use Rattle.pct_engine.proofs.NamedFits.{IsNotJoining, IsQuiet, AreQuiet, quiet_names, written_quiet, ByName, taken_case}
 use Rattle.pct_engine.proofs.OpenTables.{after_names, inside_names, follows_moved}
 use Rattle.pct_engine.proofs.OpenTables as tables
 
@@ -66,8 +67,11 @@ unfolding held_after
 quiet_after (action.Call f a k) h quiet not = λ id. refl
 quiet_after (action.CallAlone f a k) h quiet not = λ id. refl
 quiet_after (action.Leave s) h quiet not = quiet
+quiet_after (action.BeginPoint index) h quiet not = λ id. refl
 quiet_after (action.BeginJoin id) h quiet not = absurd quiet
 quiet_after (action.EndJoin id) h quiet not = absurd quiet
+quiet_after (action.CancelJoin id) h quiet not = absurd quiet
+quiet_after (action.Request id) h quiet not = absurd quiet
 quiet_after (action.Detach id) h quiet not = absurd quiet
 quiet_after (action.BeginEnd why) h quiet not = λ id. refl
 quiet_after (action.EndThread v) h quiet not = λ id. refl
@@ -114,6 +118,18 @@ module _ (slots slot : ℕ) (threads : List Slot) (h : Held) (placed : ArePlaced
       subst HaveJoiners (sym (quiet_names slot (written d v) (on_named id freed acted) (written_quiet d v)))
       (end_kept slot threads h here was slots placed.place id (held_moved o) (alike_moved o h) (quiet_all (written d v) (held_at_pc (Some next) h) (written_quiet d v) (λ n. refl)) is over)
 
+  canceled_kept : (id : ℕ) → h.thread.status ≡ status.Joining id → Keeps (acts_on_request (status.Joining id))
+  unfolding acts_on_request held_after held_at_pc named_on
+  canceled_kept id is =
+      let o = acts_on_request (status.Joining id) in
+      cancel_kept slot threads h here was slots placed.place id (held_moved o) (alike_moved o h) (λ n. refl) is
+
+  requested_kept : (next id : ℕ) → IsNotJoining h.thread.status → Keeps (requests next id)
+  unfolding requests held_after held_at_pc named_on
+  requested_kept next id running =
+      let moved = held_moved (requests next id) in
+      request_kept id (on_held slot moved threads) (own_kept slot threads h here was moved (alike_moved (requests next id) h) running (λ n. refl))
+
   detaches_kept : (next id : ℕ) → IsNotJoining h.thread.status → ((j : ℕ) (z : Held) → held_at threads j ≡ Some z → z.thread.status ≢ status.Joining id) → Keeps (detaches next id)
   unfolding detaches held_after held_at_pc named_on
   detaches_kept next id running unjoined =
@@ -132,6 +148,8 @@ module _ (slots slot : ℕ) (threads : List Slot) (h : Held) (placed : ArePlaced
         let g = seen_held slots id threads placed x seen in
         begins_kept id g.0 g.1 g.2 g.3 other (ap (λ (y : Target). y.detached) (seen_is slots id threads placed x seen g.0 g.1 g.2 g.3) ∙ joinable) (seen_unjoined slots id threads placed x seen unjoined) running;
     ends = λ next id v d x joins seen value. ends_kept next id v d joins (target_ended slots slot id v threads placed h here joins x seen value);
+    canceled = canceled_kept;
+    requested = requested_kept;
     detached = λ next id x running seen unjoined. detaches_kept next id running (seen_unjoined slots id threads placed x seen unjoined);
   }
 
@@ -157,7 +175,7 @@ joiners_made script config m new e slot o placed was found legal moved =
     let taken : Transition = transition_in script config.slots (process_view script m) (thread_of h) e.alt in
     let same : taken ≡ o = offered_is (offers (choices_in script config.slots (process_view script m) (thread_of h)) e.alt) taken o (sym (legal_transition-found script config m e slot h found.may placed found.here found.named) ∙ legal) in
     let kept : HaveJoiners (after_names slot taken m.threads) =
-    transition_case (Keeps config.slots slot m.threads h on found.here was) config.slots (map slot_view m.threads) (body_at script h.frames) (process_view script m).shared (thread_of h) e.alt (next_of script h.frames) h.thread.status (keeps config.slots slot m.threads h on found.here was) in
+    taken_case (Keeps config.slots slot m.threads h on found.here was) config.slots (map slot_view m.threads) (body_at script h.frames) (process_view script m).shared (thread_of h) e.alt (next_of script h.frames) h.thread.status (keeps config.slots slot m.threads h on found.here was) in
     subst HaveJoiners
     (ap (λ (ts : List Slot). with_new o.created (settled slot (for_each (named_on slot) o.actions ts))) (sym (acted_threads slot o m)) ∙ sym (ap (λ (x : Machine). x.threads) moved))
     (moved_kept config.slots slot m.threads h on found.here was o (subst (λ (x : Transition). HaveJoiners (after_names slot x m.threads)) same kept) found.created)

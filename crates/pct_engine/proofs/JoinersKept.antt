@@ -1,5 +1,5 @@
 -- Each change of a table of threads keeps the joiners of its threads.
-use Rattle.std.proofs.Common.{◌≡◌, ◌≢◌, ℕ, ◌<◌, Bool, true, false, ◌&&◌, List, length, Option, Some, None, refl, sym, ap, ◌∙◌, subst, arith}
+use Rattle.std.proofs.Common.{◌≡◌, ◌≢◌, ℕ, ◌<◌, Bool, true, false, ◌&&◌, cond, List, length, Option, Some, None, refl, sym, ap, ◌∙◌, subst, arith}
 use Rattle.std.specs.Prelude.{nat_eq, is_some, position, option_map, option_and_then}
 use Rattle.std.specs.Option.{option_map_or}
 use Rattle.std.proofs.lemmas.Bool.{and_left, and_right, eq-eqb, eqb-true, cond-false, false≢true}
@@ -14,7 +14,7 @@ use Rattle.pct_threads.specs.Tables.{slot_at, held_at, next_id_at, on_slot, on_h
 use Rattle.pct_threads.proofs.TableLemmas.{within-occupied, within-free, is_free_at-within, length-on_slot}
 use Rattle.pct_engine.specs.Fitting.{NewFits}
 use Rattle.pct_engine.specs.Joiners.{IsTarget, IsJoiner, IsJoined, HaveJoiners}
-use Rattle.pct_engine.specs.MachineChanges.{held_with_status, on_named, unless_reclaimed, settled, with_new}
+use Rattle.pct_engine.specs.MachineChanges.{held_with_status, held_requested, on_named, unless_reclaimed, settled, with_new}
 use Rattle.pct_engine.proofs.JoinedThreads.{joining_is}
 use Rattle.pct_engine.proofs.NamedFits.{IsNotJoining}
 use Rattle.pct_engine.proofs.OpenTables.{changed_at, none_here}
@@ -173,58 +173,88 @@ module _ (slot : ℕ) (threads : List Slot) (h : Held) (here : held_at threads s
         (λ same. subst P (sym (ap (λ (x : ℕ). (change (slot_at acted x)).here) same ∙ is)) (at_k same))
         (λ differs. own_at f j P (at_slot differs) (rest differs))
 
-  -- ---- a join ends
+  -- ---- a join ends, or is canceled
 
-  module _ (slots : ℕ) (place : (j : ℕ) (x : Held) → held_at threads j ≡ Some x → slot_of slots x.id ≡ j) (id : ℕ) (f : Held → Held) (alike : IsAlike h (f h)) (not : IsNotJoining (f h).thread.status) (is : h.thread.status ≡ status.Joining id)
-      (over : (j : ℕ) (z : Held) → held_at threads j ≡ Some z → z.id ≡ id → is_ended_status z.thread.status ≡ true) where
+  module _ (slots : ℕ) (place : (j : ℕ) (x : Held) → held_at threads j ≡ Some x → slot_of slots x.id ≡ j) (id : ℕ) (f : Held → Held) (alike : IsAlike h (f h)) (not : IsNotJoining (f h).thread.status) (is : h.thread.status ≡ status.Joining id) where
     abbrev its_target : IsTarget threads id h
     its_target = (was slot h here).joins id is
-
-    abbrev left : List Slot
-    left = on_slot its_target.slot freed (acted f alike)
-
-    left_at : (j : ℕ) (P : Option Held → Type 0) → (j ≡ its_target.slot → P None) → (j ≢ its_target.slot → j ≡ slot → P (Some (f h))) → (j ≢ its_target.slot → j ≢ slot → P (held_at threads j)) → P (held_at left j)
-    left_at = two_at f alike its_target.slot freed None (within-occupied threads its_target.slot (ap is_some its_target.here)) refl
 
     on_target : (j : ℕ) (z : Held) → j ≡ its_target.slot → held_at threads j ≡ Some z → its_target.target ≡ z
     on_target j z same at = same_Some its_target.target z (sym its_target.here ∙ ap (held_at threads) (sym same) ∙ at)
 
-    left_joiner : (j : ℕ) (b : Held) → j ≢ its_target.slot → held_at threads j ≡ Some b → (i : ℕ) (z : Held) → held_at threads i ≡ Some z → z.thread.status ≡ status.Joining b.id → StaysJoiner left i z
-    left_joiner j b differs at i z found joins =
-        left_at i (λ o. held_at left i ≡ o → StaysJoiner left i z)
-        (λ same now. absurd (over_not_joining z.thread.status b.id (over i z found (sym (ap (λ (x : Held). x.id) (on_target i z same found)) ∙ its_target.named)) joins))
-        (λ apart same now.
-        let joined : id ≡ b.id = same_target id b.id (sym is ∙ ap (λ (x : Held). x.thread.status) (only i z same found) ∙ joins) in
-        absurd (differs (sym (place j b at) ∙ ap (slot_of slots) (sym joined ∙ sym its_target.named) ∙ place its_target.slot its_target.target its_target.here)))
-        (λ apart other now. joiner_as_it_was left i z (now ∙ found))
-        refl
+    target_apart : its_target.slot ≢ slot
+    target_apart same = its_target.other (sym its_target.named ∙ sym (ap (λ (x : Held). x.id) (only its_target.slot its_target.target same its_target.here)))
 
-    left_target : (j : ℕ) (b : Held) → j ≢ slot → held_at threads j ≡ Some b → (i : ℕ) (z : Held) → held_at threads i ≡ Some z → z.joiner ≡ b.id → StaysTarget left i z
-    left_target j b differs at i z found joined =
-        left_at i (λ o. held_at left i ≡ o → StaysTarget left i z)
-        (λ same now.
-        let both : h.id ≡ b.id = sym its_target.joined ∙ ap (λ (x : Held). x.joiner) (on_target i z same found) ∙ joined in
-        absurd (differs (sym (place j b at) ∙ ap (slot_of slots) (sym both) ∙ place slot h here)))
-        (λ apart same now. own_target f alike i z same found left now)
-        (λ apart other now. target_as_it_was left i z (now ∙ found))
-        refl
+    -- the target, as the thread goes on
+    still_target : held_at (acted f alike) its_target.slot ≡ Some its_target.target
+    still_target = own_at f its_target.slot (λ o. o ≡ Some its_target.target) (λ same. absurd (target_apart same)) (λ differs. its_target.here)
 
-    left_kept : HaveJoiners left
-    left_kept j y =
-        left_at j (λ o. o ≡ Some y → IsJoined left y)
-        (λ same at. absurd (none-some y at))
-        (λ apart same at. subst (IsJoined left) (same_Some (f h) y at) (still_goes threads left h (f h) (was slot h here) alike.same_id alike.same_joiner not (left_joiner slot h (λ e. apart (same ∙ e)) here)))
-        (λ apart other at. still threads left y y (was j y at) refl refl refl (λ id joins i z found named joined joinable. left_target j y other at i z found joined) (left_joiner j y apart at))
+    -- the thread goes on, and its target has no joiner then, or does not hold its slot
+    module _ (change : Slot → Slot) (o : Option Held) (changes : (change (slot_at (acted f alike) its_target.slot)).here ≡ o)
+        (stays : (wanted : ℕ) → its_target.target.thread.status ≡ status.Joining wanted → (now : Held) × (o ≡ Some now) × (now.id ≡ its_target.target.id) × (now.thread.status ≡ its_target.target.thread.status)) where
+      abbrev left : List Slot
+      left = on_slot its_target.slot change (acted f alike)
 
-    -- the thread goes on, and its target gives back its slot
-    pub end_kept : HaveJoiners (on_named id freed (acted f alike))
-    end_kept =
-        let known : (j : ℕ) (P : Option Held → Type 0) → (j ≡ slot → P (Some (f h))) → (j ≢ slot → P (held_at threads j)) → P (held_at (acted f alike) j) = own_at f in
-        let there : held_at (acted f alike) its_target.slot ≡ Some its_target.target =
-        known its_target.slot (λ o. o ≡ Some its_target.target)
-        (λ same. absurd (its_target.other (sym its_target.named ∙ sym (ap (λ (x : Held). x.id) (only its_target.slot its_target.target same its_target.here)))))
-        (λ other. its_target.here) in
-        subst HaveJoiners (sym (ap (λ (o : Option ℕ). option_map_or (λ k. on_slot k freed (acted f alike)) o (acted f alike)) (found_placed slots id its_target.slot (acted f alike) its_target.target (own_placed f alike slots place) there its_target.named))) left_kept
+      left_at : (j : ℕ) (P : Option Held → Type 0) → (j ≡ its_target.slot → P o) → (j ≢ its_target.slot → j ≡ slot → P (Some (f h))) → (j ≢ its_target.slot → j ≢ slot → P (held_at threads j)) → P (held_at left j)
+      left_at = two_at f alike its_target.slot change o (within-occupied threads its_target.slot (ap is_some its_target.here)) changes
+
+      left_joiner : (j : ℕ) (b : Held) → j ≢ its_target.slot → held_at threads j ≡ Some b → (i : ℕ) (z : Held) → held_at threads i ≡ Some z → z.thread.status ≡ status.Joining b.id → StaysJoiner left i z
+      left_joiner j b differs at i z found joins =
+          left_at i (λ p. held_at left i ≡ p → StaysJoiner left i z)
+          (λ same now.
+          let e : its_target.target ≡ z = on_target i z same found in
+          let s = stays b.id (ap (λ (x : Held). x.thread.status) e ∙ joins) in
+          record { now = s.0; found = now ∙ s.1; same_id = s.2 ∙ ap (λ (x : Held). x.id) e; same_status = s.3 ∙ ap (λ (x : Held). x.thread.status) e })
+          (λ apart same now.
+          let joined : id ≡ b.id = same_target id b.id (sym is ∙ ap (λ (x : Held). x.thread.status) (only i z same found) ∙ joins) in
+          absurd (differs (sym (place j b at) ∙ ap (slot_of slots) (sym joined ∙ sym its_target.named) ∙ place its_target.slot its_target.target its_target.here)))
+          (λ apart other now. joiner_as_it_was left i z (now ∙ found))
+          refl
+
+      left_target : (j : ℕ) (b : Held) → j ≢ slot → held_at threads j ≡ Some b → (i : ℕ) (z : Held) → held_at threads i ≡ Some z → z.joiner ≡ b.id → StaysTarget left i z
+      left_target j b differs at i z found joined =
+          left_at i (λ p. held_at left i ≡ p → StaysTarget left i z)
+          (λ same now.
+          let both : h.id ≡ b.id = sym its_target.joined ∙ ap (λ (x : Held). x.joiner) (on_target i z same found) ∙ joined in
+          absurd (differs (sym (place j b at) ∙ ap (slot_of slots) (sym both) ∙ place slot h here)))
+          (λ apart same now. own_target f alike i z same found left now)
+          (λ apart other now. target_as_it_was left i z (now ∙ found))
+          refl
+
+      left_kept : ((y : Held) → o ≡ Some y → IsJoined left y) → HaveJoiners left
+      left_kept target j y =
+          left_at j (λ p. p ≡ Some y → IsJoined left y)
+          (λ same at. target y at)
+          (λ apart same at. subst (IsJoined left) (same_Some (f h) y at) (still_goes threads left h (f h) (was slot h here) alike.same_id alike.same_joiner not (left_joiner slot h (λ e. apart (same ∙ e)) here)))
+          (λ apart other at. still threads left y y (was j y at) refl refl refl (λ id joins i z found named joined joinable. left_target j y other at i z found joined) (left_joiner j y apart at))
+
+      named_kept : ((y : Held) → o ≡ Some y → IsJoined left y) → HaveJoiners (on_named id change (acted f alike))
+      named_kept target =
+          subst HaveJoiners (sym (ap (λ (p : Option ℕ). option_map_or (λ k. on_slot k change (acted f alike)) p (acted f alike)) (found_placed slots id its_target.slot (acted f alike) its_target.target (own_placed f alike slots place) still_target its_target.named))) (left_kept target)
+
+    -- the thread goes on, and its target, which has ended, gives back its slot
+    pub end_kept : ((j : ℕ) (z : Held) → held_at threads j ≡ Some z → z.id ≡ id → is_ended_status z.thread.status ≡ true) → HaveJoiners (on_named id freed (acted f alike))
+    end_kept over =
+        named_kept freed None refl
+        (λ wanted joins. absurd (over_not_joining its_target.target.thread.status wanted (over its_target.slot its_target.target its_target.here its_target.named) joins))
+        (λ y at. absurd (none-some y at))
+
+    -- the thread goes on, and its target has no joiner
+    pub cancel_kept : HaveJoiners (on_named id (with_change (with_joiner 0)) (acted f alike))
+    cancel_kept =
+        let target : Held = its_target.target in
+        let alone : Held = with_joiner 0 target in
+        let known = was its_target.slot target its_target.here in
+        let changes : option_map (with_joiner 0) (held_at (acted f alike) its_target.slot) ≡ Some alone = ap (option_map (with_joiner 0)) still_target in
+        let new : List Slot = on_slot its_target.slot (with_change (with_joiner 0)) (acted f alike) in
+        let stays : (wanted : ℕ) → target.thread.status ≡ status.Joining wanted → (now : Held) × (Some alone ≡ Some now) × (now.id ≡ target.id) × (now.thread.status ≡ target.thread.status) = λ wanted joins. (alone, refl, refl, refl) in
+        named_kept (with_change (with_joiner 0)) (Some alone) changes stays
+        (λ y at.
+        subst (IsJoined new) (same_Some alone y at) (record {
+          joins = λ wanted joins. still_joins threads new target alone known refl wanted joins (λ i z found named joined joinable. left_target (with_change (with_joiner 0)) (Some alone) changes stays its_target.slot target target_apart its_target.here i z found joined);
+          joined = λ nonzero. absurd (nonzero refl);
+          some = known.some;
+        }))
 
   -- ---- a join begins
 
@@ -306,6 +336,69 @@ module _ (slot : ℕ) (threads : List Slot) (h : Held) (here : held_at threads s
         ap (λ (o : Option ℕ). option_map_or (λ i. on_slot i (with_change (with_joiner own)) waiting) o waiting) (found_placed slots id k waiting g (own_placed suspended same_place slots place) still_there named)
         ∙ ap (λ (n : ℕ). on_slot k (with_change (with_joiner n)) waiting) is))
         joined_kept
+
+-- ---- a request
+
+-- a thread as another, for joins
+record IsSame (old new : Held) : Type 0 where
+  same_id : new.id ≡ old.id
+  same_detached : new.detached ≡ old.detached
+  same_joiner : new.joiner ≡ old.joiner
+  same_status : new.thread.status ≡ old.thread.status
+
+requested_same : (z : Held) → IsSame z (held_requested z)
+requested_same z = either z.thread.ended where
+  either : (ended : Bool) → IsSame z (cond ended z (record z { thread = record z.thread { cancel = record z.thread.cancel { pending = true } } }))
+  either true = record { same_id = refl; same_detached = refl; same_joiner = refl; same_status = refl }
+  either false = record { same_id = refl; same_detached = refl; same_joiner = refl; same_status = refl }
+
+requested_from : (o : Option Held) (y : Held) → option_map held_requested o ≡ Some y → (z : Held) × (o ≡ Some z) × (held_requested z ≡ y)
+requested_from None y is = absurd (none-some y is)
+requested_from (Some z) y is = (z, refl, same_Some (held_requested z) y is)
+
+module _ (id : ℕ) (threads : List Slot) (was : HaveJoiners threads) where
+  module _ (k : ℕ) (found : position (has_id id) threads ≡ Some k) where
+    abbrev with_request : List Slot
+    with_request = on_slot k (with_change held_requested) threads
+
+    request_at : (j : ℕ) (P : Option Held → Type 0) → (j ≡ k → P (option_map held_requested (held_at threads j))) → (j ≢ k → P (held_at threads j)) → P (held_at with_request j)
+    request_at j P = changed_at k (with_change held_requested) threads (found_within id k threads found) j (λ s. P s.here)
+
+    request_target : (i : ℕ) (z : Held) → held_at threads i ≡ Some z → StaysTarget with_request i z
+    request_target i z there =
+        let same = requested_same z in
+        request_at i (λ o. held_at with_request i ≡ o → StaysTarget with_request i z)
+        (λ here now. record { now = held_requested z; found = now ∙ ap (option_map held_requested) there; same_id = same.same_id; same_detached = same.same_detached; same_joiner = same.same_joiner })
+        (λ differs now. target_as_it_was with_request i z (now ∙ there))
+        refl
+
+    request_joiner : (i : ℕ) (z : Held) → held_at threads i ≡ Some z → StaysJoiner with_request i z
+    request_joiner i z there =
+        let same = requested_same z in
+        request_at i (λ o. held_at with_request i ≡ o → StaysJoiner with_request i z)
+        (λ here now. record { now = held_requested z; found = now ∙ ap (option_map held_requested) there; same_id = same.same_id; same_status = same.same_status })
+        (λ differs now. joiner_as_it_was with_request i z (now ∙ there))
+        refl
+
+    -- a thread that is as it was, for joins
+    request_still : (j : ℕ) (b y : Held) → held_at threads j ≡ Some b → IsSame b y → IsJoined with_request y
+    request_still j b y at same = still threads with_request b y (was j b at) same.same_id same.same_joiner same.same_status (λ wanted joins i z there named joined joinable. request_target i z there) (λ i z there joins. request_joiner i z there)
+
+    requested_kept : HaveJoiners with_request
+    requested_kept j y =
+        request_at j (λ o. o ≡ Some y → IsJoined with_request y)
+        (λ same at.
+        let z = requested_from (held_at threads j) y at in
+        request_still j z.0 y z.1 (subst (IsSame z.0) z.2 (requested_same z.0)))
+        (λ differs at. request_still j y y at (record { same_id = refl; same_detached = refl; same_joiner = refl; same_status = refl }))
+
+  request_kept_by : (o : Option ℕ) → position (has_id id) threads ≡ o → HaveJoiners (option_map_or (λ k. on_slot k (with_change held_requested) threads) o threads)
+  request_kept_by None none = was
+  request_kept_by (Some k) found = requested_kept k found
+
+  -- a request for the thread with an id
+  pub request_kept : HaveJoiners (on_named id (with_change held_requested) threads)
+  request_kept = request_kept_by (position (has_id id) threads) refl
 
 -- ---- a detach
 

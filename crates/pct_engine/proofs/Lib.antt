@@ -1,6 +1,7 @@
 pub mod Bodies
 pub mod Fits
 pub mod ListedChoices
+pub mod CancelRows
 pub mod SlotAnswers
 mod HeldChanges
 mod FrameChanges

@@ -1,10 +1,13 @@
--- The transitions by the threads that they name: most name none; the others begin or end a join, or detach a thread.
-use Rattle.std.proofs.Common.{◌≡◌, ◌≢◌, ℕ, suc, Bool, true, false, cond, List, [], ◌∷◌, ◌++◌, Option, Some, None, refl, sym, ◌∙◌}
+-- The transitions by the threads that they name: most name none; the others begin, end or cancel a join, detach a thread, or
+-- request that one be canceled.
+use Rattle.std.proofs.Common.{◌≡◌, ◌≢◌, ℕ, suc, Bool, true, false, not, ◌&&◌, cond, List, [], ◌∷◌, ◌++◌, Option, Some, None, refl, sym, ◌∙◌}
 use Rattle.std.specs.Prelude.{nat_eq, is_none}
 use Rattle.std.proofs.lemmas.Bool.{eqb-false}
 use Rattle.std.proofs.lemmas.Option.{none-some}
 use Rattle.pct_model.specs.declared.event.What.TheVariants.{Popped}
 use Rattle.pct_model.specs.declared.frame.Frame.{Frame}
+use Rattle.pct_model.specs.declared.point.PointKind.{PointKind}
+use Rattle.pct_model.specs.declared.point.PointKind.TheVariants as kinds
 use Rattle.pct_model.specs.declared.state.FrameKind.{FrameKind}
 use Rattle.pct_model.specs.declared.state.FrameKind.TheVariants as kind
 use Rattle.pct_model.specs.declared.state.Reason.{Reason}
@@ -29,12 +32,14 @@ use Rattle.pct_model.specs.World.{Thread, SharedState, value_of}
 use Rattle.pct_model.specs.Actions.{for_each}
 use Rattle.pct_model.specs.Transitions.{goes_on, written, no_change, stops}
 use Rattle.pct_model.specs.ScriptStatements.{jumps, emits, sets, adds, calls}
+use Rattle.pct_model.specs.Cancelability.{is_asynchronous}
 use Rattle.pct_model.specs.CleanupHandlers.{pushes, pops}
+use Rattle.pct_model.specs.CancelCalls.{requests, state_number, mode_number, sets_state, sets_mode, tests_cancel, point_kind, calls_point, passes_point, acts_on_request}
 use Rattle.pct_model.specs.ThreadCalls.{creates, creates_by, fails_to_create, begins_join, ends_join, joins_with, joins_at, detaches, gets_self}
 use Rattle.pct_model.specs.ThreadEnds.{ends_by_exit, ends_thread, goes_on_ending}
 use Rattle.pct_model.specs.ProcessExit.{exits, returns_by, ends_process}
-use Rattle.pct_model.specs.StopTable.{StopTest, first_stop, stops_of, stop_at}
-use Rattle.pct_model.specs.TransitionTable.{ends_block, stops_or, runs, transition_at}
+use Rattle.pct_model.specs.StopTable.{StopTest, first_stop, is_async_safe, stops_of, stop_at}
+use Rattle.pct_model.specs.TransitionTable.{ends_block, stops_or, runs, transition_at, acts_or}
 use Rattle.pct_threads.specs.Slots.{Slot}
 use Rattle.pct_engine_laws.specs.Seen.{SeenSlot}
 use Rattle.pct_engine_laws.specs.SeenSteps.{target_in, answer_in}
@@ -52,6 +57,8 @@ abbrev pub IsQuiet : Action → Type 0
 IsQuiet (action.Leave s) = IsNotJoining s
 IsQuiet (action.BeginJoin id) = ⊥
 IsQuiet (action.EndJoin id) = ⊥
+IsQuiet (action.CancelJoin id) = ⊥
+IsQuiet (action.Request id) = ⊥
 IsQuiet (action.Detach id) = ⊥
 IsQuiet _ = Unit {0}
 
@@ -63,6 +70,8 @@ quiet_name : (slot : ℕ) (a : Action) (threads : List Slot) → IsQuiet a → n
 unfolding named_on
 quiet_name slot (action.BeginJoin id) threads quiet = absurd quiet
 quiet_name slot (action.EndJoin id) threads quiet = absurd quiet
+quiet_name slot (action.CancelJoin id) threads quiet = absurd quiet
+quiet_name slot (action.Request id) threads quiet = absurd quiet
 quiet_name slot (action.Detach id) threads quiet = absurd quiet
 quiet_name slot _ threads quiet = refl
 
@@ -135,12 +144,27 @@ unfolding ends_process
 exit_quiet [] (Some v) = (tt, tt)
 exit_quiet _ _ = tt
 
+point_quiet : (next index : ℕ) (kind : Option PointKind) → Quiet (calls_point next index kind)
+unfolding calls_point
+point_quiet next index (Some kinds.Required) = (tt, tt)
+point_quiet next index (Some kinds.Optional) = tt
+point_quiet next index None = tt
+
+passes_quiet : (index : ℕ) (next : NextStatement) → Quiet (passes_point index next)
+unfolding passes_point
+passes_quiet index (StatementIn frame (statement.PointCall i)) = tt
+passes_quiet index _ = tt
+
 -- ---- the stops of joins and detaches
 
 -- a stop that does not come
 stop_none : (b : Bool) (why : Why) (rest : List StopTest) → first_stop ((b, why) ∷ rest) ≡ None → (b ≡ false) × (first_stop rest ≡ None)
 stop_none true why rest none = absurd (none-some why (sym none))
 stop_none false why rest none = (refl, none)
+
+-- none of a statement's own stops comes, where none of all comes
+own_none : (b : Bool) (rest : List StopTest) → first_stop ((false, why.Unbuilt) ∷ (b, why.AsyncCall) ∷ rest) ≡ None → first_stop rest ≡ None
+own_none b rest none = (stop_none b why.AsyncCall rest none).1
 
 -- a thread may be joined by the one with an id: it holds its slot, is another one, and is neither detached nor joined
 record MayJoin (target : Option Target) (id tid : ℕ) : Type 0 where
@@ -179,6 +203,8 @@ pub record ByName (P : Transition → Type 0) (slots tid : ℕ) (rows : List See
   pub quiet : (o : Transition) → IsNotJoining s → AreQuiet o.actions → P o
   pub begins : (id : ℕ) (x : Target) → IsNotJoining s → target_in slots id rows ≡ Some x → id ≢ tid → x.detached ≡ false → x.joining ≡ false → P (begins_join id)
   pub ends : (next id v : ℕ) (d : Dest) (x : Target) → s ≡ status.Joining id → target_in slots id rows ≡ Some x → x.value ≡ Some v → P (ends_join next d id v)
+  pub canceled : (id : ℕ) → s ≡ status.Joining id → P (acts_on_request (status.Joining id))
+  pub requested : (next id : ℕ) → IsNotJoining s → P (requests next id)
   pub detached : (next id : ℕ) (x : Target) → IsNotJoining s → target_in slots id rows ≡ Some x → x.joining ≡ false → P (detaches next id)
 
 module _ (P : Transition → Type 0) (slots : ℕ) (rows : List SeenSlot) (body : List Stmt) (shared : SharedState) (t : Thread) (choice : Alt) where
@@ -191,7 +217,7 @@ module _ (P : Transition → Type 0) (slots : ℕ) (rows : List SeenSlot) (body 
   stop_case None other stopped goes = goes refl
 
   running_case : (frame : Frame) (s : Stmt) → ByName P slots t.id rows status.Running → stop_at body shared t (seen_at (StatementIn frame s) status.Running) frame s ≡ None → P (runs body shared t (seen_at (StatementIn frame s) status.Running) choice frame s)
-  unfolding stop_at stops_of query_at statement_query answer_in runs emits sets adds jumps calls gets_self ends_by_exit pushes
+  unfolding stop_at stops_of query_at statement_query answer_in runs emits sets adds jumps calls gets_self ends_by_exit pushes sets_state sets_mode tests_cancel
   running_case frame (statement.Emit v) by_name none = by_name.quiet _ (λ id. refl) tt
   running_case frame (statement.Set d v) by_name none = by_name.quiet _ (λ id. refl) (written_quiet d _)
   running_case frame (statement.Add d v) by_name none = by_name.quiet _ (λ id. refl) (written_quiet d _)
@@ -205,13 +231,20 @@ module _ (P : Transition → Type 0) (slots : ℕ) (rows : List SeenSlot) (body 
   running_case frame (statement.Create result id f v detached) by_name none = by_name.quiet _ (λ id. refl) (creates_quiet choice _ result id f _ detached)
   running_case frame (statement.Join id d) by_name none =
       let named : ℕ = value_of shared.globals frame id in
-      let may = may_join (target_in slots named rows) named t.id none in
+      let own = own_none (is_asynchronous t.state t.mode && not (is_async_safe (statement.Join id d))) (stops_of body shared t (seen_at (StatementIn frame (statement.Join id d)) status.Running) frame (statement.Join id d)) none in
+      let may = may_join (target_in slots named rows) named t.id own in
       by_name.begins named may.seen (λ id. refl) may.target_is may.other may.joinable may.unjoined
   running_case frame (statement.Detach id) by_name none =
       let named : ℕ = value_of shared.globals frame id in
-      let may = may_detach (target_in slots named rows) none in
+      let own = own_none (is_asynchronous t.state t.mode && not (is_async_safe (statement.Detach id))) (stops_of body shared t (seen_at (StatementIn frame (statement.Detach id)) status.Running) frame (statement.Detach id)) none in
+      let may = may_detach (target_in slots named rows) own in
       by_name.detached (suc frame.pc) named may.seen (λ id. refl) may.target_is may.unjoined
+  running_case frame (statement.CancelThread id) by_name none = by_name.requested (suc frame.pc) (value_of shared.globals frame id) (λ id. refl)
   running_case frame (statement.SelfId d) by_name none = by_name.quiet _ (λ id. refl) (written_quiet d t.id)
+  running_case frame statement.TestCancel by_name none = by_name.quiet _ (λ id. refl) tt
+  running_case frame (statement.SetState enable old) by_name none = by_name.quiet _ (λ id. refl) (tt, written_quiet old (state_number t.state))
+  running_case frame (statement.SetMode asynchronous old) by_name none = by_name.quiet _ (λ id. refl) (tt, written_quiet old (mode_number t.mode))
+  running_case frame (statement.PointCall index) by_name none = by_name.quiet _ (λ id. refl) (point_quiet (suc frame.pc) index (point_kind index))
   running_case frame (statement.ThreadExit v) by_name none = by_name.quiet _ (λ id. refl) (tt, tt)
   running_case frame (statement.Push f v) by_name none = by_name.quiet _ (λ id. refl) (tt, tt)
   running_case frame (statement.Pop v) by_name none = by_name.quiet _ (λ id. refl) (pops_quiet _ _ t.handlers)
@@ -225,11 +258,27 @@ module _ (P : Transition → Type 0) (slots : ℕ) (rows : List SeenSlot) (body 
   joining_case (Some x) id next by_name seen = value_case x.value id next x by_name seen refl
   joining_case None id next by_name seen = by_name.rests
 
-  -- the transition of a thread
-  pub transition_case : (next : NextStatement) (s : Status) → ByName P slots t.id rows s → P (transition_at body shared t (seen_at next s) choice next s)
+  -- the transition of a thread that goes on
+  transition_case : (next : NextStatement) (s : Status) → ByName P slots t.id rows s → P (transition_at body shared t (seen_at next s) choice next s)
   unfolding transition_at query_at answer_in
   transition_case (StatementIn frame s) status.Running by_name = stop_case (stop_at body shared t (seen_at (StatementIn frame s) status.Running) frame s) (runs body shared t (seen_at (StatementIn frame s) status.Running) choice frame s) (λ why. by_name.quiet (stops why) (λ id. refl) (tt, tt)) (running_case frame s by_name)
+  transition_case next (status.AtPoint index) by_name = by_name.quiet _ (λ id. refl) (passes_quiet index next)
   transition_case next (status.Joining id) by_name = joining_case (target_in slots id rows) id next by_name refl
   transition_case next status.Ending by_name = by_name.quiet _ (λ id. refl) (ending_quiet _ t.reason t.handlers)
   transition_case next status.Exiting by_name = by_name.quiet _ (λ id. refl) (exit_quiet shared.exit_functions shared.exit_value)
   transition_case next _ by_name = by_name.rests
+
+  acting_case : (s : Status) → ByName P slots t.id rows s → P (acts_on_request s)
+  unfolding acts_on_request
+  acting_case status.Running by_name = by_name.quiet _ (λ id. refl) (tt, tt)
+  acting_case (status.AtPoint index) by_name = by_name.quiet _ (λ id. refl) (tt, tt)
+  acting_case (status.Joining id) by_name = by_name.canceled id refl
+  acting_case _ by_name = by_name.rests
+
+  by_choice : (picked : Alt) (s : Status) (goes : Transition) → ByName P slots t.id rows s → P goes → P (acts_or picked s goes)
+  by_choice (alt.Act n) s goes by_name took = acting_case s by_name
+  by_choice _ s goes by_name took = took
+
+  -- the transition of a thread
+  pub taken_case : (next : NextStatement) (s : Status) → ByName P slots t.id rows s → P (acts_or choice s (transition_at body shared t (seen_at next s) choice next s))
+  taken_case next s by_name = by_choice choice s (transition_at body shared t (seen_at next s) choice next s) by_name (transition_case next s by_name)

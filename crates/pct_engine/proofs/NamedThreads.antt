@@ -1,7 +1,7 @@
 -- The threads that a transition names: what is kept of them changes as the threads of the state.
 use Rattle.std.proofs.Common.{◌≡◌, ℕ, Bool, true, false, not, ◌&&◌, cond, List, [], ◌∷◌, map, filter, Option, Some, None, refl, sym, ap, ◌∙◌, subst, ne_eqb, eq-eqb}
 use Rattle.std.specs.Prelude.{nat_eq, position, option_map, option_and_then, IfSome}
-use Rattle.std.proofs.lemmas.Bool.{and_parts, not-true}
+use Rattle.std.proofs.lemmas.Bool.{and_parts, and_right, not-true}
 use Rattle.std.specs.Option.{option_map_or}
 use Rattle.pct_model.specs.declared.transition.Action.{Action}
 use Rattle.pct_model.specs.declared.transition.Action.TheVariants as action
@@ -14,7 +14,7 @@ use Rattle.pct_engine_laws.proofs.ThreadChanges.{KeepsSlots, named_keeps}
 use Rattle.pct_engine_laws.proofs.ThreadChanges as laws
 use Rattle.pct_engine.specs.Fitting.{IfNamed, NameFits}
 use Rattle.pct_engine.specs.Views.{thread_of, threads_of}
-use Rattle.pct_engine.specs.MachineChanges.{on_named, named_on}
+use Rattle.pct_engine.specs.MachineChanges.{held_requested, on_named, named_on}
 use Rattle.pct_engine.proofs.SearchedSlots.{held_found, fails_everywhere}
 use Rattle.pct_engine.proofs.ChangedTables.{changed_slots, same_slots, open_view, changed_view, change_of_open}
 
@@ -100,6 +100,25 @@ module _ (h : Held) (id : ℕ) (named : nat_eq h.id id ≡ true) where
       ∙ ap (λ (e : Bool). one_kept (record (thread_of h) { joined = true }) (thread_of h) e h.detached) ended
       ∙ ap (one_kept (record (thread_of h) { joined = true }) (thread_of h) true) detached)
 
+  -- the thread with a request
+  abbrev requested : Held
+  requested = record h { thread = record h.thread { cancel = record h.thread.cancel { pending = true } } }
+
+  request_cases : (b : Bool) → cond b (thread_of requested ∷ []) [] ≡ cond (b && true) (cond b (thread_of requested ∷ []) []) (cond b (thread_of h ∷ []) [])
+  request_cases true = refl
+  request_cases false = refl
+
+  request_if : (ended : Bool) → filter holds_slot (thread_of (cond ended h requested) ∷ []) ≡ filter holds_slot (cond (holds_slot (thread_of h) && not ended) (thread_of requested) (thread_of h) ∷ [])
+  request_if true = sym (ap (λ (b : Bool). filter holds_slot (cond b (thread_of requested) (thread_of h) ∷ [])) (and_right (holds_slot (thread_of h)) false refl))
+  request_if false = request_cases (holds_slot (thread_of h)) ∙ sym (kept_either (holds_slot (thread_of h) && true) (thread_of requested) (thread_of h))
+
+  -- pthread_cancel
+  requested_by : filter holds_slot (thread_of (held_requested h) ∷ []) ≡ filter holds_slot (named_after (action.Request id) (thread_of h) ∷ [])
+  unfolding named_after
+  requested_by =
+      request_if h.thread.ended
+      ∙ sym (ap (λ (n : Bool). filter holds_slot (cond ((n && holds_slot (thread_of h)) && not h.thread.ended) (thread_of requested) (thread_of h) ∷ [])) named)
+
 -- no change
 pub same_here : (o : Option Held) → filter holds_slot (threads_of o) ≡ filter holds_slot (map (λ (t : Thread). t) (threads_of o))
 same_here None = refl
@@ -118,6 +137,18 @@ join_stays id t other = ap (λ (b : Bool). cond (b && holds_slot t) (record t { 
 detach_stays : (id : ℕ) (t : Thread) → nat_eq t.id id ≡ false → named_after (action.Detach id) t ≡ t
 unfolding named_after
 detach_stays id t other = ap (λ (b : Bool). cond (b && holds_slot t) (record t { detached = true }) t) other
+
+request_stays : (id : ℕ) (t : Thread) → nat_eq t.id id ≡ false → named_after (action.Request id) t ≡ t
+unfolding named_after
+request_stays id t other = ap (λ (b : Bool). cond ((b && holds_slot t) && not t.ended) (record t { pending = true }) t) other
+
+request_view : (id : ℕ) (s : Slot) (h : Held) → s.here ≡ Some h → nat_eq h.id id ≡ true → open_view (with_change held_requested s) ≡ changed_view (named_after (action.Request id)) s
+request_view id s h here named i = record {
+  made = s.made;
+  here = (ap (λ (o : Option Held). filter holds_slot (threads_of (option_map held_requested o))) here
+      ∙ requested_by h id named
+      ∙ sym (ap (λ (o : Option Held). filter holds_slot (map (named_after (action.Request id)) (threads_of o))) here)) i;
+}
 
 detach_view : (id : ℕ) (s : Slot) (h : Held) → s.here ≡ Some h → nat_eq h.id id ≡ true → open_view (after_change after_detach s) ≡ changed_view (named_after (action.Detach id)) s
 detach_view id s h here named i = record {
@@ -151,6 +182,12 @@ named_first slots slot (action.BeginJoin id) threads placed fits =
 named_first slots slot (action.EndJoin id) threads placed fits =
     on_named_view slots id (named_after (action.EndJoin id)) freed threads placed (join_stays id)
     (λ k h found here named. join_view id (slot_at threads k) h here named (reclaimable_found id k threads h fits found here))
+named_first slots slot (action.CancelJoin id) threads placed fits =
+    on_named_view slots id (λ t. t) (with_change (with_joiner 0)) threads placed (λ t other. refl)
+    (λ k h found here named i. record { made = (slot_at threads k).made; here = joiner_here 0 (held_at threads k) i })
+named_first slots slot (action.Request id) threads placed fits =
+    on_named_view slots id (named_after (action.Request id)) (with_change held_requested) threads placed (request_stays id)
+    (λ k h found here named. request_view id (slot_at threads k) h here named)
 named_first slots slot (action.Detach id) threads placed fits =
     on_named_view slots id (named_after (action.Detach id)) (after_change after_detach) threads placed (detach_stays id)
     (λ k h found here named. detach_view id (slot_at threads k) h here named)

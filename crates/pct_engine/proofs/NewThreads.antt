@@ -11,18 +11,19 @@ use Rattle.pct_model.specs.declared.schedule.Alt.TheVariants as alt
 use Rattle.pct_model.specs.declared.other_threads.Query.{Query}
 use Rattle.pct_model.specs.declared.other_threads.Query.TheVariants as query
 use Rattle.pct_model.specs.declared.transition.NewThread.{NewThread}
+use Rattle.pct_model.specs.declared.transition.Transition.{Transition}
 use Rattle.pct_model.specs.NextStatement.{NextStatement}
 use Rattle.pct_model.specs.OtherThreads.{Others}
 use Rattle.pct_model.specs.ThreadSlots.{slot_of}
 use Rattle.pct_model.specs.World.{Thread, SharedState}
 use Rattle.pct_model.specs.ChoiceTable.{choices_at, offers}
-use Rattle.pct_model.specs.TransitionTable.{transition_at}
+use Rattle.pct_model.specs.TransitionTable.{transition_at, acts_or}
 use Rattle.pct_threads.specs.Slots.{Held, Slot}
 use Rattle.pct_threads.specs.Tables.{slot_at, held_at, is_free_at, next_id_at}
 use Rattle.pct_threads.proofs.TableLemmas.{is_free_at-within}
 use Rattle.pct_engine_laws.specs.Seen.{SeenSlot}
 use Rattle.pct_engine_laws.specs.SeenSteps.{is_empty, new_ids_from, answer_in}
-use Rattle.pct_engine_laws.proofs.OfferedChoices.{IsChosen, offered_case, transition_chosen}
+use Rattle.pct_engine_laws.proofs.OfferedChoices.{IsChosen, offered_case, transition_chosen, taken_chosen}
 use Rattle.pct_engine.specs.Fitting.{IsNext, NewFits}
 use Rattle.pct_engine.specs.Views.{threads_of, slot_view}
 
@@ -101,6 +102,7 @@ module _ (threads : List Slot) (body : List Stmt) (shared : SharedState) (t : Th
   created_fits choice (Some new) chosen among = next_fits new (subst (IsAmong others.new_ids) chosen among)
 
   -- the thread that the transition of a thread creates fits the table, if its choice is offered
-  pub transition_new : (choice : Alt) (next : NextStatement) (s : Status) → offers (choices_at others next s) choice ≡ true → NewFits (transition_at body shared t others choice next s).created threads
+  pub transition_new : (choice : Alt) (next : NextStatement) (s : Status) → offers (choices_at t others next s) choice ≡ true → NewFits (acts_or choice s (transition_at body shared t others choice next s)).created threads
   transition_new choice next s offered =
-      created_fits choice (transition_at body shared t others choice next s).created (transition_chosen choice body shared t others next s) (offered_case (IsAmong others.new_ids) tt others (λ n among. among) next s choice offered)
+      let goes : Transition = transition_at body shared t others choice next s in
+      created_fits choice (acts_or choice s goes).created (taken_chosen choice s goes (transition_chosen choice body shared t others next s)) (offered_case (IsAmong others.new_ids) tt tt t others (λ n among. among) next s choice offered)

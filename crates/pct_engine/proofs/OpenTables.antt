@@ -1,5 +1,5 @@
 -- What a change of a slot keeps of a table: each thread is on a slot of its id, free slots stay free, and no thread is created.
-use Rattle.std.proofs.Common.{◌≡◌, ◌≢◌, ℕ, ◌+◌, ◌*◌, ◌<◌, Bool, true, false, not, List, [], ◌∷◌, length, Option, Some, None, refl, sym, ap, ◌∙◌, subst, inl, inr}
+use Rattle.std.proofs.Common.{◌≡◌, ◌≢◌, ℕ, ◌+◌, ◌*◌, ◌<◌, Bool, true, false, not, cond, List, [], ◌∷◌, length, Option, Some, None, refl, sym, ap, ◌∙◌, subst, inl, inr}
 use Rattle.std.specs.Prelude.{is_some, position, option_map, option_and_then}
 use Rattle.std.specs.Option.{option_map_or}
 use Rattle.std.proofs.lemmas.Bool.{cases_eq, false≢true}
@@ -15,7 +15,7 @@ use Rattle.pct_threads.specs.Tables.{slot_at, held_at, is_free_at, id_at, next_i
 use Rattle.pct_threads.proofs.TableLemmas.{within-free, is_free_at-within, length-on_slot, slot_at-on_slot, slot_at-on_slot_other}
 use Rattle.pct_engine.specs.Fitting.{IsNext, NewFits}
 use Rattle.pct_engine.specs.Views.{thread_of}
-use Rattle.pct_engine.specs.MachineChanges.{held_moved, on_named, named_on, unless_reclaimed, settled}
+use Rattle.pct_engine.specs.MachineChanges.{held_moved, held_requested, on_named, named_on, unless_reclaimed, settled}
 use Rattle.pct_engine.proofs.SearchedSlots.{found_within}
 
 -- ---- slots
@@ -106,6 +106,14 @@ joiner_keeps joiner (Some b) h is =
     let same : with_joiner joiner b ≡ h = same_Some (with_joiner joiner b) h is in
     record { before = b; here = refl; same_id = sym (ap (λ (x : Held). x.id) same); holds = λ holds. sym (ap (λ (x : Held). holds_slot (thread_of x)) same) ∙ holds }
 
+request_by : (e : Bool) (b h : Held) → cond e b (record b { thread = record b.thread { cancel = record b.thread.cancel { pending = true } } }) ≡ h → ComesFrom (Some b) h
+request_by true b h same = record { before = b; here = refl; same_id = sym (ap (λ (x : Held). x.id) same); holds = λ holds. sym (ap (λ (x : Held). holds_slot (thread_of x)) same) ∙ holds }
+request_by false b h same = record { before = b; here = refl; same_id = sym (ap (λ (x : Held). x.id) same); holds = λ holds. sym (ap (λ (x : Held). holds_slot (thread_of x)) same) ∙ holds }
+
+request_keeps : (o : Option Held) (h : Held) → option_map held_requested o ≡ Some h → ComesFrom o h
+request_keeps None h is = absurd (none-some h is)
+request_keeps (Some b) h is = request_by b.thread.ended b h (same_Some (held_requested b) h is)
+
 detach_by : (b : Held) (e : Bool) (h : Held) → is_ended_status b.thread.status ≡ e → after_detach b ≡ Some h → ComesFrom (Some b) h
 detach_by b true h ended is = absurd (none-some h (sym (rw ended refl) ∙ is))
 detach_by b false h ended is =
@@ -138,6 +146,8 @@ pub follows_named : (slot : ℕ) (a : Action) (threads : List Slot) → Follows 
 unfolding named_on
 follows_named slot (action.BeginJoin id) threads = named_follows 0 slot id (with_change (with_joiner (id_at threads slot))) threads (with_change_none (with_joiner (id_at threads slot)))
 follows_named slot (action.EndJoin id) threads = named_follows 0 slot id freed threads freed_none
+follows_named slot (action.CancelJoin id) threads = named_follows 0 slot id (with_change (with_joiner 0)) threads (with_change_none (with_joiner 0))
+follows_named slot (action.Request id) threads = named_follows 0 slot id (with_change held_requested) threads (with_change_none held_requested)
 follows_named slot (action.Detach id) threads = named_follows 0 slot id (after_change after_detach) threads (after_change_none after_detach)
 follows_named slot _ threads = follows_same threads
 
@@ -145,6 +155,8 @@ pub open_named : (slots slot : ℕ) (a : Action) (threads : List Slot) → IsOpe
 unfolding named_on
 open_named slots slot (action.BeginJoin id) threads was = named_open slots slot id (with_change (with_joiner (id_at threads slot))) threads (λ s. joiner_keeps (id_at threads slot) s.here) was
 open_named slots slot (action.EndJoin id) threads was = named_open slots slot id freed threads (λ s h is. absurd (none-some h is)) was
+open_named slots slot (action.CancelJoin id) threads was = named_open slots slot id (with_change (with_joiner 0)) threads (λ s. joiner_keeps 0 s.here) was
+open_named slots slot (action.Request id) threads was = named_open slots slot id (with_change held_requested) threads (λ s. request_keeps s.here) was
 open_named slots slot (action.Detach id) threads was = named_open slots slot id (after_change after_detach) threads (λ s. detach_keeps s.here) was
 open_named slots slot _ threads was = was
 

@@ -11,6 +11,8 @@ use Rattle.pct_engine.specs.declared.choice_table.Choices.TheVariants as choices
 abbrev pub listed : List Slot → Choices → List Alt
 listed threads choices.None = []
 listed threads choices.Go = alt.Go ∷ []
+listed threads choices.Act = alt.Act 0 ∷ []
+listed threads choices.GoOrAct = alt.Go ∷ alt.Act 0 ∷ []
 listed threads (choices.New free) = map (λ s. alt.New (next_id_at threads s)) free
 
 -- a thread can be created on a slot below this number alone

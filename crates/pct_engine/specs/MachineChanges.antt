@@ -4,7 +4,7 @@ use Rattle.std.specs.Prelude.{ℕ, Bool, true, ◌&&◌, if◌then◌else◌, Li
 use Rattle.std.specs.Option.{option_map_or}
 use Rattle.pct_model.specs.declared.state.Reason.{Reason}
 use Rattle.pct_model.specs.declared.state.Status.{Status}
-use Rattle.pct_model.specs.declared.state.Status.TheVariants.{Running, Joining, Ending, Exiting}
+use Rattle.pct_model.specs.declared.state.Status.TheVariants.{Running, AtPoint, Joining, Ending, Exiting}
 use Rattle.pct_model.specs.declared.transition.Action.{Action}
 use Rattle.pct_model.specs.declared.transition.Action.TheVariants as action
 use Rattle.pct_model.specs.declared.transition.NewThread.{NewThread}
@@ -45,7 +45,11 @@ held_after (action.CallAlone f a kind) h = held_with_status Running (record h { 
 held_after (action.Leave s) h = held_with_status s (record h { frames = without_first h.frames })
 held_after (action.PushHandler f a) h = record h { thread = record h.thread { handlers = (f, a) ∷ h.thread.handlers } }
 held_after action.PopHandler h = record h { thread = record h.thread { handlers = without_first h.thread.handlers } }
+held_after (action.SetState state) h = record h { thread = record h.thread { cancel = record h.thread.cancel { state = state } } }
+held_after (action.SetMode mode) h = record h { thread = record h.thread { cancel = record h.thread.cancel { mode = mode } } }
+held_after (action.BeginPoint index) h = held_with_status (AtPoint index) h
 held_after (action.BeginJoin id) h = held_with_status (Joining id) h
+held_after (action.CancelJoin id) h = held_with_status Running h
 held_after (action.BeginEnd why) h = held_ending why h
 held_after (action.EndThread v) h = record h { thread = ended_record v h.thread }
 held_after action.MarkEnded h = record h { thread = record h.thread { ended = true } }
@@ -62,10 +66,16 @@ held_moved o h = for_each held_after o.actions (held_at_pc o.next h)
 abbrev pub on_named : ℕ → (Slot → Slot) → List Slot → List Slot
 on_named id change threads = option_map_or (λ target. on_slot target change threads) (position (has_id id) threads) threads
 
+-- a thread for which a request is made: it is pending, unless the thread has ended
+abbrev pub held_requested : Held → Held
+held_requested h = if h.thread.ended then h else record h { thread = record h.thread { cancel = record h.thread.cancel { pending = true } } }
+
 -- the table after an action of the thread on a slot, which may name a thread
 unfoldable pub named_on : ℕ → Action → List Slot → List Slot
 named_on slot (action.BeginJoin id) threads = on_named id (with_change (with_joiner (id_at threads slot))) threads
 named_on slot (action.EndJoin id) threads = on_named id freed threads
+named_on slot (action.CancelJoin id) threads = on_named id (with_change (with_joiner 0)) threads
+named_on slot (action.Request id) threads = on_named id (with_change held_requested) threads
 named_on slot (action.Detach id) threads = on_named id (after_change after_detach) threads
 named_on slot _ threads = threads
 

@@ -1,6 +1,6 @@
 -- What a step reads of a thread, and of the state that the threads of its process share.
 use denote.Ref.{Bor}
-use Rattle.std.specs.Prelude.{◌≡◌, ℕ, List, [], length, Option, Some, None, IfSome}
+use Rattle.std.specs.Prelude.{◌≡◌, ℕ, List, [], length, reverse, Option, Some, None, IfSome}
 use Rattle.pct_model.specs.declared.script.Script.{Script}
 use Rattle.pct_model.specs.declared.statement.Stmt.{Stmt}
 use Rattle.pct_model.specs.declared.frame.Frame.{Frame}
@@ -25,6 +25,10 @@ pub record IsPosition (script : Script) (position : Position) (t : Thread) : Typ
   pub handlers_are : position.thread.now.handlers ≡ t.handlers
   pub status_is : position.thread.now.status ≡ t.status
   pub reason_is : position.thread.now.reason ≡ t.reason
+  pub state_is : position.thread.now.cancel.state ≡ t.state
+  pub mode_is : position.thread.now.cancel.mode ≡ t.mode
+  pub pending_is : position.thread.now.cancel.pending ≡ t.pending
+  pub frames_are : reverse position.frames.now ≡ t.frames
 
 -- these are the globals and the value of exit of the shared state, in which no exit function is registered
 pub record AreShared (globals : List ℕ) (exit_value : Option ℕ) (shared : SharedState) : Type 0 where

@@ -1,13 +1,14 @@
 //! The choices of the scheduler for each thread.
 
-ghost use Rattle.std.specs.Prelude.{◌≡◌, ◌<◌, ℕ, List, All, is_some, length, map, slice_get};
+ghost use Rattle.std.specs.Prelude.{◌≡◌, ◌<◌, ◌++◌, ℕ, true, false, List, All, is_some, length, map, slice_get};
 ghost use Rattle.pct_model.specs.declared.script.Script.{Script};
 ghost use Rattle.pct_model.specs.declared.schedule.Alt.TheVariants as alt;
 ghost use Rattle.pct_model.specs.declared.state.Status.TheVariants as status;
 ghost use Rattle.pct_model.specs.World.{Thread};
 ghost use Rattle.pct_model.specs.NextStatement.{next_of};
 ghost use Rattle.pct_model.specs.OtherThreads.{Others as SeenOthers, target_is};
-ghost use Rattle.pct_model.specs.ChoiceTable.{choices_at, running_choices, new_or_go, go_if, offers};
+ghost use Rattle.pct_model.specs.Cancelability.{is_deliverable, is_asynchronous};
+ghost use Rattle.pct_model.specs.ChoiceTable.{choices_at, statement_choices, running_choices, new_or_go, go_if, act_if, offers};
 ghost use Rattle.pct_threads.specs.Slots.{Slot};
 ghost use Rattle.pct_threads.specs.Tables.{next_id_at};
 ghost use Rattle.pct_engine.specs.Answers.{IsAnswer, IdsFit};
@@ -15,9 +16,11 @@ ghost use Rattle.pct_engine.specs.Listed.{listed, AreWithin};
 ghost use Rattle.pct_engine.specs.declared.choice_table.Choices.TheVariants as choices;
 ghost use Rattle.pct_engine.specs.Positions.{next_at, IsPosition};
 
+use crate::cancel_calls::{called_kind, may_pass};
 use crate::other_threads::Others;
 use crate::position::Position;
-use pct_model::{Alt, Status, Stmt, Target};
+use crate::stop_table::is_built;
+use pct_model::{Alt, PointKind, Status, Stmt, Target};
 use pct_set::SlotSet;
 use pct_threads::Threads;
 
@@ -27,6 +30,10 @@ pub(crate) enum Choices {
     None,
     /// `go`.
     Go,
+    /// `act`, which names no other thread.
+    Act,
+    /// `go`, and then `act`.
+    GoOrAct,
     /// `new`, with the id of the next thread on each of these slots.
     New(SlotSet),
 }
@@ -41,6 +48,8 @@ impl Choices {
         match self {
             Choices::None => false,
             Choices::Go => matches!(choice, Alt::Go),
+            Choices::Act => matches!(choice, Alt::Act(0)),
+            Choices::GoOrAct => matches!(choice, Alt::Go | Alt::Act(0)),
             Choices::New(free) => match choice {
                 Alt::New(id) => offers_id(threads, free, id),
                 _ => false,
@@ -55,6 +64,8 @@ impl Choices {
         match self {
             Choices::None => 0,
             Choices::Go => 1,
+            Choices::Act => 1,
+            Choices::GoOrAct => 2,
             Choices::New(free) => free.len() as usize,
         }
     }
@@ -68,6 +79,12 @@ impl Choices {
         match self {
             Choices::None => None,
             Choices::Go => { if n == 0 { Some(Alt::Go) } else { None } }
+            Choices::Act => { if n == 0 { Some(Alt::Act(0)) } else { None } }
+            Choices::GoOrAct => match n {
+                0 => Some(Alt::Go),
+                1 => Some(Alt::Act(0)),
+                _ => None,
+            },
             Choices::New(free) => nth_new(threads, free, n),
         }
     }
@@ -101,18 +118,22 @@ fn nth_new(threads: &Threads, free: &SlotSet, n: usize) -> Option<Alt>
     }
 }
 
-/// The choices of a thread in this position, with this answer to its query: `go` for a running thread with a next statement,
-/// but an id for a new thread at pthread_create, where a slot is free; `go` for one that joins another, once that has ended;
-/// and `go` for one that is ending, or exits its process. A thread that has ended has none.
+/// The choices of a thread in this position, with this answer to its query. A running thread with a next statement has `go`, or
+/// at pthread_create an id for a new thread, where a slot is free; a pending request gives it `act`, beside these or alone. One
+/// that is suspended at a cancellation point has `go`, if what it waits for may occur at any time, and one that joins another,
+/// once that has ended; both have `act`, if a request is pending and cancelability is enabled. One that is ending, or exits its
+/// process, has `go`. A thread that has ended has none.
 #[tactic(auto, unfolding(pct_model::specs::ChoiceTable::choices_at))]
 pub(crate) fn choices_at(others: &Others, position: &Position) -> Choices
     ensures value { (script : Script) (t : Thread) (threads : List Slot) (seen : SeenOthers) → IsPosition script position.now t → IsAnswer threads others.now seen
-        → listed threads result ≡ choices_at seen (next_of script t.frames) t.status }
+        → listed threads result ≡ choices_at t seen (next_of script t.frames) t.status }
     ensures within { (slots : ℕ) → All (λ s. s < slots) others.now.free → AreWithin slots result }
 {
+    let cancel = &position.thread.cancel;
     match position.thread.status {
         Status::Running => at_next(others, position),
-        Status::Joining(_) => go_if(has_ended(others.target)),
+        Status::AtPoint(index) => go_or_act(may_pass(index), cancel.deliverable()),
+        Status::Joining(_) => go_or_act(has_ended(others.target), cancel.deliverable()),
         Status::Ending => Choices::Go,
         Status::Exiting => Choices::Go,
         _ => Choices::None,
@@ -122,19 +143,51 @@ pub(crate) fn choices_at(others: &Others, position: &Position) -> Choices
 // The choices of a running thread: none without a next statement.
 #[tactic(auto, unfolding(pct_model::specs::ChoiceTable::choices_at))]
 fn at_next(others: &Others, position: &Position) -> Choices
-    ensures value { (threads : List Slot) (seen : SeenOthers) → IsAnswer threads others.now seen → listed threads result ≡ choices_at seen (next_at position.now.next) status.Running }
+    ensures value { (script : Script) (t : Thread) (threads : List Slot) (seen : SeenOthers) → IsPosition script position.now t → IsAnswer threads others.now seen
+        → listed threads result ≡ choices_at t seen (next_at position.now.next) status.Running }
     ensures within { (slots : ℕ) → All (λ s. s < slots) others.now.free → AreWithin slots result }
 {
     match position.next {
         None => Choices::None,
-        Some((_, statement)) => running_choices(others, statement),
+        Some((_, statement)) => running_choices(others, position, statement),
     }
 }
 
-// The choices of a running thread at a statement.
-#[tactic(auto, unfolding(pct_model::specs::ChoiceTable::running_choices))]
-fn running_choices(others: &Others, statement: &Stmt) -> Choices
-    ensures value { (threads : List Slot) (seen : SeenOthers) → IsAnswer threads others.now seen → listed threads result ≡ running_choices seen statement.now }
+// The choices of a running thread at a statement: what its cancelability decides comes first.
+fn running_choices(others: &Others, position: &Position, statement: &Stmt) -> Choices
+    ensures value { (script : Script) (t : Thread) (threads : List Slot) (seen : SeenOthers) → IsPosition script position.now t → IsAnswer threads others.now seen
+        → listed threads result ≡ running_choices t seen statement.now }
+    ensures within { (slots : ℕ) → All (λ s. s < slots) others.now.free → AreWithin slots result }
+{
+    let cancel = &position.thread.cancel;
+    if cancel.async_on() {
+        // A statement that is not implemented is a stop.
+        go_or_act(true, cancel.pending && is_built(statement))
+    } else if cancel.deliverable() {
+        requested_choices(others, statement)
+    } else {
+        statement_choices(others, statement)
+    }
+}
+
+// The choices of a running thread at a statement, where a request is pending that is acted upon at cancellation points: the
+// thread does so at a required one, and may do so at an optional one.
+fn requested_choices(others: &Others, statement: &Stmt) -> Choices
+    ensures value { (t : Thread) (threads : List Slot) (seen : SeenOthers) → is_asynchronous t.state t.mode ≡ false → is_deliverable t.state t.pending ≡ true → IsAnswer threads others.now seen
+        → listed threads result ≡ running_choices t seen statement.now }
+    ensures within { (slots : ℕ) → All (λ s. s < slots) others.now.free → AreWithin slots result }
+{
+    match called_kind(statement) {
+        Some(PointKind::Required) => Choices::Act,
+        Some(PointKind::Optional) => Choices::GoOrAct,
+        None => statement_choices(others, statement),
+    }
+}
+
+// The choices of a running thread at a statement, whatever its cancelability.
+#[tactic(auto, unfolding(pct_model::specs::ChoiceTable::statement_choices))]
+fn statement_choices(others: &Others, statement: &Stmt) -> Choices
+    ensures value { (threads : List Slot) (seen : SeenOthers) → IsAnswer threads others.now seen → listed threads result ≡ statement_choices seen statement.now }
     ensures within { (slots : ℕ) → All (λ s. s < slots) others.now.free → AreWithin slots result }
 {
     match statement {
@@ -155,12 +208,17 @@ fn new_or_go(free: &SlotSet) -> Choices
     }
 }
 
-// `go`, if the test holds.
-fn go_if(test: bool) -> Choices
-    ensures value { (threads : List Slot) → listed threads result ≡ go_if test }
+// `go`, if the first test holds, and then `act`, if the second one does.
+fn go_or_act(go: bool, act: bool) -> Choices
+    ensures value { (threads : List Slot) → listed threads result ≡ go_if go ++ act_if act }
     ensures within { (slots : ℕ) → AreWithin slots result }
 {
-    if test { Choices::Go } else { Choices::None }
+    match (go, act) {
+        (true, true) => Choices::GoOrAct,
+        (true, false) => Choices::Go,
+        (false, true) => Choices::Act,
+        (false, false) => Choices::None,
+    }
 }
 
 // The thread that was named has ended.

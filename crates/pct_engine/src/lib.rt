@@ -2,6 +2,7 @@
 #![tactic(auto)]
 
 mod actions;
+mod cancel_calls;
 mod choice_table;
 mod cleanup_handlers;
 mod current;

@@ -3,10 +3,9 @@
 ghost use Rattle.std.specs.Prelude.{◌≡◌, ◌<◌, drop, length, true};
 ghost use Rattle.pct_model.specs.Actions.{for_each};
 ghost use Rattle.pct_threads.specs.Slots.{with_joiner, after_detach, after_change, with_change, freed};
-ghost use Rattle.pct_threads.specs.Tables.{id_at, is_occupied_at};
+ghost use Rattle.pct_threads.specs.Tables.{id_at, is_occupied_at, is_reclaimable_at, on_held};
 ghost use Rattle.pct_engine.specs.Fitting.{IfNamed, NameFits, NamesFit, NewFits};
-ghost use Rattle.pct_engine.specs.MachineChanges.{named_on, on_named, settled, with_new};
-ghost use Rattle.pct_threads.specs.Tables.{is_reclaimable_at};
+ghost use Rattle.pct_engine.specs.MachineChanges.{held_requested, named_on, on_named, settled, with_new};
 
 use pct_model::{Action, NewThread, Status, UpToThree};
 use pct_threads::Threads;
@@ -54,6 +53,8 @@ fn name(threads: &mut Threads, slot: u32, action: Action)
     match action {
         Action::BeginJoin(id) => begin_join(threads, slot, id),
         Action::EndJoin(id) => end_join(threads, id),
+        Action::CancelJoin(id) => cancel_join(threads, id),
+        Action::Request(id) => request(threads, id),
         Action::Detach(id) => detach(threads, id),
         Action::SetLocal(_, _)
         | Action::SetGlobal(_, _)
@@ -62,6 +63,9 @@ fn name(threads: &mut Threads, slot: u32, action: Action)
         | Action::Leave(_)
         | Action::PushHandler(_, _)
         | Action::PopHandler
+        | Action::SetState(_)
+        | Action::SetMode(_)
+        | Action::BeginPoint(_)
         | Action::BeginEnd(_)
         | Action::EndThread(_)
         | Action::MarkEnded
@@ -91,6 +95,24 @@ fn end_join(threads: &mut Threads, id: u32)
     }
 }
 
+// No thread joins the thread with an id from now on.
+fn cancel_join(threads: &mut Threads, id: u32)
+    ensures { threads.new ≡ on_named id (with_change (with_joiner 0)) threads.old }
+{
+    if let Some(target) = threads.find(id) {
+        threads.join_cancel(target);
+    }
+}
+
+// A request for the thread with an id is pending, unless that thread has ended.
+fn request(threads: &mut Threads, id: u32)
+    ensures { threads.new ≡ on_named id (with_change held_requested) threads.old }
+{
+    if let Some(target) = threads.find(id) {
+        request_on(threads, target);
+    }
+}
+
 // The thread with an id becomes detached.
 fn detach(threads: &mut Threads, id: u32)
     ensures { threads.new ≡ on_named id (after_change after_detach) threads.old }
@@ -101,6 +123,16 @@ fn detach(threads: &mut Threads, id: u32)
 }
 
 // ---- parts
+
+// A request for the thread on a slot is pending, unless that thread has ended.
+fn request_on(threads: &mut Threads, slot: u32)
+    requires { is_occupied_at threads.old slot ≡ true }
+    ensures { threads.new ≡ on_held slot held_requested threads.old }
+{
+    if !threads.read(slot).ended {
+        threads.write(slot).cancel.request();
+    }
+}
 
 // The thread on a slot that is occupied gives the slot back if it has ended and is detached.
 fn settle_held(threads: &mut Threads, slot: u32)

@@ -68,6 +68,7 @@ fn statement_query(globals: &[u32], frame: &Frame, statement: &Stmt) -> Query
         Stmt::Create { .. } => Query::NewIds,
         Stmt::Join { id, .. } => Query::Thread(value_of(globals, frame, *id)),
         Stmt::Detach(id) => Query::Thread(value_of(globals, frame, *id)),
+        Stmt::CancelThread(id) => Query::Thread(value_of(globals, frame, *id)),
         _ => Query::Nothing,
     }
 }

@@ -13,7 +13,7 @@ ghost use Rattle.pct_engine.specs.Fitting.{Fits};
 ghost use Rattle.pct_engine.specs.MachineChanges.{held_after, held_at_pc, held_ending, held_exiting, held_with_status};
 
 use pct_cleanup::Handlers;
-use pct_model::{Action, FrameKind, Reason, Status};
+use pct_model::{Action, FrameKind, Mode, Reason, State, Status};
 use pct_threads::Threads;
 
 /// The thread on a slot goes on at a program counter, if there is one.
@@ -42,13 +42,18 @@ pub(crate) fn act_alone(threads: &mut Threads, slot: u32, action: Action)
         Action::Leave(status) => leave(threads, slot, status),
         Action::PushHandler(func, arg) => push_handler(threads, slot, func, arg),
         Action::PopHandler => pop_handler(threads, slot),
+        Action::SetState(state) => set_state(threads, slot, state),
+        Action::SetMode(mode) => set_mode(threads, slot, mode),
+        Action::BeginPoint(index) => set_status(threads, slot, Status::AtPoint(index)),
         Action::BeginJoin(id) => set_status(threads, slot, Status::Joining(id)),
+        Action::CancelJoin(_) => set_status(threads, slot, Status::Running),
         Action::BeginEnd(why) => begin_end(threads, slot, why),
         Action::EndThread(value) => end_thread(threads, slot, value),
         Action::MarkEnded => mark_ended(threads, slot),
         Action::BeginExit(_) => begin_exit(threads, slot),
         Action::SetGlobal(_, _)
         | Action::EndJoin(_)
+        | Action::Request(_)
         | Action::Detach(_)
         | Action::EndProcess(_)
         | Action::Stop(_) => {}
@@ -127,6 +132,22 @@ fn pop_handler(threads: &mut Threads, slot: u32)
 {
     let thread = threads.write(slot);
     pop_from(&mut thread.handlers);
+}
+
+// The thread has a cancelability state.
+fn set_state(threads: &mut Threads, slot: u32, state: State)
+    requires { is_occupied_at threads.old slot ≡ true }
+    ensures { threads.new ≡ on_held slot (λ h. record h { thread = record h.thread { cancel = record h.thread.cancel { state = state } } }) threads.old }
+{
+    threads.write(slot).cancel.state = state;
+}
+
+// The thread has a cancelability type.
+fn set_mode(threads: &mut Threads, slot: u32, mode: Mode)
+    requires { is_occupied_at threads.old slot ≡ true }
+    ensures { threads.new ≡ on_held slot (λ h. record h { thread = record h.thread { cancel = record h.thread.cancel { mode = mode } } }) threads.old }
+{
+    threads.write(slot).cancel.mode = mode;
 }
 
 // The thread leaves all its frames, and begins to exit its process.

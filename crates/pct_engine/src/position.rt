@@ -20,6 +20,8 @@ pub(crate) struct Position<'a> {
     pub(crate) next: Option<(&'a Frame, &'a Stmt)>,
     /// The number of frames.
     pub(crate) depth: u32,
+    /// The frames, the oldest first.
+    pub(crate) frames: &'a [Frame],
     /// The record of the thread.
     pub(crate) thread: &'a Thread,
 }
@@ -35,6 +37,7 @@ pub(crate) fn position_of<'a>(program: &'a Program, threads: &'a Threads, slot: 
         id: place.id,
         next: next_of(&program.script, threads.top_frame_ref(slot)),
         depth: place.depth,
+        frames: threads.frames(slot),
         thread: threads.read(slot),
     }
 }

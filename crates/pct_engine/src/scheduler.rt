@@ -14,6 +14,7 @@ ghost use Rattle.pct_engine.specs.ReadyThreads.{choices_of_held, is_ready_held, 
 ghost use Rattle.pct_engine.specs.UsedSlots.{Covers};
 ghost use Rattle.pct_engine.specs.Steps.{legal_transition, ArePlacedIn, IdsFitIn, IsSeenChoice};
 
+use crate::cancel_calls::may_pass;
 use crate::choice_table::{Choices, choices_at};
 use crate::current::next_of;
 use crate::machine::Machine;
@@ -167,16 +168,18 @@ fn is_ready(program: &Program, machine: &Machine, slot: u32) -> bool
     machine.threads.is_occupied(slot) && has_choice(program, machine, slot)
 }
 
-// The thread on a slot has a choice: it has a next statement, the thread that it joins has ended, or it is ending or exits its
-// process.
+// The thread on a slot has a choice: it has a next statement; what it waits for at a cancellation point may occur at any time, or
+// the thread that it joins has ended, or it may act upon a request there; or it is ending or exits its process.
 fn has_choice(program: &Program, machine: &Machine, slot: u32) -> bool
     requires { is_occupied_at machine.now.threads slot ≡ true }
     ensures { (held : Held) → held_at machine.now.threads slot ≡ Some held → result ≡ is_ready_held program.now.script machine.now held }
 {
     let threads = &machine.threads;
-    match threads.read(slot).status {
+    let thread = threads.read(slot);
+    match thread.status {
         Status::Running => next_of(&program.script, threads.top_frame_ref(slot)).is_some(),
-        Status::Joining(id) => has_ended(threads, id),
+        Status::AtPoint(index) => thread.cancel.deliverable() || may_pass(index),
+        Status::Joining(id) => thread.cancel.deliverable() || has_ended(threads, id),
         Status::Ending => true,
         Status::Exiting => true,
         _ => false,

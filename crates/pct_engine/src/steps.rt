@@ -14,7 +14,7 @@ use crate::machine::Machine;
 use crate::other_threads::{answer_to, query_at, slot_with};
 use crate::position::position_of;
 use crate::program::Program;
-use crate::transition_table::transition_at;
+use crate::transition_table::transition_by;
 use pct_model::{Entry, MAX_WORKER, Transition};
 
 /// Makes the step of an entry, and writes the transition that it takes to `transition`. The result is false exactly if the
@@ -66,7 +66,7 @@ fn transition_of(
     if !choices_at(&others, &position).offers(&machine.threads, entry.alt) {
         return None;
     }
-    transition_at(
+    transition_by(
         program,
         globals,
         machine.exit_value,

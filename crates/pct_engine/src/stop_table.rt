@@ -1,13 +1,13 @@
 //! The stops: where POSIX leaves the behavior undefined, or this host's profile of POSIX excludes it.
 
-ghost use Rattle.std.specs.Prelude.{◌≡◌, ◌∷◌, [], List, length, not, nat_eq, nat_lt, is_none};
+ghost use Rattle.std.specs.Prelude.{◌≡◌, ◌∷◌, [], List, length, not, reverse, nat_eq, nat_lt, is_none};
 ghost use Rattle.pct_model.specs.declared.stop.Why.TheVariants as why;
 ghost use Rattle.pct_model.specs.declared.frame.Frame.{Frame as FrameRecord};
 ghost use Rattle.pct_model.specs.declared.limits.TheConstants.{MAX_HANDLERS};
 ghost use Rattle.pct_model.specs.Jumps.{open_of};
 ghost use Rattle.pct_model.specs.World.{Thread, SharedState, body_of};
 ghost use Rattle.pct_model.specs.OtherThreads.{Others, target_is};
-ghost use Rattle.pct_model.specs.StopTable.{stop_at, stops_of, first_stop, is_stack_full, has_begun_to_end, exits_twice, is_built};
+ghost use Rattle.pct_model.specs.StopTable.{stop_at, stops_of, first_stop, is_stack_full, has_begun_to_end, exits_twice, is_handler_kind, is_in_handler, is_async_safe, is_built};
 ghost use Rattle.pct_engine.specs.Positions.{AreShared, IsPosition};
 
 use crate::current::value_of;
@@ -31,12 +31,14 @@ pub(crate) fn stop_at(
     ensures { (shared : SharedState) (t : Thread) (others : Others) → AreShared globals.now exit_value shared → IsPosition program.now.script position.now t → target ≡ others.target
         → result ≡ stop_at (body_of program.now.script frame.now.func) shared t others frame.now statement.now }
 {
-    if is_built(statement) {
+    if !is_built(statement) {
+        Some(Why::Unbuilt)
+    } else if position.thread.cancel.async_on() && !is_async_safe(statement) {
+        Some(Why::AsyncCall)
+    } else {
         own_stop(
             program, globals, exit_value, position, target, frame, statement,
         )
-    } else {
-        Some(Why::Unbuilt)
     }
 }
 
@@ -57,6 +59,11 @@ fn own_stop(
     match statement {
         Stmt::Join { id, .. } => stop_of_join(target, position.id, value_of(globals, frame, *id)),
         Stmt::Detach(_) => stop_of_detach(target),
+        Stmt::CancelThread(_) => first_stop(&[(target.is_none(), Why::ThreadId)]),
+        Stmt::SetState { enable, .. } => first_stop(&[(
+            *enable && is_in_handler(position.frames),
+            Why::EnableInHandler,
+        )]),
         Stmt::ThreadExit(_) => first_stop(&[(
             has_begun_to_end(position.thread.reason),
             Why::ExitInEnding,
@@ -146,6 +153,45 @@ fn is_cleanup_full(handlers: u32) -> bool
     handlers as usize >= MAX_HANDLERS
 }
 
+// Whether a thread with these frames, the oldest first, is in a cleanup handler or in a destructor.
+fn is_in_handler(frames: &[Frame]) -> bool
+    ensures { (newest_first : List FrameRecord) → reverse frames.now ≡ newest_first → result ≡ is_in_handler newest_first }
+{
+    frames.iter().any(|frame| is_handler_kind(frame.kind))
+}
+
+// Whether a frame of this kind is that of a cleanup handler or of a destructor.
+fn is_handler_kind(kind: FrameKind) -> bool
+    ensures { result ≡ is_handler_kind kind }
+{
+    matches!(
+        kind,
+        FrameKind::PopHandler | FrameKind::Handler | FrameKind::Destructor
+    )
+}
+
+// Whether the statement belongs to the script language, or is async-cancel-safe (XSH 2.9.5.4).
+fn is_async_safe(statement: &Stmt) -> bool
+    ensures { result ≡ is_async_safe statement.now }
+{
+    matches!(
+        statement,
+        Stmt::Emit(_)
+            | Stmt::Set(_, _)
+            | Stmt::Add(_, _)
+            | Stmt::Nop
+            | Stmt::If(_)
+            | Stmt::Else
+            | Stmt::While(_)
+            | Stmt::End
+            | Stmt::Do(_, _)
+            | Stmt::Return(_)
+            | Stmt::CancelThread(_)
+            | Stmt::SetState { .. }
+            | Stmt::SetMode { .. }
+    )
+}
+
 // Whether a thread has begun to end, by the reason for its end.
 fn has_begun_to_end(reason: Reason) -> bool
     ensures { result ≡ has_begun_to_end reason }
@@ -173,8 +219,8 @@ fn closes_function(program: &Program, frame: &Frame) -> bool
     program.jumps.open_of(frame.func, frame.pc).is_none()
 }
 
-// Whether the statement is implemented.
-fn is_built(statement: &Stmt) -> bool
+/// Whether the statement is implemented.
+pub(crate) fn is_built(statement: &Stmt) -> bool
     ensures { result ≡ is_built statement.now }
 {
     matches!(
@@ -192,8 +238,13 @@ fn is_built(statement: &Stmt) -> bool
             | Stmt::Create { .. }
             | Stmt::Join { .. }
             | Stmt::Detach(_)
+            | Stmt::CancelThread(_)
             | Stmt::SelfId(_)
             | Stmt::ThreadExit(_)
+            | Stmt::TestCancel
+            | Stmt::SetState { .. }
+            | Stmt::SetMode { .. }
+            | Stmt::PointCall(_)
             | Stmt::Push(_, _)
             | Stmt::Pop(_)
     )

@@ -6,11 +6,14 @@ ghost use Rattle.pct_model.specs.World.{Thread, SharedState, body_of, statement_
 ghost use Rattle.pct_model.specs.OtherThreads.{Others as SeenOthers};
 ghost use Rattle.pct_model.specs.StopTable.{stop_at};
 ghost use Rattle.pct_model.specs.NextStatement.{next_of, body_at};
-ghost use Rattle.pct_model.specs.TransitionTable.{transition_at, stops_or, runs};
+ghost use Rattle.pct_model.specs.TransitionTable.{acts_or, transition_at, stops_or, runs};
 ghost use Rattle.pct_engine.specs.Answers.{SeesAlike};
 ghost use Rattle.pct_engine.specs.Positions.{AreShared, IsDecoded, IsPosition};
 ghost use Rattle.pct_engine.specs.Fitting.{TransitionFits};
 
+use crate::cancel_calls::{
+    acts_on_request, calls_point, passes_point, requests, sets_mode, sets_state, tests_cancel,
+};
 use crate::cleanup_handlers::{pops, pushes};
 use crate::current::{next_pc, value_of, variable_value};
 use crate::other_threads::Others;
@@ -27,11 +30,12 @@ use crate::transitions::{no_change, stops};
 use pct_model::{Alt, Frame, Status, Stmt, Target, Transition};
 
 /// Writes to `transition` what a thread in this position does by a choice, with this answer to its query, in a process with
-/// these globals and this value of exit (`None` before exit has begun), in which no function is registered with atexit. A
-/// running thread stops the run, or makes the transition of its next statement; one that joins another returns, once that has
-/// ended; one that is ending runs its handlers and ends; one that exits its process ends it; every other thread changes
-/// nothing. The program counter and the actions, one after another, keep the limits.
-pub(crate) fn transition_at(
+/// these globals and this value of exit (`None` before exit has begun), in which no function is registered with atexit. By
+/// `act` it acts upon a request. By every other choice it goes on: a running thread stops the run, or makes the transition of its
+/// next statement; one that is suspended at a cancellation point goes on; one that joins another returns, once that has ended;
+/// one that is ending runs its handlers and ends; one that exits its process ends it; every other thread changes nothing. The
+/// program counter and the actions, one after another, keep the limits.
+pub(crate) fn transition_by(
     program: &Program,
     globals: &[u32],
     exit_value: Option<u32>,
@@ -42,17 +46,20 @@ pub(crate) fn transition_at(
 )
     requires decoded { IsDecoded program.now.script position.now.next }
     ensures value { (shared : SharedState) (t : Thread) (seen : SeenOthers) → AreShared globals.now exit_value shared → IsPosition program.now.script position.now t → SeesAlike others.now seen
-        → transition.new ≡ transition_at (body_at program.now.script t.frames) shared t seen choice (next_of program.now.script t.frames) t.status }
+        → transition.new ≡ acts_or choice t.status (transition_at (body_at program.now.script t.frames) shared t seen choice (next_of program.now.script t.frames) t.status) }
     ensures fits { (t : Thread) → IsPosition program.now.script position.now t → TransitionFits (length t.frames) (length t.handlers) transition.new }
 {
-    by_status(
-        program, globals, exit_value, position, others, choice, transition,
-    );
+    match choice {
+        Alt::Act(_) => acts_on_request(position.thread.status, transition),
+        _ => transition_at(
+            program, globals, exit_value, position, others, choice, transition,
+        ),
+    }
 }
 
-// The same, by the status of the thread.
+// What the thread does as it goes on, by its status.
 #[tactic(auto, unfolding(pct_model::specs::TransitionTable::transition_at))]
-fn by_status(
+fn transition_at(
     program: &Program,
     globals: &[u32],
     exit_value: Option<u32>,
@@ -76,6 +83,7 @@ fn by_status(
             choice,
             transition,
         ),
+        Status::AtPoint(index) => passes_point(program, index, position.next, transition),
         Status::Joining(id) => joins_at(program, others.target, id, position.next, transition),
         Status::Ending => {
             let newest = thread.handlers.newest();
@@ -207,7 +215,20 @@ fn runs(
         Stmt::Detach(operand) => {
             *transition = detaches(next_pc(frame), value_of(globals, frame, *operand));
         }
+        Stmt::CancelThread(operand) => {
+            *transition = requests(next_pc(frame), value_of(globals, frame, *operand));
+        }
         Stmt::SelfId(dest) => *transition = gets_self(next_pc(frame), *dest, position.id),
+        Stmt::TestCancel => *transition = tests_cancel(next_pc(frame)),
+        Stmt::SetState { enable, old } => {
+            let state = position.thread.cancel.state;
+            *transition = sets_state(next_pc(frame), *enable, *old, state);
+        }
+        Stmt::SetMode { asynchronous, old } => {
+            let mode = position.thread.cancel.mode;
+            *transition = sets_mode(next_pc(frame), *asynchronous, *old, mode);
+        }
+        Stmt::PointCall(index) => calls_point(next_pc(frame), *index, transition),
         Stmt::ThreadExit(operand) => {
             *transition = ends_by_exit(value_of(globals, frame, *operand));
         }

@@ -32,7 +32,7 @@ use Rattle.pct_model.specs.Step.{Successor, if_offered, step, transition_of}
 use Rattle.pct_model.specs.Run.{Run, run_step, run_from, run}
 use Rattle.pct_engine_laws.specs.RunNumbers.{IsChoiceWithin, IsEntryWithin}
 use Rattle.pct_engine_laws.proofs.LongerRuns.{run_parts, run_step-is, run_after}
-use Rattle.pct_engine_laws.proofs.OfferedChoices.{IsChosen, offered_case, transition_chosen}
+use Rattle.pct_engine_laws.proofs.OfferedChoices.{IsChosen, offered_case, transition_chosen, taken_chosen}
 use Rattle.pct_engine_laws.proofs.StepSeen.{successor_of, may_step}
 use Rattle.pct_engine_laws.proofs.ThreadChanges.{transition_keeps}
 
@@ -90,7 +90,7 @@ any_all P n (id ∷ ids) among all = either (nat_eq n id) refl among (λ later. 
 -- a choice that a thread is offered
 choice_within : (script : Script) (config : Config) (p : Process) (t : Thread) (choice : Alt) (n : ℕ) → config.slots ≤ 64 → length p.threads ≤ n → offers (choices_of script config p t) choice ≡ true → IsChoiceWithin (64 + 64 * n) choice
 choice_within script config p t choice n few within offered =
-    offered_case (IsChoiceWithin (64 + 64 * n)) tt (others_of script config p t)
+    offered_case (IsChoiceWithin (64 + 64 * n)) tt (omega arith) t (others_of script config p t)
     (λ id among. any_all (λ (k : ℕ). k ≤ 64 + 64 * n) id (others_of script config p t).new_ids among (asked_within config.slots t.id n p.threads (query_at p.shared (next_of script t.frames) t.status) few within))
     (next_of script t.frames) t.status choice offered
 
@@ -197,7 +197,7 @@ module _ (script : Script) (config : Config) (n : ℕ) (w : World) (e : Entry) (
   offered_within : (p : Process) (t : Thread) (o : Transition) (b : Bool) → HasFewIn n p × (is_live_process e.pid p ≡ true) → (t.id ≤ 64 + 64 * n) × (is_live_thread e.tid t ≡ true) → offers (choices_of script config p t) e.alt ≡ b → cond b (Some (transition_by script config p t e.alt)) None ≡ Some o → StepsWithin n e (successor_of w e o).world
   offered_within p t o true process thread offered is =
       let choice : IsChoiceWithin (64 + 64 * n) e.alt = choice_within script config p t e.alt n slots process.0.few offered in
-      let chosen : IsChosen e.alt o.created = subst (λ (x : Transition). IsChosen e.alt x.created) (same_Some (transition_by script config p t e.alt) o is) (transition_chosen e.alt (body_at script t.frames) p.shared t (others_of script config p t) (next_of script t.frames) t.status) in
+      let chosen : IsChosen e.alt o.created = subst (λ (x : Transition). IsChosen e.alt x.created) (same_Some (transition_by script config p t e.alt) o is) (taken_chosen e.alt t.status _ (transition_chosen e.alt (body_at script t.frames) p.shared t (others_of script config p t) (next_of script t.frames) t.status)) in
       let pid : p.pid ≡ e.pid = eqb-true p.pid e.pid (and_parts (nat_eq p.pid e.pid) (not (has_ended p)) process.1).0 in
       let tid : t.id ≡ e.tid = eqb-true t.id e.tid (and_parts (nat_eq t.id e.tid) (holds_slot t) thread.1).0 in
       record {

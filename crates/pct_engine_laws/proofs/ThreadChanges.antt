@@ -1,5 +1,5 @@
 -- The slots of a process after a transition of one of its threads.
-use Rattle.std.proofs.Common.{◌≡◌, ℕ, ◌+◌, ◌-◌, ◌<◌, Bool, true, false, ◌&&◌, cond, List, [], ◌∷◌, ◌++◌, map, filter, count_by, Option, Some, None, nat_eq, slice_set, refl, sym, ap, ◌∙◌, mod-lt, ne_eqb, eq-eqb, append-nil, arith}
+use Rattle.std.proofs.Common.{◌≡◌, ℕ, ◌+◌, ◌-◌, ◌<◌, Bool, true, false, not, ◌&&◌, cond, List, [], ◌∷◌, ◌++◌, map, filter, count_by, Option, Some, None, nat_eq, slice_set, refl, sym, ap, ◌∙◌, mod-lt, ne_eqb, eq-eqb, append-nil, arith}
 use Rattle.std.specs.List.{range_with_len}
 use Rattle.std.specs.Option.{option_map_or}
 use Rattle.std.proofs.Math.Path.{fun_ext}
@@ -65,6 +65,17 @@ module _ (tid : ℕ) (change : Thread → Thread) (same_id : (t : Thread) → (c
   pub on_thread_keeps : KeepsSlots (on_thread tid change)
   on_thread_keeps = record { same_id = λ t. id_if t (is_live_thread tid t); reclaimed = reclaimed_if }
 
+-- a change of the threads that pass a test
+passing_keeps : (test : Thread → Bool) (change : Thread → Thread) → KeepsSlots change → KeepsSlots (λ t. cond (test t) (change t) t)
+passing_keeps test change keeps = record { same_id = λ t. id_by t (test t); reclaimed = λ t gone. gone_by t gone (test t) } where
+  id_by : (t : Thread) (passes : Bool) → (cond passes (change t) t).id ≡ t.id
+  id_by t true = keeps.same_id t
+  id_by t false = refl
+
+  gone_by : (t : Thread) → holds_slot t ≡ false → (passes : Bool) → holds_slot (cond passes (change t) t) ≡ false
+  gone_by t gone true = keeps.reclaimed t gone
+  gone_by t gone false = gone
+
 -- one change after another
 pub then_keeps : (f g : Thread → Thread) → KeepsSlots f → KeepsSlots g → KeepsSlots (λ t. g (f t))
 then_keeps f g first second = record {
@@ -101,6 +112,7 @@ nothing_keeps = record { same_id = λ t. refl; reclaimed = λ t gone. gone }
 pub named_keeps : (a : Action) → KeepsSlots (named_after a)
 unfolding named_after
 named_keeps (action.EndJoin id) = on_thread_keeps id (λ t. record t { joined = true }) (λ t. refl)
+named_keeps (action.Request id) = passing_keeps (λ t. is_live_thread id t && not t.ended) (λ t. record t { pending = true }) (record { same_id = λ t. refl; reclaimed = λ t gone. gone })
 named_keeps (action.Detach id) = on_thread_keeps id (λ t. record t { detached = true }) (λ t. refl)
 named_keeps _ = nothing_keeps
 

@@ -11,7 +11,7 @@ use Rattle.pct_model.specs.ThreadSlots.{with_id}
 use Rattle.pct_model.specs.NextStatement.{next_of, body_at}
 use Rattle.pct_model.specs.OtherThreads.{Others}
 use Rattle.pct_model.specs.ChoiceTable.{choices_at, offers}
-use Rattle.pct_model.specs.TransitionTable.{transition_at}
+use Rattle.pct_model.specs.TransitionTable.{transition_at, acts_or}
 use Rattle.pct_model.specs.Actions.{is_live_process}
 use Rattle.pct_model.specs.Step.{if_offered, transition_of}
 use Rattle.pct_engine_laws.specs.Seen.{SeenProcess, seen_process, seen, is_live_seen}
@@ -24,7 +24,7 @@ use Rattle.pct_engine_laws.proofs.AnswerSeen.{thread_seen, others_seen}
 -- the transition of a thread by an entry
 pub offered_seen : (script : Script) (config : Config) (p : Process) (e : Entry) (t : Thread) → 0 < config.slots → if_offered script config p e t ≡ if_offered_in script config.slots (seen_process config.slots p) e t
 offered_seen script config p e t some =
-    ap (λ (others : Others). if offers (choices_at others (next_of script t.frames) t.status) e.alt then Some (transition_at (body_at script t.frames) p.shared t others e.alt (next_of script t.frames) t.status) else None) (others_seen script config p t some)
+    ap (λ (others : Others). if offers (choices_at t others (next_of script t.frames) t.status) e.alt then Some (acts_or e.alt t.status (transition_at (body_at script t.frames) p.shared t others e.alt (next_of script t.frames) t.status)) else None) (others_seen script config p t some)
 
 -- the transition of an entry by a process
 pub taken_seen : (script : Script) (config : Config) (e : Entry) (p : Process) → 0 < config.slots → option_and_then (if_offered script config p e) (with_id e.tid p.threads) ≡ option_and_then (if_offered_in script config.slots (seen_process config.slots p) e) (thread_with config.slots e.tid (seen_process config.slots p).slots)

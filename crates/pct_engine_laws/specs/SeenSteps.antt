@@ -17,7 +17,7 @@ use Rattle.pct_model.specs.ThreadSlots.{slot_of}
 use Rattle.pct_model.specs.NextStatement.{next_of, body_at}
 use Rattle.pct_model.specs.OtherThreads.{query_at, Others, is_joining, exit_value_of, no_answer}
 use Rattle.pct_model.specs.ChoiceTable.{choices_at, offers, is_enabled}
-use Rattle.pct_model.specs.TransitionTable.{transition_at}
+use Rattle.pct_model.specs.TransitionTable.{transition_at, acts_or}
 use Rattle.pct_model.specs.Chosen.{Candidate, item_at, entry_for}
 use Rattle.pct_engine_laws.specs.Seen.{SeenSlot, SeenProcess, Seen, is_live_seen}
 
@@ -70,11 +70,11 @@ others_in script slots p t = answer_in slots t.id p.slots (query_at p.shared (ne
 
 -- the choices of a thread of a process
 abbrev pub choices_in : Script → ℕ → SeenProcess → Thread → List Alt
-choices_in script slots p t = choices_at (others_in script slots p t) (next_of script t.frames) t.status
+choices_in script slots p t = choices_at t (others_in script slots p t) (next_of script t.frames) t.status
 
 -- what a thread of a process does by a choice
 abbrev pub transition_in : Script → ℕ → SeenProcess → Thread → Alt → Transition
-transition_in script slots p t choice = transition_at (body_at script t.frames) p.shared t (others_in script slots p t) choice (next_of script t.frames) t.status
+transition_in script slots p t choice = acts_or choice t.status (transition_at (body_at script t.frames) p.shared t (others_in script slots p t) choice (next_of script t.frames) t.status)
 
 -- ---- transitions
 

@@ -36,24 +36,33 @@ pub fn write_line<K: Sink>(sink: &mut K, fields: &[Field]) -> Result<(), Failed>
     }
 }
 
-/// Writes a line, as `write_line` does, to a buffer so that it ends at `end`, and returns where it starts. `None` means
-/// that it does not fit before `end`.
+/// Writes a line, as `write_line` does, to a buffer so that it ends at `end`, and returns where it starts. It is `None`
+/// exactly if the line does not fit before `end`.
 #[inline(always)]
 pub fn prepend_line(fields: &[Field], buffer: &mut [u8], end: usize) -> Option<usize>
     requires { end ≤ length buffer.old }
     ensures { Prepends buffer.old buffer.new end (join_with_byte 32 (map field_text fields.now) ++ 10 ∷ []) result }
 {
     let line_end = prepend(b"\n", buffer, end)?;
-    let start = prepend_spaced(fields, buffer, line_end)?;
-    if fields.is_empty() {
-        return Some(start);
-    }
-    // The space before the first field is left out.
-    Some(start + 1)
+    prepend_fields(fields, buffer, line_end)
 }
 
-// Writes the fields, each preceded by a space, so that they end at `end`, and returns where they start. It is `None` if
-// they do not fit.
+// Writes the fields, separated by one space, as `prepend` writes a text.
+#[inline(always)]
+fn prepend_fields(fields: &[Field], buffer: &mut [u8], end: usize) -> Option<usize>
+    requires { end ≤ length buffer.old }
+    ensures { Prepends buffer.old buffer.new end (join_with_byte 32 (map field_text fields.now)) result }
+{
+    match fields.split_first() {
+        None => Some(end),
+        Some((first, rest)) => {
+            let start = prepend_spaced(rest, buffer, end)?;
+            prepend_field(first, buffer, start)
+        }
+    }
+}
+
+// Writes the fields, each preceded by a space, as `prepend` writes a text.
 #[inline(always)]
 fn prepend_spaced(fields: &[Field], buffer: &mut [u8], end: usize) -> Option<usize>
     requires { end ≤ length buffer.old }

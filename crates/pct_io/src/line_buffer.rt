@@ -2,7 +2,7 @@
 ghost use Rattle.std.specs.Prelude.{◌≤◌, length, decimal};
 ghost use Rattle.pct_io.specs.Prepends.{Prepends};
 
-use itoa::write_digits;
+use itoa::{Buffer, write_digits};
 
 /// The size of the buffer of a line in bytes. A longer line is written field by field.
 pub(crate) const CAPACITY: usize = 128;
@@ -10,7 +10,8 @@ pub(crate) const CAPACITY: usize = 128;
 // The largest number of decimal digits of a 64-bit number.
 const MOST_DIGITS: usize = 20;
 
-/// Writes the text so that it ends at `end`, and returns where it starts. It is `None` if the text does not fit.
+/// Writes the text so that it ends at `end`, and returns where it starts. It is `None` exactly if the text
+/// does not fit before `end`.
 #[inline(always)]
 pub(crate) fn prepend(text: &[u8], buffer: &mut [u8], end: usize) -> Option<usize>
     requires { end ≤ length buffer.old }
@@ -24,18 +25,27 @@ pub(crate) fn prepend(text: &[u8], buffer: &mut [u8], end: usize) -> Option<usiz
     Some(start)
 }
 
-/// Writes the number in decimal, as `prepend` writes a text. It is `None` if the longest number does not fit.
+/// Writes the number in decimal, as `prepend` writes a text.
 #[inline(always)]
 pub(crate) fn prepend_number(number: u64, buffer: &mut [u8], end: usize) -> Option<usize>
     requires { end ≤ length buffer.old }
     ensures { Prepends buffer.old buffer.new end (decimal number) result }
 {
     if end < MOST_DIGITS {
-        return None;
+        return prepend_digits(number, buffer, end);
     }
     if number < 10 {
         buffer[end - 1] = b'0' + number as u8;
         return Some(end - 1);
     }
     Some(write_digits(number, buffer, end))
+}
+
+// Writes the number in decimal, as `prepend` writes a text, where the longest number may not fit.
+#[cold]
+fn prepend_digits(number: u64, buffer: &mut [u8], end: usize) -> Option<usize>
+    requires { end ≤ length buffer.old }
+    ensures { Prepends buffer.old buffer.new end (decimal number) result }
+{
+    prepend(Buffer::new().format(number).as_bytes(), buffer, end)
 }

@@ -4,7 +4,7 @@
 use Rattle.std.specs.Prelude.{ℕ, Bool, true, not, ◌&&◌, ◌||◌, if◌then◌else◌, List, [], ◌∷◌, ◌++◌, map, Option, Some, None, is_some, nat_eq, slice_set}
 use Rattle.pct_model.specs.declared.frame.Frame.{Frame}
 use Rattle.pct_model.specs.declared.state.FrameKind.TheVariants.{Start}
-use Rattle.pct_model.specs.declared.state.Status.TheVariants.{Running, Joining, Ending, Exiting, Ended}
+use Rattle.pct_model.specs.declared.state.Status.TheVariants.{Running, AtPoint, Joining, Ending, Exiting, Ended}
 use Rattle.pct_model.specs.declared.stop.Why.{Why}
 use Rattle.pct_model.specs.declared.transition.Action.{Action}
 use Rattle.pct_model.specs.declared.transition.Action.TheVariants as action
@@ -44,7 +44,11 @@ thread_after (action.CallAlone f a kind) t = record t { status = Running; frames
 thread_after (action.Leave status) t = record t { status = status; frames = without_first t.frames }
 thread_after (action.PushHandler f a) t = record t { handlers = (f, a) ∷ t.handlers }
 thread_after action.PopHandler t = record t { handlers = without_first t.handlers }
+thread_after (action.SetState state) t = record t { state = state }
+thread_after (action.SetMode mode) t = record t { mode = mode }
+thread_after (action.BeginPoint index) t = record t { status = AtPoint index }
 thread_after (action.BeginJoin id) t = record t { status = Joining id }
+thread_after (action.CancelJoin id) t = record t { status = Running }
 thread_after (action.BeginEnd why) t = record t { status = Ending; frames = []; state = ending_state; mode = ending_mode; reason = why }
 thread_after (action.EndThread v) t = record t { status = Ended v; ended = true }
 thread_after action.MarkEnded t = record t { ended = true }
@@ -56,6 +60,8 @@ thread_after _ t = t
 -- any thread of the process after an action, which may name it
 unfoldable pub named_after : Action → Thread → Thread
 named_after (action.EndJoin id) t = if is_live_thread id t then record t { joined = true } else t
+-- a request for a thread that has ended changes nothing, which is a choice of this host
+named_after (action.Request id) t = if is_live_thread id t && not t.ended then record t { pending = true } else t
 named_after (action.Detach id) t = if is_live_thread id t then record t { detached = true } else t
 named_after _ t = t
 

@@ -1,7 +1,7 @@
 -- The choices of the scheduler for each thread: its enabled transitions, in the order `go`, then the others by the slot of the
 -- thread or the place of the key that they name. A thread is enabled if it has a choice. Legality (Step.antt), deadlock
 -- (Run.antt) and the scheduler's choice (Chosen.antt) derive from this table.
-use Rattle.std.specs.Prelude.{ℕ, Bool, true, false, List, [], ◌∷◌, map, is_some, nat_eq}
+use Rattle.std.specs.Prelude.{ℕ, Bool, true, false, not, ◌&&◌, List, [], ◌∷◌, ◌++◌, if◌then◌else◌, map, is_some, nat_eq}
 use Rattle.std.specs.List.{list_any}
 use Rattle.pct_model.specs.declared.script.Script.{Script}
 use Rattle.pct_model.specs.declared.statement.Stmt.{Stmt}
@@ -11,9 +11,12 @@ use Rattle.pct_model.specs.declared.schedule.Config.{Config}
 use Rattle.pct_model.specs.declared.schedule.Alt.TheVariants as alt
 use Rattle.pct_model.specs.declared.state.Status.{Status}
 use Rattle.pct_model.specs.declared.state.Status.TheVariants as status
+use Rattle.pct_model.specs.Cancelability.{is_deliverable, is_asynchronous}
+use Rattle.pct_model.specs.CancelCalls.{called_kind, is_required, is_optional, may_pass}
 use Rattle.pct_model.specs.World.{Thread, Process}
 use Rattle.pct_model.specs.NextStatement.{NextStatement, NoStatement, StatementIn, next_of}
 use Rattle.pct_model.specs.OtherThreads.{Others, target_is, others_of}
+use Rattle.pct_model.specs.StopTable.{is_built}
 
 -- ---- parts of the table
 
@@ -22,32 +25,68 @@ abbrev pub go_if : Bool → List Alt
 go_if true = alt.Go ∷ []
 go_if false = []
 
+-- `act`, if the test holds; no other thread is named
+abbrev pub act_if : Bool → List Alt
+act_if true = alt.Act 0 ∷ []
+act_if false = []
+
+-- a row: a test, and the choices if it holds
+abbrev pub ChoiceRow : Type 0
+ChoiceRow = Bool × List Alt
+
+-- the choices of the first row whose test holds, or else these
+abbrev pub first_row : List ChoiceRow → List Alt → List Alt
+first_row [] others = others
+first_row (row ∷ rows) others = if row.0 then row.1 else first_row rows others
+
 -- one of these ids for a new thread, or `go` if there is none
 abbrev pub new_or_go : List ℕ → List Alt
 new_or_go [] = alt.Go ∷ []
 new_or_go (id ∷ ids) = alt.New id ∷ map (λ n. alt.New n) ids
 
--- the choices of a running thread at a statement; a stop is a step too
-unfoldable pub running_choices : Others → Stmt → List Alt
-running_choices others (statement.Create result id f v detached) = new_or_go others.new_ids
-running_choices others s = alt.Go ∷ []
+-- the choices that a statement gives a running thread; a stop is a step too
+unfoldable pub statement_choices : Others → Stmt → List Alt
+statement_choices others (statement.Create result id f v detached) = new_or_go others.new_ids
+statement_choices others s = alt.Go ∷ []
 
 -- ---- the table
 
--- the choices of a thread, by its status
-unfoldable pub choices_at : Others → NextStatement → Status → List Alt
-choices_at others (StatementIn frame s) status.Running = running_choices others s
-choices_at others NoStatement status.Running = []
-choices_at others next (status.Joining id) = go_if (target_is (λ target. is_some target.value) others.target)
-choices_at others next status.Ending = alt.Go ∷ []
-choices_at others next status.Exiting = alt.Go ∷ []
-choices_at others next (status.Ended v) = []
--- no thread has one of the other statuses yet
-choices_at others next _ = []
+module _ (t : Thread) (others : Others) where
+  -- what comes before the statement of a running thread: whether it is implemented, and what the thread's cancelability decides. The
+  -- first row whose test holds
+  unfoldable pub cancel_rows : Stmt → List ChoiceRow
+  cancel_rows s =
+      -- a statement that is not implemented is a stop
+      (not (is_built s), alt.Go ∷ [])
+      -- XSH 2.9.5.1: with asynchronous cancelability a pending request may be acted upon at any time; `go` is a stop at a call of a
+      -- function that is not async-cancel-safe
+      ∷ (is_asynchronous t.state t.mode, alt.Go ∷ act_if t.pending)
+      -- XSH 2.9.5.2: a function that shall be a cancellation point: a pending request is acted upon
+      ∷ (is_deliverable t.state t.pending && is_required (called_kind s), alt.Act 0 ∷ [])
+      -- XSH 2.9.5.2: a function that may be a cancellation point
+      ∷ (is_deliverable t.state t.pending && is_optional (called_kind s), alt.Go ∷ alt.Act 0 ∷ [])
+      ∷ []
+
+  -- the choices of a running thread at a statement
+  unfoldable pub running_choices : Stmt → List Alt
+  running_choices s = first_row (cancel_rows s) (statement_choices others s)
+
+  -- the choices of a thread, by its status; one that is suspended at a cancellation point acts upon a pending request, or goes on
+  -- once what it waits for has occurred (XSH 2.9.5.2)
+  unfoldable pub choices_at : NextStatement → Status → List Alt
+  choices_at (StatementIn frame s) status.Running = running_choices s
+  choices_at NoStatement status.Running = []
+  choices_at next (status.AtPoint index) = go_if (may_pass index) ++ act_if (is_deliverable t.state t.pending)
+  choices_at next (status.Joining id) = go_if (target_is (λ target. is_some target.value) others.target) ++ act_if (is_deliverable t.state t.pending)
+  choices_at next status.Ending = alt.Go ∷ []
+  choices_at next status.Exiting = alt.Go ∷ []
+  choices_at next (status.Ended v) = []
+  -- no thread has one of the other statuses yet
+  choices_at next _ = []
 
 -- the choices of a thread of a process
 abbrev pub choices_of : Script → Config → Process → Thread → List Alt
-choices_of script config p t = choices_at (others_of script config p t) (next_of script t.frames) t.status
+choices_of script config p t = choices_at t (others_of script config p t) (next_of script t.frames) t.status
 
 -- ---- membership
 

@@ -1,8 +1,9 @@
 -- The invariant of reachable states: what each state that a run reaches keeps, beside the events that led to it.
-use Rattle.std.specs.Prelude.{◌≡◌, ℕ, ◌<◌, Bool, true, false, not, ◌||◌, List, [], ◌∷◌, ◌++◌, length, map, Option, Some, None, is_some, All}
+use Rattle.std.specs.Prelude.{◌≡◌, ◌≢◌, ℕ, ◌<◌, Bool, true, false, not, ◌&&◌, ◌||◌, List, [], ◌∷◌, ◌++◌, length, map, Option, Some, None, is_some, nat_eq, All}
 use Rattle.std.specs.List.{list_any}
 use Rattle.std.specs.Option.{option_map_or}
 use Rattle.pct_model.specs.declared.event.Event.{Event}
+use Rattle.pct_model.specs.declared.event.What.TheVariants.{Called}
 use Rattle.pct_model.specs.declared.frame.Frame.{Frame}
 use Rattle.pct_model.specs.declared.script.Script.{Script}
 use Rattle.pct_model.specs.declared.schedule.Config.{Config}
@@ -12,12 +13,14 @@ use Rattle.pct_model.specs.declared.state.State.TheVariants.{Disable}
 use Rattle.pct_model.specs.declared.state.Status.{Status}
 use Rattle.pct_model.specs.declared.state.Status.TheVariants as status
 use Rattle.pct_model.specs.declared.statement.Stmt.TheVariants as statement
-use Rattle.pct_model.specs.KnownThreads.{is_known}
+use Rattle.pct_model.specs.CancelCalls.{point_kind, is_required}
+use Rattle.pct_model.specs.KnownThreads.{is_known, is_detached, is_joined, newest_event}
 use Rattle.pct_model.specs.LineParsing.{is_empty}
 use Rattle.pct_model.specs.NextStatement.{NextStatement, StatementIn, next_of}
 use Rattle.pct_model.specs.OpenPushes.{open_pushes}
 use Rattle.pct_model.specs.OwnEvents.{made_process, thread_with, made_thread}
 use Rattle.pct_model.specs.StopTable.{has_begun_to_end}
+use Rattle.pct_model.specs.ThreadCalls.{join_point}
 use Rattle.pct_model.specs.ThreadNumbers.{NumbersThreads}
 use Rattle.pct_model.specs.ThreadSlots.{is_ended_status}
 use Rattle.pct_model.specs.ThreadSummary.{ThreadSummary, summary_of}
@@ -97,6 +100,11 @@ abbrev pub is_join : NextStatement → Bool
 is_join (StatementIn frame (statement.Join id d)) = true
 is_join _ = false
 
+-- the next statement is a call of the cancellation point with an index, which is a required one
+abbrev pub is_call_of : ℕ → NextStatement → Bool
+is_call_of index (StatementIn frame (statement.PointCall i)) = nat_eq i index && is_required (point_kind index)
+is_call_of index _ = false
+
 -- ---- threads
 
 -- a thread, and what the events so far report of it
@@ -129,10 +137,29 @@ pub record ThreadKept (script : Script) (t : Thread) (s : ThreadSummary) : Type 
   -- such a frame
   pub exiting : s.exiting ≡ is_exiting t.status t.frames
   pub exit_functions : s.exiting ≡ false → list_any (λ (frame : Frame). is_exit_kind frame.kind) t.frames ≡ false
-  -- a thread that has a reason, or exits its process, has its cancelability disabled (XSH 2.9.5.3)
+  -- a thread that has a reason has its cancelability disabled (XSH 2.9.5.3), and so has one that exits its process, by a choice of
+  -- this host
   pub disabled : (has_begun_to_end t.reason || s.exiting) ≡ true → t.state ≡ Disable
   -- the next statement of a thread that is suspended in pthread_join is a pthread_join
   pub joining : (id : ℕ) → t.status ≡ status.Joining id → is_join (next_of script t.frames) ≡ true
+  -- the next statement of a thread that is suspended at a generic cancellation point is a call of this point, which is a required one
+  pub at_point : (index : ℕ) → t.status ≡ status.AtPoint index → is_call_of index (next_of script t.frames) ≡ true
+
+-- ---- joins
+
+-- thread tid of process pid is suspended in pthread_join for thread id of the process
+pub record Joins (pid tid id : ℕ) (w : World) (events : List Event) : Type 0 where
+  -- its newest event is that of the call
+  pub newest : newest_event pid tid events ≡ Some (Called join_point)
+  -- the thread that it joins was made, is not gone, is another one, and is neither joined nor detached
+  pub target : Thread
+  pub made : made_thread pid id w ≡ Some target
+  pub here : target.gone ≡ false
+  pub other : id ≢ tid
+  pub not_joined : target.joined ≡ false
+  pub joinable : target.detached ≡ false
+  -- no second thread joins it
+  pub alone : (second : ℕ) (u : Thread) → made_thread pid second w ≡ Some u → u.gone ≡ false → u.status ≡ status.Joining id → second ≡ tid
 
 -- ---- states
 
@@ -144,5 +171,10 @@ pub record Kept (script : Script) (config : Config) (w : World) (events : List E
   pub known : (pid tid : ℕ) → is_known pid tid events ≡ option_map_or (λ t. not t.gone) (made_thread pid tid w) false
   -- each thread that was made and is not gone
   pub threads : (pid tid : ℕ) (t : Thread) → made_thread pid tid w ≡ Some t → t.gone ≡ false → ThreadKept script t (summary_of pid tid events)
+  -- each is joined or detached if the events report so
+  pub joined : (pid tid : ℕ) (t : Thread) → made_thread pid tid w ≡ Some t → t.gone ≡ false → t.joined ≡ is_joined pid tid events
+  pub detached : (pid tid : ℕ) (t : Thread) → made_thread pid tid w ≡ Some t → t.gone ≡ false → t.detached ≡ is_detached pid tid events
+  -- each that is suspended in pthread_join
+  pub joins : (pid tid : ℕ) (t : Thread) → made_thread pid tid w ≡ Some t → t.gone ≡ false → (id : ℕ) → t.status ≡ status.Joining id → Joins pid tid id w events
   -- if a thread that has ended exits its process, each thread of the process has ended (XSH pthread_exit)
   pub last : (pid : ℕ) (p : Process) → made_process pid w ≡ Some p → (tid : ℕ) (t : Thread) → thread_with tid p ≡ Some t → t.gone ≡ false → t.ended ≡ true → (summary_of pid tid events).exiting ≡ true → (id : ℕ) (other : Thread) → thread_with id p ≡ Some other → other.gone ≡ false → other.ended ≡ true

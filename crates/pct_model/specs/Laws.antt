@@ -1,9 +1,13 @@
 -- The laws that the events of every run keep.
 use Rattle.std.specs.Prelude.{ℕ, List}
 use Rattle.pct_model.specs.declared.event.Event.{Event}
+use Rattle.pct_model.specs.JoinLaw.{JoinLaw}
 use Rattle.pct_model.specs.Once.{Once}
 
 -- the laws of the events of a run, newest first, with the greatest number of passes over destructors and the number of slots
 pub record Laws (events : List Event) (passes slots : ℕ) : Type 0 where
   -- no cleanup handler is removed twice, the newest is removed first, and a thread that has ended has none left
   pub once : Once events
+  -- each join gets the value of a thread that has ended, no thread is joined twice or while it is detached, and no request or detach
+  -- names a thread outside the lifetime of its id
+  pub joins : JoinLaw events

@@ -25,6 +25,7 @@ pub mod Transitions
 pub mod ScriptStatements
 pub mod CleanupHandlers
 pub mod ThreadCalls
+pub mod CancelCalls
 pub mod ThreadEnds
 pub mod ProcessExit
 pub mod StopTable
@@ -35,9 +36,10 @@ pub mod Step
 pub mod Run
 pub mod OwnEvents
 pub mod ThreadNumbers
-pub mod KnownThreads
 pub mod ThreadSummary
+pub mod KnownThreads
 pub mod Once
+pub mod JoinLaw
 pub mod Laws
 pub mod Kept
 pub mod Chosen

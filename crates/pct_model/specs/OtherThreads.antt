@@ -24,6 +24,7 @@ unfoldable pub statement_query : SharedState → Frame → Stmt → Query
 statement_query shared frame (statement.Create result id f v detached) = query.NewIds
 statement_query shared frame (statement.Join id d) = query.Thread (value_of shared.globals frame id)
 statement_query shared frame (statement.Detach id) = query.Thread (value_of shared.globals frame id)
+statement_query shared frame (statement.CancelThread id) = query.Thread (value_of shared.globals frame id)
 statement_query shared frame s = query.Nothing
 
 -- the query of a running thread

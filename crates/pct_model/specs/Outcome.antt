@@ -14,6 +14,7 @@ use Rattle.pct_model.specs.declared.keyword.Keyword.{Keyword}
 use Rattle.pct_model.specs.declared.keyword.Keyword.TheVariants as keyword
 use Rattle.pct_model.specs.declared.limits.TheConstants.{MAX_INPUT}
 use Rattle.pct_model.specs.Keywords.{keyword_text, line_text}
+use Rattle.pct_model.specs.Points.{points_text}
 use Rattle.pct_model.specs.Checks.{FirstFault}
 use Rattle.pct_model.specs.Spells.{Spells}
 use Rattle.pct_model.specs.Schedule.{sched_of, replay_parts}
@@ -29,9 +30,13 @@ is_asked asked [] = false
 is_asked asked (w ∷ []) = bytes_eq w (keyword_text asked)
 is_asked asked (w ∷ next ∷ words) = false
 
--- the arguments that are accepted: `run`, `replay` or `check` alone
+-- the arguments of a command that reads the input: `run`, `replay` or `check` alone
+abbrev pub needs_input : List (List ℕ) → Bool
+needs_input words = is_asked keyword.Run words || is_asked keyword.Replay words || is_asked keyword.Check words
+
+-- the arguments that are accepted: those, or `points` alone
 abbrev pub is_accepted : List (List ℕ) → Bool
-is_accepted words = is_asked keyword.Run words || is_asked keyword.Replay words || is_asked keyword.Check words
+is_accepted words = needs_input words || is_asked keyword.Points words
 
 -- the script in the input: the part before the line `%%` for `replay`, the whole input for `run` and `check`
 unfoldable pub script_part : List (List ℕ) → List ℕ → List ℕ
@@ -119,14 +124,14 @@ pub record RefusesWords (words : List (List ℕ)) (code : ℕ) (text : List ℕ)
 
 -- an input above the limit
 pub record RefusesInput (words : List (List ℕ)) (input : List ℕ) (code : ℕ) (text : List ℕ) : Type 0 where
-  pub accepted : is_accepted words ≡ true
+  pub accepted : needs_input words ≡ true
   pub too_long : MAX_INPUT < length input
   pub code_is : code ≡ 8
   pub text_is : text ≡ line_text refused_input
 
 -- a script with a fault: the first one is reported
 pub record RefusesScript (words : List (List ℕ)) (input : List ℕ) (code : ℕ) (text : List ℕ) : Type 0 where
-  pub accepted : is_accepted words ≡ true
+  pub accepted : needs_input words ≡ true
   pub fits : length input ≤ MAX_INPUT
   pub line : ℕ
   pub why : ParseWhy
@@ -194,6 +199,12 @@ pub record Checks (words : List (List ℕ)) (input : List ℕ) (code : ℕ) (tex
   pub code_is : code ≡ 0
   pub text_is : text ≡ canon script
 
+-- `points`: the text is the table of cancellation points, for any input
+pub record WritesPoints (words : List (List ℕ)) (code : ℕ) (text : List ℕ) : Type 0 where
+  pub accepted : is_asked keyword.Points words ≡ true
+  pub code_is : code ≡ 0
+  pub text_is : text ≡ points_text
+
 -- the outcome for these arguments and this input, under this schedule. The cases are disjoint, and in the order in
 -- which they are decided; only `run` depends on the schedule.
 pub data Outcome (words : List (List ℕ)) (input : List ℕ) (schedule : List Entry) (code : ℕ) (text : List ℕ) : Type 0 where
@@ -205,3 +216,4 @@ pub data Outcome (words : List (List ℕ)) (input : List ℕ) (schedule : List E
   Replayed : Replays words input code text → Outcome words input schedule code text
   Ran : Runs words input schedule code text → Outcome words input schedule code text
   Checked : Checks words input code text → Outcome words input schedule code text
+  PointsWritten : WritesPoints words code text → Outcome words input schedule code text

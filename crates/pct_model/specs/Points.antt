@@ -1,8 +1,9 @@
 -- The cancellation points (XSH 2.9.5.2): functions that shall be cancellation points, and some that may be. The
 -- standard has the two lists from which the kinds are taken. The selection of names, their order, and what a thread
 -- suspended at a point waits for are choices of this host.
-use Rattle.std.specs.Prelude.{ℕ, List, [], ◌∷◌, Option, codes, bytes_eq, position, slice_get, option_map, option_and_then}
+use Rattle.std.specs.Prelude.{ℕ, List, [], ◌∷◌, Option, codes, bytes_eq, position, slice_get, option_map, option_and_then, flat_map}
 use Rattle.std.specs.Option.{option_map_or}
+use Rattle.pct_model.specs.Keywords.{line_text}
 use Rattle.pct_model.specs.declared.point.Point.{Point}
 use Rattle.pct_model.specs.declared.point.PointKind.{PointKind}
 use Rattle.pct_model.specs.declared.point.PointKind.TheVariants.{Required, Optional}
@@ -98,3 +99,25 @@ point_of name = option_and_then point_at (position (λ r. bytes_eq r.name name) 
 -- the name of the point with an index, or the empty name if the index is out of range
 unfoldable pub point_name : ℕ → List ℕ
 point_name index = option_map_or (λ r. r.name) (slice_get points index) []
+
+-- ---- the text of the table
+
+-- the word of each kind
+abbrev pub kind_text : PointKind → List ℕ
+kind_text Required = codes "required"
+kind_text Optional = codes "optional"
+
+-- the word of each wait
+abbrev pub wait_text : PointWait → List ℕ
+wait_text NoWait = codes "no_wait"
+wait_text Outside = codes "outside"
+wait_text Never = codes "never"
+wait_text Inside = codes "inside"
+
+-- `NAME KIND WAIT`
+abbrev pub row_words : Row → List (List ℕ)
+row_words row = row.name ∷ kind_text row.kind ∷ wait_text row.wait ∷ []
+
+-- the table as text: a line for each point, in the order of their indexes
+unfoldable pub points_text : List ℕ
+points_text = flat_map (λ row. line_text (row_words row)) points

@@ -36,7 +36,7 @@ creates_by _ next result id f v detached = no_change
 abbrev pub join_point : ℕ
 join_point = 22
 
--- the thread is suspended until its target has ended
+-- the thread is suspended until its target has ended, or until it acts upon a request
 unfoldable pub begins_join : ℕ → Transition
 begins_join id = acts (action.BeginJoin id ∷ []) (what.Called join_point ∷ [])
 

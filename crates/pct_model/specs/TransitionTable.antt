@@ -5,6 +5,7 @@ use Rattle.pct_model.specs.declared.script.Script.{Script}
 use Rattle.pct_model.specs.declared.statement.Stmt.{Stmt}
 use Rattle.pct_model.specs.declared.statement.Stmt.TheVariants as statement
 use Rattle.pct_model.specs.declared.schedule.Alt.{Alt}
+use Rattle.pct_model.specs.declared.schedule.Alt.TheVariants as alt
 use Rattle.pct_model.specs.declared.schedule.Config.{Config}
 use Rattle.pct_model.specs.declared.frame.Frame.{Frame}
 use Rattle.pct_model.specs.declared.state.Status.{Status}
@@ -18,6 +19,7 @@ use Rattle.pct_model.specs.OtherThreads.{Others, others_of}
 use Rattle.pct_model.specs.Transitions.{no_change, stops}
 use Rattle.pct_model.specs.ScriptStatements.{jumps, emits, sets, adds, variable_value, calls, after_block, after_test, after_end}
 use Rattle.pct_model.specs.CleanupHandlers.{pushes, pops}
+use Rattle.pct_model.specs.CancelCalls.{requests, sets_state, sets_mode, tests_cancel, calls_point, point_kind, passes_point, acts_on_request}
 use Rattle.pct_model.specs.ThreadCalls.{creates_by, begins_join, joins_at, detaches, gets_self}
 use Rattle.pct_model.specs.ThreadEnds.{ends_by_exit, goes_on_ending}
 use Rattle.pct_model.specs.ProcessExit.{returns_by, ends_process}
@@ -51,20 +53,31 @@ module _ (body : List Stmt) (shared : SharedState) (t : Thread) (others : Others
   runs frame (statement.Create result id f v detached) = creates_by choice (suc frame.pc) result id f (value_of shared.globals frame v) detached
   runs frame (statement.Join id d) = begins_join (value_of shared.globals frame id)
   runs frame (statement.Detach id) = detaches (suc frame.pc) (value_of shared.globals frame id)
+  runs frame (statement.CancelThread id) = requests (suc frame.pc) (value_of shared.globals frame id)
   runs frame (statement.SelfId d) = gets_self (suc frame.pc) d t.id
+  runs frame statement.TestCancel = tests_cancel (suc frame.pc)
+  runs frame (statement.SetState enable old) = sets_state (suc frame.pc) enable old t.state
+  runs frame (statement.SetMode asynchronous old) = sets_mode (suc frame.pc) asynchronous old t.mode
+  runs frame (statement.PointCall index) = calls_point (suc frame.pc) index (point_kind index)
   runs frame (statement.ThreadExit v) = ends_by_exit (value_of shared.globals frame v)
   runs frame (statement.Push f v) = pushes (suc frame.pc) f (value_of shared.globals frame v)
   runs frame (statement.Pop v) = pops (suc frame.pc) (value_of shared.globals frame v) t.handlers
   runs frame s = no_change
 
-  -- what a thread does by the choice, by its status
+  -- what a thread does as it goes on by the choice, by its status
   unfoldable pub transition_at : NextStatement → Status → Transition
   transition_at (StatementIn frame s) status.Running = stops_or (stop_at body shared t others frame s) (runs frame s)
+  transition_at next (status.AtPoint index) = passes_point index next
   transition_at next (status.Joining id) = joins_at others.target id next
   transition_at next status.Ending = goes_on_ending others.is_last t.reason t.handlers
   transition_at next status.Exiting = ends_process shared.exit_functions shared.exit_value
   transition_at next _ = no_change
 
+-- by the choice `act` a thread acts upon a request, and by every other choice it goes on
+abbrev pub acts_or : Alt → Status → Transition → Transition
+acts_or (alt.Act n) s goes = acts_on_request s
+acts_or _ s goes = goes
+
 -- what a thread of a process does by a choice
 abbrev pub transition_by : Script → Config → Process → Thread → Alt → Transition
-transition_by script config p t choice = transition_at (body_at script t.frames) p.shared t (others_of script config p t) choice (next_of script t.frames) t.status
+transition_by script config p t choice = acts_or choice t.status (transition_at (body_at script t.frames) p.shared t (others_of script config p t) choice (next_of script t.frames) t.status)

@@ -12,6 +12,7 @@ pub enum Keyword {
     Run,
     Replay,
     Check,
+    Points,
     // the words of events
     Emit,
     Push,
@@ -130,6 +131,7 @@ impl Keyword {
             Keyword::End => b"end",
             Keyword::Replay => b"replay",
             Keyword::Check => b"check",
+            Keyword::Points => b"points",
             Keyword::Push => b"push",
             Keyword::Pop => b"pop",
             Keyword::Run => b"run",

@@ -1,5 +1,8 @@
 //! Cancellation points (XSH 2.9.5.2).
 
+ghost use Rattle.std.specs.Prelude.{◌≡◌};
+ghost use Rattle.pct_model.specs.Points.{kind_text, wait_text};
+
 /// Whether a function shall be a cancellation point (required), or may be one (optional).
 #[derive(Clone, Copy, Debug, PartialEq, Eq)]
 pub enum PointKind {
@@ -26,4 +29,30 @@ pub struct Point {
     pub index: u32,
     pub kind: PointKind,
     pub wait: PointWait,
+}
+
+impl PointKind {
+    /// The word of the kind in the table of points.
+    pub fn text(self) -> &'static [u8]
+        ensures { result.now ≡ kind_text self }
+    {
+        match self {
+            PointKind::Required => b"required",
+            PointKind::Optional => b"optional",
+        }
+    }
+}
+
+impl PointWait {
+    /// The word of the wait in the table of points.
+    pub fn text(self) -> &'static [u8]
+        ensures { result.now ≡ wait_text self }
+    {
+        match self {
+            PointWait::NoWait => b"no_wait",
+            PointWait::Outside => b"outside",
+            PointWait::Never => b"never",
+            PointWait::Inside => b"inside",
+        }
+    }
 }

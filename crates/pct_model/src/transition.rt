@@ -1,7 +1,7 @@
 //! Transitions of the machine: what a thread does in one step.
 
 use crate::event::What;
-use crate::state::{FrameKind, Reason, Status};
+use crate::state::{FrameKind, Mode, Reason, State, Status};
 use crate::stop::Why;
 use crate::up_to_three::UpToThree;
 
@@ -31,10 +31,20 @@ pub enum Action {
     PushHandler(u32, u32),
     /// The newest cleanup handler is removed.
     PopHandler,
+    /// The thread gets a cancelability state.
+    SetState(State),
+    /// The thread gets a cancelability type.
+    SetMode(Mode),
+    /// The thread is suspended at the cancellation point with this index.
+    BeginPoint(u32),
     /// The thread is suspended in pthread_join, for the thread with this id.
     BeginJoin(u32),
     /// The thread with this id was joined.
     EndJoin(u32),
+    /// The thread leaves pthread_join for the thread with this id, which stays joinable.
+    CancelJoin(u32),
+    /// A cancellation request for the thread with this id is pending, unless that thread has ended. It may be the thread itself.
+    Request(u32),
     /// The thread with this id becomes detached. It may be the thread itself.
     Detach(u32),
     /// The thread begins to end, for a reason: it leaves all its frames, and its cancelability is disabled and deferred.

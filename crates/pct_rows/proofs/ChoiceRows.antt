@@ -9,13 +9,11 @@ use Rattle.pct_model.specs.declared.state.FrameKind.TheVariants as kind
 use Rattle.pct_model.specs.declared.state.Status.{Status}
 use Rattle.pct_model.specs.declared.state.Status.TheVariants as status
 use Rattle.pct_model.specs.declared.stop.Why.TheVariants as why
-use Rattle.pct_model.specs.Keywords.{keyword_text}
-use Rattle.pct_model.specs.Names.{main_of}
-use Rattle.pct_model.specs.World.{Thread, Process, World, first_process, statement_at, new_frame, new_thread}
+use Rattle.pct_model.specs.World.{Thread, Process, World, first_process, new_frame, new_thread}
 use Rattle.pct_model.specs.ThreadSlots.{slot_of}
-use Rattle.pct_model.specs.OtherThreads.{statement_query, query_at, answer_to}
-use Rattle.pct_model.specs.ChoiceTable.{running_choices, choices_at, offers, same_choice}
+use Rattle.pct_model.specs.ChoiceTable.{offers, same_choice}
 use Rattle.pct_model.specs.Chosen.{by_slot, Candidate, candidates, chosen}
+use Rattle.pct_rows.proofs.OnLiterals.{runs_on_literals}
 use Rattle.pct_rows.proofs.Rows.{smallest}
 
 -- four thread slots
@@ -63,17 +61,17 @@ fields_of c = (c.pid, c.tid, c.choices)
 
 -- by rising process id, then by rising slot; each has the choice `go`
 in_order : map fields_of (candidates smallest config world) ≡ (1, 1, alt.Go ∷ []) ∷ (1, 2, alt.Go ∷ []) ∷ (1, 3, alt.Go ∷ []) ∷ (3, 5, alt.Go ∷ []) ∷ (3, 6, alt.Go ∷ []) ∷ []
-unfolding main_of keyword_text statement_at statement_query query_at answer_to running_choices choices_at candidates
+unfolding runs_on_literals
 in_order = refl
 
 -- the first number chooses the thread, modulo the number of candidates; the second chooses among its choices
 first_number : (chosen smallest config world 5 0 0 ≡ Some (entry 5 1 1)) × (chosen smallest config world 5 1 7 ≡ Some (entry 5 1 2)) × (chosen smallest config world 5 2 0 ≡ Some (entry 5 1 3)) × (chosen smallest config world 5 3 0 ≡ Some (entry 5 3 5)) × (chosen smallest config world 5 4 0 ≡ Some (entry 5 3 6)) × (chosen smallest config world 5 5 0 ≡ Some (entry 5 1 1)) × (chosen smallest config world 5 4294967294 4294967295 ≡ Some (entry 5 3 6))
-unfolding main_of keyword_text statement_at statement_query query_at answer_to running_choices choices_at candidates chosen
+unfolding runs_on_literals
 first_number = (refl, refl, refl, refl, refl, refl, refl)
 
 -- without a thread that is ready there is no entry, and none after a stop
 nobody_ready : (chosen smallest config (record { processes = process 1 (in_status 1 (status.Ended 0) ∷ []) ∷ []; stop = None }) 1 0 0 ≡ None) × (chosen smallest config (record { processes = []; stop = None }) 1 0 0 ≡ None) × (chosen smallest config (record world { stop = Some why.StackFull }) 1 0 0 ≡ None)
-unfolding main_of keyword_text statement_at statement_query query_at answer_to running_choices choices_at candidates chosen
+unfolding runs_on_literals
 nobody_ready = (refl, refl, refl)
 
 -- ---- membership

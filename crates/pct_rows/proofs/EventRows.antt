@@ -9,17 +9,15 @@ use Rattle.pct_model.specs.declared.event.What.{What}
 use Rattle.pct_model.specs.declared.event.What.TheVariants as what
 use Rattle.pct_model.specs.declared.stop.Why.TheVariants as why
 use Rattle.pct_model.specs.Keywords.{keyword_text, line_text}
-use Rattle.pct_model.specs.Names.{is_name, all_different, name_at}
-use Rattle.pct_model.specs.Points.{points, point_of, point_name}
-use Rattle.pct_model.specs.LineKinds.{declaration_syntax, syntax_of, point_statement}
-use Rattle.pct_model.specs.Statements.{encode}
+use Rattle.pct_model.specs.Names.{name_at}
+use Rattle.pct_model.specs.Points.{points, point_name}
+use Rattle.pct_model.specs.LineKinds.{syntax_of}
 use Rattle.pct_model.specs.Contents.{Contents}
-use Rattle.pct_model.specs.Nesting.{outside, inside, change_at, open_after, are_nested}
-use Rattle.pct_model.specs.Checks.{none_wrong}
-use Rattle.pct_model.specs.Static.{has_word, have_words, has_first_word, has_line, has_lines, has_text, keeps_limits, has_each_name_once, names_plain, is_static}
+use Rattle.pct_model.specs.Static.{is_static}
 use Rattle.pct_model.specs.StopTexts.{stop_words}
 use Rattle.pct_model.specs.EventTexts.{event_words}
 use Rattle.pct_model.specs.Report.{thread_text, event_line}
+use Rattle.pct_rows.proofs.OnLiterals.{checks_on_literals}
 
 -- two declarations of each kind but globals; the semaphore `s` has the count 0, `t` the count 7
 abbrev contents : Contents
@@ -32,7 +30,7 @@ contents = record {
 }
 
 contents_pass : IsTrue (is_static contents)
-unfolding keyword_text is_name all_different name_at points point_of point_name declaration_syntax syntax_of point_statement encode outside inside change_at open_after are_nested none_wrong has_word have_words has_first_word has_line has_lines has_text keeps_limits has_each_name_once names_plain is_static
+unfolding checks_on_literals
 contents_pass = refl
 
 abbrev script : Script

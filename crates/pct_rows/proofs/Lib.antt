@@ -1,3 +1,5 @@
+mod OnLiterals
+mod SmallScripts
 mod GrammarRows
 mod SpellingRows
 mod ScriptRows
@@ -6,6 +8,8 @@ mod MachineRows
 mod ThreadRows
 mod ThreadEdgeRows
 mod EndingRows
+mod CancelRows
+mod CancelRequestRows
 mod Rows
 mod ChoiceRows
 mod EventRows

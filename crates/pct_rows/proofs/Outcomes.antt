@@ -10,7 +10,7 @@ use Rattle.pct_model.specs.declared.parsed_line.Token.{Token}
 use Rattle.pct_model.specs.declared.parsed_line.Token.TheVariants as token
 use Rattle.pct_model.specs.declared.script.Script.{Script}
 use Rattle.pct_model.specs.Keywords.{keyword_text}
-use Rattle.pct_model.specs.Names.{is_name, main_of}
+use Rattle.pct_model.specs.Names.{is_name}
 use Rattle.pct_model.specs.Lines.{lines_of}
 use Rattle.pct_model.specs.Points.{points, point_of, point_name}
 use Rattle.pct_model.specs.LineKinds.{declaration_syntax, syntax_of, line_kinds, point_statement, line_kind_of}
@@ -19,20 +19,11 @@ use Rattle.pct_model.specs.Statements.{encode}
 use Rattle.pct_model.specs.Contents.{resolve_name, resolve, resolve_all}
 use Rattle.pct_model.specs.Sections.{parsed_lines, split_sections, Line, declaring}
 use Rattle.pct_model.specs.Spells.{declarations, contents_of, AreContents, SpellsContents}
-use Rattle.pct_model.specs.Jumps.{close_of, open_of}
-use Rattle.pct_model.specs.World.{statement_at, value_of, opening}
-use Rattle.pct_model.specs.ScriptStatements.{jumps, emits, sets, variable_value, adds, calls}
-use Rattle.pct_model.specs.CleanupHandlers.{pushes, pops}
-use Rattle.pct_model.specs.ProcessExit.{exits, returns_by, ends_process}
-use Rattle.pct_model.specs.StopTable.{stops_of, stop_at}
-use Rattle.pct_model.specs.OtherThreads.{statement_query, query_at, answer_to}
-use Rattle.pct_model.specs.ChoiceTable.{running_choices, choices_at}
-use Rattle.pct_model.specs.TransitionTable.{runs, transition_at}
-use Rattle.pct_model.specs.Actions.{thread_at, thread_after, named_after, shared_after, process_after, other_process_after, stop_after, after_transition}
-use Rattle.pct_model.specs.Step.{step}
-use Rattle.pct_model.specs.Run.{Run, run_step, run_from, run, verdict_of}
+use Rattle.pct_model.specs.World.{opening}
+use Rattle.pct_model.specs.Run.{Run, run, verdict_of}
 use Rattle.pct_model.specs.Outcome.{is_asked, code_of_verdict, default_config, first_goes, Runs}
 use Rattle.pct_rows.specs.Examples.{smallest_text, smallest_report, cleanup_text, cleanup_report}
+use Rattle.pct_rows.proofs.OnLiterals.{runs_on_literals}
 use Rattle.pct_rows.proofs.Rows.{smallest, smallest_reported, cleanup, cleanup_reported}
 
 -- a parsed line with its number
@@ -81,11 +72,11 @@ smallest_spelled : SpellsContents smallest_text (contents_of smallest)
 smallest_spelled = record { each_says = smallest_each; are_contents = subst (λ (lines : List Line). AreContents lines (contents_of smallest)) (sym smallest_parsed) smallest_are_contents }
 
 smallest_is_legal : is_some (run smallest default_config (replicate 2 first_goes)) ≡ true
-unfolding main_of keyword_text statement_at value_of opening jumps emits sets variable_value adds calls pushes pops exits returns_by ends_process stops_of stop_at statement_query query_at answer_to running_choices choices_at runs transition_at thread_at thread_after named_after shared_after process_after other_process_after stop_after after_transition close_of open_of step run_step run_from run verdict_of
+unfolding runs_on_literals
 smallest_is_legal = refl
 
 smallest_completes : code_of_verdict (verdict_of smallest default_config (end_of smallest 2).world 2) ≡ 0
-unfolding code_of_verdict main_of keyword_text statement_at value_of opening jumps emits sets variable_value adds calls pushes pops exits returns_by ends_process stops_of stop_at statement_query query_at answer_to running_choices choices_at runs transition_at thread_at thread_after named_after shared_after process_after other_process_after stop_after after_transition close_of open_of step run_step run_from run verdict_of
+unfolding runs_on_literals code_of_verdict
 smallest_completes = refl
 
 -- the outcome of `run`
@@ -126,11 +117,11 @@ cleanup_spelled : SpellsContents cleanup_text (contents_of cleanup)
 cleanup_spelled = record { each_says = cleanup_each; are_contents = subst (λ (lines : List Line). AreContents lines (contents_of cleanup)) (sym cleanup_parsed) cleanup_are_contents }
 
 cleanup_is_legal : is_some (run cleanup default_config (replicate 7 first_goes)) ≡ true
-unfolding main_of keyword_text statement_at value_of opening jumps emits sets variable_value adds calls pushes pops exits returns_by ends_process stops_of stop_at statement_query query_at answer_to running_choices choices_at runs transition_at thread_at thread_after named_after shared_after process_after other_process_after stop_after after_transition close_of open_of step run_step run_from run verdict_of
+unfolding runs_on_literals
 cleanup_is_legal = refl
 
 cleanup_completes : code_of_verdict (verdict_of cleanup default_config (end_of cleanup 7).world 7) ≡ 0
-unfolding code_of_verdict main_of keyword_text statement_at value_of opening jumps emits sets variable_value adds calls pushes pops exits returns_by ends_process stops_of stop_at statement_query query_at answer_to running_choices choices_at runs transition_at thread_at thread_after named_after shared_after process_after other_process_after stop_after after_transition close_of open_of step run_step run_from run verdict_of
+unfolding runs_on_literals code_of_verdict
 cleanup_completes = refl
 
 -- the outcome of `run`

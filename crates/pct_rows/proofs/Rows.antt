@@ -1,5 +1,5 @@
 -- Small scripts: their texts, their runs, and the outcomes of the program.
-use Rattle.std.proofs.Common.{◌≡◌, ℕ, Bool, true, false, List, [], ◌∷◌, ◌++◌, length, map, reverse, replicate, Option, Some, None, refl}
+use Rattle.std.proofs.Common.{◌≡◌, ℕ, ◌-◌, Bool, true, false, List, [], ◌∷◌, ◌++◌, length, take, drop, map, reverse, replicate, Option, Some, None, refl}
 use Rattle.std.specs.Prelude.{IsTrue, IsFalse, codes, flat_map, option_map}
 use Rattle.std.specs.Fmt.{digits}
 use Rattle.pct_model.specs.declared.script.Func.{Func}
@@ -26,34 +26,28 @@ use Rattle.pct_model.specs.declared.stop.Why.TheVariants as why
 use Rattle.pct_model.specs.declared.transition.Action.TheVariants.{Stop, EndProcess}
 use Rattle.pct_model.specs.declared.transition.Transition.{Transition}
 use Rattle.pct_model.specs.Keywords.{keyword_text, line_text}
-use Rattle.pct_model.specs.Names.{is_name, all_different, name_at, main_of}
+use Rattle.pct_model.specs.Names.{is_name, name_at, main_of}
 use Rattle.pct_model.specs.Lines.{lines_of, strip_cr}
-use Rattle.pct_model.specs.Points.{points, point_of, point_name}
-use Rattle.pct_model.specs.LineKinds.{declaration_syntax, syntax_of, point_statement}
-use Rattle.pct_model.specs.Statements.{encode}
-use Rattle.pct_model.specs.Nesting.{outside, inside, change_at, open_after, are_nested}
-use Rattle.pct_model.specs.Checks.{none_wrong}
-use Rattle.pct_model.specs.Static.{has_word, have_words, has_first_word, has_line, has_lines, has_text, keeps_limits, has_each_name_once, names_plain, is_static}
+use Rattle.pct_model.specs.Points.{points, points_text}
+use Rattle.pct_model.specs.Static.{keeps_limits, is_static}
 use Rattle.pct_model.specs.Jumps.{close_of, open_of}
-use Rattle.pct_model.specs.Canon.{argument_text, argument_texts, statement_words, function_lines, script_lines, canon}
-use Rattle.pct_model.specs.World.{Thread, SharedState, Process, World, first_process, new_shared, statement_at, value_of, new_frame, new_thread, opening}
-use Rattle.pct_model.specs.ScriptStatements.{jumps, emits, sets, variable_value, adds, calls}
+use Rattle.pct_model.specs.Canon.{canon}
+use Rattle.pct_model.specs.World.{Thread, SharedState, Process, World, first_process, new_shared, value_of, new_frame, new_thread, opening}
 use Rattle.pct_model.specs.CleanupHandlers.{pushes, pops}
-use Rattle.pct_model.specs.ProcessExit.{exits, returns_by, ends_process}
 use Rattle.pct_model.specs.Transitions.{acts}
 use Rattle.pct_model.specs.StopTable.{stops_of, stop_at}
 use Rattle.pct_model.specs.NextStatement.{StatementIn}
-use Rattle.pct_model.specs.OtherThreads.{statement_query, query_at, no_answer, answer_to}
-use Rattle.pct_model.specs.ChoiceTable.{running_choices, choices_at}
-use Rattle.pct_model.specs.TransitionTable.{runs, transition_at}
+use Rattle.pct_model.specs.OtherThreads.{no_answer}
+use Rattle.pct_model.specs.TransitionTable.{transition_at}
 use Rattle.pct_model.specs.Actions.{moved, thread_at, thread_after, named_after, shared_after, process_after, other_process_after, stop_after, after_transition}
-use Rattle.pct_model.specs.Step.{step, is_legal}
-use Rattle.pct_model.specs.Run.{run_step, run_from, illegal_in, first_illegal, run, verdict_of}
+use Rattle.pct_model.specs.Step.{is_legal}
+use Rattle.pct_model.specs.Run.{first_illegal, run, verdict_of}
 use Rattle.pct_model.specs.StopTexts.{stop_words}
 use Rattle.pct_model.specs.EventTexts.{event_words}
 use Rattle.pct_model.specs.Report.{thread_text, event_line, alt_words, entry_line, header_line, end_line, schedule_lines, verdict_words, verdict_line, title_line, report_lines, report}
 use Rattle.pct_model.specs.Schedule.{marker_in, replay_parts}
-use Rattle.pct_model.specs.Outcome.{is_asked, is_accepted, script_part, schedule_part, default_config, first_goes, refused_words, refused_input, refused_script, refused_schedule, refused_entry, code_of_verdict}
+use Rattle.pct_model.specs.Outcome.{is_asked, is_accepted, needs_input, script_part, schedule_part, default_config, first_goes, refused_words, refused_input, refused_script, refused_schedule, refused_entry, code_of_verdict}
+use Rattle.pct_rows.proofs.OnLiterals.{checks_on_literals, texts_on_literals, runs_on_literals}
 
 -- ---- abbreviations
 
@@ -106,7 +100,7 @@ smallest_funcs = main_alone (returns_0 ∷ [])
 
 -- `main` returns at once
 pub smallest_passes : IsTrue (are_static smallest_funcs)
-unfolding keyword_text is_name all_different name_at points point_of point_name declaration_syntax syntax_of point_statement encode outside inside change_at open_after are_nested none_wrong has_word have_words has_first_word has_line has_lines has_text keeps_limits has_each_name_once names_plain is_static
+unfolding checks_on_literals
 smallest_passes = refl
 
 abbrev pub smallest : Script
@@ -114,52 +108,52 @@ smallest = record { globals = []; mutexes = []; conds = []; sems = []; funcs = s
 
 -- its canonical text
 smallest_text : canon smallest ≡ codes "fn main x\nreturn 0\nend\n"
-unfolding digits name_at declaration_syntax syntax_of encode argument_text argument_texts statement_words function_lines script_lines
+unfolding texts_on_literals
 smallest_text = refl
 
 -- the length of the text
 smallest_text_length : length (canon smallest) ≡ 23
-unfolding digits name_at declaration_syntax syntax_of encode argument_text argument_texts statement_words function_lines script_lines
+unfolding texts_on_literals
 smallest_text_length = refl
 
 -- the report of its run
 pub smallest_reported : report smallest default_config (replicate 2 first_goes) ≡ Some (codes "report 1\n1.1 exit 0\n1.1 process_end 0\nverdict complete\nschedule 1 10000 4 64\n1 1 1 go\n1 1 1 go\nend 2\n")
-unfolding main_of keyword_text statement_at value_of opening jumps emits sets variable_value adds calls pushes pops exits returns_by ends_process stops_of stop_at statement_query query_at answer_to running_choices choices_at runs transition_at thread_at thread_after named_after shared_after process_after other_process_after stop_after after_transition close_of open_of step run_step run_from run verdict_of digits name_at stop_words event_words thread_text event_line alt_words entry_line header_line end_line schedule_lines verdict_words verdict_line title_line report_lines report
+unfolding runs_on_literals digits name_at stop_words event_words thread_text event_line alt_words entry_line header_line end_line schedule_lines verdict_words verdict_line title_line report_lines report
 smallest_reported = refl
 
 -- the length of the report
 smallest_report_length : option_map length (report smallest default_config (replicate 2 first_goes)) ≡ Some 101
-unfolding main_of keyword_text statement_at value_of opening jumps emits sets variable_value adds calls pushes pops exits returns_by ends_process stops_of stop_at statement_query query_at answer_to running_choices choices_at runs transition_at thread_at thread_after named_after shared_after process_after other_process_after stop_after after_transition close_of open_of step run_step run_from run verdict_of digits name_at stop_words event_words thread_text event_line alt_words entry_line header_line end_line schedule_lines verdict_words verdict_line title_line report_lines report
+unfolding runs_on_literals digits name_at stop_words event_words thread_text event_line alt_words entry_line header_line end_line schedule_lines verdict_words verdict_line title_line report_lines report
 smallest_report_length = refl
 
 -- before the first entry and after it the run is open
 smallest_open : (verdict_after smallest default_config 0 ≡ Some verdict.Open) × (verdict_after smallest default_config 1 ≡ Some verdict.Open)
-unfolding main_of keyword_text statement_at value_of opening jumps emits sets variable_value adds calls pushes pops exits returns_by ends_process stops_of stop_at statement_query query_at answer_to running_choices choices_at runs transition_at thread_at thread_after named_after shared_after process_after other_process_after stop_after after_transition close_of open_of step run_step run_from run verdict_of
+unfolding runs_on_literals
 smallest_open = (refl, refl)
 
 -- a run that completes with the last entry of its budget is complete
 smallest_at_budget : verdict_after smallest (with_budget 2) 2 ≡ Some verdict.Complete
-unfolding main_of keyword_text statement_at value_of opening jumps emits sets variable_value adds calls pushes pops exits returns_by ends_process stops_of stop_at statement_query query_at answer_to running_choices choices_at runs transition_at thread_at thread_after named_after shared_after process_after other_process_after stop_after after_transition close_of open_of step run_step run_from run verdict_of
+unfolding runs_on_literals
 smallest_at_budget = refl
 
 -- a run of one entry with a budget of one
 smallest_cut : verdict_after smallest (with_budget 1) 1 ≡ Some verdict.Budget
-unfolding main_of keyword_text statement_at value_of opening jumps emits sets variable_value adds calls pushes pops exits returns_by ends_process stops_of stop_at statement_query query_at answer_to running_choices choices_at runs transition_at thread_at thread_after named_after shared_after process_after other_process_after stop_after after_transition close_of open_of step run_step run_from run verdict_of
+unfolding runs_on_literals
 smallest_cut = refl
 
 -- no entry is legal after the process has ended
 smallest_ends : run smallest default_config (replicate 3 first_goes) ≡ None
-unfolding main_of keyword_text statement_at value_of opening jumps emits sets variable_value adds calls pushes pops exits returns_by ends_process stops_of stop_at statement_query query_at answer_to running_choices choices_at runs transition_at thread_at thread_after named_after shared_after process_after other_process_after stop_after after_transition close_of open_of step run_step run_from run verdict_of
+unfolding runs_on_literals
 smallest_ends = refl
 
 -- there is no run past the budget
 smallest_past_budget : run smallest (with_budget 1) (replicate 2 first_goes) ≡ None
-unfolding main_of keyword_text statement_at value_of opening jumps emits sets variable_value adds calls pushes pops exits returns_by ends_process stops_of stop_at statement_query query_at answer_to running_choices choices_at runs transition_at thread_at thread_after named_after shared_after process_after other_process_after stop_after after_transition close_of open_of step run_step run_from run verdict_of
+unfolding runs_on_literals
 smallest_past_budget = refl
 
 -- the first entry that is not legal: a third step, another thread, another process, another choice, worker 17
 smallest_illegal : (first_illegal smallest default_config (replicate 2 first_goes) ≡ None) × (first_illegal smallest default_config (replicate 4 first_goes) ≡ Some 3) × (first_illegal smallest default_config (record { worker = 1; pid = 1; tid = 2; alt = alt.Go } ∷ []) ≡ Some 1) × (first_illegal smallest default_config (first_goes ∷ record { worker = 1; pid = 2; tid = 1; alt = alt.Go } ∷ first_goes ∷ []) ≡ Some 2) × (first_illegal smallest default_config (record { worker = 1; pid = 1; tid = 1; alt = alt.Act 0 } ∷ first_goes ∷ []) ≡ Some 1) × (first_illegal smallest default_config (record { worker = 16; pid = 1; tid = 1; alt = alt.Go } ∷ record { worker = 0; pid = 1; tid = 1; alt = alt.Go } ∷ []) ≡ None) × (first_illegal smallest default_config (record { worker = 17; pid = 1; tid = 1; alt = alt.Go } ∷ []) ≡ Some 1)
-unfolding main_of keyword_text statement_at value_of opening jumps emits sets variable_value adds calls pushes pops exits returns_by ends_process stops_of stop_at statement_query query_at answer_to running_choices choices_at runs transition_at thread_at thread_after named_after shared_after process_after other_process_after stop_after after_transition close_of open_of step run_step illegal_in
+unfolding runs_on_literals
 smallest_illegal = (refl, refl, refl, refl, refl, refl, refl)
 
 -- ---- a handler that a pop calls
@@ -169,7 +163,7 @@ cleanup_funcs = main_with_h (push_h 1 ∷ statement.Emit (operand.Num 5) ∷ pop
 
 -- a push, a statement and the pop
 pub cleanup_passes : IsTrue (are_static cleanup_funcs)
-unfolding keyword_text is_name all_different name_at points point_of point_name declaration_syntax syntax_of point_statement encode outside inside change_at open_after are_nested none_wrong has_word have_words has_first_word has_line has_lines has_text keeps_limits has_each_name_once names_plain is_static
+unfolding checks_on_literals
 cleanup_passes = refl
 
 abbrev pub cleanup : Script
@@ -177,42 +171,42 @@ cleanup = record { globals = []; mutexes = []; conds = []; sems = []; funcs = cl
 
 -- its canonical text
 cleanup_text : canon cleanup ≡ codes "fn h x\nemit x\nend\nfn main x\npthread_cleanup_push h 1\nemit 5\npthread_cleanup_pop 1\nreturn 0\nend\n"
-unfolding digits name_at declaration_syntax syntax_of encode argument_text argument_texts statement_words function_lines script_lines
+unfolding texts_on_literals
 cleanup_text = refl
 
 -- the length of the text
 cleanup_text_length : length (canon cleanup) ≡ 95
-unfolding digits name_at declaration_syntax syntax_of encode argument_text argument_texts statement_words function_lines script_lines
+unfolding texts_on_literals
 cleanup_text_length = refl
 
 -- the events of its run
 cleanup_events : events_of cleanup default_config 7 ≡ Some (map event (what.Pushed 0 1 ∷ what.Emit 5 ∷ what.Popped 0 1 true ∷ what.Emit 1 ∷ what.ExitBegun 0 ∷ what.ProcessEnded 0 ∷ []))
-unfolding main_of keyword_text statement_at value_of opening jumps emits sets variable_value adds calls pushes pops exits returns_by ends_process stops_of stop_at statement_query query_at answer_to running_choices choices_at runs transition_at thread_at thread_after named_after shared_after process_after other_process_after stop_after after_transition close_of open_of step run_step run_from run verdict_of
+unfolding runs_on_literals
 cleanup_events = refl
 
 -- the return of the handler is no event
 cleanup_silent : events_of cleanup default_config 5 ≡ events_of cleanup default_config 4
-unfolding main_of keyword_text statement_at value_of opening jumps emits sets variable_value adds calls pushes pops exits returns_by ends_process stops_of stop_at statement_query query_at answer_to running_choices choices_at runs transition_at thread_at thread_after named_after shared_after process_after other_process_after stop_after after_transition close_of open_of step run_step run_from run verdict_of
+unfolding runs_on_literals
 cleanup_silent = refl
 
 -- the run is complete
 cleanup_complete : verdict_after cleanup default_config 7 ≡ Some verdict.Complete
-unfolding main_of keyword_text statement_at value_of opening jumps emits sets variable_value adds calls pushes pops exits returns_by ends_process stops_of stop_at statement_query query_at answer_to running_choices choices_at runs transition_at thread_at thread_after named_after shared_after process_after other_process_after stop_after after_transition close_of open_of step run_step run_from run verdict_of
+unfolding runs_on_literals
 cleanup_complete = refl
 
 -- the report of the run
 pub cleanup_reported : report cleanup default_config (replicate 7 first_goes) ≡ Some (codes "report 1\n1.1 push h 1\n1.1 emit 5\n1.1 pop h 1 run\n1.1 emit 1\n1.1 exit 0\n1.1 process_end 0\nverdict complete\nschedule 1 10000 4 64\n1 1 1 go\n1 1 1 go\n1 1 1 go\n1 1 1 go\n1 1 1 go\n1 1 1 go\n1 1 1 go\nend 7\n")
-unfolding main_of keyword_text statement_at value_of opening jumps emits sets variable_value adds calls pushes pops exits returns_by ends_process stops_of stop_at statement_query query_at answer_to running_choices choices_at runs transition_at thread_at thread_after named_after shared_after process_after other_process_after stop_after after_transition close_of open_of step run_step run_from run verdict_of digits name_at stop_words event_words thread_text event_line alt_words entry_line header_line end_line schedule_lines verdict_words verdict_line title_line report_lines report
+unfolding runs_on_literals digits name_at stop_words event_words thread_text event_line alt_words entry_line header_line end_line schedule_lines verdict_words verdict_line title_line report_lines report
 cleanup_reported = refl
 
 -- with a smaller budget the verdict is that of the budget
 cleanup_cut : verdict_after cleanup (with_budget 3) 3 ≡ Some verdict.Budget
-unfolding main_of keyword_text statement_at value_of opening jumps emits sets variable_value adds calls pushes pops exits returns_by ends_process stops_of stop_at statement_query query_at answer_to running_choices choices_at runs transition_at thread_at thread_after named_after shared_after process_after other_process_after stop_after after_transition close_of open_of step run_step run_from run verdict_of
+unfolding runs_on_literals
 cleanup_cut = refl
 
 -- the report of that run
 cleanup_cut_report : report cleanup (with_budget 3) (replicate 3 first_goes) ≡ Some (codes "report 1\n1.1 push h 1\n1.1 emit 5\n1.1 pop h 1 run\nverdict budget\nschedule 1 3 4 64\n1 1 1 go\n1 1 1 go\n1 1 1 go\nend 3\n")
-unfolding main_of keyword_text statement_at value_of opening jumps emits sets variable_value adds calls pushes pops exits returns_by ends_process stops_of stop_at statement_query query_at answer_to running_choices choices_at runs transition_at thread_at thread_after named_after shared_after process_after other_process_after stop_after after_transition close_of open_of step run_step run_from run verdict_of digits name_at stop_words event_words thread_text event_line alt_words entry_line header_line end_line schedule_lines verdict_words verdict_line title_line report_lines report
+unfolding runs_on_literals digits name_at stop_words event_words thread_text event_line alt_words entry_line header_line end_line schedule_lines verdict_words verdict_line title_line report_lines report
 cleanup_cut_report = refl
 
 -- ---- other runs
@@ -222,7 +216,7 @@ dropped_funcs = main_with_h (push_h 1 ∷ pop 0 ∷ [])
 
 -- a pop with 0
 dropped_passes : IsTrue (are_static dropped_funcs)
-unfolding keyword_text is_name all_different name_at points point_of point_name declaration_syntax syntax_of point_statement encode outside inside change_at open_after are_nested none_wrong has_word have_words has_first_word has_line has_lines has_text keeps_limits has_each_name_once names_plain is_static
+unfolding checks_on_literals
 dropped_passes = refl
 
 abbrev dropped : Script
@@ -230,7 +224,7 @@ dropped = record { globals = []; mutexes = []; conds = []; sems = []; funcs = dr
 
 -- the handler is dropped, and the closing `end` of `main` returns 0
 dropped_report : report dropped default_config (replicate 4 first_goes) ≡ Some (codes "report 1\n1.1 push h 1\n1.1 pop h 1 drop\n1.1 exit 0\n1.1 process_end 0\nverdict complete\nschedule 1 10000 4 64\n1 1 1 go\n1 1 1 go\n1 1 1 go\n1 1 1 go\nend 4\n")
-unfolding main_of keyword_text statement_at value_of opening jumps emits sets variable_value adds calls pushes pops exits returns_by ends_process stops_of stop_at statement_query query_at answer_to running_choices choices_at runs transition_at thread_at thread_after named_after shared_after process_after other_process_after stop_after after_transition close_of open_of step run_step run_from run verdict_of digits name_at stop_words event_words thread_text event_line alt_words entry_line header_line end_line schedule_lines verdict_words verdict_line title_line report_lines report
+unfolding runs_on_literals digits name_at stop_words event_words thread_text event_line alt_words entry_line header_line end_line schedule_lines verdict_words verdict_line title_line report_lines report
 dropped_report = refl
 
 abbrev last_first_funcs : List Func
@@ -238,7 +232,7 @@ last_first_funcs = main_with_h (push_h 1 ∷ push_h 2 ∷ pop 1 ∷ pop 0 ∷ []
 
 -- two handlers
 last_first_passes : IsTrue (are_static last_first_funcs)
-unfolding keyword_text is_name all_different name_at points point_of point_name declaration_syntax syntax_of point_statement encode outside inside change_at open_after are_nested none_wrong has_word have_words has_first_word has_line has_lines has_text keeps_limits has_each_name_once names_plain is_static
+unfolding checks_on_literals
 last_first_passes = refl
 
 abbrev last_first : Script
@@ -246,7 +240,7 @@ last_first = record { globals = []; mutexes = []; conds = []; sems = []; funcs =
 
 -- a pop removes the handler that was pushed last
 last_first_events : events_of last_first default_config 8 ≡ Some (map event (what.Pushed 0 1 ∷ what.Pushed 0 2 ∷ what.Popped 0 2 true ∷ what.Emit 2 ∷ what.Popped 0 1 false ∷ what.ExitBegun 0 ∷ what.ProcessEnded 0 ∷ []))
-unfolding main_of keyword_text statement_at value_of opening jumps emits sets variable_value adds calls pushes pops exits returns_by ends_process stops_of stop_at statement_query query_at answer_to running_choices choices_at runs transition_at thread_at thread_after named_after shared_after process_after other_process_after stop_after after_transition close_of open_of step run_step run_from run verdict_of
+unfolding runs_on_literals
 last_first_events = refl
 
 abbrev large_value_funcs : List Func
@@ -254,7 +248,7 @@ large_value_funcs = main_alone (statement.Emit (operand.Local 0) ∷ statement.R
 
 -- `main` emits its parameter and returns 300; the statement after the return is not executed
 large_value_passes : IsTrue (are_static large_value_funcs)
-unfolding keyword_text is_name all_different name_at points point_of point_name declaration_syntax syntax_of point_statement encode outside inside change_at open_after are_nested none_wrong has_word have_words has_first_word has_line has_lines has_text keeps_limits has_each_name_once names_plain is_static
+unfolding checks_on_literals
 large_value_passes = refl
 
 abbrev large_value : Script
@@ -262,7 +256,7 @@ large_value = record { globals = []; mutexes = []; conds = []; sems = []; funcs 
 
 -- the parameter of `main` is 0, and the exit status of a process is the exit value modulo 256
 large_value_events : events_of large_value default_config 3 ≡ Some (map event (what.Emit 0 ∷ what.ExitBegun 300 ∷ what.ProcessEnded 44 ∷ []))
-unfolding main_of keyword_text statement_at value_of opening jumps emits sets variable_value adds calls pushes pops exits returns_by ends_process stops_of stop_at statement_query query_at answer_to running_choices choices_at runs transition_at thread_at thread_after named_after shared_after process_after other_process_after stop_after after_transition close_of open_of step run_step run_from run verdict_of
+unfolding runs_on_literals
 large_value_events = refl
 
 -- ---- stops and ends
@@ -309,7 +303,7 @@ unfolding stops_of stop_at value_of open_of close_of
 do_at_16 = (refl, refl)
 
 -- a statement that is not implemented is a stop before all others
-unbuilt_first : (stop_of exit_begun (with_frames 16) statement.TestCancel ≡ Some why.Unbuilt) × (stop_of no_exit (with_handlers 32) (statement.KeyCreate destination.Drop destination.Drop None) ≡ Some why.Unbuilt)
+unbuilt_first : (stop_of exit_begun (with_frames 16) (statement.Fork destination.Drop destination.Drop) ≡ Some why.Unbuilt) × (stop_of no_exit (with_handlers 32) (statement.KeyCreate destination.Drop destination.Drop None) ≡ Some why.Unbuilt)
 unfolding stops_of stop_at
 unbuilt_first = (refl, refl)
 
@@ -358,12 +352,12 @@ all_ended = record { processes = record (first_process smallest) { ended = Some 
 
 -- no entry is legal after a stop
 nothing_after_a_stop : IsFalse (is_legal smallest default_config stopped first_goes)
-unfolding opening step open_of close_of jumps emits sets variable_value adds calls pushes pops exits returns_by ends_process stops_of stop_at statement_query query_at answer_to running_choices choices_at runs transition_at thread_at thread_after named_after shared_after process_after other_process_after stop_after after_transition
+unfolding runs_on_literals
 nothing_after_a_stop = refl
 
 -- a stop precedes complete, complete precedes deadlock, deadlock precedes budget
 verdict_order : (verdict_of smallest (with_budget 2) (record all_ended { stop = Some why.StackFull }) 2 ≡ verdict.Undefined why.StackFull) × (verdict_of smallest (with_budget 2) all_ended 2 ≡ verdict.Complete) × (verdict_of smallest (with_budget 2) deadlocked 2 ≡ verdict.Deadlock)
-unfolding verdict_of main_of keyword_text statement_at statement_query query_at answer_to running_choices choices_at
+unfolding runs_on_literals
 verdict_order = (refl, refl, refl)
 
 -- a process with this id, parent and exit status
@@ -398,27 +392,27 @@ legal_at_start e = is_legal smallest default_config (opening smallest) e
 
 -- thread 1 may step, by any worker from 0 to 16
 first_workers : (IsTrue (legal_at_start (record first_goes { worker = 0 }))) × (IsTrue (legal_at_start first_goes)) × (IsTrue (legal_at_start (record first_goes { worker = 16 })))
-unfolding main_of keyword_text statement_at value_of opening open_of close_of jumps emits sets variable_value adds calls pushes pops exits returns_by ends_process stops_of stop_at statement_query query_at answer_to running_choices choices_at runs transition_at thread_at thread_after named_after shared_after process_after other_process_after stop_after after_transition step
+unfolding runs_on_literals
 first_workers = (refl, refl, refl)
 
 -- no worker is above 16
 no_worker_17 : IsFalse (legal_at_start (record first_goes { worker = 17 }))
-unfolding main_of keyword_text statement_at value_of opening open_of close_of jumps emits sets variable_value adds calls pushes pops exits returns_by ends_process stops_of stop_at statement_query query_at answer_to running_choices choices_at runs transition_at thread_at thread_after named_after shared_after process_after other_process_after stop_after after_transition step
+unfolding runs_on_literals
 no_worker_17 = refl
 
 -- there is no other process
 no_other_process : (IsFalse (legal_at_start (record first_goes { pid = 0 }))) × (IsFalse (legal_at_start (record first_goes { pid = 2 })))
-unfolding main_of keyword_text statement_at value_of opening open_of close_of jumps emits sets variable_value adds calls pushes pops exits returns_by ends_process stops_of stop_at statement_query query_at answer_to running_choices choices_at runs transition_at thread_at thread_after named_after shared_after process_after other_process_after stop_after after_transition step
+unfolding runs_on_literals
 no_other_process = (refl, refl)
 
 -- there is no other thread
 no_other_thread : (IsFalse (legal_at_start (record first_goes { tid = 0 }))) × (IsFalse (legal_at_start (record first_goes { tid = 2 })))
-unfolding main_of keyword_text statement_at value_of opening open_of close_of jumps emits sets variable_value adds calls pushes pops exits returns_by ends_process stops_of stop_at statement_query query_at answer_to running_choices choices_at runs transition_at thread_at thread_after named_after shared_after process_after other_process_after stop_after after_transition step
+unfolding runs_on_literals
 no_other_thread = (refl, refl)
 
 -- there is no other choice
 nothing_but_go : (IsFalse (legal_at_start (record first_goes { alt = alt.Act 0 }))) × (IsFalse (legal_at_start (record first_goes { alt = alt.New 2 }))) × (IsFalse (legal_at_start (record first_goes { alt = alt.Pick 1 }))) × (IsFalse (legal_at_start (record first_goes { alt = alt.Dtor 1 })))
-unfolding main_of keyword_text statement_at value_of opening open_of close_of jumps emits sets variable_value adds calls pushes pops exits returns_by ends_process stops_of stop_at statement_query query_at answer_to running_choices choices_at runs transition_at thread_at thread_after named_after shared_after process_after other_process_after stop_after after_transition step
+unfolding runs_on_literals
 nothing_but_go = (refl, refl, refl, refl)
 
 -- ---- names, and the limit on statement lines
@@ -441,9 +435,19 @@ statement_lines_of_all = (refl, refl)
 -- ---- arguments and refusals
 
 -- the arguments that are accepted: one word alone
-accepted_words : (IsTrue (is_accepted (codes "run" ∷ []))) × (IsTrue (is_accepted (codes "replay" ∷ []))) × (IsFalse (is_accepted [])) × (IsFalse (is_accepted (codes "walk" ∷ []))) × (IsFalse (is_accepted (codes "run" ∷ codes "--" ∷ []))) × (IsFalse (is_accepted (codes "run" ∷ codes "--budget" ∷ codes "0" ∷ [])))
+accepted_words : (IsTrue (is_accepted (codes "run" ∷ []))) × (IsTrue (is_accepted (codes "replay" ∷ []))) × (IsTrue (is_accepted (codes "points" ∷ []))) × (IsFalse (is_accepted [])) × (IsFalse (is_accepted (codes "walk" ∷ []))) × (IsFalse (is_accepted (codes "points" ∷ codes "x" ∷ []))) × (IsFalse (is_accepted (codes "run" ∷ codes "--" ∷ []))) × (IsFalse (is_accepted (codes "run" ∷ codes "--budget" ∷ codes "0" ∷ [])))
 unfolding is_asked keyword_text
-accepted_words = (refl, refl, refl, refl, refl, refl)
+accepted_words = (refl, refl, refl, refl, refl, refl, refl, refl)
+
+-- those of a command that reads the input
+words_with_input : (IsTrue (needs_input (codes "run" ∷ []))) × (IsTrue (needs_input (codes "replay" ∷ []))) × (IsTrue (needs_input (codes "check" ∷ []))) × (IsFalse (needs_input (codes "points" ∷ []))) × (IsFalse (needs_input (codes "walk" ∷ [])))
+unfolding is_asked keyword_text
+words_with_input = (refl, refl, refl, refl, refl)
+
+-- the table of cancellation points: 58 lines, the first of them, and the last
+table_of_points : (length (lines_of points_text) ≡ 58) × (take 24 points_text ≡ codes "accept required outside\n") × (drop (length points_text - 26) points_text ≡ codes "\nreaddir optional no_wait\n")
+unfolding points points_text lines_of
+table_of_points = (refl, refl, refl)
 
 -- the texts of the refusals of arguments and of an input
 refusal_texts : (line_text refused_words ≡ codes "refused words\n") × (line_text refused_input ≡ codes "refused input too_long\n")

@@ -2,7 +2,6 @@
 use Rattle.std.proofs.Common.{◌≡◌, ℕ, true, false, List, [], ◌∷◌, ◌++◌, map, Some, None, refl, sym, subst}
 use Rattle.std.specs.Prelude.{codes, is_some}
 use Rattle.std.specs.List.{list_all}
-use Rattle.std.specs.Fmt.{digits}
 use Rattle.pct_model.specs.declared.line_kind.LineKind.{LineKind}
 use Rattle.pct_model.specs.declared.line_kind.LineKind.TheVariants as line_kind
 use Rattle.pct_model.specs.declared.line_kind.SymbolKind.{SymbolKind}
@@ -14,8 +13,8 @@ use Rattle.pct_model.specs.declared.statement.Dest.TheVariants as destination
 use Rattle.pct_model.specs.declared.statement.Operand.TheVariants as operand
 use Rattle.pct_model.specs.declared.statement.Stmt.{Stmt}
 use Rattle.pct_model.specs.declared.statement.Stmt.TheVariants as statement
-use Rattle.pct_model.specs.Keywords.{keyword_text, text_of}
-use Rattle.pct_model.specs.Names.{is_name, all_different, name_at}
+use Rattle.pct_model.specs.Keywords.{text_of}
+use Rattle.pct_model.specs.Names.{is_name}
 use Rattle.pct_model.specs.Lines.{lines_of}
 use Rattle.pct_model.specs.Points.{points, point_of, point_name}
 use Rattle.pct_model.specs.LineKinds.{declaration_syntax, syntax_of, line_kinds, point_statement, line_kind_of}
@@ -23,11 +22,10 @@ use Rattle.pct_model.specs.LineParsing.{words_in, spelled_lines, numeral, token_
 use Rattle.pct_model.specs.Statements.{encode}
 use Rattle.pct_model.specs.Contents.{resolve_name, resolve, resolve_all, Contents}
 use Rattle.pct_model.specs.Sections.{parsed_lines, split_sections, Line, declaring}
-use Rattle.pct_model.specs.Nesting.{outside, inside, change_at, open_after, are_nested}
-use Rattle.pct_model.specs.Checks.{none_wrong}
-use Rattle.pct_model.specs.Static.{has_word, have_words, has_first_word, has_line, has_lines, has_text, keeps_limits, has_each_name_once, names_plain, is_static}
+use Rattle.pct_model.specs.Static.{is_static}
 use Rattle.pct_model.specs.Spells.{declarations, AreContents, SpellsContents}
-use Rattle.pct_model.specs.Canon.{argument_text, argument_texts, statement_words, function_lines, script_lines}
+use Rattle.pct_model.specs.Canon.{script_lines}
+use Rattle.pct_rows.proofs.OnLiterals.{checks_on_literals, texts_on_literals}
 
 -- a parsed line with its number
 abbrev line : ℕ → LineKind → List Token → Line
@@ -75,7 +73,7 @@ pool_spelled = record { each_says = pool_each; are_contents = subst (λ (lines :
 
 -- the script is well-formed, and this is its canonical text
 pool_canonical : (is_static pool ≡ true) × (text_of (script_lines pool) ≡ codes "mutex m\nfn main x\nemit 7\nreturn 0\nend\n")
-unfolding keyword_text is_name all_different name_at points point_of point_name declaration_syntax syntax_of point_statement encode outside inside change_at open_after are_nested none_wrong has_word have_words has_first_word has_line has_lines has_text keeps_limits has_each_name_once names_plain is_static argument_text argument_texts statement_words function_lines script_lines digits
+unfolding checks_on_literals texts_on_literals
 pool_canonical = (refl, refl)
 
 -- ---- all kinds of lines
@@ -186,5 +184,5 @@ all_spelled = record { each_says = all_each; are_contents = subst (λ (lines : L
 
 -- the script is well-formed, and the text is its canonical text
 all_canonical : (is_static all_kinds ≡ true) × (text_of (script_lines all_kinds) ≡ all_text)
-unfolding keyword_text is_name all_different name_at points point_of point_name declaration_syntax syntax_of point_statement encode outside inside change_at open_after are_nested none_wrong has_word have_words has_first_word has_line has_lines has_text keeps_limits has_each_name_once names_plain is_static argument_text argument_texts statement_words function_lines script_lines digits
+unfolding checks_on_literals texts_on_literals
 all_canonical = (refl, refl)

@@ -6,16 +6,14 @@ use Rattle.pct_model.specs.declared.statement.Dest.TheVariants as destination
 use Rattle.pct_model.specs.declared.statement.Operand.TheVariants as operand
 use Rattle.pct_model.specs.declared.statement.Stmt.{Stmt}
 use Rattle.pct_model.specs.declared.statement.Stmt.TheVariants as statement
-use Rattle.pct_model.specs.Keywords.{keyword_text}
-use Rattle.pct_model.specs.Names.{is_name, all_different, name_at}
+use Rattle.pct_model.specs.Names.{is_name, name_at}
 use Rattle.pct_model.specs.Points.{points, point_of, point_name}
 use Rattle.pct_model.specs.LineKinds.{declaration_syntax, syntax_of, point_statement}
 use Rattle.pct_model.specs.Statements.{encode}
 use Rattle.pct_model.specs.Contents.{Contents}
-use Rattle.pct_model.specs.Nesting.{outside, inside, change_at, open_after, are_nested}
-use Rattle.pct_model.specs.Checks.{none_wrong}
-use Rattle.pct_model.specs.Static.{has_word, have_words, has_first_word, has_line, has_lines, has_text, keeps_limits, has_each_name_once, names_plain, is_static}
+use Rattle.pct_model.specs.Static.{has_word, have_words, has_first_word, has_line, has_lines, has_text, keeps_limits, is_static}
 use Rattle.pct_model.specs.Jumps.{close_of, open_of}
+use Rattle.pct_rows.proofs.OnLiterals.{checks_on_literals}
 
 abbrev function : List ℕ → List Stmt → Func
 function name body = record { name = name; locals = codes "x" ∷ []; body = body }
@@ -38,17 +36,17 @@ codes_of b = b ∷ []
 
 -- indexes are within range, and numbers have 32 bits
 positions : (is_static_main (statement.Emit (operand.Global 0) ∷ []) ≡ true) × (is_static_main (statement.Emit (operand.Global 1) ∷ []) ≡ false) × (is_static_main (statement.Emit (operand.Local 1) ∷ []) ≡ false) × (is_static_main (statement.Emit (operand.Num 4294967295) ∷ []) ≡ true) × (is_static_main (statement.Emit (operand.Num 4294967296) ∷ []) ≡ false) × (is_static_main (statement.Do 1 (operand.Num 0) ∷ []) ≡ false) × (is_static_main (statement.Lock 0 ∷ []) ≡ false)
-unfolding keyword_text is_name all_different name_at points point_of point_name declaration_syntax syntax_of point_statement encode outside inside change_at open_after are_nested none_wrong has_word have_words has_first_word has_line has_lines has_text keeps_limits has_each_name_once names_plain is_static
+unfolding checks_on_literals
 positions = (refl, refl, refl, refl, refl, refl, refl)
 
 -- an argument is one that a word of its kind can be
 argument_kinds : (is_static_main (statement.Set destination.Drop (operand.Num 0) ∷ []) ≡ false) × (is_static_main (statement.SelfId destination.Drop ∷ []) ≡ true) × (is_static_main (statement.PointCall 0 ∷ []) ≡ true) × (is_static_main (statement.PointCall 20 ∷ []) ≡ false) × (is_static_main (statement.PointCall 23 ∷ []) ≡ false) × (is_static_main (statement.PointCall 57 ∷ []) ≡ true) × (is_static_main (statement.PointCall 58 ∷ []) ≡ false)
-unfolding keyword_text is_name all_different name_at points point_of point_name declaration_syntax syntax_of point_statement encode outside inside change_at open_after are_nested none_wrong has_word have_words has_first_word has_line has_lines has_text keeps_limits has_each_name_once names_plain is_static
+unfolding checks_on_literals
 argument_kinds = (refl, refl, refl, refl, refl, refl, refl)
 
 -- a local hides a global of the same name, so no word refers to the global
 hidden : (is_static (with_globals (codes "x" ∷ []) (statement.Emit (operand.Local 0) ∷ [])) ≡ true) × (is_static (with_globals (codes "x" ∷ []) (statement.Emit (operand.Global 0) ∷ [])) ≡ false)
-unfolding keyword_text is_name all_different name_at points point_of point_name declaration_syntax syntax_of point_statement encode outside inside change_at open_after are_nested none_wrong has_word have_words has_first_word has_line has_lines has_text keeps_limits has_each_name_once names_plain is_static
+unfolding checks_on_literals
 hidden = (refl, refl)
 
 -- of two globals with the same name, the name refers to the first
@@ -58,22 +56,22 @@ of_one_name = (refl, refl)
 
 -- blocks nest, the last `end` closes the function, and no return is between a push and its pop
 blocks : (is_static_main ([]) ≡ true) × (is_static_main (statement.End ∷ []) ≡ false) × (is_static_main (statement.If (operand.Num 0) ∷ []) ≡ false) × (is_static_main (statement.If (operand.Num 0) ∷ statement.Else ∷ statement.End ∷ []) ≡ true) × (is_static_main (statement.If (operand.Num 0) ∷ statement.Else ∷ statement.Else ∷ statement.End ∷ []) ≡ false) × (is_static_main (statement.Else ∷ []) ≡ false) × (is_static_main (statement.Push 0 (operand.Num 0) ∷ []) ≡ false) × (is_static_main (statement.Pop (operand.Num 0) ∷ []) ≡ false) × (is_static_main (statement.Push 0 (operand.Num 0) ∷ statement.Pop (operand.Num 0) ∷ statement.Return (operand.Num 0) ∷ []) ≡ true) × (is_static_main (statement.Push 0 (operand.Num 0) ∷ statement.Return (operand.Num 0) ∷ statement.Pop (operand.Num 0) ∷ []) ≡ false) × (is_static (record { globals = []; mutexes = []; conds = []; sems = []; funcs = function (codes "main") [] ∷ [] }) ≡ false)
-unfolding keyword_text is_name all_different name_at points point_of point_name declaration_syntax syntax_of point_statement encode outside inside change_at open_after are_nested none_wrong has_word have_words has_first_word has_line has_lines has_text keeps_limits has_each_name_once names_plain is_static
+unfolding checks_on_literals
 blocks = (refl, refl, refl, refl, refl, refl, refl, refl, refl, refl, refl)
 
 -- names are valid and different, and a function is named `main`
 names : (is_static (with_globals (codes "g" ∷ codes "h" ∷ []) []) ≡ true) × (is_static (with_globals (codes "g" ∷ codes "g" ∷ []) []) ≡ false) × (is_static (with_globals (codes "main" ∷ []) []) ≡ false) × (is_static (with_globals (codes "9" ∷ []) []) ≡ false) × (is_static (record { globals = []; mutexes = []; conds = []; sems = []; funcs = record { name = codes "main"; locals = codes "x" ∷ codes "y" ∷ codes "x" ∷ []; body = statement.End ∷ [] } ∷ [] }) ≡ false) × (is_static (record { globals = []; mutexes = []; conds = []; sems = []; funcs = function (codes "f") (statement.End ∷ []) ∷ [] }) ≡ false) × (is_static (record { globals = []; mutexes = []; conds = []; sems = []; funcs = [] }) ≡ false)
-unfolding keyword_text is_name all_different name_at points point_of point_name declaration_syntax syntax_of point_statement encode outside inside change_at open_after are_nested none_wrong has_word have_words has_first_word has_line has_lines has_text keeps_limits has_each_name_once names_plain is_static
+unfolding checks_on_literals
 names = (refl, refl, refl, refl, refl, refl, refl)
 
 -- a function registered with `atexit` is plain
 plain : (is_static_with (function (codes "f") (statement.Emit (operand.Num 0) ∷ statement.End ∷ [])) 0 ≡ true) × (is_static_with (function (codes "f") (statement.Nop ∷ statement.End ∷ [])) 0 ≡ false) × (is_static_with (function (codes "f") (statement.Emit (operand.Num 0) ∷ statement.End ∷ [])) 1 ≡ false)
-unfolding keyword_text is_name all_different name_at points point_of point_name declaration_syntax syntax_of point_statement encode outside inside change_at open_after are_nested none_wrong has_word have_words has_first_word has_line has_lines has_text keeps_limits has_each_name_once names_plain is_static
+unfolding checks_on_literals
 plain = (refl, refl, refl)
 
 -- limits: 8 locals, and an initial count of 32767
 limits : (is_static (record { globals = []; mutexes = []; conds = []; sems = record { name = codes "s"; count = 32767 } ∷ []; funcs = record { name = codes "main"; locals = map codes_of (97 ∷ 98 ∷ 99 ∷ 100 ∷ 101 ∷ 102 ∷ 103 ∷ 104 ∷ []); body = statement.End ∷ [] } ∷ [] }) ≡ true) × (is_static (record { globals = []; mutexes = []; conds = []; sems = record { name = codes "s"; count = 32768 } ∷ []; funcs = function (codes "main") (statement.End ∷ []) ∷ [] }) ≡ false) × (is_static (record { globals = []; mutexes = []; conds = []; sems = []; funcs = record { name = codes "main"; locals = map codes_of (97 ∷ 98 ∷ 99 ∷ 100 ∷ 101 ∷ 102 ∷ 103 ∷ 104 ∷ 105 ∷ []); body = statement.End ∷ [] } ∷ [] }) ≡ false) × (is_static (record { globals = []; mutexes = []; conds = []; sems = []; funcs = record { name = codes "main"; locals = []; body = statement.End ∷ [] } ∷ [] }) ≡ false)
-unfolding keyword_text is_name all_different name_at points point_of point_name declaration_syntax syntax_of point_statement encode outside inside change_at open_after are_nested none_wrong has_word have_words has_first_word has_line has_lines has_text keeps_limits has_each_name_once names_plain is_static
+unfolding checks_on_literals
 limits = (refl, refl, refl, refl)
 
 -- a script with n globals, mutexes, condition variables, semaphores and functions

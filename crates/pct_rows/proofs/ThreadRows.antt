@@ -1,14 +1,9 @@
 -- Runs of scripts with several threads (XSH pthread_create, pthread_join, pthread_detach, pthread_self), and thread ids.
-use Rattle.std.proofs.Common.{◌≡◌, ℕ, Bool, true, false, not, ◌&&◌, ◌||◌, List, [], ◌∷◌, ◌++◌, length, map, reverse, replicate, Option, Some, None, refl, ap}
+use Rattle.std.proofs.Common.{◌≡◌, ℕ, Bool, true, false, not, ◌&&◌, ◌||◌, List, [], ◌∷◌, map, replicate, Option, Some, None, refl, ap}
 use Rattle.std.specs.Prelude.{IsTrue, codes, option_map}
-use Rattle.pct_model.specs.declared.script.Func.{Func}
 use Rattle.pct_model.specs.declared.script.Script.{Script}
-use Rattle.pct_model.specs.declared.schedule.Alt.TheVariants as alt
-use Rattle.pct_model.specs.declared.schedule.Config.{Config}
-use Rattle.pct_model.specs.declared.schedule.Entry.{Entry}
 use Rattle.pct_model.specs.declared.statement.Dest.TheVariants as destination
 use Rattle.pct_model.specs.declared.statement.Operand.TheVariants as operand
-use Rattle.pct_model.specs.declared.statement.Stmt.{Stmt}
 use Rattle.pct_model.specs.declared.statement.Stmt.TheVariants as statement
 use Rattle.pct_model.specs.declared.event.Caller.TheVariants as caller
 use Rattle.pct_model.specs.declared.event.What.{What}
@@ -17,67 +12,21 @@ use Rattle.pct_model.specs.declared.state.FrameKind.TheVariants as kind
 use Rattle.pct_model.specs.declared.state.Reason.TheVariants as reason
 use Rattle.pct_model.specs.declared.state.Status.{Status}
 use Rattle.pct_model.specs.declared.state.Status.TheVariants as status
-use Rattle.pct_model.specs.declared.stop.Verdict.{Verdict}
 use Rattle.pct_model.specs.declared.stop.Verdict.TheVariants as verdict
 use Rattle.pct_model.specs.declared.stop.Why.TheVariants as why
-use Rattle.pct_model.specs.Keywords.{keyword_text}
-use Rattle.pct_model.specs.Names.{is_name, all_different, name_at, main_of}
 use Rattle.pct_model.specs.Points.{points, point_name}
-use Rattle.pct_model.specs.LineKinds.{syntax_of, declaration_syntax}
-use Rattle.pct_model.specs.Statements.{encode}
 use Rattle.pct_model.specs.Contents.{Contents}
-use Rattle.pct_model.specs.Nesting.{change_at, outside, inside, open_after, are_nested}
-use Rattle.pct_model.specs.Checks.{none_wrong}
-use Rattle.pct_model.specs.Static.{has_word, have_words, has_first_word, has_line, has_lines, has_text, keeps_limits, has_each_name_once, names_plain, is_static}
-use Rattle.pct_model.specs.Jumps.{close_of, open_of}
-use Rattle.pct_model.specs.World.{Thread, World, first_process, new_frame, new_thread, statement_at, value_of, opening}
+use Rattle.pct_model.specs.Static.{is_static}
+use Rattle.pct_model.specs.World.{Thread, World, first_process, new_frame, new_thread}
 use Rattle.pct_model.specs.ThreadSlots.{is_ended_status, is_unreclaimed, holds_slot, next_id, free_ids}
-use Rattle.pct_model.specs.OtherThreads.{statement_query, query_at, answer_to}
-use Rattle.pct_model.specs.ScriptStatements.{jumps, emits, sets, variable_value, adds, calls}
-use Rattle.pct_model.specs.CleanupHandlers.{pushes, pops}
-use Rattle.pct_model.specs.ThreadCalls.{creates, fails_to_create, join_point, begins_join, ends_join, detaches, gets_self}
-use Rattle.pct_model.specs.ThreadEnds.{ends_by_exit, ends_thread, goes_on_ending}
-use Rattle.pct_model.specs.ProcessExit.{exits, returns_by, ends_process}
-use Rattle.pct_model.specs.StopTable.{stops_of, stop_at}
-use Rattle.pct_model.specs.ChoiceTable.{running_choices, choices_at}
-use Rattle.pct_model.specs.TransitionTable.{runs, transition_at}
-use Rattle.pct_model.specs.Actions.{moved, thread_at, thread_after, named_after, shared_after, process_after, other_process_after, stop_after, after_transition}
+use Rattle.pct_model.specs.ThreadCalls.{creates, join_point}
+use Rattle.pct_model.specs.ThreadEnds.{goes_on_ending}
+use Rattle.pct_model.specs.Actions.{moved, thread_at, thread_after}
 use Rattle.pct_model.specs.Step.{step}
-use Rattle.pct_model.specs.Run.{run_step, run_from, illegal_in, first_illegal, run, verdict_of}
+use Rattle.pct_model.specs.Run.{first_illegal}
 use Rattle.pct_model.specs.Outcome.{default_config}
-
--- ---- abbreviations
-
-abbrev function : List ℕ → List (List ℕ) → List Stmt → Func
-function name locals body = record { name = name; locals = locals; body = body ++ statement.End ∷ [] }
-
--- the parts of a script without declarations but these functions
-abbrev with_functions : List Func → Contents
-with_functions funcs = record { globals = []; mutexes = []; conds = []; sems = []; funcs = funcs }
-
--- `pthread_create - VAR F ARG`, and with `detached`
-abbrev create : ℕ → ℕ → ℕ → Bool → Stmt
-create d f a detached = statement.Create destination.Drop (destination.Local d) f (operand.Num a) detached
-
--- `pthread_join VAR -`
-abbrev join : ℕ → Stmt
-join v = statement.Join (operand.Local v) destination.Drop
-
--- the configuration with a number of thread slots
-abbrev with_slots : ℕ → Config
-with_slots n = record { budget = 100; passes = 4; slots = n }
-
--- an entry of worker 1 for a thread of process 1
-abbrev go : ℕ → Entry
-go tid = record { worker = 1; pid = 1; tid = tid; alt = alt.Go }
-
--- the same, for a thread that creates one
-abbrev new : ℕ → ℕ → Entry
-new tid id = record { worker = 1; pid = 1; tid = tid; alt = alt.New id }
-
--- the events of a run with their threads, oldest first, and the verdict
-abbrev trace : Script → Config → List Entry → Option (List (ℕ × What) × Verdict)
-trace script config entries = option_map (λ r. (map (λ e. (e.tid, e.what)) (reverse r.events), verdict_of script config r.world (length entries))) (run script config entries)
+use Rattle.pct_rows.proofs.OnLiterals.{checks_on_literals, runs_on_literals}
+use Rattle.pct_rows.proofs.SmallScripts.{function, with_functions, script_of, create, join, with_slots, go, new, trace}
 
 -- ---- a thread that is created and joined
 
@@ -85,25 +34,25 @@ abbrev joining_contents : Contents
 joining_contents = with_functions (function (codes "w") (codes "x" ∷ []) (statement.Return (operand.Local 0) ∷ []) ∷ function (codes "main") (codes "x" ∷ codes "t" ∷ codes "v" ∷ []) (create 1 0 7 false ∷ statement.Join (operand.Local 1) (destination.Local 2) ∷ statement.Emit (operand.Local 2) ∷ statement.Return (operand.Num 0) ∷ []) ∷ [])
 
 joining_passes : IsTrue (is_static joining_contents)
-unfolding is_static has_text has_lines has_line has_first_word have_words has_word keeps_limits has_each_name_once names_plain are_nested change_at outside inside open_after none_wrong encode syntax_of declaration_syntax is_name all_different name_at keyword_text
+unfolding checks_on_literals
 joining_passes = refl
 
 abbrev joining : Script
-joining = record { globals = []; mutexes = []; conds = []; sems = []; funcs = joining_contents.funcs; passes_checks = joining_passes }
+joining = script_of joining_contents joining_passes
 
 -- the thread ends before it is joined: the joiner gets the value of its start routine
 joins_an_ended_thread : trace joining (with_slots 2) (new 1 2 ∷ go 2 ∷ go 2 ∷ go 1 ∷ go 1 ∷ go 1 ∷ go 1 ∷ go 1 ∷ []) ≡ Some ((1, what.Created 2 false) ∷ (2, what.EndingExit 7) ∷ (2, what.EndedWith 7) ∷ (1, what.Called join_point) ∷ (1, what.Joined 2 7) ∷ (1, what.Emit 7) ∷ (1, what.ExitBegun 0) ∷ (1, what.ProcessEnded 0) ∷ [], verdict.Complete)
-unfolding main_of keyword_text statement_at value_of opening free_ids statement_query query_at answer_to jumps emits sets variable_value adds calls pushes pops creates fails_to_create begins_join ends_join detaches gets_self ends_by_exit ends_thread goes_on_ending exits returns_by ends_process stops_of stop_at running_choices choices_at runs transition_at thread_at thread_after named_after shared_after process_after other_process_after stop_after after_transition close_of open_of step run_step run_from run verdict_of
+unfolding runs_on_literals
 joins_an_ended_thread = refl
 
 -- the joiner is suspended until the thread ends
 waits_for_the_end : trace joining (with_slots 2) (new 1 2 ∷ go 1 ∷ go 2 ∷ go 2 ∷ go 1 ∷ go 1 ∷ go 1 ∷ go 1 ∷ []) ≡ Some ((1, what.Created 2 false) ∷ (1, what.Called join_point) ∷ (2, what.EndingExit 7) ∷ (2, what.EndedWith 7) ∷ (1, what.Joined 2 7) ∷ (1, what.Emit 7) ∷ (1, what.ExitBegun 0) ∷ (1, what.ProcessEnded 0) ∷ [], verdict.Complete)
-unfolding main_of keyword_text statement_at value_of opening free_ids statement_query query_at answer_to jumps emits sets variable_value adds calls pushes pops creates fails_to_create begins_join ends_join detaches gets_self ends_by_exit ends_thread goes_on_ending exits returns_by ends_process stops_of stop_at running_choices choices_at runs transition_at thread_at thread_after named_after shared_after process_after other_process_after stop_after after_transition close_of open_of step run_step run_from run verdict_of
+unfolding runs_on_literals
 waits_for_the_end = refl
 
 -- a thread is created on a free slot, with the next id of the slot; and a suspended joiner cannot go on before its target has ended
 not_legal : (first_illegal joining (with_slots 2) (go 1 ∷ []) ≡ Some 1) × (first_illegal joining (with_slots 2) (new 1 1 ∷ []) ≡ Some 1) × (first_illegal joining (with_slots 2) (new 1 3 ∷ []) ≡ Some 1) × (first_illegal joining (with_slots 2) (new 1 4 ∷ []) ≡ Some 1) × (first_illegal joining (with_slots 2) (new 1 2 ∷ go 1 ∷ go 1 ∷ []) ≡ Some 3) × (first_illegal joining (with_slots 2) (new 1 2 ∷ go 1 ∷ go 2 ∷ go 1 ∷ []) ≡ Some 4)
-unfolding main_of keyword_text statement_at value_of opening free_ids statement_query query_at answer_to jumps emits sets variable_value adds calls pushes pops creates fails_to_create begins_join ends_join detaches gets_self ends_by_exit ends_thread goes_on_ending exits returns_by ends_process stops_of stop_at running_choices choices_at runs transition_at thread_at thread_after named_after shared_after process_after other_process_after stop_after after_transition close_of open_of step run_step illegal_in
+unfolding runs_on_literals
 not_legal = (refl, refl, refl, refl, refl, refl)
 
 -- ---- two threads that join each other
@@ -112,20 +61,20 @@ abbrev circle_contents : Contents
 circle_contents = with_functions (function (codes "w") (codes "x" ∷ []) (join 0 ∷ statement.Return (operand.Num 0) ∷ []) ∷ function (codes "main") (codes "x" ∷ codes "t" ∷ codes "s" ∷ []) (statement.SelfId (destination.Local 2) ∷ statement.Create destination.Drop (destination.Local 1) 0 (operand.Local 2) false ∷ join 1 ∷ statement.Return (operand.Num 0) ∷ []) ∷ [])
 
 circle_passes : IsTrue (is_static circle_contents)
-unfolding is_static has_text has_lines has_line has_first_word have_words has_word keeps_limits has_each_name_once names_plain are_nested change_at outside inside open_after none_wrong encode syntax_of declaration_syntax is_name all_different name_at keyword_text
+unfolding checks_on_literals
 circle_passes = refl
 
 abbrev circle : Script
-circle = record { globals = []; mutexes = []; conds = []; sems = []; funcs = circle_contents.funcs; passes_checks = circle_passes }
+circle = script_of circle_contents circle_passes
 
 -- neither can go on: a deadlock
 deadlocks : trace circle (with_slots 2) (go 1 ∷ new 1 2 ∷ go 1 ∷ go 2 ∷ []) ≡ Some ((1, what.Created 2 false) ∷ (1, what.Called join_point) ∷ (2, what.Called join_point) ∷ [], verdict.Deadlock)
-unfolding main_of keyword_text statement_at value_of opening free_ids statement_query query_at answer_to jumps emits sets variable_value adds calls pushes pops creates fails_to_create begins_join ends_join detaches gets_self ends_by_exit ends_thread goes_on_ending exits returns_by ends_process stops_of stop_at running_choices choices_at runs transition_at thread_at thread_after named_after shared_after process_after other_process_after stop_after after_transition close_of open_of step run_step run_from run verdict_of
+unfolding runs_on_literals
 deadlocks = refl
 
 -- in the other order too
 deadlocks_too : trace circle (with_slots 2) (go 1 ∷ new 1 2 ∷ go 2 ∷ go 1 ∷ []) ≡ Some ((1, what.Created 2 false) ∷ (2, what.Called join_point) ∷ (1, what.Called join_point) ∷ [], verdict.Deadlock)
-unfolding main_of keyword_text statement_at value_of opening free_ids statement_query query_at answer_to jumps emits sets variable_value adds calls pushes pops creates fails_to_create begins_join ends_join detaches gets_self ends_by_exit ends_thread goes_on_ending exits returns_by ends_process stops_of stop_at running_choices choices_at runs transition_at thread_at thread_after named_after shared_after process_after other_process_after stop_after after_transition close_of open_of step run_step run_from run verdict_of
+unfolding runs_on_literals
 deadlocks_too = refl
 
 -- ---- a thread that joins itself
@@ -134,15 +83,15 @@ abbrev joining_itself_contents : Contents
 joining_itself_contents = with_functions (function (codes "main") (codes "x" ∷ codes "s" ∷ []) (statement.SelfId (destination.Local 1) ∷ join 1 ∷ []) ∷ [])
 
 joining_itself_passes : IsTrue (is_static joining_itself_contents)
-unfolding is_static has_text has_lines has_line has_first_word have_words has_word keeps_limits has_each_name_once names_plain are_nested change_at outside inside open_after none_wrong encode syntax_of declaration_syntax is_name all_different name_at keyword_text
+unfolding checks_on_literals
 joining_itself_passes = refl
 
 abbrev joining_itself : Script
-joining_itself = record { globals = []; mutexes = []; conds = []; sems = []; funcs = joining_itself_contents.funcs; passes_checks = joining_itself_passes }
+joining_itself = script_of joining_itself_contents joining_itself_passes
 
 -- is a stop
 join_self : trace joining_itself default_config (go 1 ∷ go 1 ∷ []) ≡ Some ((1, what.Stopped why.JoinSelf) ∷ [], verdict.Undefined why.JoinSelf)
-unfolding main_of keyword_text statement_at value_of opening free_ids statement_query query_at answer_to jumps emits sets variable_value adds calls pushes pops creates fails_to_create begins_join ends_join detaches gets_self ends_by_exit ends_thread goes_on_ending exits returns_by ends_process stops_of stop_at running_choices choices_at runs transition_at thread_at thread_after named_after shared_after process_after other_process_after stop_after after_transition close_of open_of step run_step run_from run verdict_of
+unfolding runs_on_literals
 join_self = refl
 
 -- ---- a thread that detaches itself twice
@@ -151,15 +100,15 @@ abbrev detaching_itself_contents : Contents
 detaching_itself_contents = with_functions (function (codes "main") (codes "x" ∷ codes "s" ∷ []) (statement.SelfId (destination.Local 1) ∷ statement.Detach (operand.Local 1) ∷ statement.Detach (operand.Local 1) ∷ []) ∷ [])
 
 detaching_itself_passes : IsTrue (is_static detaching_itself_contents)
-unfolding is_static has_text has_lines has_line has_first_word have_words has_word keeps_limits has_each_name_once names_plain are_nested change_at outside inside open_after none_wrong encode syntax_of declaration_syntax is_name all_different name_at keyword_text
+unfolding checks_on_literals
 detaching_itself_passes = refl
 
 abbrev detaching_itself : Script
-detaching_itself = record { globals = []; mutexes = []; conds = []; sems = []; funcs = detaching_itself_contents.funcs; passes_checks = detaching_itself_passes }
+detaching_itself = script_of detaching_itself_contents detaching_itself_passes
 
 -- the second time is a stop: the thread is not joinable
 detach_twice : trace detaching_itself default_config (go 1 ∷ go 1 ∷ go 1 ∷ []) ≡ Some ((1, what.Detached 1) ∷ (1, what.Stopped why.NotJoinable) ∷ [], verdict.Undefined why.NotJoinable)
-unfolding main_of keyword_text statement_at value_of opening free_ids statement_query query_at answer_to jumps emits sets variable_value adds calls pushes pops creates fails_to_create begins_join ends_join detaches gets_self ends_by_exit ends_thread goes_on_ending exits returns_by ends_process stops_of stop_at running_choices choices_at runs transition_at thread_at thread_after named_after shared_after process_after other_process_after stop_after after_transition close_of open_of step run_step run_from run verdict_of
+unfolding runs_on_literals
 detach_twice = refl
 
 -- ---- a thread that is created detached
@@ -168,20 +117,20 @@ abbrev joining_a_detached_thread_contents : Contents
 joining_a_detached_thread_contents = with_functions (function (codes "w") (codes "x" ∷ []) ([]) ∷ function (codes "main") (codes "x" ∷ codes "t" ∷ []) (create 1 0 0 true ∷ join 1 ∷ []) ∷ [])
 
 joining_a_detached_thread_passes : IsTrue (is_static joining_a_detached_thread_contents)
-unfolding is_static has_text has_lines has_line has_first_word have_words has_word keeps_limits has_each_name_once names_plain are_nested change_at outside inside open_after none_wrong encode syntax_of declaration_syntax is_name all_different name_at keyword_text
+unfolding checks_on_literals
 joining_a_detached_thread_passes = refl
 
 abbrev joining_a_detached_thread : Script
-joining_a_detached_thread = record { globals = []; mutexes = []; conds = []; sems = []; funcs = joining_a_detached_thread_contents.funcs; passes_checks = joining_a_detached_thread_passes }
+joining_a_detached_thread = script_of joining_a_detached_thread_contents joining_a_detached_thread_passes
 
 -- it is not joinable
 join_detached : trace joining_a_detached_thread (with_slots 2) (new 1 2 ∷ go 1 ∷ []) ≡ Some ((1, what.Created 2 true) ∷ (1, what.Stopped why.NotJoinable) ∷ [], verdict.Undefined why.NotJoinable)
-unfolding main_of keyword_text statement_at value_of opening free_ids statement_query query_at answer_to jumps emits sets variable_value adds calls pushes pops creates fails_to_create begins_join ends_join detaches gets_self ends_by_exit ends_thread goes_on_ending exits returns_by ends_process stops_of stop_at running_choices choices_at runs transition_at thread_at thread_after named_after shared_after process_after other_process_after stop_after after_transition close_of open_of step run_step run_from run verdict_of
+unfolding runs_on_literals
 join_detached = refl
 
 -- the lifetime of its id ends with the thread
 join_after_the_end : trace joining_a_detached_thread (with_slots 2) (new 1 2 ∷ go 2 ∷ go 2 ∷ go 1 ∷ []) ≡ Some ((1, what.Created 2 true) ∷ (2, what.EndingExit 0) ∷ (2, what.EndedWith 0) ∷ (1, what.Stopped why.ThreadId) ∷ [], verdict.Undefined why.ThreadId)
-unfolding main_of keyword_text statement_at value_of opening free_ids statement_query query_at answer_to jumps emits sets variable_value adds calls pushes pops creates fails_to_create begins_join ends_join detaches gets_self ends_by_exit ends_thread goes_on_ending exits returns_by ends_process stops_of stop_at running_choices choices_at runs transition_at thread_at thread_after named_after shared_after process_after other_process_after stop_after after_transition close_of open_of step run_step run_from run verdict_of
+unfolding runs_on_literals
 join_after_the_end = refl
 
 -- ---- a thread that two others join
@@ -190,20 +139,20 @@ abbrev joining_twice_contents : Contents
 joining_twice_contents = with_functions (function (codes "w") (codes "x" ∷ []) ([]) ∷ function (codes "j") (codes "x" ∷ []) (join 0 ∷ []) ∷ function (codes "main") (codes "x" ∷ codes "t" ∷ codes "u" ∷ []) (create 1 0 0 false ∷ statement.Create destination.Drop (destination.Local 2) 1 (operand.Local 1) false ∷ join 1 ∷ []) ∷ [])
 
 joining_twice_passes : IsTrue (is_static joining_twice_contents)
-unfolding is_static has_text has_lines has_line has_first_word have_words has_word keeps_limits has_each_name_once names_plain are_nested change_at outside inside open_after none_wrong encode syntax_of declaration_syntax is_name all_different name_at keyword_text
+unfolding checks_on_literals
 joining_twice_passes = refl
 
 abbrev joining_twice : Script
-joining_twice = record { globals = []; mutexes = []; conds = []; sems = []; funcs = joining_twice_contents.funcs; passes_checks = joining_twice_passes }
+joining_twice = script_of joining_twice_contents joining_twice_passes
 
 -- the second join is a stop while the first is suspended
 join_twice : trace joining_twice (with_slots 3) (new 1 2 ∷ new 1 3 ∷ go 3 ∷ go 1 ∷ []) ≡ Some ((1, what.Created 2 false) ∷ (1, what.Created 3 false) ∷ (3, what.Called join_point) ∷ (1, what.Stopped why.JoinTwice) ∷ [], verdict.Undefined why.JoinTwice)
-unfolding main_of keyword_text statement_at value_of opening free_ids statement_query query_at answer_to jumps emits sets variable_value adds calls pushes pops creates fails_to_create begins_join ends_join detaches gets_self ends_by_exit ends_thread goes_on_ending exits returns_by ends_process stops_of stop_at running_choices choices_at runs transition_at thread_at thread_after named_after shared_after process_after other_process_after stop_after after_transition close_of open_of step run_step run_from run verdict_of
+unfolding runs_on_literals
 join_twice = refl
 
 -- after the first the lifetime of the id is over
 join_after_a_join : trace joining_twice (with_slots 3) (new 1 2 ∷ new 1 3 ∷ go 3 ∷ go 2 ∷ go 2 ∷ go 3 ∷ go 1 ∷ []) ≡ Some ((1, what.Created 2 false) ∷ (1, what.Created 3 false) ∷ (3, what.Called join_point) ∷ (2, what.EndingExit 0) ∷ (2, what.EndedWith 0) ∷ (3, what.Joined 2 0) ∷ (1, what.Stopped why.ThreadId) ∷ [], verdict.Undefined why.ThreadId)
-unfolding main_of keyword_text statement_at value_of opening free_ids statement_query query_at answer_to jumps emits sets variable_value adds calls pushes pops creates fails_to_create begins_join ends_join detaches gets_self ends_by_exit ends_thread goes_on_ending exits returns_by ends_process stops_of stop_at running_choices choices_at runs transition_at thread_at thread_after named_after shared_after process_after other_process_after stop_after after_transition close_of open_of step run_step run_from run verdict_of
+unfolding runs_on_literals
 join_after_a_join = refl
 
 -- ---- a thread that is detached while another joins it
@@ -212,15 +161,15 @@ abbrev detaching_a_joined_thread_contents : Contents
 detaching_a_joined_thread_contents = with_functions (function (codes "w") (codes "x" ∷ []) ([]) ∷ function (codes "j") (codes "x" ∷ []) (join 0 ∷ []) ∷ function (codes "main") (codes "x" ∷ codes "t" ∷ codes "u" ∷ []) (create 1 0 0 false ∷ statement.Create destination.Drop (destination.Local 2) 1 (operand.Local 1) false ∷ statement.Detach (operand.Local 1) ∷ []) ∷ [])
 
 detaching_a_joined_thread_passes : IsTrue (is_static detaching_a_joined_thread_contents)
-unfolding is_static has_text has_lines has_line has_first_word have_words has_word keeps_limits has_each_name_once names_plain are_nested change_at outside inside open_after none_wrong encode syntax_of declaration_syntax is_name all_different name_at keyword_text
+unfolding checks_on_literals
 detaching_a_joined_thread_passes = refl
 
 abbrev detaching_a_joined_thread : Script
-detaching_a_joined_thread = record { globals = []; mutexes = []; conds = []; sems = []; funcs = detaching_a_joined_thread_contents.funcs; passes_checks = detaching_a_joined_thread_passes }
+detaching_a_joined_thread = script_of detaching_a_joined_thread_contents detaching_a_joined_thread_passes
 
 -- is a stop
 detach_joined : trace detaching_a_joined_thread (with_slots 3) (new 1 2 ∷ new 1 3 ∷ go 3 ∷ go 1 ∷ []) ≡ Some ((1, what.Created 2 false) ∷ (1, what.Created 3 false) ∷ (3, what.Called join_point) ∷ (1, what.Stopped why.DetachJoined) ∷ [], verdict.Undefined why.DetachJoined)
-unfolding main_of keyword_text statement_at value_of opening free_ids statement_query query_at answer_to jumps emits sets variable_value adds calls pushes pops creates fails_to_create begins_join ends_join detaches gets_self ends_by_exit ends_thread goes_on_ending exits returns_by ends_process stops_of stop_at running_choices choices_at runs transition_at thread_at thread_after named_after shared_after process_after other_process_after stop_after after_transition close_of open_of step run_step run_from run verdict_of
+unfolding runs_on_literals
 detach_joined = refl
 
 -- ---- thread slots
@@ -229,15 +178,15 @@ abbrev filling_slots_contents : Contents
 filling_slots_contents = with_functions (function (codes "w") (codes "x" ∷ []) (statement.Return (operand.Num 7) ∷ []) ∷ function (codes "main") (codes "x" ∷ codes "t" ∷ codes "u" ∷ codes "r" ∷ []) (create 1 0 0 false ∷ statement.Create (destination.Local 3) (destination.Local 2) 0 (operand.Num 0) false ∷ statement.Emit (operand.Local 3) ∷ join 1 ∷ create 2 0 0 false ∷ statement.Detach (operand.Local 1) ∷ []) ∷ [])
 
 filling_slots_passes : IsTrue (is_static filling_slots_contents)
-unfolding is_static has_text has_lines has_line has_first_word have_words has_word keeps_limits has_each_name_once names_plain are_nested change_at outside inside open_after none_wrong encode syntax_of declaration_syntax is_name all_different name_at keyword_text
+unfolding checks_on_literals
 filling_slots_passes = refl
 
 abbrev filling_slots : Script
-filling_slots = record { globals = []; mutexes = []; conds = []; sems = []; funcs = filling_slots_contents.funcs; passes_checks = filling_slots_passes }
+filling_slots = script_of filling_slots_contents filling_slots_passes
 
 -- an ended thread keeps its slot until it is joined: the second creation fails, and the third one is on the same slot, with a new id
 keeps_its_slot : trace filling_slots (with_slots 2) (new 1 2 ∷ go 2 ∷ go 2 ∷ go 1 ∷ go 1 ∷ go 1 ∷ go 1 ∷ new 1 4 ∷ go 1 ∷ []) ≡ Some ((1, what.Created 2 false) ∷ (2, what.EndingExit 7) ∷ (2, what.EndedWith 7) ∷ (1, what.Answer caller.Create 1) ∷ (1, what.Emit 1) ∷ (1, what.Called join_point) ∷ (1, what.Joined 2 7) ∷ (1, what.Created 4 false) ∷ (1, what.Stopped why.ThreadId) ∷ [], verdict.Undefined why.ThreadId)
-unfolding main_of keyword_text statement_at value_of opening free_ids statement_query query_at answer_to jumps emits sets variable_value adds calls pushes pops creates fails_to_create begins_join ends_join detaches gets_self ends_by_exit ends_thread goes_on_ending exits returns_by ends_process stops_of stop_at running_choices choices_at runs transition_at thread_at thread_after named_after shared_after process_after other_process_after stop_after after_transition close_of open_of step run_step run_from run verdict_of
+unfolding runs_on_literals
 keeps_its_slot = refl
 
 -- ---- a detached thread
@@ -246,15 +195,15 @@ abbrev detaching_contents : Contents
 detaching_contents = with_functions (function (codes "w") (codes "x" ∷ []) ([]) ∷ function (codes "main") (codes "x" ∷ codes "t" ∷ codes "r" ∷ []) (create 1 0 0 true ∷ statement.Create (destination.Local 2) (destination.Local 1) 0 (operand.Num 0) true ∷ statement.Emit (operand.Local 2) ∷ []) ∷ [])
 
 detaching_passes : IsTrue (is_static detaching_contents)
-unfolding is_static has_text has_lines has_line has_first_word have_words has_word keeps_limits has_each_name_once names_plain are_nested change_at outside inside open_after none_wrong encode syntax_of declaration_syntax is_name all_different name_at keyword_text
+unfolding checks_on_literals
 detaching_passes = refl
 
 abbrev detaching : Script
-detaching = record { globals = []; mutexes = []; conds = []; sems = []; funcs = detaching_contents.funcs; passes_checks = detaching_passes }
+detaching = script_of detaching_contents detaching_passes
 
 -- it gives back its slot as it ends
 gives_back_its_slot : trace detaching (with_slots 2) (new 1 2 ∷ go 2 ∷ go 2 ∷ new 1 4 ∷ go 1 ∷ []) ≡ Some ((1, what.Created 2 true) ∷ (2, what.EndingExit 0) ∷ (2, what.EndedWith 0) ∷ (1, what.Created 4 true) ∷ (1, what.Emit 0) ∷ [], verdict.Open)
-unfolding main_of keyword_text statement_at value_of opening free_ids statement_query query_at answer_to jumps emits sets variable_value adds calls pushes pops creates fails_to_create begins_join ends_join detaches gets_self ends_by_exit ends_thread goes_on_ending exits returns_by ends_process stops_of stop_at running_choices choices_at runs transition_at thread_at thread_after named_after shared_after process_after other_process_after stop_after after_transition close_of open_of step run_step run_from run verdict_of
+unfolding runs_on_literals
 gives_back_its_slot = refl
 
 -- ---- the end of a thread
@@ -273,12 +222,12 @@ after_a_step w = option_map (λ s. (map (λ p. map (λ t. (t.status, t.ended)) p
 
 -- while another thread has not ended, the thread ends and the process goes on
 ends_alone : after_a_step (world (ending 1 ∷ ending 2 ∷ [])) ≡ Some (((status.Ended 5, true) ∷ (status.Ending, false) ∷ []) ∷ [], what.EndedWith 5 ∷ [])
-unfolding main_of keyword_text statement_at value_of opening free_ids statement_query query_at answer_to jumps emits sets variable_value adds calls pushes pops creates fails_to_create begins_join ends_join detaches gets_self ends_by_exit ends_thread goes_on_ending exits returns_by ends_process stops_of stop_at running_choices choices_at runs transition_at thread_at thread_after named_after shared_after process_after other_process_after stop_after after_transition close_of open_of step
+unfolding runs_on_literals
 ends_alone = refl
 
 -- the last thread exits the process with 0, also if it is detached; threads that were not inherited do not count
 ends_last : (after_a_step (world (ending 1 ∷ record (ending 2) { status = status.Ended 5; ended = true } ∷ [])) ≡ Some (((status.Exiting, true) ∷ (status.Ended 5, true) ∷ []) ∷ [], what.EndedWith 5 ∷ what.ExitBegun 0 ∷ [])) × (after_a_step (world (record (ending 1) { detached = true } ∷ record (ending 2) { gone = true } ∷ [])) ≡ Some (((status.Exiting, true) ∷ (status.Ending, false) ∷ []) ∷ [], what.EndedWith 5 ∷ what.ExitBegun 0 ∷ []))
-unfolding main_of keyword_text statement_at value_of opening free_ids statement_query query_at answer_to jumps emits sets variable_value adds calls pushes pops creates fails_to_create begins_join ends_join detaches gets_self ends_by_exit ends_thread goes_on_ending exits returns_by ends_process stops_of stop_at running_choices choices_at runs transition_at thread_at thread_after named_after shared_after process_after other_process_after stop_after after_transition close_of open_of step
+unfolding runs_on_literals
 ends_last = (refl, refl)
 
 -- a thread that ends calls its cleanup handlers first, the newest one before the others

@@ -86,6 +86,7 @@ keyword_plain keyword.Emit = refl
 keyword_plain keyword.End = refl
 keyword_plain keyword.Replay = refl
 keyword_plain keyword.Check = refl
+keyword_plain keyword.Points = refl
 keyword_plain keyword.Push = refl
 keyword_plain keyword.Pop = refl
 keyword_plain keyword.Run = refl

@@ -1,4 +1,6 @@
 pub mod FaultyWords
+pub mod Keywords
+pub mod AllowedLines
 pub mod Fitting
 pub mod SpelledLines
 pub mod Printed

@@ -1,13 +1,20 @@
 -- The arguments of a line that have to be plain functions, token by token.
-use Rattle.std.proofs.Common.{◌≡◌, ℕ, suc, ◌+◌, Bool, true, false, ◌&&◌, cond, List, [], ◌∷◌, Some, None, length, drop, refl, sym, ap, ◌∙◌, arith}
-use Rattle.std.specs.Prelude.{slice_get}
+use Rattle.std.proofs.Common.{◌≡◌, ℕ, zero, suc, ◌+◌, ◌-◌, min, Bool, true, false, not, ◌&&◌, cond, List, [], ◌∷◌, ◌++◌, Some, None, length, drop, refl, sym, ap, ap₂, ◌∙◌, arith}
+use Rattle.std.specs.Prelude.{slice_get, replicate}
 use Rattle.std.specs.List.{list_all}
 use Rattle.std.proofs.lemmas.List.Folds.{list_all-append}
+use Rattle.std.proofs.lemmas.Bool.{and_parts, and_from}
 use Rattle.std.proofs.lemmas.Option.{slice_get_cases}
 use Rattle.pct_model.specs.declared.line_kind.ArgumentKind.{ArgumentKind}
+use Rattle.pct_model.specs.declared.line_kind.ArgumentKind.TheVariants as argument_kind
+use Rattle.pct_model.specs.declared.line_kind.LineKind.{LineKind}
+use Rattle.pct_model.specs.declared.line_kind.LineKind.TheVariants as line_kind
+use Rattle.pct_model.specs.declared.line_kind.SymbolKind.TheVariants as kind
 use Rattle.pct_model.specs.declared.parsed_line.Token.{Token}
+use Rattle.pct_model.specs.LineKinds.{syntax_of, declaration_syntax}
 use Rattle.pct_model.specs.Sections.{names_in}
 use Rattle.pct_model.specs.Checks.{asks_plain, plain_names}
+use Rattle.pct_script.specs.PlainArguments.{has_plain_arguments}
 use Rattle.pct_script.proofs.FaultyWords.{argument_kind_first, past}
 
 -- the names of one token
@@ -54,3 +61,40 @@ module _ (P : List ℕ → Bool) where
   pub passes_here : (argument_kinds : List ArgumentKind) (at : ℕ) (p : ArgumentKind) (w : Token) (words : List Token) → slice_get argument_kinds at ≡ Some p → list_all P (names_here p w) ≡ true
       → list_all P (plain_names (drop (at + 1) argument_kinds) words) ≡ list_all P (plain_names (drop at argument_kinds) (w ∷ words))
   passes_here argument_kinds at p w words here right = sym (step argument_kinds at p w words here ∙ ap (λ (t : Bool). t && pass (drop (at + 1) argument_kinds) words) right)
+
+-- ---- lines without such arguments
+
+abbrev no_plain : List ArgumentKind → Bool
+no_plain argument_kinds = list_all (λ p. not (asks_plain p)) argument_kinds
+
+none_named_here : (t : Bool) (p : ArgumentKind) (names : List (List ℕ)) → not t ≡ true → cond t names [] ≡ []
+none_named_here true p names none = absurd cc
+none_named_here false p names none = refl
+
+none_named : (argument_kinds : List ArgumentKind) (words : List Token) → no_plain argument_kinds ≡ true → plain_names argument_kinds words ≡ []
+unfolding plain_names
+none_named [] words none = refl
+none_named (p ∷ argument_kinds) [] none = refl
+none_named (p ∷ argument_kinds) (w ∷ words) none =
+    let both = and_parts (not (asks_plain p)) (no_plain argument_kinds) none in
+    ap₂ (λ a b. a ++ b) (none_named_here (asks_plain p) p (names_in (w ∷ [])) both.0) (none_named argument_kinds words both.1)
+
+same_kinds : (n : ℕ) (p : ArgumentKind) → asks_plain p ≡ false → no_plain (replicate n p) ≡ true
+same_kinds zero p none = refl
+same_kinds (suc n) p none = and_from (not (asks_plain p)) (no_plain (replicate n p)) (ap not none) (same_kinds n p none)
+
+kinds_ask : (f : LineKind) (n : ℕ) → has_plain_arguments f ≡ false → no_plain ((syntax_of f).argument_kinds n) ≡ true
+unfolding syntax_of declaration_syntax
+kinds_ask (line_kind.Declares kind.Global) n none = refl
+kinds_ask (line_kind.Declares kind.Mutex) n none = refl
+kinds_ask (line_kind.Declares kind.Cond) n none = refl
+kinds_ask (line_kind.Declares kind.Sem) n none = refl
+kinds_ask (line_kind.Declares kind.Function) n none = same_kinds (n - 2) argument_kind.Local refl
+kinds_ask line_kind.Create n none = same_kinds (min 1 (n - 4)) argument_kind.Detached refl
+kinds_ask line_kind.AtFork n none = absurd cc
+kinds_ask line_kind.AtExit n none = absurd cc
+kinds_ask _ n none = refl
+
+-- all names of a line without such arguments pass a test
+pub pass_without : (P : List ℕ → Bool) (f : LineKind) (n : ℕ) (words : List Token) → has_plain_arguments f ≡ false → list_all P (plain_names ((syntax_of f).argument_kinds n) words) ≡ true
+pass_without P f n words none = ap (list_all P) (none_named ((syntax_of f).argument_kinds n) words (kinds_ask f n none))

@@ -1,5 +1,6 @@
 pub mod Fault
 pub mod Fitting
+pub mod PlainArguments
 pub mod SpelledLines
 pub mod Printing
 pub mod DeclaredNames

@@ -114,7 +114,7 @@ pub(crate) fn tokens_at(
 ) -> Result<Option<Tokens>, AllocError>
     ensures { IfOk result (λ parsed. parsed ≡ tokens_at ((syntax_of line_kind).argument_kinds words) (words_in bytes.now)) }
 {
-    let mut parsed = Vec::new(alloc);
+    let mut parsed = Vec::with_capacity(alloc, words)?;
     let mut at = 0;
     let mut rest = bytes;
     while let Some((word, after)) = next_word(rest) {

@@ -138,6 +138,9 @@ const MAX_STORED: usize = 2_193;
 /// has more than 10 words.
 const MAX_WORDS: usize = 16;
 
+/// The length of the shortest line with more words: so many words of one byte, with a blank between two.
+const LONG_LINE: usize = 2 * MAX_WORDS + 1;
+
 /// The parsed lines of a text of which no line is misspelled. Contracts see their list.
 #[derive(Drop)]
 pub(crate) struct StoredLines<'a> {
@@ -208,6 +211,7 @@ impl<'b, 'a> Model for OutlinesLeft<'b, 'a> {
 
 impl<'b, 'a> OutlinesLeft<'b, 'a> {
     /// The outline and the number of the next line, or `None` after the last one.
+    #[inline(always)]
     pub(crate) fn next(&mut self) -> Option<(u32, LineOutline)>
         ensures { MatchOption result (self.old ≡ []) (λ first. self.old ≡ first ∷ self.new) }
     {
@@ -230,7 +234,7 @@ fn next_stored<'a>(lines: &mut SpelledLines<'a>, kept: usize) -> Option<(u32, &'
     let mut left = lines.again();
     match left.next() {
         Some((number, line)) => {
-            if MAX_WORDS < count_words(line) {
+            if LONG_LINE <= line.len() && MAX_WORDS < count_words(line) {
                 return None;
             }
             *lines = left;

@@ -1,6 +1,6 @@
 //! The check of spelling, for one line.
 
-ghost use Rattle.std.specs.Prelude.{◌≡◌, length};
+ghost use Rattle.std.specs.Prelude.{◌≡◌, length, IfSome, IsTrue, Some};
 ghost use Rattle.std.specs.Option.{option_map};
 ghost use Rattle.pct_model.specs.declared.line_kind.LineKind.TheVariants.{Point};
 ghost use Rattle.pct_model.specs.LineKinds.{is_generic, point_statement, line_kind_of, syntax_of};
@@ -9,7 +9,7 @@ ghost use Rattle.pct_model.specs.Spelling.{faulty_word, fault_at, fault_of_words
 
 use crate::argument_kind::{why_not, word_fits};
 use pct_cancel::point_of;
-use pct_model::{LineKind, ParseWhy, PointKind, PointWait, line_kind_with};
+use pct_model::{LineKind, ParseWhy, PointKind, PointWait, SymbolKind, line_kind_with};
 use pct_text::{are_allowed, count_words, next_word};
 
 fn is_generic(kind: PointKind, wait: PointWait) -> bool
@@ -37,14 +37,107 @@ fn point_kind(word: &[u8]) -> Option<LineKind>
     }
 }
 
-/// The kind of a line that begins with this word.
+// The line kinds with keywords of this length, the most frequent ones first.
+fn kinds_by_length(length: usize) -> &'static [LineKind] {
+    match length {
+        2 => &[
+            LineKind::If,
+            LineKind::Do,
+            LineKind::Declares(SymbolKind::Function),
+        ],
+        3 => &[
+            LineKind::Set,
+            LineKind::Add,
+            LineKind::End,
+            LineKind::Nop,
+            LineKind::Declares(SymbolKind::Sem),
+        ],
+        4 => &[
+            LineKind::Emit,
+            LineKind::Else,
+            LineKind::Fork,
+            LineKind::ProcExit,
+            LineKind::Declares(SymbolKind::Cond),
+        ],
+        5 => &[
+            LineKind::While,
+            LineKind::ProcExitNow,
+            LineKind::Declares(SymbolKind::Mutex),
+        ],
+        6 => &[
+            LineKind::Return,
+            LineKind::AtExit,
+            LineKind::Declares(SymbolKind::Global),
+        ],
+        7 => &[LineKind::WaitPid],
+        8 => &[LineKind::SemWait, LineKind::SemPost],
+        12 => &[LineKind::Join, LineKind::SelfId, LineKind::ThreadExit],
+        14 => &[
+            LineKind::Create,
+            LineKind::Detach,
+            LineKind::CancelThread,
+            LineKind::AtFork,
+        ],
+        17 => &[LineKind::CondWait],
+        18 => &[
+            LineKind::Lock,
+            LineKind::TestCancel,
+            LineKind::KeyCreate,
+            LineKind::KeyDelete,
+        ],
+        19 => &[
+            LineKind::Pop,
+            LineKind::Signal,
+            LineKind::SetSpecific,
+            LineKind::GetSpecific,
+        ],
+        20 => &[LineKind::Unlock, LineKind::Push],
+        21 => &[LineKind::SetMode],
+        22 => &[LineKind::SetState, LineKind::Broadcast],
+        _ => &[],
+    }
+}
+
+#[tactic(auto, using(crate::proofs::Keywords::kind_of_keyword))]
+fn has_keyword(line_kind: LineKind, word: &[u8]) -> bool
+    ensures { IsTrue result → line_kind_of word.now ≡ Some line_kind }
+{
+    match line_kind.keyword() {
+        Some(keyword) => keyword == word,
+        None => false,
+    }
+}
+
+// The line kind with this keyword, by a search of keywords of its length alone.
+fn kind_by_length(word: &[u8]) -> Option<LineKind>
+    ensures { IfSome result (λ line_kind. line_kind_of word.now ≡ Some line_kind) }
+{
+    for line_kind in kinds_by_length(word.len()) {
+        if has_keyword(*line_kind, word) {
+            return Some(*line_kind);
+        }
+    }
+    None
+}
+
+// The kind of a line that begins with this word, by a search of all keywords and points.
 #[tactic(auto, unfolding(pct_model::specs::LineKinds::line_kind_of))]
-pub(crate) fn line_kind_of(word: &[u8]) -> Option<LineKind>
+fn kind_among_all(word: &[u8]) -> Option<LineKind>
     ensures { result ≡ line_kind_of word.now }
 {
     match line_kind_with(word) {
         Some(line_kind) => Some(line_kind),
         None => point_kind(word),
+    }
+}
+
+/// The kind of a line that begins with this word.
+pub(crate) fn line_kind_of(word: &[u8]) -> Option<LineKind>
+    ensures { result ≡ line_kind_of word.now }
+{
+    match kind_by_length(word) {
+        Some(line_kind) => Some(line_kind),
+        None => kind_among_all(word),
     }
 }
 

@@ -8,14 +8,14 @@ use Rattle.pct_threads.specs.declared.record.Thread.{Thread}
 use Rattle.pct_threads.specs.Slots.{Slot, with_change, with_record}
 use Rattle.pct_threads.specs.Tables.{on_held}
 
--- the slot has the last record behind r
+-- after the borrow the slot has the record that r leaves
 abbrev pub LendsRecord : MutBor Slot → MutBor Thread → Fml
 LendsRecord s r = Lends slot_type thread_type s r (λ thread. with_change (with_record thread) s.now)
 
--- the table has the last slot behind r
+-- after the borrow the table has the slot that r leaves
 abbrev pub LendsSlot : MutBor (List Slot) → ℕ → MutBor Slot → Fml
 LendsSlot t index r = Lends table_type slot_type t r (slice_set t.now index)
 
--- the thread on the slot has the last record behind r
+-- after the borrow the thread on the slot has the record that r leaves
 abbrev pub LendsThread : MutBor (List Slot) → ℕ → MutBor Thread → Fml
 LendsThread t index r = Lends table_type thread_type t r (λ thread. on_held index (with_record thread) t.now)

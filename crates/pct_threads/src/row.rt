@@ -36,7 +36,7 @@ impl Model for Row {
 }
 
 impl Row {
-    ghost use Rattle.std.specs.Prelude.{◌≡◌, ◌<◌, ◌≤◌, ◌+◌, ◌^◌, true, length, Some, option_map, slice_get};
+    ghost use Rattle.std.specs.Prelude.{◌≡◌, ◌<◌, ◌≤◌, ◌+◌, ◌^◌, true, length, reverse, Some, option_map, slice_get};
     ghost use Rattle.std.specs.Borrow.{sem};
     ghost use Rattle.pct_threads.specs.declared.row.TheConstants.{MAX_DEPTH};
     ghost use Rattle.pct_threads.specs.FrameWords.{frame_word_of};
@@ -183,6 +183,14 @@ impl Row {
         ensures { option_map (λ frame. frame.now) result ≡ slice_get (frames_of self.now) 0 }
     {
         self.frames.as_slice().last()
+    }
+
+    /// The frames of the thread, the oldest first.
+    pub(crate) fn frames(&self) -> &[Frame]
+        requires { is_occupied self.now ≡ true }
+        ensures { reverse result.now ≡ frames_of self.now }
+    {
+        self.frames.as_slice()
     }
 
     /// The thread has a new frame.

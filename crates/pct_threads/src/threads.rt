@@ -34,7 +34,7 @@ impl Model for Threads {
 }
 
 impl Threads {
-    ghost use Rattle.std.specs.Prelude.{◌≡◌, ◌<◌, ◌≤◌, ◌^◌, ◌-◌, true, length, map, position, replicate, slice_get, Some, IfOk, IfSome, option_map};
+    ghost use Rattle.std.specs.Prelude.{◌≡◌, ◌<◌, ◌≤◌, ◌^◌, ◌-◌, true, length, map, position, replicate, reverse, slice_get, Some, IfOk, IfSome, option_map};
     ghost use Rattle.std.specs.Borrow.{sem};
     ghost use Rattle.pct_model.specs.declared.limits.TheConstants.{MAX_SLOTS};
     ghost use Rattle.pct_set.specs.Slots.{slots_where};
@@ -224,6 +224,14 @@ impl Threads {
         ensures { option_map (λ frame. frame.now) result ≡ slice_get (frames_at self.now slot) 0 }
     {
         self.row(slot).top_frame()
+    }
+
+    /// The frames of the thread, the oldest first.
+    pub fn frames(&self, slot: u32) -> &[Frame]
+        requires { is_occupied_at self.now slot ≡ true }
+        ensures { reverse result.now ≡ frames_at self.now slot }
+    {
+        self.row(slot).frames()
     }
 
     /// Adds a frame of `func`, at its first statement, to a thread with fewer than 17 frames. The frame's first local is

@@ -1,5 +1,5 @@
 -- What no transition changes: the numbers of processes and threads, and which threads a process did not inherit.
-use Rattle.std.proofs.Common.{◌≡◌, ℕ, Bool, true, false, cond, List, [], ◌∷◌, map, nat_eq, Option, Some, None, refl, ap, ◌∙◌}
+use Rattle.std.proofs.Common.{◌≡◌, ℕ, Bool, true, false, not, ◌&&◌, cond, List, [], ◌∷◌, map, nat_eq, Option, Some, None, refl, ap, ◌∙◌}
 use Rattle.pct_model.specs.declared.transition.Action.{Action}
 use Rattle.pct_model.specs.declared.transition.Action.TheVariants as action
 use Rattle.pct_model.specs.declared.transition.Transition.{Transition}
@@ -38,6 +38,7 @@ action_keeps _ t = refl
 named_keeps : (a : Action) (t : Thread) → identity (named_after a t) ≡ identity t
 unfolding named_after
 named_keeps (action.EndJoin id) t = either_keeps identity (is_live_thread id t) (record t { joined = true }) t t refl refl
+named_keeps (action.Request id) t = either_keeps identity (is_live_thread id t && not t.ended) (record t { pending = true }) t t refl refl
 named_keeps (action.Detach id) t = either_keeps identity (is_live_thread id t) (record t { detached = true }) t t refl refl
 named_keeps _ t = refl
 

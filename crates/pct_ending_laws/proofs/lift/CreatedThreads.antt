@@ -16,6 +16,8 @@ use Rattle.pct_model.specs.declared.frame.Frame.{Frame}
 use Rattle.pct_model.specs.declared.other_threads.Query.{Query}
 use Rattle.pct_model.specs.declared.other_threads.Query.TheVariants as query
 use Rattle.pct_model.specs.declared.other_threads.Target.{Target}
+use Rattle.pct_model.specs.declared.point.PointKind.{PointKind}
+use Rattle.pct_model.specs.declared.point.PointKind.TheVariants as kinds
 use Rattle.pct_model.specs.declared.state.FrameKind.{FrameKind}
 use Rattle.pct_model.specs.declared.state.FrameKind.TheVariants as kind
 use Rattle.pct_model.specs.declared.state.Reason.{Reason}
@@ -33,14 +35,16 @@ use Rattle.pct_model.specs.OtherThreads.{Others, query_at, answer_to, others_of}
 use Rattle.pct_model.specs.Transitions.{goes_on}
 use Rattle.pct_model.specs.ScriptStatements.{jumps, emits, sets, adds, calls}
 use Rattle.pct_model.specs.CleanupHandlers.{pushes, pops}
+use Rattle.pct_model.specs.CancelCalls.{requests, sets_state, sets_mode, tests_cancel, point_kind, calls_point, passes_point, acts_on_request}
 use Rattle.pct_model.specs.ThreadCalls.{creates, fails_to_create, creates_by, begins_join, ends_join, joins_with, joins_at, detaches, gets_self}
 use Rattle.pct_model.specs.ThreadEnds.{ends_by_exit, ends_thread, goes_on_ending}
 use Rattle.pct_model.specs.ProcessExit.{exits, returns_by, ends_process}
 use Rattle.pct_model.specs.StopTable.{stop_at}
-use Rattle.pct_model.specs.ChoiceTable.{is_new, offers, new_or_go, running_choices, choices_at, choices_of}
+use Rattle.pct_model.specs.ChoiceTable.{is_new, offers, act_if, new_or_go, statement_choices, cancel_rows, running_choices, choices_at, choices_of}
 use Rattle.pct_model.specs.TransitionTable.{ends_block, stops_or, runs, transition_at, transition_by}
 use Rattle.pct_model.specs.OwnEvents.{makes_process}
 use Rattle.pct_model.specs.KnownThreads.{creates_id}
+use Rattle.pct_ending_laws.proofs.lift.Choices.{first_row_has, by_choice}
 
 -- ---- the ids that are offered
 
@@ -52,6 +56,46 @@ new_among_mapped n (id ∷ ids) = λ i. nat_eq n id || new_among_mapped n ids i
 new_among : (n : ℕ) (ids : List ℕ) → offers (new_or_go ids) (alt.New n) ≡ true → list_any (nat_eq n) ids ≡ true
 new_among n [] offered = absurd (false≢true offered)
 new_among n (id ∷ ids) offered = sym (new_among_mapped n (id ∷ ids)) ∙ offered
+
+-- a choice that creates a thread gives it one of these ids
+abbrev IsAmong : List ℕ → Alt → Type 0
+IsAmong ids (alt.New n) = list_any (nat_eq n) ids ≡ true
+IsAmong ids _ = Unit {0}
+
+among_new : (ids : List ℕ) (choice : Alt) → offers (new_or_go ids) choice ≡ true → IsAmong ids choice
+among_new ids (alt.New n) offered = new_among n ids offered
+among_new ids _ offered = tt
+
+-- where no thread may be created
+among_none : (ids : List ℕ) (choices : List Alt) (choice : Alt) → ((n : ℕ) → offers choices (alt.New n) ≡ false) → offers choices choice ≡ true → IsAmong ids choice
+among_none ids choices (alt.New n) none offered = absurd (false≢true (sym (none n) ∙ offered))
+among_none ids choices _ none offered = tt
+
+among_statement : (others : Others) (s : Stmt) (choice : Alt) → offers (statement_choices others s) choice ≡ true → IsAmong others.new_ids choice
+unfolding statement_choices
+among_statement others (statement.Create result id f v detached) choice offered = among_new others.new_ids choice offered
+among_statement others _ choice offered = among_none others.new_ids (alt.Go ∷ []) choice (λ n. refl) offered
+
+act_creates_none : (pending : Bool) (n : ℕ) → offers (alt.Go ∷ act_if pending) (alt.New n) ≡ false
+act_creates_none true n = refl
+act_creates_none false n = refl
+
+-- a choice of a running thread that creates a thread gives it one of the ids that were asked for
+among_running : (t : Thread) (others : Others) (s : Stmt) (choice : Alt) → offers (running_choices t others s) choice ≡ true → IsAmong others.new_ids choice
+unfolding running_choices cancel_rows
+among_running t others s choice =
+    let ids : List ℕ = others.new_ids in
+    first_row_has (λ choices. offers choices choice ≡ true → IsAmong ids choice) (cancel_rows t others s) (statement_choices others s) (
+      λ unbuilt. among_none ids (alt.Go ∷ []) choice (λ n. refl),
+      (
+        λ asynchronous. among_none ids (alt.Go ∷ act_if t.pending) choice (act_creates_none t.pending),
+        (
+          λ required. among_none ids (alt.Act 0 ∷ []) choice (λ n. refl),
+          (λ optional. among_none ids (alt.Go ∷ alt.Act 0 ∷ []) choice (λ n. refl), tt),
+        ),
+      ),
+    )
+    (among_statement others s choice)
 
 -- only a query for them is answered with ids
 ids_asked : (slots tid n : ℕ) (threads : List Thread) (q : Query) → list_any (nat_eq n) (answer_to slots tid threads q).new_ids ≡ true → list_any (nat_eq n) (free_ids slots threads) ≡ true
@@ -104,6 +148,22 @@ module _ (pid : ℕ) (ids : List ℕ) where
   exit_creates [] (Some v) = record { no_process = refl; new_id = tt; reports = λ tid. refl }
   exit_creates _ _ = record { no_process = refl; new_id = tt; reports = λ tid. refl }
 
+  point_creates : (next index : ℕ) (kind : Option PointKind) → CreatesOnly pid ids (calls_point next index kind)
+  unfolding calls_point
+  point_creates next index (Some kinds.Required) = record { no_process = refl; new_id = tt; reports = λ tid. refl }
+  point_creates next index (Some kinds.Optional) = record { no_process = refl; new_id = tt; reports = λ tid. refl }
+  point_creates next index None = record { no_process = refl; new_id = tt; reports = λ tid. refl }
+
+  passes_creates : (index : ℕ) (next : NextStatement) → CreatesOnly pid ids (passes_point index next)
+  unfolding passes_point
+  passes_creates index (StatementIn frame (statement.PointCall i)) = record { no_process = refl; new_id = tt; reports = λ tid. refl }
+  passes_creates index _ = record { no_process = refl; new_id = tt; reports = λ tid. refl }
+
+  acting_creates : (s : Status) → CreatesOnly pid ids (acts_on_request s)
+  unfolding acts_on_request
+  acting_creates status.Running = record { no_process = refl; new_id = tt; reports = λ tid. refl }
+  acting_creates _ = record { no_process = refl; new_id = tt; reports = λ tid. refl }
+
   joins_with_creates : (value : Option ℕ) (id : ℕ) (next : NextStatement) → CreatesOnly pid ids (joins_with value id next)
   unfolding ends_join
   joins_with_creates (Some v) id (StatementIn frame (statement.Join operand d)) = record { no_process = refl; new_id = tt; reports = λ tid. refl }
@@ -117,26 +177,28 @@ module _ (pid : ℕ) (ids : List ℕ) where
   stop_creates (Some why) other creates = record { no_process = refl; new_id = tt; reports = λ tid. refl }
   stop_creates None other creates = creates
 
-  creates_creates : (choice : Alt) (next : ℕ) (result id : Dest) (f v : ℕ) (detached : Bool) → offers (new_or_go ids) choice ≡ true → CreatesOnly pid ids (creates_by choice next result id f v detached)
+  creates_creates : (choice : Alt) (next : ℕ) (result id : Dest) (f v : ℕ) (detached : Bool) → IsAmong ids choice → CreatesOnly pid ids (creates_by choice next result id f v detached)
   unfolding creates fails_to_create
-  creates_creates (alt.New n) next result id f v detached offered = record { no_process = refl; new_id = new_among n ids offered; reports = λ tid. or_false (nat_eq n tid) }
-  creates_creates alt.Go next result id f v detached offered = record { no_process = refl; new_id = tt; reports = λ tid. refl }
-  creates_creates _ next result id f v detached offered = record { no_process = refl; new_id = tt; reports = λ tid. refl }
+  creates_creates (alt.New n) next result id f v detached among = record { no_process = refl; new_id = among; reports = λ tid. or_false (nat_eq n tid) }
+  creates_creates alt.Go next result id f v detached among = record { no_process = refl; new_id = tt; reports = λ tid. refl }
+  creates_creates _ next result id f v detached among = record { no_process = refl; new_id = tt; reports = λ tid. refl }
 
 -- ---- the tables
 
 module _ (pid : ℕ) (body : List Stmt) (shared : SharedState) (t : Thread) (others : Others) (choice : Alt) where
-  runs_creates : (frame : Frame) (s : Stmt) → offers (running_choices others s) choice ≡ true → CreatesOnly pid others.new_ids (runs body shared t others choice frame s)
-  unfolding running_choices runs emits sets adds jumps calls begins_join detaches gets_self ends_by_exit pushes
-  runs_creates frame statement.End offered = ends_creates pid others.new_ids (open_of body frame.pc) body frame
-  runs_creates frame (statement.Return v) offered = returns_creates pid others.new_ids frame.kind (value_of shared.globals frame v)
-  runs_creates frame (statement.Create result id f v detached) offered = creates_creates pid others.new_ids choice (suc frame.pc) result id f (value_of shared.globals frame v) detached offered
-  runs_creates frame (statement.Pop v) offered = pops_creates pid others.new_ids (suc frame.pc) (value_of shared.globals frame v) t.handlers
-  runs_creates frame s offered = record { no_process = refl; new_id = tt; reports = λ tid. refl }
+  runs_creates : (frame : Frame) (s : Stmt) → IsAmong others.new_ids choice → CreatesOnly pid others.new_ids (runs body shared t others choice frame s)
+  unfolding runs emits sets adds jumps calls begins_join detaches gets_self ends_by_exit pushes sets_state sets_mode tests_cancel requests
+  runs_creates frame statement.End among = ends_creates pid others.new_ids (open_of body frame.pc) body frame
+  runs_creates frame (statement.Return v) among = returns_creates pid others.new_ids frame.kind (value_of shared.globals frame v)
+  runs_creates frame (statement.Create result id f v detached) among = creates_creates pid others.new_ids choice (suc frame.pc) result id f (value_of shared.globals frame v) detached among
+  runs_creates frame (statement.PointCall index) among = point_creates pid others.new_ids (suc frame.pc) index (point_kind index)
+  runs_creates frame (statement.Pop v) among = pops_creates pid others.new_ids (suc frame.pc) (value_of shared.globals frame v) t.handlers
+  runs_creates frame s among = record { no_process = refl; new_id = tt; reports = λ tid. refl }
 
-  transition_creates : (next : NextStatement) (s : Status) → offers (choices_at others next s) choice ≡ true → CreatesOnly pid others.new_ids (transition_at body shared t others choice next s)
+  transition_creates : (next : NextStatement) (s : Status) → offers (choices_at t others next s) choice ≡ true → CreatesOnly pid others.new_ids (transition_at body shared t others choice next s)
   unfolding transition_at choices_at
-  transition_creates (StatementIn frame s) status.Running offered = stop_creates pid others.new_ids (stop_at body shared t others frame s) (runs body shared t others choice frame s) (runs_creates frame s offered)
+  transition_creates (StatementIn frame s) status.Running offered = stop_creates pid others.new_ids (stop_at body shared t others frame s) (runs body shared t others choice frame s) (runs_creates frame s (among_running t others s choice offered))
+  transition_creates next (status.AtPoint index) offered = passes_creates pid others.new_ids index next
   transition_creates next (status.Joining id) offered = joins_creates pid others.new_ids others.target id next
   transition_creates next status.Ending offered = ending_creates pid others.new_ids others.is_last t.reason t.handlers
   transition_creates next status.Exiting offered = exit_creates pid others.new_ids shared.exit_functions shared.exit_value
@@ -146,7 +208,10 @@ module _ (pid : ℕ) (body : List Stmt) (shared : SharedState) (t : Thread) (oth
 
 module _ (script : Script) (config : Config) (p : Process) (t : Thread) (choice : Alt) (offered : offers (choices_of script config p t) choice ≡ true) where
   all_of_it : (pid : ℕ) → CreatesOnly pid (others_of script config p t).new_ids (transition_by script config p t choice)
-  all_of_it pid = transition_creates pid (body_at script t.frames) p.shared t (others_of script config p t) choice (next_of script t.frames) t.status offered
+  all_of_it pid =
+      let others : Others = others_of script config p t in
+      by_choice (CreatesOnly pid others.new_ids) choice t.status (transition_at (body_at script t.frames) p.shared t others choice (next_of script t.frames) t.status)
+      (λ n acts. acting_creates pid others.new_ids t.status) (transition_creates pid (body_at script t.frames) p.shared t others choice (next_of script t.frames) t.status offered)
 
   -- no transition makes a process
   pub makes_no_process : (pid : ℕ) → list_any (makes_process pid) (reverse (transition_by script config p t choice).events) ≡ false

@@ -9,6 +9,8 @@ use Rattle.pct_model.specs.declared.other_threads.Target.{Target}
 use Rattle.pct_model.specs.declared.schedule.Alt.{Alt}
 use Rattle.pct_model.specs.declared.schedule.Alt.TheVariants as alt
 use Rattle.pct_model.specs.declared.script.Script.{Script}
+use Rattle.pct_model.specs.declared.point.PointKind.{PointKind}
+use Rattle.pct_model.specs.declared.point.PointKind.TheVariants as kinds
 use Rattle.pct_model.specs.declared.state.FrameKind.{FrameKind}
 use Rattle.pct_model.specs.declared.state.FrameKind.TheVariants as kind
 use Rattle.pct_model.specs.declared.state.Reason.{Reason}
@@ -25,6 +27,7 @@ use Rattle.pct_model.specs.declared.transition.Transition.{Transition}
 use Rattle.pct_model.specs.Actions.{thread_at, thread_after, for_each, moved}
 use Rattle.pct_model.specs.ChoiceTable.{choices_at, offers}
 use Rattle.pct_model.specs.CleanupHandlers.{pushes, pops}
+use Rattle.pct_model.specs.CancelCalls.{requests, state_number, mode_number, sets_state, sets_mode, tests_cancel, point_kind, calls_point, passes_point, acts_on_request}
 use Rattle.pct_model.specs.Jumps.{open_of}
 use Rattle.pct_model.specs.NextStatement.{NextStatement, NoStatement, StatementIn}
 use Rattle.pct_model.specs.OtherThreads.{Others}
@@ -36,8 +39,9 @@ use Rattle.pct_model.specs.ThreadEnds.{ends_by_exit, end_value, ends_thread, goe
 use Rattle.pct_model.specs.ThreadSlots.{is_ended_status}
 use Rattle.pct_model.specs.ThreadSummary.{ThreadSummary}
 use Rattle.pct_model.specs.Transitions.{goes_on, written}
-use Rattle.pct_model.specs.TransitionTable.{ends_block, stops_or, runs, transition_at}
+use Rattle.pct_model.specs.TransitionTable.{ends_block, stops_or, runs, transition_at, acts_or}
 use Rattle.pct_model.specs.World.{Thread, SharedState, value_of}
+use Rattle.pct_ending_laws.proofs.lift.Choices.{by_choice}
 use Rattle.pct_ending_laws.proofs.thread.ThreadRule.{ByStatus}
 
 -- ---- actions
@@ -111,6 +115,17 @@ create_never (alt.New n) next result id f v detached = two_written result id 0 n
 create_never alt.Go next result id f v detached = one_written result 1
 create_never _ next result id f v detached = refl
 
+point_never : (next index : ℕ) (kind : Option PointKind) → NeverEnds (calls_point next index kind)
+unfolding calls_point
+point_never next index (Some kinds.Required) = refl
+point_never next index (Some kinds.Optional) = refl
+point_never next index None = refl
+
+passes_never : (index : ℕ) (next : NextStatement) → NeverEnds (passes_point index next)
+unfolding passes_point
+passes_never index (StatementIn frame (statement.PointCall i)) = refl
+passes_never index _ = refl
+
 joined_never : (value : Option ℕ) (id : ℕ) (next : NextStatement) → NeverEnds (joins_with value id next)
 unfolding ends_join
 joined_never (Some v) id (StatementIn frame (statement.Join operand d)) = one_written d v
@@ -133,6 +148,16 @@ exit_creates_none : (functions : List ℕ) (value : Option ℕ) → (ends_proces
 unfolding ends_process
 exit_creates_none [] (Some v) = refl
 exit_creates_none _ _ = refl
+
+acting_never : (s : Status) → NeverEnds (acts_on_request s)
+unfolding acts_on_request
+acting_never status.Running = refl
+acting_never _ = refl
+
+acting_creates_none : (s : Status) → (acts_on_request s).created ≡ None
+unfolding acts_on_request
+acting_creates_none status.Running = refl
+acting_creates_none _ = refl
 
 -- ---- a thread that ends
 
@@ -158,24 +183,35 @@ module _ (body : List Stmt) (shared : SharedState) (t : Thread) (others : Others
   ending_ends ((f, a) ∷ handlers) = inl refl
 
   statement_never : (frame : Frame) (s : Stmt) → NeverEnds (runs body shared t others choice frame s)
-  unfolding runs emits sets adds jumps calls begins_join detaches gets_self ends_by_exit pushes
+  unfolding runs emits sets adds jumps calls begins_join detaches gets_self ends_by_exit pushes sets_state sets_mode tests_cancel requests
   statement_never frame (statement.Set d v) = one_written d (value_of shared.globals frame v)
   statement_never frame (statement.Add d v) = one_written d ((variable_value shared.globals frame d + value_of shared.globals frame v) % 4294967296)
   statement_never frame statement.End = block_never (open_of body frame.pc) body frame
   statement_never frame (statement.Return v) = returns_never frame.kind (value_of shared.globals frame v)
   statement_never frame (statement.Create result id f v detached) = create_never choice (suc frame.pc) result id f (value_of shared.globals frame v) detached
   statement_never frame (statement.SelfId d) = one_written d t.id
+  statement_never frame (statement.SetState enable old) = one_written old (state_number t.state)
+  statement_never frame (statement.SetMode asynchronous old) = one_written old (mode_number t.mode)
+  statement_never frame (statement.PointCall index) = point_never (suc frame.pc) index (point_kind index)
   statement_never frame (statement.Pop v) = pops_never (suc frame.pc) (value_of shared.globals frame v) t.handlers
   statement_never frame s = refl
 
-  -- a transition does not end its thread, or is the end of a thread
-  pub ends_only : (next : NextStatement) (s : Status) → NeverEnds (transition_at body shared t others choice next s) ⊎ IsEnd (transition_at body shared t others choice next s)
+  -- what a thread does as it goes on
+  abbrev going : NextStatement → Status → Transition
+  going next s = transition_at body shared t others choice next s
+
+  going_ends : (next : NextStatement) (s : Status) → NeverEnds (going next s) ⊎ IsEnd (going next s)
   unfolding transition_at
-  ends_only (StatementIn frame s) status.Running = inl (stops_never (stop_at body shared t others frame s) (runs body shared t others choice frame s) (statement_never frame s))
-  ends_only next (status.Joining id) = inl (joins_never others.target id next)
-  ends_only next status.Ending = ending_ends t.handlers
-  ends_only next status.Exiting = inl (exit_never shared.exit_functions shared.exit_value)
-  ends_only next _ = inl refl
+  going_ends (StatementIn frame s) status.Running = inl (stops_never (stop_at body shared t others frame s) (runs body shared t others choice frame s) (statement_never frame s))
+  going_ends next (status.AtPoint index) = inl (passes_never index next)
+  going_ends next (status.Joining id) = inl (joins_never others.target id next)
+  going_ends next status.Ending = ending_ends t.handlers
+  going_ends next status.Exiting = inl (exit_never shared.exit_functions shared.exit_value)
+  going_ends next _ = inl refl
+
+  -- a transition does not end its thread, or is the end of a thread
+  pub ends_only : (next : NextStatement) (s : Status) → NeverEnds (acts_or choice s (going next s)) ⊎ IsEnd (acts_or choice s (going next s))
+  ends_only next s = by_choice (λ o. NeverEnds o ⊎ IsEnd o) choice s (going next s) (λ n acts. inl (acting_never s)) (going_ends next s)
 
   -- ---- a thread that has ended
 
@@ -189,16 +225,22 @@ module _ (body : List Stmt) (shared : SharedState) (t : Thread) (others : Others
     not_ended : reported.ended ≡ None → ⊥
     not_ended none = false≢true (sym (ap is_some none) ∙ ended)
 
-    pub after_end : (next : NextStatement) (s : Status) → ByStatus script s why frames handlers reported → offers (choices_at others next s) choice ≡ true → GoesOn s (transition_at body shared t others choice next s)
+    going_on : (next : NextStatement) (s : Status) → ByStatus script s why frames handlers reported → offers (choices_at t others next s) choice ≡ true → GoesOn s (going next s)
     unfolding transition_at choices_at
-    after_end next status.Running fits offered = absurd (not_ended fits.not_ended)
-    after_end next (status.Joining id) fits offered = absurd (not_ended fits.0.not_ended)
-    after_end next status.Ending fits offered = absurd (not_ended fits.not_ended)
-    after_end NoStatement (status.Ended v) fits offered = absurd (false≢true offered)
-    after_end (StatementIn frame s) (status.Ended v) fits offered = absurd (false≢true offered)
-    after_end NoStatement status.Exiting fits offered = record { alive = refl; never = exit_never shared.exit_functions shared.exit_value; none = exit_creates_none shared.exit_functions shared.exit_value }
-    after_end (StatementIn frame s) status.Exiting fits offered = record { alive = refl; never = exit_never shared.exit_functions shared.exit_value; none = exit_creates_none shared.exit_functions shared.exit_value }
-    after_end next _ fits offered = absurd fits
+    going_on next status.Running fits offered = absurd (not_ended fits.not_ended)
+    going_on next (status.AtPoint index) fits offered = absurd (not_ended fits.0.not_ended)
+    going_on next (status.Joining id) fits offered = absurd (not_ended fits.0.not_ended)
+    going_on next status.Ending fits offered = absurd (not_ended fits.not_ended)
+    going_on NoStatement (status.Ended v) fits offered = absurd (false≢true offered)
+    going_on (StatementIn frame s) (status.Ended v) fits offered = absurd (false≢true offered)
+    going_on NoStatement status.Exiting fits offered = record { alive = refl; never = exit_never shared.exit_functions shared.exit_value; none = exit_creates_none shared.exit_functions shared.exit_value }
+    going_on (StatementIn frame s) status.Exiting fits offered = record { alive = refl; never = exit_never shared.exit_functions shared.exit_value; none = exit_creates_none shared.exit_functions shared.exit_value }
+    going_on next _ fits offered = absurd fits
+
+    pub after_end : (next : NextStatement) (s : Status) → ByStatus script s why frames handlers reported → offers (choices_at t others next s) choice ≡ true → GoesOn s (acts_or choice s (going next s))
+    after_end next s fits offered =
+        let goes : GoesOn s (going next s) = going_on next s fits offered in
+        by_choice (GoesOn s) choice s (going next s) (λ n acts. record { alive = goes.alive; never = acting_never s; none = acting_creates_none s }) goes
 
 -- a thread with the status of its end has ended
 pub ended_by_status : (script : Script) (s : Status) (why : Reason) (frames : List Frame) (handlers : List (ℕ × ℕ)) (reported : ThreadSummary) → is_ended_status s ≡ true → ByStatus script s why frames handlers reported → is_some reported.ended ≡ true

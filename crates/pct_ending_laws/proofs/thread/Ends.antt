@@ -6,23 +6,47 @@ use Rattle.pct_model.specs.declared.frame.Frame.{Frame}
 use Rattle.pct_model.specs.declared.script.Script.{Script}
 use Rattle.pct_model.specs.declared.state.FrameKind.{FrameKind}
 use Rattle.pct_model.specs.declared.state.FrameKind.TheVariants as kind
+use Rattle.pct_model.specs.declared.state.Reason.{Reason}
 use Rattle.pct_model.specs.declared.state.Reason.TheVariants as reason
 use Rattle.pct_model.specs.declared.state.Status.TheVariants as status
 use Rattle.pct_model.specs.Actions.{without_first, thread_at, thread_after}
+use Rattle.pct_model.specs.Cancelability.{ending_state, ending_mode}
 use Rattle.pct_model.specs.Kept.{AreOpen, open_functions}
 use Rattle.pct_model.specs.Once.{MayCome, newest}
 use Rattle.pct_model.specs.OpenPushes.{open_pushes}
 use Rattle.pct_model.specs.ProcessExit.{exits, returns_by, ends_process}
 use Rattle.pct_model.specs.StopTable.{has_begun_to_end}
 use Rattle.pct_model.specs.ThreadEnds.{ends_by_exit, end_value, ends_thread, goes_on_ending}
+use Rattle.pct_model.specs.ThreadSummary.{ThreadSummary, with_ending}
 use Rattle.pct_model.specs.World.{Thread, body_of}
 use Rattle.pct_ending_laws.proofs.StaticPushes.{PushesMatch}
 use Rattle.pct_ending_laws.proofs.thread.OwnSummary.{summary, AreLawful}
-use Rattle.pct_ending_laws.proofs.thread.ThreadRule.{Below, FramesFit, Fits, Rule, Keeps}
+use Rattle.pct_ending_laws.proofs.thread.ThreadRule.{Below, FramesFit, Agrees, Fits, Rule, Keeps}
 use Rattle.pct_ending_laws.proofs.thread.GoingOn.{running, none_created, no_change_keeps}
 
 module _ (script : Script) where
   -- ---- threads with frames
+
+  -- a thread that has not ended and does not exit its process, after it began to end for a reason
+  pub begun_fits : (t : Thread) (s : ThreadSummary) (why : Reason) → has_begun_to_end why ≡ true → Agrees script t.handlers t.reason t.ended t.state s → s.ended ≡ None → s.exiting ≡ false
+      → Fits script (record t { status = status.Ending; frames = []; state = ending_state; mode = ending_mode; reason = why }) (with_ending why s)
+  begun_fits t s why begun agrees not_ended not_exiting = record {
+    agrees = record {
+      handlers_agree = agrees.handlers_agree;
+      reason = refl;
+      end = agrees.end;
+      functions = agrees.functions;
+      disabled = λ any. refl;
+    };
+    placed = tt;
+    by_status = record {
+      no_frames = refl;
+      has_reason = begun;
+      are_left = sym agrees.handlers_agree;
+      not_ended = not_ended;
+      not_exiting = not_exiting;
+    };
+  }
 
   module _ (t : Thread) (frames : List Frame) (events : List What) (fits : Fits script (running t frames) (summary events)) (lawful : AreLawful events) where
     -- a running thread begins to exit its process
@@ -50,26 +74,7 @@ module _ (script : Script) where
     pub begin_keeps : (v : ℕ) → t.reason ≡ reason.None → Keeps script (running t frames) events (ends_by_exit v)
     unfolding ends_by_exit thread_at thread_after
     begin_keeps v not_begun = record {
-      own = (
-        record {
-          agrees = record {
-            handlers_agree = fits.agrees.handlers_agree;
-            reason = refl;
-            end = fits.agrees.end;
-            functions = fits.agrees.functions;
-            disabled = λ any. refl;
-          };
-          placed = tt;
-          by_status = record {
-            no_frames = refl;
-            has_reason = refl;
-            are_left = sym fits.agrees.handlers_agree;
-            not_ended = fits.by_status.not_ended;
-            not_exiting = fits.by_status.not_exiting;
-          };
-        },
-        (refl, fits.agrees.reason ∙ not_begun, lawful),
-      );
+      own = (begun_fits t (summary events) (reason.Exit v) refl fits.agrees fits.by_status.not_ended fits.by_status.not_exiting, (refl, fits.agrees.reason ∙ not_begun, lawful));
       created = none_created script;
     }
 

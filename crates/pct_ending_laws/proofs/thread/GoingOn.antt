@@ -29,11 +29,13 @@ use Rattle.pct_ending_laws.proofs.thread.ThreadRule.{Fits, Rule, Keeps}
 
 -- ---- actions that write
 
--- the action writes a variable, or changes a thread that it names
+-- the action writes a variable, sets a cancelability type, or changes a thread that it names
 abbrev pub writes : Action → Bool
 writes (action.SetLocal i v) = true
 writes (action.SetGlobal i v) = true
+writes (action.SetMode mode) = true
 writes (action.EndJoin id) = true
+writes (action.Request id) = true
 writes (action.Detach id) = true
 writes _ = false
 
@@ -64,7 +66,9 @@ module _ (script : Script) where
   writes_fit [] all t frames s fits = fits
   writes_fit (action.SetLocal i v ∷ actions) all t frames s fits = writes_fit actions all t (set_local i v frames) s (local_fits i v t frames s fits)
   writes_fit (action.SetGlobal i v ∷ actions) all t frames s fits = writes_fit actions all t frames s fits
+  writes_fit (action.SetMode mode ∷ actions) all t frames s fits = writes_fit actions all (record t { mode = mode }) frames s fits
   writes_fit (action.EndJoin id ∷ actions) all t frames s fits = writes_fit actions all t frames s fits
+  writes_fit (action.Request id ∷ actions) all t frames s fits = writes_fit actions all t frames s fits
   writes_fit (action.Detach id ∷ actions) all t frames s fits = writes_fit actions all t frames s fits
   writes_fit (_ ∷ actions) all t frames s fits = absurd (false≢true all)
 

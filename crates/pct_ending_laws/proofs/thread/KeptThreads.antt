@@ -83,6 +83,10 @@ module _ (script : Script) where
     no_end : s.ended ≡ None → is_some s.ended ≡ true → ⊥
     no_end none some = false≢true (sym (ap is_some none) ∙ some)
 
+    point_never_exits : (index : ℕ) (frames : List Frame) → is_exiting (status.AtPoint index) frames ≡ false
+    point_never_exits index [] = refl
+    point_never_exits index (frame ∷ below) = refl
+
     joining_never_exits : (id : ℕ) (frames : List Frame) → is_exiting (status.Joining id) frames ≡ false
     joining_never_exits id [] = refl
     joining_never_exits id (frame ∷ below) = refl
@@ -100,16 +104,17 @@ module _ (script : Script) where
           exit_functions = λ alive. facts.no_exit;
         }
 
-    of_joining : (id : ℕ) (frames : List Frame) → HasFrames script why frames handlers s → StatusFacts (status.Joining id) why frames handlers s
-    of_joining id frames has =
+    -- a thread that is suspended: it has frames, does not exit its process, and has not the status of one that is ending
+    of_suspended : (st : Status) (frames : List Frame) → has_no_frame st ≡ false → is_ending_status st ≡ false → is_exiting st frames ≡ false → HasFrames script why frames handlers s → StatusFacts st why frames handlers s
+    of_suspended st frames framed alive_status inside has =
         let facts : FrameFacts why frames = frame_facts why frames has.fit in
         record {
           ended_status = λ some alive. absurd (no_end has.not_ended some);
           pushes = λ alive. has.pushes;
-          no_frame = facts.some;
+          no_frame = facts.some ∙ sym framed;
           bottom = facts.bottom;
-          has_reason = λ alive. facts.has_reason;
-          exiting = has.not_exiting ∙ sym (joining_never_exits id frames);
+          has_reason = λ alive. facts.has_reason ∙ ap (λ (b : Bool). b || option_map_or is_end_kind (bottom_kind frames) false) (sym alive_status);
+          exiting = has.not_exiting ∙ sym inside;
           exit_functions = λ alive. facts.no_exit;
         }
 
@@ -152,7 +157,8 @@ module _ (script : Script) where
 
     of_status : (st : Status) (frames : List Frame) → ByStatus script st why frames handlers s → StatusFacts st why frames handlers s
     of_status status.Running frames by = of_running frames by
-    of_status (status.Joining id) frames by = of_joining id frames by.0
+    of_status (status.AtPoint index) frames by = of_suspended (status.AtPoint index) frames refl refl (point_never_exits index frames) by.0
+    of_status (status.Joining id) frames by = of_suspended (status.Joining id) frames refl refl (joining_never_exits id frames) by.0
     of_status status.Ending frames by = without_frames status.Ending frames by.no_frames of_ending by
     of_status (status.Ended v) frames by = without_frames (status.Ended v) frames by.no_frames (of_ended v) by
     of_status status.Exiting frames by = without_frames status.Exiting frames by.0 (λ exits. of_exiting exits.1) by
@@ -180,4 +186,5 @@ module _ (script : Script) where
         exit_functions = facts.exit_functions;
         disabled = fits.agrees.disabled;
         joining = λ id is. (subst (λ (st : Status). ByStatus script st t.reason t.frames t.handlers s) is fits.by_status).1;
+        at_point = λ index is. (subst (λ (st : Status). ByStatus script st t.reason t.frames t.handlers s) is fits.by_status).1;
       }

@@ -1,7 +1,7 @@
 -- Each statement of a running thread keeps the rule of the thread.
-use Rattle.std.proofs.Common.{◌≡◌, ℕ, suc, ◌+◌, ◌%◌, ◌<◌, Bool, true, false, List, [], ◌∷◌, ◌++◌, length, reverse, Option, Some, None, refl, sym, ap, ◌∙◌, subst, inl, inr}
+use Rattle.std.proofs.Common.{◌≡◌, ℕ, suc, ◌+◌, ◌%◌, ◌<◌, Bool, true, false, ◌&&◌, ◌||◌, List, [], ◌∷◌, ◌++◌, length, reverse, Option, Some, None, refl, sym, ap, ◌∙◌, subst, inl, inr, nat_eq, eq-eqb}
 use Rattle.std.specs.List.{list_all}
-use Rattle.std.proofs.lemmas.Bool.{false≢true}
+use Rattle.std.proofs.lemmas.Bool.{false≢true, and_from}
 use Rattle.std.proofs.lemmas.Option.{none-some, same_Some}
 use Rattle.pct_model.specs.declared.event.Caller.TheVariants as caller
 use Rattle.pct_model.specs.declared.event.What.{What}
@@ -9,28 +9,34 @@ use Rattle.pct_model.specs.declared.event.What.TheVariants as what
 use Rattle.pct_model.specs.declared.frame.Frame.{Frame}
 use Rattle.pct_model.specs.declared.schedule.Alt.{Alt}
 use Rattle.pct_model.specs.declared.schedule.Alt.TheVariants as alt
+use Rattle.pct_model.specs.declared.point.PointKind.{PointKind}
+use Rattle.pct_model.specs.declared.point.PointKind.TheVariants as kinds
 use Rattle.pct_model.specs.declared.script.Script.{Script}
 use Rattle.pct_model.specs.declared.state.FrameKind.{FrameKind}
 use Rattle.pct_model.specs.declared.state.FrameKind.TheVariants as kind
 use Rattle.pct_model.specs.declared.state.Reason.{Reason}
 use Rattle.pct_model.specs.declared.state.Reason.TheVariants as reason
+use Rattle.pct_model.specs.declared.state.State.{State}
+use Rattle.pct_model.specs.declared.state.State.TheVariants.{Enable, Disable}
 use Rattle.pct_model.specs.declared.state.Status.TheVariants as status
 use Rattle.pct_model.specs.declared.statement.Dest.{Dest}
 use Rattle.pct_model.specs.declared.statement.Operand.{Operand}
 use Rattle.pct_model.specs.declared.statement.Stmt.{Stmt}
 use Rattle.pct_model.specs.declared.statement.Stmt.TheVariants as statement
-use Rattle.pct_model.specs.declared.stop.Why.TheVariants.{Unbuilt, ExitInEnding}
+use Rattle.pct_model.specs.declared.stop.Why.{Why}
+use Rattle.pct_model.specs.declared.stop.Why.TheVariants.{Unbuilt, AsyncCall, EnableInHandler, ExitInEnding}
 use Rattle.pct_model.specs.declared.transition.Action.{Action}
 use Rattle.pct_model.specs.declared.transition.Action.TheVariants as action
 use Rattle.pct_model.specs.declared.transition.NewThread.{NewThread}
 use Rattle.pct_model.specs.Actions.{thread_at, thread_after}
+use Rattle.pct_model.specs.CancelCalls.{requests, state_number, mode_number, state_if, mode_if, sets_state, sets_mode, testcancel_point, tests_cancel, point_kind, is_required, calls_point}
 use Rattle.pct_model.specs.Jumps.{is_end, open_of}
-use Rattle.pct_model.specs.Kept.{is_join}
+use Rattle.pct_model.specs.Kept.{is_join, is_call_of}
 use Rattle.pct_model.specs.NextStatement.{next_in}
 use Rattle.pct_model.specs.OpenPushes.{pushes_after, open_pushes}
 use Rattle.pct_model.specs.OtherThreads.{Others}
 use Rattle.pct_model.specs.ScriptStatements.{jumps, emits, sets, adds, variable_value, after_block, after_test, after_end}
-use Rattle.pct_model.specs.StopTable.{has_begun_to_end, first_stop, stops_of, stop_at}
+use Rattle.pct_model.specs.StopTable.{StopTest, has_begun_to_end, first_stop, is_handler_kind, is_in_handler, stops_of, stop_at}
 use Rattle.pct_model.specs.ThreadCalls.{creates, fails_to_create, creates_by, begins_join, detaches, gets_self}
 use Rattle.pct_model.specs.Transitions.{goes_on, written}
 use Rattle.pct_model.specs.TransitionTable.{ends_block, runs}
@@ -38,17 +44,52 @@ use Rattle.pct_model.specs.World.{Thread, SharedState, body_of, statement_at, va
 use Rattle.pct_ending_laws.proofs.StaticPushes.{PushesMatch}
 use Rattle.pct_ending_laws.proofs.lift.EveryThread.{created_thread}
 use Rattle.pct_ending_laws.proofs.thread.OwnSummary.{summary, AreLawful}
-use Rattle.pct_ending_laws.proofs.thread.ThreadRule.{Below, Fits, Rule, Keeps}
+use Rattle.pct_ending_laws.proofs.thread.ThreadRule.{Below, FramesFit, Fits, Rule, Keeps}
 use Rattle.pct_ending_laws.proofs.thread.NamedFunctions.{NamesFunctions}
 use Rattle.pct_ending_laws.proofs.thread.GoingOn.{writes, one_written, two_written, running, none_created, no_change_keeps, going_on_keeps}
 use Rattle.pct_ending_laws.proofs.thread.Handlers.{call_keeps, push_keeps, pop_keeps}
 use Rattle.pct_ending_laws.proofs.thread.Ends.{begin_keeps, return_keeps}
 
--- where pthread_exit does not stop, the thread has not begun to end
-not_begun : (why : Reason) → first_stop ((false, Unbuilt) ∷ (has_begun_to_end why, ExitInEnding) ∷ []) ≡ None → why ≡ reason.None
+-- where a stop does not come, none of those after it does
+later_stops : (b : Bool) (why : Why) (rest : List StopTest) → first_stop ((b, why) ∷ rest) ≡ None → first_stop rest ≡ None
+later_stops true why rest quiet = absurd (none-some why (sym quiet))
+later_stops false why rest quiet = quiet
+
+last_stop : (b : Bool) (why : Why) → first_stop ((b, why) ∷ []) ≡ None → b ≡ false
+last_stop true why quiet = absurd (none-some why (sym quiet))
+last_stop false why quiet = refl
+
+-- the own stop of a statement, which is tested after that of asynchronous cancelability, does not come
+own_stop : (b asynchronous : Bool) (why : Why) → first_stop ((false, Unbuilt) ∷ (asynchronous, AsyncCall) ∷ (b, why) ∷ []) ≡ None → b ≡ false
+own_stop b asynchronous why quiet = last_stop b why (later_stops asynchronous AsyncCall ((b, why) ∷ []) quiet)
+
+-- a thread that has not begun to end has no reason to
+not_begun : (why : Reason) → has_begun_to_end why ≡ false → why ≡ reason.None
 not_begun reason.None e = refl
-not_begun (reason.Exit v) e = absurd (none-some ExitInEnding (sym e))
-not_begun reason.Canceled e = absurd (none-some ExitInEnding (sym e))
+not_begun (reason.Exit v) e = absurd (false≢true (sym e))
+not_begun reason.Canceled e = absurd (false≢true (sym e))
+
+-- ---- handlers
+
+handler_by : (why : Reason) (k : FrameKind) (below : List Frame) → has_begun_to_end why ≡ true → (FramesFit why below → is_in_handler below ≡ true) → Below k why below (FramesFit why below) → (is_handler_kind k || is_in_handler below) ≡ true
+handler_by why kind.Main below begun rest fit = absurd (false≢true (sym (ap has_begun_to_end fit.0) ∙ begun))
+handler_by why kind.Start below begun rest fit = absurd (false≢true (sym (ap has_begun_to_end fit.0) ∙ begun))
+handler_by why kind.Handler below begun rest fit = refl
+handler_by why kind.Call below begun rest fit = rest fit
+handler_by why kind.PopHandler below begun rest fit = refl
+handler_by why kind.Destructor below begun rest fit = refl
+handler_by why kind.ForkFn below begun rest fit = absurd fit
+handler_by why kind.ExitFn below begun rest fit = absurd fit
+
+-- a thread with frames that has begun to end is in a handler
+in_handler : (why : Reason) (frames : List Frame) → has_begun_to_end why ≡ true → FramesFit why frames → is_in_handler frames ≡ true
+in_handler why [] begun fit = absurd fit
+in_handler why (frame ∷ below) begun fit = handler_by why frame.kind below begun (in_handler why below begun) fit
+
+-- one that is in none may enable its cancelability
+may_enable : (why : Reason) (frames : List Frame) (exiting begun : Bool) → has_begun_to_end why ≡ begun → exiting ≡ false → FramesFit why frames → is_in_handler frames ≡ false → (begun || exiting) ≡ true → Enable ≡ Disable
+may_enable why frames exiting true is alive fit outside any = absurd (false≢true (sym outside ∙ in_handler why frames is fit))
+may_enable why frames exiting false is alive fit outside any = absurd (false≢true (sym alive ∙ any))
 
 module _ (script : Script) (matches : PushesMatch script) (names : NamesFunctions script) where
   -- a new thread, in a frame of a kind that may be its only one
@@ -101,6 +142,36 @@ module _ (script : Script) (matches : PushesMatch script) (names : NamesFunction
     create_keeps result id f x v detached at alt.Go = next_keeps (statement.Create result id f x detached) at refl refl (written result 1) (what.Answer caller.Create 1 ∷ []) (one_written result 1) refl (refl, tt, lawful)
     create_keeps result id f x v detached at _ = no_change_keeps script own events (fits, lawful)
 
+    -- a state that the thread may have
+    abbrev MayHave : State → Type 0
+    MayHave state = (has_begun_to_end t.reason || (summary events).exiting) ≡ true → state ≡ Disable
+
+    -- the state that pthread_setcancelstate sets
+    state_allowed : (enable : Bool) → (enable && is_in_handler (frame ∷ below)) ≡ false → MayHave (state_if enable)
+    state_allowed true outside = may_enable t.reason (frame ∷ below) (summary events).exiting (has_begun_to_end t.reason) refl fits.by_status.not_exiting fits.by_status.fit outside
+    state_allowed false outside = λ any. refl
+
+    -- pthread_setcancelstate
+    state_keeps : (enable : Bool) (old : Dest) → statement_at script frame ≡ Some (statement.SetState enable old) → MayHave (state_if enable) → Keeps script own events (sets_state (suc frame.pc) enable old t.state)
+    unfolding sets_state thread_at thread_after
+    state_keeps enable old at allowed =
+        let s : Stmt = statement.SetState enable old in
+        let with_state : Keeps script (running (record t { state = state_if enable }) (frame ∷ below)) events (goes_on (suc frame.pc) (written old (state_number t.state)) (what.StateSet enable ∷ [])) =
+        going_on_keeps script (record t { state = state_if enable }) frame below status.Running events (suc frame.pc) (written old (state_number t.state)) (what.StateSet enable ∷ []) (matches.next frame s at) (matches.next_within frame s at refl) (one_written old (state_number t.state)) refl (refl, tt, lawful)
+        (record {
+          agrees = record { handlers_agree = fits.agrees.handlers_agree; reason = fits.agrees.reason; end = fits.agrees.end; functions = fits.agrees.functions; disabled = allowed };
+          placed = fits.placed;
+          by_status = fits.by_status;
+        }) in
+        record { own = with_state.own; created = none_created script }
+
+    -- a call of a cancellation point
+    point_keeps : (index : ℕ) → statement_at script frame ≡ Some (statement.PointCall index) → (kind : Option PointKind) → point_kind index ≡ kind → Keeps script own events (calls_point (suc frame.pc) index kind)
+    unfolding calls_point thread_at thread_after
+    point_keeps index at (Some kinds.Required) is = record { own = (record { agrees = fits.agrees; placed = fits.placed; by_status = (fits.by_status, ap (λ (s : Option Stmt). is_call_of index (next_in frame s)) at ∙ and_from (nat_eq index index) (is_required (point_kind index)) (eq-eqb index index refl) (ap is_required is)) }, (refl, tt, lawful)); created = none_created script }
+    point_keeps index at (Some kinds.Optional) is = next_keeps (statement.PointCall index) at refl refl [] (what.Done index ∷ []) refl refl (refl, tt, lawful)
+    point_keeps index at None is = no_change_keeps script own events (fits, lawful)
+
     -- pthread_join
     join_keeps : (id : Operand) (d : Dest) (v : ℕ) → statement_at script frame ≡ Some (statement.Join id d) → Keeps script own events (begins_join v)
     unfolding begins_join thread_at thread_after
@@ -111,7 +182,7 @@ module _ (script : Script) (matches : PushesMatch script) (names : NamesFunction
 
     -- a statement that does not stop
     pub statement_keeps : (s : Stmt) → statement_at script frame ≡ Some s → stop_at body shared own others frame s ≡ None → Keeps script own events (runs body shared own others choice frame s)
-    unfolding stop_at stops_of runs emits sets adds jumps detaches gets_self
+    unfolding stop_at stops_of runs emits sets adds jumps detaches gets_self sets_mode tests_cancel requests
     statement_keeps (statement.Emit v) at quiet = next_keeps (statement.Emit v) at refl refl [] (what.Emit (value_of shared.globals frame v) ∷ []) refl refl (refl, tt, lawful)
     statement_keeps (statement.Set d v) at quiet = next_keeps (statement.Set d v) at refl refl (written d (value_of shared.globals frame v)) [] (one_written d (value_of shared.globals frame v)) refl lawful
     statement_keeps (statement.Add d v) at quiet =
@@ -133,8 +204,16 @@ module _ (script : Script) (matches : PushesMatch script) (names : NamesFunction
     statement_keeps (statement.Detach id) at quiet =
         let n : ℕ = value_of shared.globals frame id in
         next_keeps (statement.Detach id) at refl refl (action.Detach n ∷ []) (what.Detached n ∷ []) refl refl (refl, tt, lawful)
+    statement_keeps (statement.CancelThread id) at quiet =
+        let n : ℕ = value_of shared.globals frame id in
+        next_keeps (statement.CancelThread id) at refl refl (action.Request n ∷ []) (what.Request n ∷ []) refl refl (refl, tt, lawful)
     statement_keeps (statement.SelfId d) at quiet = next_keeps (statement.SelfId d) at refl refl (written d t.id) [] (one_written d t.id) refl lawful
-    statement_keeps (statement.ThreadExit v) at quiet = begin_keeps script t (frame ∷ below) events fits lawful (value_of shared.globals frame v) (not_begun t.reason quiet)
+    statement_keeps (statement.ThreadExit v) at quiet = begin_keeps script t (frame ∷ below) events fits lawful (value_of shared.globals frame v) (not_begun t.reason (own_stop (has_begun_to_end t.reason) _ ExitInEnding quiet))
+    statement_keeps statement.TestCancel at quiet = next_keeps statement.TestCancel at refl refl [] (what.Done testcancel_point ∷ []) refl refl (refl, tt, lawful)
+    statement_keeps (statement.SetState enable old) at quiet = state_keeps enable old at (state_allowed enable (own_stop (enable && is_in_handler (frame ∷ below)) _ EnableInHandler quiet))
+    statement_keeps (statement.SetMode asynchronous old) at quiet =
+        next_keeps (statement.SetMode asynchronous old) at refl refl (action.SetMode (mode_if asynchronous) ∷ written old (mode_number t.mode)) (what.ModeSet asynchronous ∷ []) (one_written old (mode_number t.mode)) refl (refl, tt, lawful)
+    statement_keeps (statement.PointCall index) at quiet = point_keeps index at (point_kind index) refl
     statement_keeps (statement.Push f v) at quiet = push_keeps script matches t frame below events lawful f v (value_of shared.globals frame v) at (names.pushed frame f v at) fits
     statement_keeps (statement.Pop v) at quiet = pop_keeps script matches t frame below events lawful t.handlers v (value_of shared.globals frame v) at fits
     statement_keeps s at quiet = no_change_keeps script own events (fits, lawful)

@@ -16,7 +16,7 @@ use Rattle.pct_model.specs.declared.state.Status.TheVariants as status
 use Rattle.pct_model.specs.declared.transition.NewThread.{NewThread}
 use Rattle.pct_model.specs.declared.transition.Transition.{Transition}
 use Rattle.pct_model.specs.Actions.{moved}
-use Rattle.pct_model.specs.Kept.{AreOpen, open_functions, is_join}
+use Rattle.pct_model.specs.Kept.{AreOpen, open_functions, is_join, is_call_of}
 use Rattle.pct_model.specs.NextStatement.{next_of}
 use Rattle.pct_model.specs.StopTable.{has_begun_to_end}
 use Rattle.pct_model.specs.ThreadSummary.{ThreadSummary}
@@ -84,6 +84,7 @@ module _ (script : Script) where
   -- a thread, by its status; no thread has one of the other statuses yet
   abbrev pub ByStatus : Status → Reason → List Frame → List (ℕ × ℕ) → ThreadSummary → Type 0
   ByStatus status.Running why frames handlers s = HasFrames why frames handlers s
+  ByStatus (status.AtPoint index) why frames handlers s = HasFrames why frames handlers s × (is_call_of index (next_of script frames) ≡ true)
   ByStatus (status.Joining id) why frames handlers s = HasFrames why frames handlers s × (is_join (next_of script frames) ≡ true)
   ByStatus status.Ending why frames handlers s = GoesToHandlers why frames handlers s
   ByStatus (status.Ended v) why frames handlers s = HasEnded v why frames handlers s

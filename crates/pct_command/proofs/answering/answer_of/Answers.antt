@@ -1,6 +1,6 @@
 use Rattle.std.proofs.Common.{take, refl, subst}
 use Rattle.pct_model.specs.Checks.{FirstFault}
-use Rattle.pct_command.proofs.AskedWords.{job_is_accepted, is_part}
+use Rattle.pct_command.proofs.AskedWords.{job_needs_input, is_part}
 use Rattle.pct_command.proofs.Scripts.{has-parts}
 use Rattle.pct_command.proofs.Outcomes.{script-answer}
 use Rattle.pct_command.proofs.NonEmptyTexts.{needs_bytes, faultless_bytes, some_of_prefix}
@@ -14,7 +14,7 @@ returns-in-Ok-clause-answer c = λ words asks.
 pub returns-in-Err-Refused-clause-answer : goal.returns-in-Err-Refused-clause-answer
 returns-in-Err-Refused-clause-answer c = λ words asks.
     rw c.in-Err-Refused.field-0-is
-    (script-answer words c.args.text.now c.in-Err-Refused.line c.in-Err-Refused.why (job_is_accepted words c.args.job asks) c.requires.fits
+    (script-answer words c.args.text.now c.in-Err-Refused.line c.in-Err-Refused.why (job_needs_input words c.args.job asks c.requires.input) c.requires.fits
     (subst (λ part. FirstFault part c.in-Err-Refused.line c.in-Err-Refused.why) (is_part words c.args.job c.args.text.now c.parts_of-end.result asks c.parts_of-end.ensures.parts) (rw c.in-Err-Refused.field-0-is at c.in-Err-Refused.ensures.refused)))
 
 pub returns-in-Ok-clause-memory : goal.returns-in-Ok-clause-memory

@@ -50,13 +50,13 @@ returns-clause-found c =
     let answer = answer_is script config.slots machine found.0 c.args.entry.tid c.query_at.result c.position_of-position.result c.answer_to-others.result placed found.2 position (c.query_at.ensures (process_view script machine).shared c.as_slice-globals.ensures) c.answer_to-others.ensures.value in
     let choices = c.choices_at.ensures.value script (thread_of found.0) machine.threads others position answer in
     let offered = ap (λ (these : List Alt). offers these c.args.entry.alt) (sym choices) ∙ sym c.offers.ensures ∙ c.if-not-offers.false in
-    let taken = c.transition_at.ensures.value (process_view script machine).shared (thread_of found.0) others (record { globals_are = c.as_slice-globals.ensures; exit_value_is = refl; no_exit_functions = refl }) position answer.alike in
+    let taken = c.transition_by.ensures.value (process_view script machine).shared (thread_of found.0) others (record { globals_are = c.as_slice-globals.ensures; exit_value_is = refl; no_exit_functions = refl }) position answer.alike in
     record {
       may = may;
       held = found.0;
       here = found.1;
       named = found.2;
-      fits = (c.transition_at.ensures.fits (thread_of found.0) position).actions;
+      fits = (c.transition_by.ensures.fits (thread_of found.0) position).actions;
       names = subst (λ (o : Transition). NamesFit c.in-Some.slot o.actions (on_held c.in-Some.slot (held_moved o) machine.threads)) (sym taken) (taken_names script config.slots c.in-Some.slot machine found.0 c.args.entry.alt placed found.1);
       created = subst (λ (o : Transition). NewFits o.created machine.threads) (sym taken) (taken_new script config.slots c.in-Some.slot machine found.0 c.args.entry.alt placed found.1 offered);
     }
@@ -74,7 +74,7 @@ returns-clause-value c =
     let answer = answer_is script config.slots machine found.0 c.args.entry.tid c.query_at.result c.position_of-position.result c.answer_to-others.result placed found.2 position (c.query_at.ensures (process_view script machine).shared c.as_slice-globals.ensures) c.answer_to-others.ensures.value in
     let choices = c.choices_at.ensures.value script (thread_of found.0) machine.threads others position answer in
     let offered = sym (c.offers.ensures ∙ ap (λ (these : List Alt). offers these c.args.entry.alt) choices) ∙ c.if-not-offers.false in
-    let taken = c.transition_at.ensures.value (process_view script machine).shared (thread_of found.0) others (record { globals_are = c.as_slice-globals.ensures; exit_value_is = refl; no_exit_functions = refl }) position answer.alike in
+    let taken = c.transition_by.ensures.value (process_view script machine).shared (thread_of found.0) others (record { globals_are = c.as_slice-globals.ensures; exit_value_is = refl; no_exit_functions = refl }) position answer.alike in
     legal_transition-found script config machine c.args.entry c.in-Some.slot found.0 may c.requires.placed found.1 found.2
     ∙ ap (λ b. if b then Some (transition_in script config.slots (process_view script machine) (thread_of found.0) c.args.entry.alt) else None) offered
     ∙ ap (λ (o : Transition). Some o) (sym taken)

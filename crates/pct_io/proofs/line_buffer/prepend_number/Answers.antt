@@ -12,7 +12,7 @@ returns-then-number-lt10 c =
     let e : at + 1 ≡ c.args.end = omega arith in
     let written : drop at (slice_set buffer at (48 + number)) ≡ decimal number ++ drop c.args.end buffer =
     rw (drop-set buffer at (48 + number) (omega arith), e, decimal_digit number c.if-number-lt10.true)
-    in record { len = length-set buffer at (48 + number); start = omega arith; written = written }
+    in record { len = length-set buffer at (48 + number); start = omega arith; written = written; none = _ }
 
 pub write_digits-requires : goal.write_digits-requires
 write_digits-requires c = search (rules, length-decimal-le 20)

@@ -4,8 +4,8 @@ use Rattle.pct_model.specs.World.{SharedState}
 use Rattle.pct_model.specs.OtherThreads.{Others}
 use Rattle.pct_engine.specs.Fitting.{TransitionFits}
 use Rattle.pct_engine.specs.declared.other_threads.Others.{Others as Answer}
-use Rattle.pct_engine.proofs.Fits.{transition_fits}
-use Rattle.pct_engine.proofs.transition_table.transition_at.Goals as goal
+use Rattle.pct_engine.proofs.Fits.{acting_fits, transition_fits}
+use Rattle.pct_engine.proofs.transition_table.transition_by.Goals as goal
 
 -- a shared state with these globals and this value of exit
 abbrev shared_with : List ℕ → Option ℕ → SharedState
@@ -15,9 +15,13 @@ shared_with globals exit_value = record { globals = globals; owners = []; counts
 abbrev seen_with : Answer → Others
 seen_with others = record { target = others.target; new_ids = []; is_last = others.is_last }
 
-pub returns-clause-fits : goal.returns-clause-fits
-returns-clause-fits c = λ t position.
+pub returns-in-Act-clause-fits : goal.returns-in-Act-clause-fits
+returns-in-Act-clause-fits c = λ t position.
+    subst (λ (o : Transition). TransitionFits (length t.frames) (length t.handlers) o) (sym c.acts_on_request.ensures) (acting_fits (length t.frames) (length t.handlers) c.args.position.now.thread.now.status)
+
+pub returns-in_default-clause-fits : goal.returns-in_default-clause-fits
+returns-in_default-clause-fits c = λ t position.
     let shared = shared_with c.args.globals.now c.args.exit_value in
     let seen = seen_with c.args.others.now in
-    let is = c.by_status.ensures shared t seen (record { globals_are = refl; exit_value_is = refl; no_exit_functions = refl }) position (record { target_is = refl; is_last_is = refl }) in
+    let is = c.transition_at.ensures shared t seen (record { globals_are = refl; exit_value_is = refl; no_exit_functions = refl }) position (record { target_is = refl; is_last_is = refl }) in
     subst (λ (o : Transition). TransitionFits (length t.frames) (length t.handlers) o) (sym is) (transition_fits c.args.program.now.script shared t seen c.args.choice)

@@ -1,0 +1,19 @@
+use Rattle.std.proofs.Common.{arith}
+use Rattle.std.proofs.lemmas.Result.{err_from_is_err_and}
+use Rattle.pct_io.proofs.WritesInTurn.{Writes-last, Writes-next, Writes-next_fails}
+use Rattle.pct_model.specs.Keywords.{line_text}
+use Rattle.pct_model.specs.Points.{row_words}
+use Rattle.pct_cancel.specs.Rows.{as_row}
+use Rattle.pct_cancel.proofs.point.write_rows.Goals as goal
+
+pub loop-row-preserved : goal.loop-row-preserved
+loop-row-preserved g c = λ new r writes.
+    c.loop-row.invariant new r (Writes-next (λ row. line_text (row_words (as_row row))) c.args.rows.now c.loop-row.row-index _ r (omega arith) c.in_ok-write_row.ensures writes)
+
+pub returns-in_err-write_row : goal.returns-in_err-write_row
+returns-in_err-write_row g c =
+    let p = err_from_is_err_and c.from_residual.result c.from_residual.ensures.1 in
+    rw p.1 (c.loop-row.invariant _ _ (Writes-next_fails (λ row. line_text (row_words (as_row row))) c.args.rows.now c.loop-row.row-index _ (omega arith) c.in_err-write_row.ensures))
+
+pub returns : goal.returns
+returns g c = c.loop-row.invariant _ _ (Writes-last (λ row. line_text (row_words (as_row row))) c.args.rows.now c.loop-row.row-index _ (omega arith))

@@ -1,0 +1,10 @@
+-- Which threads join which, over every run: the law of joins, and the clauses of the invariant on joined, detached and joining
+-- threads.
+pub mod JoinTransitions
+pub mod NamedThreads
+pub mod ReportedFlags
+pub mod NewestEvents
+pub mod JoiningThreads
+pub mod RunsSoFar
+pub mod LawfulJoins
+pub mod KeptJoins

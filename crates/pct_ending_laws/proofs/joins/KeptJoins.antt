@@ -1,0 +1,34 @@
+-- The clauses of the invariant on joins, and the law of joins, after every run.
+use Rattle.std.proofs.Common.{◌≡◌, ℕ, false, List, Option, Some, option_and_then, sym, ap, ◌∙◌}
+use Rattle.std.proofs.lemmas.Option.{option_and_then_some}
+use Rattle.pct_model.specs.declared.script.Script.{Script}
+use Rattle.pct_model.specs.declared.schedule.Config.{Config}
+use Rattle.pct_model.specs.declared.schedule.Entry.{Entry}
+use Rattle.pct_model.specs.declared.state.Status.TheVariants as status
+use Rattle.pct_model.specs.Kept.{Joins}
+use Rattle.pct_model.specs.OwnEvents.{made_process, thread_with, made_thread}
+use Rattle.pct_model.specs.Run.{Run, run}
+use Rattle.pct_model.specs.World.{Thread, Process}
+use Rattle.pct_ending_laws.proofs.joins.JoinTransitions.{is_in_join}
+use Rattle.pct_ending_laws.proofs.joins.NewestEvents.{newest_of_run}
+use Rattle.pct_ending_laws.proofs.joins.JoiningThreads.{JoinsOne, joins_of_processes}
+pub use Rattle.pct_ending_laws.proofs.joins.ReportedFlags.{joined_of_run, detached_of_run}
+pub use Rattle.pct_ending_laws.proofs.joins.LawfulJoins.{joins_of_run}
+
+-- each thread that is suspended in pthread_join
+pub kept_joins_of_run : (script : Script) (config : Config) (entries : List Entry) (r : Run) → run script config entries ≡ Some r
+    → (pid tid : ℕ) (t : Thread) → made_thread pid tid r.world ≡ Some t → t.gone ≡ false → (id : ℕ) → t.status ≡ status.Joining id → Joins pid tid id r.world r.events
+kept_joins_of_run script config entries r is pid tid t made here id joins =
+    option_and_then_some (thread_with tid) (made_process pid r.world) t made (λ p process_is thread_is.
+    let one : JoinsOne p.threads tid id = (joins_of_processes script config entries r is pid p process_is).joins tid t thread_is here id joins in
+    let in_process : (n : ℕ) → made_thread pid n r.world ≡ thread_with n p = λ n. ap (option_and_then (thread_with n)) process_is in
+    record {
+      newest = newest_of_run script config entries r is pid tid t made here (ap is_in_join joins);
+      target = one.target;
+      made = in_process id ∙ one.made;
+      here = one.here;
+      other = one.other;
+      not_joined = one.not_joined;
+      joinable = one.joinable;
+      alone = λ second u is_u. one.alone second u (sym (in_process second) ∙ is_u);
+    })
