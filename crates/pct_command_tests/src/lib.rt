@@ -8,4 +8,6 @@ mod cancellation;
 #[cfg(test)]
 mod harness;
 #[cfg(test)]
+mod keys;
+#[cfg(test)]
 mod threads;

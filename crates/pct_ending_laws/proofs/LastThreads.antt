@@ -9,7 +9,6 @@ use Rattle.pct_model.specs.declared.other_threads.Query.TheVariants as query
 use Rattle.pct_model.specs.declared.schedule.Alt.{Alt}
 use Rattle.pct_model.specs.declared.event.What.{What}
 use Rattle.pct_model.specs.declared.schedule.Config.{Config}
-use Rattle.pct_model.specs.declared.schedule.Entry.{Entry}
 use Rattle.pct_model.specs.declared.script.Script.{Script}
 use Rattle.pct_model.specs.declared.state.Status.{Status}
 use Rattle.pct_model.specs.declared.transition.Action.{Action}
@@ -20,8 +19,7 @@ use Rattle.pct_model.specs.Actions.{named_after, moved, thread_moved, thread_cre
 use Rattle.pct_model.specs.ChoiceTable.{choices_of, offers}
 use Rattle.pct_model.specs.NextStatement.{next_of, body_at}
 use Rattle.pct_model.specs.OtherThreads.{is_last, query_at, answer_to, others_of}
-use Rattle.pct_model.specs.OwnEvents.{made_process, thread_with}
-use Rattle.pct_model.specs.Run.{Run, run}
+use Rattle.pct_model.specs.OwnEvents.{thread_with}
 use Rattle.pct_model.specs.ThreadEnds.{end_value, ends_thread}
 use Rattle.pct_model.specs.ThreadSlots.{is_ended_status, holds_slot, is_live_thread, with_id}
 use Rattle.pct_model.specs.TransitionTable.{transition_by}
@@ -29,8 +27,9 @@ use Rattle.pct_model.specs.World.{Thread, Process}
 use Rattle.pct_ending_laws.proofs.lift.KeyedLists.{found_passes}
 use Rattle.pct_ending_laws.proofs.lift.ChangedThreads.{either_keeps, all_keep, other_threads}
 use Rattle.pct_ending_laws.proofs.lift.MadeThreads.{own_thread_with, is_here}
-use Rattle.pct_ending_laws.proofs.lift.EveryThread.{IsThreadRule, initial_thread, created_thread}
-use Rattle.pct_ending_laws.proofs.lift.EveryProcess.{OfItsThreads, IsProcessRule, every_process}
+use Rattle.pct_ending_laws.proofs.lift.RunsSoFar.{AfterEveryRun}
+use Rattle.pct_ending_laws.proofs.lift.EveryThread.{OfEveryThread, OfEveryProcess, OfItsThreads, of_its_threads, initial_thread, created_thread}
+use Rattle.pct_ending_laws.proofs.lift.EveryProcess.{IsProcessRule, every_process}
 use Rattle.pct_ending_laws.proofs.thread.OwnSummary.{summary}
 use Rattle.pct_ending_laws.proofs.thread.ThreadRule.{Rule}
 use Rattle.pct_ending_laws.proofs.thread.EndingSteps.{NeverEnds, moved_end, is_last_if, end_creates_none, ends_only, GoesOn, after_end, ended_by_status}
@@ -107,7 +106,7 @@ ended_by true false reclaimed false false is by_status other last = absurd (fals
 abbrev KeepsLast : Process → Type 0
 KeepsLast p = LastExits p.threads
 
-module _ (script : Script) (config : Config) (p : Process) (tid : ℕ) (t : Thread) (choice : Alt) (of_threads : OfItsThreads script config (Rule script) KeepsLast p)
+module _ (script : Script) (config : Config) (p : Process) (tid : ℕ) (t : Thread) (choice : Alt) (of_threads : OfItsThreads (Rule script config.passes) p)
     (is_thread : with_id tid p.threads ≡ Some t) (found : thread_with tid p ≡ Some t) (offered : offers (choices_of script config p t) choice ≡ true) (last : LastExits p.threads) where
   abbrev o : Transition
   o = transition_by script config p t choice
@@ -168,10 +167,10 @@ module _ (script : Script) (config : Config) (p : Process) (tid : ℕ) (t : Thre
   -- ---- the thread that moves
 
   -- if it has ended, it goes on, and creates nothing
-  goes_on : t.ended ≡ true → GoesOn (body_at script t.frames) p.shared t (others_of script config p t) choice t.status o
+  goes_on : t.ended ≡ true → GoesOn config.passes (body_at script t.frames) p.shared t (others_of script config p t) choice t.status o
   goes_on ended =
-      let rule : (events : List What) × Rule script t events = of_threads tid t found here in
-      after_end (body_at script t.frames) p.shared t (others_of script config p t) choice script t.reason t.frames t.handlers (summary rule.0) (rule.1.0.agrees.end ∙ ended) (next_of script t.frames) t.status rule.1.0.by_status offered
+      let rule : (events : List What) × Rule script config.passes t events = of_threads tid t found here in
+      after_end config.passes (body_at script t.frames) p.shared t (others_of script config p t) choice script t.reason t.frames t.handlers (summary rule.0) (rule.1.0.agrees.end ∙ ended) (next_of script t.frames) t.status rule.1.0.by_status offered
 
   -- where each thread had ended, each has after the transition
   ended_stay : AllEnded p.threads → AllEnded next.threads
@@ -184,19 +183,19 @@ module _ (script : Script) (config : Config) (p : Process) (tid : ℕ) (t : Thre
   others_if_last : is_last t.id p.threads ≡ true → OthersEnded
   others_if_last alone id u is present other =
       let passes : (not (holds_slot u) || (u.ended || nat_eq u.id t.id)) ≡ true = found_among (λ (x : Thread). nat_eq x.id id) (λ (x : Thread). not (holds_slot x) || (x.ended || nat_eq x.id t.id)) p.threads u alone is in
-      let rule : (events : List What) × Rule script u events = of_threads id u is present in
+      let rule : (events : List What) × Rule script config.passes u events = of_threads id u is present in
       ended_by (not u.gone) (is_ended_status u.status) (u.joined || u.detached) u.ended (nat_eq u.id t.id) (ap not present)
       (λ is_end. sym rule.1.0.agrees.end ∙ ended_by_status script u.status u.reason u.frames u.handlers (summary rule.0) is_end rule.1.0.by_status)
       (ap (λ (n : ℕ). nat_eq u.id n && holds_slot u) has_id ∙ other) passes
 
   ends_now : (t.ended ≡ false) → (moved o t).ended ≡ true → is_ended_status (moved o t).status ≡ false → AllEnded next.threads
-  ends_now alive ends status = by_end (ends_only (body_at script t.frames) p.shared t (others_of script config p t) choice (next_of script t.frames) t.status)
+  ends_now alive ends status = by_end (ends_only config.passes (body_at script t.frames) p.shared t (others_of script config p t) choice (next_of script t.frames) t.status)
     where
-      by_end : NeverEnds o ⊎ (o ≡ ends_thread (others_of script config p t).is_last (end_value t.reason)) → AllEnded next.threads
+      by_end : NeverEnds o ⊎ ((left : ℕ) × (o ≡ ends_thread (others_of script config p t).is_last left (end_value t.reason))) → AllEnded next.threads
       by_end (inl never) = absurd (false≢true (sym alive ∙ sym (moved_end o never t) ∙ ends))
-      by_end (inr is) =
-          let alone : (others_of script config p t).is_last ≡ true = is_last_if (others_of script config p t).is_last (end_value t.reason) t (subst (λ (x : Transition). is_ended_status (moved x t).status ≡ false) is status) in
-          let none : o.created ≡ None = ap (λ (x : Transition). x.created) is ∙ end_creates_none (others_of script config p t).is_last (end_value t.reason) in
+      by_end (inr (left, is)) =
+          let alone : (others_of script config p t).is_last ≡ true = is_last_if (others_of script config p t).is_last left (end_value t.reason) t (subst (λ (x : Transition). is_ended_status (moved x t).status ≡ false) is status) in
+          let none : o.created ≡ None = ap (λ (x : Transition). x.created) is ∙ end_creates_none (others_of script config p t).is_last left (end_value t.reason) in
           all_ended (others_if_last (last_asked config.slots t.id p.threads (query_at p.shared (next_of script t.frames) t.status) alone)) ends none
 
   -- ---- the process after the transition
@@ -226,13 +225,14 @@ module _ (script : Script) (config : Config) (p : Process) (tid : ℕ) (t : Thre
 first_last : (script : Script) → LastExits (initial_thread script ∷ [])
 first_last script id t found exits = absurd (false≢true (ap (λ (u : Thread). u.ended) (cond_some (nat_eq 1 id) (initial_thread script) t found).1 ∙ exits.1))
 
-last_rule : (script : Script) (config : Config) → IsProcessRule script config (Rule script) KeepsLast
+last_rule : (script : Script) (config : Config) → IsProcessRule script config (OfItsThreads (Rule script config.passes)) KeepsLast
 last_rule script config = record {
   initial = first_last script;
   own = λ p tid t choice of_threads is_thread found offered last. last_after script config p tid t choice of_threads is_thread found offered last;
   other = λ pid o p last. subst LastExits (sym (other_threads pid o p)) last;
 }
 
--- after every run, a thread that has ended exits its process only if each thread of the process has ended
-pub last_exits : (script : Script) (config : Config) → IsThreadRule script config (Rule script) → (entries : List Entry) (r : Run) → run script config entries ≡ Some r → (pid : ℕ) (p : Process) → made_process pid r.world ≡ Some p → LastExits p.threads
-last_exits script config rule entries r is = every_process script config (Rule script) KeepsLast rule (last_rule script config) entries r is
+-- after every run, a thread that has ended exits its process only if each thread of the process has ended, if the rule holds of every
+-- thread
+pub last_exits : (script : Script) (config : Config) → AfterEveryRun script config (OfEveryThread (Rule script config.passes)) → AfterEveryRun script config (OfEveryProcess KeepsLast)
+last_exits script config of = every_process script config (OfItsThreads (Rule script config.passes)) KeepsLast (last_rule script config) (λ entries r is. of_its_threads (Rule script config.passes) r (of entries r is))

@@ -1,6 +1,7 @@
 pub mod pushes
 pub mod StaticPushes
 pub mod lift
+pub mod keys
 pub mod thread
 pub mod ThreadsOfRun
 pub mod LastThreads

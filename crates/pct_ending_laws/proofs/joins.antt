@@ -5,6 +5,5 @@ pub mod NamedThreads
 pub mod ReportedFlags
 pub mod NewestEvents
 pub mod JoiningThreads
-pub mod RunsSoFar
 pub mod LawfulJoins
 pub mod KeptJoins

@@ -1,5 +1,6 @@
 -- What one thread keeps, beside its own events: by each transition, and in the sentences of Kept.antt.
 pub mod OwnSummary
+pub mod Passes
 pub mod ThreadRule
 pub mod NamedFunctions
 pub mod GoingOn

@@ -11,15 +11,17 @@ use Rattle.pct_model.specs.declared.statement.Stmt.TheVariants as statement
 use Rattle.pct_model.specs.Cancelability.{is_deliverable, is_asynchronous}
 use Rattle.pct_model.specs.CancelCalls.{called_kind}
 use Rattle.pct_model.specs.ChoiceTable.{go_if, act_if, statement_choices, cancel_rows, running_choices}
+use Rattle.pct_model.specs.Keys.{KeyPlace}
 use Rattle.pct_model.specs.OtherThreads.{Others}
 use Rattle.pct_model.specs.StopTable.{is_built}
 use Rattle.pct_model.specs.World.{Thread}
 
 -- a statement that is not implemented has `go` alone
-unbuilt_goes : (others : Others) (s : Stmt) → is_built s ≡ false → statement_choices others s ≡ alt.Go ∷ []
+unbuilt_goes : (keys : List KeyPlace) (others : Others) (s : Stmt) → is_built s ≡ false → statement_choices keys others s ≡ alt.Go ∷ []
 unfolding statement_choices
-unbuilt_goes others (statement.Create result id f v detached) unbuilt = absurd (false≢true (sym unbuilt))
-unbuilt_goes others s unbuilt = refl
+unbuilt_goes keys others (statement.Create result id f v detached) unbuilt = absurd (false≢true (sym unbuilt))
+unbuilt_goes keys others (statement.KeyCreate result key destructor) unbuilt = absurd (false≢true (sym unbuilt))
+unbuilt_goes keys others s unbuilt = refl
 
 -- one that calls a cancellation point is implemented
 call_is_built : (s : Stmt) (kind : PointKind) → called_kind s ≡ Some kind → is_built s ≡ true
@@ -35,9 +37,9 @@ at_kind (Some kinds.Required) others = alt.Act 0 ∷ []
 at_kind (Some kinds.Optional) others = alt.Go ∷ alt.Act 0 ∷ []
 at_kind None others = others
 
-module _ (t : Thread) (others : Others) (s : Stmt) where
+module _ (keys : List KeyPlace) (t : Thread) (others : Others) (s : Stmt) where
   -- with asynchronous cancelability
-  pub asynchronous_row : is_asynchronous t.state t.mode ≡ true → go_if true ++ act_if (t.pending && is_built s) ≡ running_choices t others s
+  pub asynchronous_row : is_asynchronous t.state t.mode ≡ true → go_if true ++ act_if (t.pending && is_built s) ≡ running_choices keys t others s
   unfolding running_choices cancel_rows
   asynchronous_row is = rw is (by t.pending (is_built s)) where
     by : (pending built : Bool) → go_if true ++ act_if (pending && built) ≡ cond (not built) (alt.Go ∷ []) (alt.Go ∷ act_if pending)
@@ -47,19 +49,19 @@ module _ (t : Thread) (others : Others) (s : Stmt) where
     by false false = refl
 
   -- where a request is acted upon at points
-  pub requested_row : (kind : Option PointKind) → is_asynchronous t.state t.mode ≡ false → is_deliverable t.state t.pending ≡ true → called_kind s ≡ kind → at_kind kind (statement_choices others s) ≡ running_choices t others s
+  pub requested_row : (kind : Option PointKind) → is_asynchronous t.state t.mode ≡ false → is_deliverable t.state t.pending ≡ true → called_kind s ≡ kind → at_kind kind (statement_choices keys others s) ≡ running_choices keys t others s
   unfolding running_choices cancel_rows
   requested_row (Some kinds.Required) deferred deliverable is = rw (call_is_built s kinds.Required is, deferred, deliverable, is) refl
   requested_row (Some kinds.Optional) deferred deliverable is = rw (call_is_built s kinds.Optional is, deferred, deliverable, is) refl
   requested_row None deferred deliverable is = rw (deferred, deliverable, is) (by (is_built s) refl) where
-    by : (built : Bool) → is_built s ≡ built → statement_choices others s ≡ cond (not built) (alt.Go ∷ []) (statement_choices others s)
+    by : (built : Bool) → is_built s ≡ built → statement_choices keys others s ≡ cond (not built) (alt.Go ∷ []) (statement_choices keys others s)
     by true is = refl
-    by false is = unbuilt_goes others s is
+    by false is = unbuilt_goes keys others s is
 
   -- where no request is acted upon
-  pub statement_row : is_asynchronous t.state t.mode ≡ false → is_deliverable t.state t.pending ≡ false → statement_choices others s ≡ running_choices t others s
+  pub statement_row : is_asynchronous t.state t.mode ≡ false → is_deliverable t.state t.pending ≡ false → statement_choices keys others s ≡ running_choices keys t others s
   unfolding running_choices cancel_rows
   statement_row deferred none = rw (deferred, none) (by (is_built s) refl) where
-    by : (built : Bool) → is_built s ≡ built → statement_choices others s ≡ cond (not built) (alt.Go ∷ []) (statement_choices others s)
+    by : (built : Bool) → is_built s ≡ built → statement_choices keys others s ≡ cond (not built) (alt.Go ∷ []) (statement_choices keys others s)
     by true is = refl
-    by false is = unbuilt_goes others s is
+    by false is = unbuilt_goes keys others s is

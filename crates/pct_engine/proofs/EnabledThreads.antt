@@ -17,7 +17,8 @@ use Rattle.pct_model.specs.NextStatement.{NextStatement, NoStatement, StatementI
 use Rattle.pct_model.specs.OtherThreads.{Others, target_is}
 use Rattle.pct_model.specs.Cancelability.{is_deliverable, is_asynchronous}
 use Rattle.pct_model.specs.CancelCalls.{called_kind, is_required, is_optional, may_pass}
-use Rattle.pct_model.specs.ChoiceTable.{choices_at, cancel_rows, running_choices, statement_choices, new_or_go, go_if, act_if, is_enabled}
+use Rattle.pct_model.specs.ChoiceTable.{choices_at, cancel_rows, running_choices, statement_choices, ending_choices, new_or_go, dtor_or_go, go_if, act_if, is_enabled}
+use Rattle.pct_model.specs.Keys.{KeyPlace, new_keys, left_keys}
 use Rattle.pct_model.specs.StopTable.{is_built}
 use Rattle.pct_threads.specs.declared.record.Thread.{Thread as Kept}
 use Rattle.pct_threads.specs.Slots.{Held, Slot}
@@ -25,18 +26,24 @@ use Rattle.pct_threads.specs.Tables.{held_at, thread_at, frames_at}
 use Rattle.pct_engine_laws.specs.SeenSteps.{others_in, target_in}
 use Rattle.pct_engine.specs.declared.machine.Machine.{Machine}
 use Rattle.pct_engine.specs.Positions.{next_at}
-use Rattle.pct_engine.specs.ReadyThreads.{is_ready_held}
-use Rattle.pct_engine.specs.Views.{thread_of, slot_view, process_view}
+use Rattle.pct_engine.specs.ReadyThreads.{is_ready}
+use Rattle.pct_engine.specs.Views.{slot_view, slots_view, machine_thread, process_view}
 use Rattle.pct_engine.proofs.JoinedThreads.{target_asked}
+use Rattle.pct_engine.proofs.RowAnswers.{target_on_rows}
 
 new_enabled : (ids : List ℕ) → is_enabled (new_or_go ids) ≡ true
 new_enabled [] = refl
 new_enabled (id ∷ ids) = refl
 
-statement_enabled : (others : Others) (s : Stmt) → is_enabled (statement_choices others s) ≡ true
+statement_enabled : (keys : List KeyPlace) (others : Others) (s : Stmt) → is_enabled (statement_choices keys others s) ≡ true
 unfolding statement_choices
-statement_enabled others (statement.Create result id f v detached) = new_enabled others.new_ids
-statement_enabled others s = refl
+statement_enabled keys others (statement.Create result id f v detached) = new_enabled others.new_ids
+statement_enabled keys others (statement.KeyCreate result key destructor) = new_enabled (new_keys keys)
+statement_enabled keys others s = refl
+
+dtor_enabled : (keys : List ℕ) → is_enabled (dtor_or_go keys) ≡ true
+dtor_enabled [] = refl
+dtor_enabled (key ∷ keys) = refl
 
 either_enabled : (b : Bool) (first second : List Alt) → is_enabled first ≡ true → is_enabled second ≡ true → is_enabled (cond b first second) ≡ true
 either_enabled true first second one other = one
@@ -48,42 +55,47 @@ two_enabled true false = refl
 two_enabled false true = refl
 two_enabled false false = refl
 
-module _ (t : Thread) (others : Others) where
+module _ (keys : List KeyPlace) (t : Thread) (others : Others) where
   -- a running thread has a choice exactly if it has a next statement
-  pub running_enabled : (next : Option (Bor Frame × Bor Stmt)) → is_some next ≡ is_enabled (choices_at t others (next_at next) status.Running)
+  pub running_enabled : (next : Option (Bor Frame × Bor Stmt)) → is_some next ≡ is_enabled (choices_at keys t others (next_at next) status.Running)
   unfolding choices_at running_choices cancel_rows
   running_enabled None = refl
   running_enabled (Some (frame, s)) =
       sym (either_enabled (not (is_built s.now)) (alt.Go ∷ []) _ refl
       (either_enabled (is_asynchronous t.state t.mode) (alt.Go ∷ act_if t.pending) _ refl
       (either_enabled (is_deliverable t.state t.pending && is_required (called_kind s.now)) (alt.Act 0 ∷ []) _ refl
-      (either_enabled (is_deliverable t.state t.pending && is_optional (called_kind s.now)) (alt.Go ∷ alt.Act 0 ∷ []) (statement_choices others s.now) refl (statement_enabled others s.now)))))
+      (either_enabled (is_deliverable t.state t.pending && is_optional (called_kind s.now)) (alt.Go ∷ alt.Act 0 ∷ []) (statement_choices keys others s.now) refl (statement_enabled keys others s.now)))))
 
   -- one that is suspended at a point, exactly if it may act upon a request or go on
-  pub point_enabled : (next : NextStatement) (index : ℕ) → (is_deliverable t.state t.pending || may_pass index) ≡ is_enabled (choices_at t others next (status.AtPoint index))
+  pub point_enabled : (next : NextStatement) (index : ℕ) → (is_deliverable t.state t.pending || may_pass index) ≡ is_enabled (choices_at keys t others next (status.AtPoint index))
   unfolding choices_at
   point_enabled NoStatement index = two_enabled (may_pass index) (is_deliverable t.state t.pending)
   point_enabled (StatementIn frame s) index = two_enabled (may_pass index) (is_deliverable t.state t.pending)
 
   -- one that joins another, exactly if it may act upon a request or the other has ended
-  pub joining_enabled : (next : NextStatement) (id : ℕ) → (is_deliverable t.state t.pending || target_is (λ target. is_some target.value) others.target) ≡ is_enabled (choices_at t others next (status.Joining id))
+  pub joining_enabled : (next : NextStatement) (id : ℕ) → (is_deliverable t.state t.pending || target_is (λ target. is_some target.value) others.target) ≡ is_enabled (choices_at keys t others next (status.Joining id))
   unfolding choices_at
   joining_enabled NoStatement id = two_enabled (target_is (λ target. is_some target.value) others.target) (is_deliverable t.state t.pending)
   joining_enabled (StatementIn frame s) id = two_enabled (target_is (λ target. is_some target.value) others.target) (is_deliverable t.state t.pending)
 
   -- one that is ending has one, and one that exits its process
-  pub ending_enabled : (next : NextStatement) → true ≡ is_enabled (choices_at t others next status.Ending)
-  unfolding choices_at
-  ending_enabled NoStatement = refl
-  ending_enabled (StatementIn frame s) = refl
+  end_enabled : (handlers : List (ℕ × ℕ)) → true ≡ is_enabled (ending_choices keys t others handlers)
+  unfolding ending_choices
+  end_enabled (handler ∷ handlers) = refl
+  end_enabled [] = sym (dtor_enabled (left_keys keys t.specific))
 
-  pub exiting_enabled : (next : NextStatement) → true ≡ is_enabled (choices_at t others next status.Exiting)
+  pub ending_enabled : (next : NextStatement) → true ≡ is_enabled (choices_at keys t others next status.Ending)
+  unfolding choices_at
+  ending_enabled NoStatement = end_enabled t.handlers
+  ending_enabled (StatementIn frame s) = end_enabled t.handlers
+
+  pub exiting_enabled : (next : NextStatement) → true ≡ is_enabled (choices_at keys t others next status.Exiting)
   unfolding choices_at
   exiting_enabled NoStatement = refl
   exiting_enabled (StatementIn frame s) = refl
 
   -- no other thread has one
-  pub none_enabled : (next : NextStatement) (s : Status) → (s ≡ status.Running → ⊥) → ((index : ℕ) → s ≡ status.AtPoint index → ⊥) → ((id : ℕ) → s ≡ status.Joining id → ⊥) → (s ≡ status.Ending → ⊥) → (s ≡ status.Exiting → ⊥) → false ≡ is_enabled (choices_at t others next s)
+  pub none_enabled : (next : NextStatement) (s : Status) → (s ≡ status.Running → ⊥) → ((index : ℕ) → s ≡ status.AtPoint index → ⊥) → ((id : ℕ) → s ≡ status.Joining id → ⊥) → (s ≡ status.Ending → ⊥) → (s ≡ status.Exiting → ⊥) → false ≡ is_enabled (choices_at keys t others next s)
   unfolding choices_at
   none_enabled next status.Running running suspended joining ending exiting = absurd (running refl)
   none_enabled next (status.AtPoint index) running suspended joining ending exiting = absurd (suspended index refl)
@@ -95,18 +107,20 @@ module _ (t : Thread) (others : Others) where
 
 -- ---- a thread of a machine
 
-module _ (script : Script) (m : Machine) (held : Held) where
+module _ (script : Script) (m : Machine) (slot : ℕ) (held : Held) where
   -- what it sees of the others
   abbrev pub others_held : Others
-  others_held = others_in script (length m.threads) (process_view script m) (thread_of held)
+  others_held = others_in script (length m.threads) (process_view script m) (machine_thread m slot held)
 
   -- whether it is ready, by its status
-  pub ready_by : (s : Status) → held.thread.status ≡ s → is_enabled (choices_at (thread_of held) others_held (next_of script held.frames) s) ≡ is_ready_held script m held
-  ready_by s is = ap (λ (x : Status). is_enabled (choices_at (thread_of held) others_held (next_of script held.frames) x)) (sym is)
+  pub ready_by : (s : Status) → held.thread.status ≡ s → is_enabled (choices_at m.keys.places (machine_thread m slot held) others_held (next_of script held.frames) s) ≡ is_ready script m (machine_thread m slot held)
+  ready_by s is = ap (λ (x : Status). is_enabled (choices_at m.keys.places (machine_thread m slot held) others_held (next_of script held.frames) x)) (sym is)
 
   -- the thread that it joins
   pub joined_seen : (id : ℕ) → held.thread.status ≡ status.Joining id → target_in (length m.threads) id (map slot_view m.threads) ≡ others_held.target
-  joined_seen id is = sym (target_asked (length m.threads) held.id id (map slot_view m.threads) (process_view script m).shared (next_of script held.frames) held.thread.status is)
+  joined_seen id is =
+      sym (target_on_rows (length m.threads) id m.keys.rows (map slot_view m.threads))
+      ∙ sym (target_asked (length m.threads) held.id id (slots_view m) (process_view script m).shared (next_of script held.frames) held.thread.status is)
 
 -- the record that is read of a thread
 pub record_read : (threads : List Slot) (slot : ℕ) (held : Held) (kept : Kept) → held_at threads slot ≡ Some held → thread_at threads slot ≡ Some kept → held.thread ≡ kept

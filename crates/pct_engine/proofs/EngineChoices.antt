@@ -19,10 +19,10 @@ use Rattle.pct_engine_laws.proofs.StepSeen.{successor_of}
 use Rattle.pct_engine_laws.proofs.VerdictSeen.{verdict_is_seen}
 use Rattle.pct_engine.specs.declared.machine.Machine.{Machine}
 use Rattle.pct_engine.specs.Views.{machine_view}
-use Rattle.pct_engine.specs.Steps.{legal_transition, ArePlacedIn, IdsFitIn, IsSeenChoice}
+use Rattle.pct_engine.specs.Steps.{legal_transition, ArePlacedIn, NumbersFitIn, IsSeenChoice}
 use Rattle.pct_engine.specs.EngineStates.{StandsFor, IsRunWith, IsChoice}
 use Rattle.pct_engine.proofs.StepViews.{placed_in, step_by_view}
-use Rattle.pct_engine.proofs.FittingIds.{ids_in}
+use Rattle.pct_engine.proofs.FittingIds.{numbers_in}
 use Rattle.pct_engine.proofs.Readiness.{is_open}
 
 -- a configuration within the limits has a slot
@@ -72,7 +72,7 @@ choice_after script config history events m after worker a b answer stands is sm
     let verdict = verdict_after script config history events m after (length history) stands is in
     let within = run_parts script config history after is in
     let some : 0 < config.slots = some_slots config within.limits in
-    let placed = placed_in script config.slots m after.world view in
+    let placed = placed_in script config.slots m after.world view stands.rows_are in
     let long : (m.has_ended ≡ false → length m.threads ≡ config.slots) = λ live. (placed live).all in
     record {
       scheduled = λ going. choice.chosen (verdict ∙ going) ∙ ap (λ (v : Seen). seen_chosen script config.slots v worker a b) view ∙ sym (chosen_is_seen script config after.world worker a b some);
@@ -90,8 +90,8 @@ choice_after script config history events m after worker a b answer stands is sm
 
 -- its threads are on as many slots as the configuration has, while the process has not ended
 pub slots_after : (script : Script) (config : Config) (history : List Entry) (events : List Event) (m : Machine) → StandsFor script config history events m → m.has_ended ≡ false → length m.threads ≡ config.slots
-slots_after script config history events m stands live = (placed_in script config.slots m stands.after.world stands.parts_are live).all
+slots_after script config history events m stands live = (placed_in script config.slots m stands.after.world stands.parts_are stands.rows_are live).all
 
--- the ids of new threads fit 32 bits
-pub ids_after : (script : Script) (config : Config) (history : List Entry) (events : List Event) (m : Machine) → StandsFor script config history events m → IdsFitIn m
-ids_after script config history events m stands = ids_in script config history stands.after m stands.is_run stands.parts_are
+-- the numbers of new threads and keys fit 32 bits
+pub numbers_after : (script : Script) (config : Config) (history : List Entry) (events : List Event) (m : Machine) → StandsFor script config history events m → NumbersFitIn m
+numbers_after script config history events m stands = numbers_in script config history stands.after m stands.is_run stands.parts_are stands.rows_are

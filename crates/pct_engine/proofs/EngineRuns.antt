@@ -14,6 +14,7 @@ use Rattle.pct_engine_laws.proofs.LongerRuns.{run_more, run_full, run_after, run
 use Rattle.pct_engine.specs.declared.machine.Machine.{Machine}
 use Rattle.pct_engine.specs.Joiners.{HaveJoiners}
 use Rattle.pct_engine.specs.Steps.{IsStepOf}
+use Rattle.pct_engine.specs.Views.{HasRows}
 use Rattle.pct_engine.specs.EngineStates.{StandsFor}
 
 reverse-map : {A B : Type 0} (f : A → B) (xs : List A) → reverse (map f xs) ≡ map f (reverse xs)
@@ -25,9 +26,9 @@ reverse-map f (x ∷ xs) =
     ∙ ap (map f) (sym (reverse-append (x ∷ []) xs))
 
 -- an engine after a step that it recorded
-pub stands-more : (script : Script) (config : Config) (history : List Entry) (events : List Event) (m new : Machine) (e : Entry) (whats : List What) → length history < config.budget → (stands : StandsFor script config history events m) → IsStepOf script config stands.after.world new e whats → HaveJoiners new.threads
+pub stands-more : (script : Script) (config : Config) (history : List Entry) (events : List Event) (m new : Machine) (e : Entry) (whats : List What) → length history < config.budget → (stands : StandsFor script config history events m) → IsStepOf script config stands.after.world new e whats → HasRows new → HaveJoiners new.threads
     → StandsFor script config (history ++ e ∷ []) (events ++ map (event_of e) whats) new
-stands-more script config history events m new e whats left stands made joiners =
+stands-more script config history events m new e whats left stands made rows joiners =
     let r = stands.after in
     let s = made.successor in
     record {
@@ -38,6 +39,7 @@ stands-more script config history events m new e whats left stands made joiners 
           ∙ ap (λ (es : List Event). es ++ reverse events) (reverse-map (event_of e) whats ∙ ap (λ (xs : List What). map (event_of e) (reverse xs)) made.events_are)
           ∙ ap (λ (es : List Event). map (event_of e) (reverse s.events) ++ es) stands.events_are;
       parts_are = made.view_is;
+      rows_are = rows;
       joiners_are = joiners;
     }
 

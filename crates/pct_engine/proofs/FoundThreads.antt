@@ -3,6 +3,7 @@ use Rattle.std.proofs.Common.{◌≡◌, ℕ, ◌<◌, Bool, true, false, not, �
 use Rattle.std.specs.Prelude.{nat_eq, nat_le, slice_get, is_some, is_none, option_map, option_and_then, find}
 use Rattle.std.specs.Option.{option_map_or}
 use Rattle.std.proofs.lemmas.Bool.{cases_lt, and_parts, and_cases, and_from, eq-eqb, eqb-true, eqb-false, ne_eqb, not-true, not-false, cond-true, cond-false}
+use Rattle.std.proofs.lemmas.List.{get_or-map, length-map}
 use Rattle.std.proofs.lemmas.Option.{slice_get-map, slice_get-get_or, slice_get_past}
 use Rattle.pct_model.specs.declared.script.Script.{Script}
 use Rattle.pct_model.specs.declared.schedule.Config.{Config}
@@ -12,11 +13,14 @@ use Rattle.pct_model.specs.ThreadSlots.{slot_of}
 use Rattle.pct_threads.specs.Slots.{Held, Slot, unused, has_id}
 use Rattle.pct_threads.specs.Tables.{slot_at, held_at}
 use Rattle.pct_threads.proofs.TableLemmas.{within-occupied}
-use Rattle.pct_engine_laws.specs.Seen.{SeenProcess, is_live_seen}
+use Rattle.pct_engine_laws.specs.Seen.{SeenSlot, SeenProcess, is_live_seen}
 use Rattle.pct_engine_laws.specs.SeenSteps.{thread_on, thread_with, if_offered_in, seen_transition}
 use Rattle.pct_engine.specs.declared.machine.Machine.{Machine}
-use Rattle.pct_engine.specs.Views.{thread_of, threads_of, slot_view, process_view, unless_ended, machine_view}
+use Rattle.pct_keys.specs.Tables.{row_at}
+use Rattle.pct_engine.specs.Views.{thread_of, threads_of, slot_view, with_specific, with_row, slots_view, machine_thread, HasRows, process_view, unless_ended, machine_view}
 use Rattle.pct_engine.specs.Steps.{legal_transition, may_step, ArePlacedIn}
+use Rattle.pct_engine.proofs.RowAnswers.{none_on_rows}
+use Rattle.pct_engine.proofs.RowViews.{slice_get-with_rows}
 
 -- ---- the thread that is kept
 
@@ -25,7 +29,7 @@ thread_on-here o held id here named =
     ap (λ (x : Option Held). find (λ t. nat_eq t.id id) (threads_of x)) here
     ∙ cond-true (nat_eq held.id id) (Some (thread_of held)) None (eq-eqb held.id id named)
 
--- the thread on a slot of the table is the one in what is kept of the process
+-- the thread on a slot of the table is the one in what is kept of the process, beside its data
 pub thread_with-here : (slots id slot : ℕ) (threads : List Slot) (held : Held) → held_at threads slot ≡ Some held → held.id ≡ id → slot_of slots id ≡ slot → slot < length threads → thread_with slots id (map slot_view threads) ≡ Some (thread_of held)
 thread_with-here slots id slot threads held here named placed inside =
     ap (λ (i : ℕ). option_and_then (thread_on id) (slice_get (map slot_view threads) i)) placed
@@ -47,6 +51,18 @@ thread_with-none slots id slot threads on none =
           ∙ thread_on-none (held_at threads slot) id none
       | inr past ↦ ap (λ (s : Option Slot). option_and_then (thread_on id) (option_map slot_view s)) (slice_get_past threads slot past)
     ]
+
+-- the thread on a slot of a machine is the one in what is kept of its process
+pub thread_with-machine : (slots id slot : ℕ) (m : Machine) (held : Held) → HasRows m → held_at m.threads slot ≡ Some held → held.id ≡ id → slot_of slots id ≡ slot → thread_with slots id (slots_view m) ≡ Some (machine_thread m slot held)
+thread_with-machine slots id slot m held fit here named placed =
+    let inside : slot < length m.threads = within-occupied m.threads slot (ap is_some here) in
+    let low : slot < length (map slot_view m.threads) = rw (length-map m.threads slot_view) inside in
+    ap (λ (i : ℕ). option_and_then (thread_on id) (slice_get (slots_view m) i)) placed
+    ∙ ap (option_and_then (thread_on id)) (
+    slice_get-with_rows m.keys.rows (map slot_view m.threads) slot _ (slot_view unused) (fit ∙ sym (length-map m.threads slot_view)) low
+    ∙ ap (λ (s : SeenSlot). Some (with_row (row_at m.keys slot) s)) (get_or-map slot_view m.threads slot unused (slot_view unused) inside))
+    ∙ ap (λ (x : Option Held). find (λ t. nat_eq t.id id) (map (with_specific (row_at m.keys slot)) (threads_of x))) here
+    ∙ cond-true (nat_eq held.id id) (Some (machine_thread m slot held)) None (eq-eqb held.id id named)
 
 -- ---- the transition
 
@@ -85,7 +101,7 @@ none_either false o none = refl
 
 -- what an entry takes of a process
 abbrev taken_in : Script → Config → Entry → SeenProcess → Option Transition
-taken_in script config e p = option_and_then (if_offered_in script config.slots p e) (thread_with config.slots e.tid p.slots)
+taken_in script config e p = option_and_then (if_offered_in script config.slots config.passes p e) (thread_with config.slots e.tid p.slots)
 
 -- an entry that a machine refuses takes none
 pub legal_transition-refused : (script : Script) (config : Config) (m : Machine) (e : Entry) → may_step m e ≡ false → legal_transition script config (machine_view script m) e ≡ None
@@ -104,7 +120,7 @@ legal_transition-refused script config m e refused =
     ]
 
 -- an entry that it admits takes that of the thread
-pub legal_transition-admitted : (script : Script) (config : Config) (m : Machine) (e : Entry) → may_step m e ≡ true → legal_transition script config (machine_view script m) e ≡ option_and_then (if_offered_in script config.slots (process_view script m) e) (thread_with config.slots e.tid (map slot_view m.threads))
+pub legal_transition-admitted : (script : Script) (config : Config) (m : Machine) (e : Entry) → may_step m e ≡ true → legal_transition script config (machine_view script m) e ≡ option_and_then (if_offered_in script config.slots config.passes (process_view script m) e) (thread_with config.slots e.tid (slots_view m))
 legal_transition-admitted script config m e may =
     let parts = admits m e may in
     cond-true (is_none m.stop && nat_le e.worker 16) (seen_transition script config (machine_view script m) e) None (and_from (is_none m.stop) (nat_le e.worker 16) parts.running parts.worker)
@@ -114,13 +130,13 @@ legal_transition-admitted script config m e may =
 pub legal_transition-unfound : (script : Script) (config : Config) (m : Machine) (e : Entry) → may_step m e ≡ true → ArePlacedIn config.slots m → thread_with (length m.threads) e.tid (map slot_view m.threads) ≡ None → legal_transition script config (machine_view script m) e ≡ None
 legal_transition-unfound script config m e may placed none =
     legal_transition-admitted script config m e may
-    ∙ ap (λ (slots : ℕ). option_and_then (if_offered_in script config.slots (process_view script m) e) (thread_with slots e.tid (map slot_view m.threads))) (sym (placed (admits m e may).live).all)
-    ∙ ap (option_and_then (if_offered_in script config.slots (process_view script m) e)) none
+    ∙ ap (λ (slots : ℕ). option_and_then (if_offered_in script config.slots config.passes (process_view script m) e) (thread_with slots e.tid (slots_view m))) (sym (placed (admits m e may).live).all)
+    ∙ ap (option_and_then (if_offered_in script config.slots config.passes (process_view script m) e)) (none_on_rows (length m.threads) e.tid m.keys.rows (map slot_view m.threads) none)
 
 -- that of the thread on a slot
-pub legal_transition-found : (script : Script) (config : Config) (m : Machine) (e : Entry) (slot : ℕ) (held : Held) → may_step m e ≡ true → ArePlacedIn config.slots m → held_at m.threads slot ≡ Some held → held.id ≡ e.tid
-    → legal_transition script config (machine_view script m) e ≡ if_offered_in script config.slots (process_view script m) e (thread_of held)
-legal_transition-found script config m e slot held may placed here named =
+pub legal_transition-found : (script : Script) (config : Config) (m : Machine) (e : Entry) (slot : ℕ) (held : Held) → may_step m e ≡ true → ArePlacedIn config.slots m → HasRows m → held_at m.threads slot ≡ Some held → held.id ≡ e.tid
+    → legal_transition script config (machine_view script m) e ≡ if_offered_in script config.slots config.passes (process_view script m) e (machine_thread m slot held)
+legal_transition-found script config m e slot held may placed fit here named =
     let placed_on : slot_of config.slots e.tid ≡ slot = ap (λ (id : ℕ). slot_of config.slots id) (sym named) ∙ (placed (admits m e may).live).place slot held here in
     legal_transition-admitted script config m e may
-    ∙ ap (option_and_then (if_offered_in script config.slots (process_view script m) e)) (thread_with-here config.slots e.tid slot m.threads held here named placed_on (within-occupied m.threads slot (ap is_some here)))
+    ∙ ap (option_and_then (if_offered_in script config.slots config.passes (process_view script m) e)) (thread_with-machine config.slots e.tid slot m held fit here named placed_on)

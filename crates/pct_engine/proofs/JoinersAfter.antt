@@ -1,5 +1,5 @@
 -- The step of a machine keeps the joiners of its threads, and the machine before the first step has none.
-use Rattle.std.proofs.Common.{◌≡◌, ◌≢◌, ℕ, ◌<◌, Bool, true, false, cond, List, [], ◌∷◌, map, length, replicate, Option, Some, None, refl, sym, ap, ◌∙◌, subst, arith, inl, inr}
+use Rattle.std.proofs.Common.{◌≡◌, ◌≢◌, ℕ, ◌<◌, Bool, true, false, cond, List, [], ◌∷◌, ◌++◌, map, length, replicate, Option, Some, None, refl, sym, ap, ◌∙◌, subst, arith, inl, inr}
 use Rattle.std.specs.Prelude.{is_some, option_map}
 use Rattle.std.specs.Option.{option_map_or}
 use Rattle.std.proofs.lemmas.Bool.{cases_lt}
@@ -16,27 +16,32 @@ use Rattle.pct_model.specs.declared.transition.Action.TheVariants as action
 use Rattle.pct_model.specs.declared.transition.Transition.{Transition}
 use Rattle.pct_model.specs.Actions.{for_each}
 use Rattle.pct_model.specs.ChoiceTable.{offers}
-use Rattle.pct_model.specs.NextStatement.{next_of, body_at}
+use Rattle.pct_model.specs.declared.event.What.TheVariants.{PassBegun}
+use Rattle.pct_model.specs.Keys.{KeyPlace, KeyValues}
+use Rattle.pct_model.specs.KeyCalls.{creates_key, deletes_key, sets_specific}
+use Rattle.pct_model.specs.ThreadEnds.{calls_destructor}
 use Rattle.pct_model.specs.ThreadSlots.{is_ended_status}
 use Rattle.pct_model.specs.CancelCalls.{requests, acts_on_request}
 use Rattle.pct_model.specs.ThreadCalls.{begins_join, ends_join, detaches}
-use Rattle.pct_model.specs.Transitions.{written, no_change}
+use Rattle.pct_model.specs.Transitions.{acts, written, no_change}
 use Rattle.pct_threads.specs.Slots.{Held, Slot, unused, freed, new_held, with_frame_word}
 use Rattle.pct_threads.specs.Tables.{held_at, id_at, next_id_at, on_held, with_created}
 use Rattle.pct_threads.proofs.TableLemmas.{within-occupied}
-use Rattle.pct_engine_laws.specs.SeenSteps.{choices_in, transition_in}
+use Rattle.pct_engine_laws.specs.SeenSteps.{choices_in}
 use Rattle.pct_engine.specs.declared.machine.Machine.{Machine}
 use Rattle.pct_engine.specs.Fitting.{NewFits}
 use Rattle.pct_engine.specs.Joiners.{HaveJoiners}
 use Rattle.pct_engine.specs.MachineChanges.{held_at_pc, held_after, held_moved, on_named, named_on, settled, with_new, machine_moved}
 use Rattle.pct_engine.specs.Steps.{legal_transition, ArePlacedIn, IsFound}
-use Rattle.pct_engine.specs.Views.{thread_of, slot_view, process_view, machine_view, ArePlaced}
+use Rattle.pct_keys.specs.Tables.{row_at}
+use Rattle.pct_engine.specs.Views.{slot_view, machine_thread, HasRows, process_view, machine_view, ArePlaced}
 use Rattle.pct_engine.proofs.FoundThreads.{admits, legal_transition-found}
 use Rattle.pct_engine.proofs.HeldChanges.{acted_threads, on_held-nothing, held_at-on_held}
 use Rattle.pct_engine.proofs.JoinedThreads.{seen_is, seen_held, seen_unjoined, target_ended}
 use Rattle.pct_engine.proofs.JoinersKept.{IsAlike, own_kept, own_unjoined, end_kept, cancel_kept, begin_kept, request_kept, detach_kept, settled_kept, created_kept, new_kept, more_at}
 use Rattle.pct_engine.proofs.MachineViews.{table_moved}
-use Rattle.pct_engine.proofs.NamedFits.{IsNotJoining, IsQuiet, AreQuiet, quiet_names, written_quiet, ByName, taken_case}
+use Rattle.pct_engine.proofs.FittingSteps.{taken, by_case}
+use Rattle.pct_engine.proofs.NamedFits.{IsNotJoining, IsQuiet, AreQuiet, quiet_names, plain_quiet, written_plain, both_plain, ByName}
 use Rattle.pct_engine.proofs.OpenTables.{after_names, inside_names, follows_moved}
 use Rattle.pct_engine.proofs.OpenTables as tables
 
@@ -115,8 +120,8 @@ module _ (slots slot : ℕ) (threads : List Slot) (h : Held) (placed : ArePlaced
   ends_kept next id v d is over =
       let o = ends_join next d id v in
       let acted : List Slot = on_held slot (held_moved o) threads in
-      subst HaveJoiners (sym (quiet_names slot (written d v) (on_named id freed acted) (written_quiet d v)))
-      (end_kept slot threads h here was slots placed.place id (held_moved o) (alike_moved o h) (quiet_all (written d v) (held_at_pc (Some next) h) (written_quiet d v) (λ n. refl)) is over)
+      subst HaveJoiners (sym (quiet_names slot (written d v) (on_named id freed acted) (plain_quiet (written d v) (written_plain d v))))
+      (end_kept slot threads h here was slots placed.place id (held_moved o) (alike_moved o h) (quiet_all (written d v) (held_at_pc (Some next) h) (plain_quiet (written d v) (written_plain d v)) (λ n. refl)) is over)
 
   canceled_kept : (id : ℕ) → h.thread.status ≡ status.Joining id → Keeps (acts_on_request (status.Joining id))
   unfolding acts_on_request held_after held_at_pc named_on
@@ -139,11 +144,12 @@ module _ (slots slot : ℕ) (threads : List Slot) (h : Held) (placed : ArePlaced
       (own_kept slot threads h here was moved alike running (λ n. refl))
       (own_unjoined slot threads h here was moved alike id (λ n. refl) unjoined)
 
-  -- a transition that the thread on the slot may make
-  keeps : ByName Keeps slots h.id (map slot_view threads) h.thread.status
-  keeps = record {
+  -- a transition that the thread on the slot may make, in a process with these keys
+  keeps : (keys : List KeyPlace) (own : KeyValues) → ByName Keeps slots h.id (map slot_view threads) keys own h.thread.status
+  unfolding creates_key deletes_key sets_specific calls_destructor
+  keeps keys own = record {
     rests = rests_kept;
-    quiet = quiet_kept;
+    plain = λ o not plain. quiet_kept o not (plain_quiet o.actions plain);
     begins = λ id x running seen other joinable unjoined.
         let g = seen_held slots id threads placed x seen in
         begins_kept id g.0 g.1 g.2 g.3 other (ap (λ (y : Target). y.detached) (seen_is slots id threads placed x seen g.0 g.1 g.2 g.3) ∙ joinable) (seen_unjoined slots id threads placed x seen unjoined) running;
@@ -151,6 +157,11 @@ module _ (slots slot : ℕ) (threads : List Slot) (h : Held) (placed : ArePlaced
     canceled = canceled_kept;
     requested = requested_kept;
     detached = λ next id x running seen unjoined. detaches_kept next id running (seen_unjoined slots id threads placed x seen unjoined);
+    made = λ next k result key destructor running among. quiet_kept (creates_key next result key destructor k) running (tt, plain_quiet (written result 0 ++ written key k) (both_plain result key 0 k));
+    deleted = λ next k running named. quiet_kept (deletes_key next k) running (tt, tt);
+    set = λ next k v running named. quiet_kept (sets_specific next k v) running (tt, tt);
+    begun = λ n running. quiet_kept (acts (action.BeginPass ∷ []) (PassBegun n ∷ [])) running (tt, tt);
+    taken = λ pass k v f running among. quiet_kept (calls_destructor pass k v (Some f)) running (tt, (tt, tt));
   }
 
   -- the table after it
@@ -162,23 +173,23 @@ module _ (slots slot : ℕ) (threads : List Slot) (h : Held) (placed : ArePlaced
 
 -- ---- the step
 
-offered_is : (b : Bool) (x o : Transition) → cond b (Some x) None ≡ Some o → x ≡ o
-offered_is true x o is = same_Some x o is
+offered_is : (b : Bool) (x o : Transition) → cond b (Some x) None ≡ Some o → (b ≡ true) × (x ≡ o)
+offered_is true x o is = (refl, same_Some x o is)
 offered_is false x o is = absurd (none-some o is)
 
 -- a transition of the thread on a slot
-pub joiners_made : (script : Script) (config : Config) (m new : Machine) (e : Entry) (slot : ℕ) (o : Transition) → ArePlacedIn config.slots m → HaveJoiners m.threads → IsFound m e slot o
+pub joiners_made : (script : Script) (config : Config) (m new : Machine) (e : Entry) (slot : ℕ) (o : Transition) → ArePlacedIn config.slots m → HasRows m → HaveJoiners m.threads → IsFound m e slot o
     → legal_transition script config (machine_view script m) e ≡ Some o → new ≡ machine_moved slot o m → HaveJoiners new.threads
-joiners_made script config m new e slot o placed was found legal moved =
+joiners_made script config m new e slot o placed fit was found legal moved =
     let h : Held = found.held in
     let on : ArePlaced config.slots m.threads = placed (admits m e found.may).live in
-    let taken : Transition = transition_in script config.slots (process_view script m) (thread_of h) e.alt in
-    let same : taken ≡ o = offered_is (offers (choices_in script config.slots (process_view script m) (thread_of h)) e.alt) taken o (sym (legal_transition-found script config m e slot h found.may placed found.here found.named) ∙ legal) in
-    let kept : HaveJoiners (after_names slot taken m.threads) =
-    taken_case (Keeps config.slots slot m.threads h on found.here was) config.slots (map slot_view m.threads) (body_at script h.frames) (process_view script m).shared (thread_of h) e.alt (next_of script h.frames) h.thread.status (keeps config.slots slot m.threads h on found.here was) in
+    let own : Transition = taken script config.slots config.passes slot m h e.alt in
+    let offered = offered_is (offers (choices_in script config.slots (process_view script m) (machine_thread m slot h)) e.alt) own o (sym (legal_transition-found script config m e slot h found.may placed fit found.here found.named) ∙ legal) in
+    let kept : HaveJoiners (after_names slot own m.threads) =
+    by_case script config.slots config.passes slot m h e.alt (Keeps config.slots slot m.threads h on found.here was) (keeps config.slots slot m.threads h on found.here was m.keys.places (row_at m.keys slot)) offered.0 in
     subst HaveJoiners
     (ap (λ (ts : List Slot). with_new o.created (settled slot (for_each (named_on slot) o.actions ts))) (sym (acted_threads slot o m)) ∙ sym (ap (λ (x : Machine). x.threads) moved))
-    (moved_kept config.slots slot m.threads h on found.here was o (subst (λ (x : Transition). HaveJoiners (after_names slot x m.threads)) same kept) found.created)
+    (moved_kept config.slots slot m.threads h on found.here was o (subst (λ (x : Transition). HaveJoiners (after_names slot x m.threads)) offered.1 kept) found.created)
 
 -- ---- the machine before the first step
 

@@ -1,6 +1,7 @@
 pub mod Bodies
 pub mod Fits
 pub mod ListedChoices
+pub mod KeyChoices
 pub mod CancelRows
 pub mod SlotAnswers
 mod HeldChanges
@@ -9,11 +10,13 @@ mod RoomAfter
 mod RestItems
 mod SearchedSlots
 mod ChangedTables
+mod RowViews
+mod RowAnswers
+mod KeyTables
 mod NamedThreads
 mod OpenTables
 mod MachineViews
 mod FoundThreads
-mod SmallIds
 mod Readiness
 mod ReadySlots
 mod EnabledThreads

@@ -79,7 +79,7 @@ module _ (threads : List Slot) (id k : ℕ) (is : (id - 1) % length threads ≡ 
   unfolding has_slot
   id_offered free within = offered free within
 
-swapped : (a b : ℕ) → nat_eq a b ≡ nat_eq b a
+pub swapped : (a b : ℕ) → nat_eq a b ≡ nat_eq b a
 swapped a b =
     elim (cases_eq a b) [
       | inl same ↦ eq-eqb a b same ∙ sym (eq-eqb b a (sym same))

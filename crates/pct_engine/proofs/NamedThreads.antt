@@ -1,21 +1,25 @@
--- The threads that a transition names: what is kept of them changes as the threads of the state.
-use Rattle.std.proofs.Common.{◌≡◌, ℕ, Bool, true, false, not, ◌&&◌, cond, List, [], ◌∷◌, map, filter, Option, Some, None, refl, sym, ap, ◌∙◌, subst, ne_eqb, eq-eqb}
+-- The threads that a transition names: what is kept of them, with their rows, changes as the threads of the state.
+use Rattle.std.proofs.Common.{◌≡◌, ℕ, ◌<◌, Bool, true, false, not, ◌&&◌, cond, List, [], ◌∷◌, map, filter, length, Option, Some, None, refl, sym, ap, ◌∙◌, subst, ne_eqb, eq-eqb}
 use Rattle.std.specs.Prelude.{nat_eq, position, option_map, option_and_then, IfSome}
 use Rattle.std.proofs.lemmas.Bool.{and_parts, and_right, not-true}
+use Rattle.std.proofs.lemmas.List.{get_or-map, length-map}
 use Rattle.std.specs.Option.{option_map_or}
 use Rattle.pct_model.specs.declared.transition.Action.{Action}
 use Rattle.pct_model.specs.declared.transition.Action.TheVariants as action
 use Rattle.pct_model.specs.World.{Thread}
-use Rattle.pct_model.specs.ThreadSlots.{is_ended_status, holds_slot, slot_of}
+use Rattle.pct_model.specs.Keys.{KeyValues}
+use Rattle.pct_model.specs.ThreadSlots.{is_ended_status, holds_slot, slot_of, is_live_thread}
 use Rattle.pct_model.specs.Actions.{named_after}
-use Rattle.pct_threads.specs.Slots.{Held, Slot, has_id, is_reclaimable, with_joiner, after_detach, after_change, with_change, freed}
+use Rattle.pct_threads.specs.Slots.{Held, Slot, unused, has_id, is_reclaimable, with_joiner, after_detach, after_change, with_change, freed}
 use Rattle.pct_threads.specs.Tables.{slot_at, held_at, id_at, is_reclaimable_at, on_slot}
 use Rattle.pct_engine_laws.proofs.ThreadChanges.{KeepsSlots, named_keeps}
 use Rattle.pct_engine_laws.proofs.ThreadChanges as laws
 use Rattle.pct_engine.specs.Fitting.{IfNamed, NameFits}
-use Rattle.pct_engine.specs.Views.{thread_of, threads_of}
+use Rattle.pct_engine.specs.Views.{thread_of, threads_of, with_specific, with_row, with_rows}
 use Rattle.pct_engine.specs.MachineChanges.{held_requested, on_named, named_on}
 use Rattle.pct_engine.proofs.SearchedSlots.{held_found, fails_everywhere}
+use Rattle.pct_engine.proofs.RowViews.{Commutes, changed_rows, same_with_rows}
+use Rattle.pct_engine.proofs.KeyTables.{named_row}
 use Rattle.pct_engine.proofs.ChangedTables.{changed_slots, same_slots, open_view, changed_view, change_of_open}
 
 -- each thread on a slot of the table has an id of the slot
@@ -174,25 +178,72 @@ reclaimable_found id k threads h fits found here =
     let ready : is_reclaimable_at threads k ≡ true = subst (λ (o : Option ℕ). IfSome o (λ target. is_reclaimable_at threads target ≡ true)) found fits in
     sym (ap (λ (o : Option Held). option_map_or is_reclaimable o false) here) ∙ ready
 
-named_first : (slots slot : ℕ) (a : Action) (threads : List Slot) → AreOnTheirSlots slots threads → NameFits slot a threads → map open_view (named_on slot a threads) ≡ map (changed_view (named_after a)) threads
-unfolding named_on named_after
-named_first slots slot (action.BeginJoin id) threads placed fits =
-    on_named_view slots id (λ t. t) (with_change (with_joiner (id_at threads slot))) threads placed (λ t other. refl)
-    (λ k h found here named i. record { made = (slot_at threads k).made; here = joiner_here (id_at threads slot) (held_at threads k) i })
-named_first slots slot (action.EndJoin id) threads placed fits =
-    on_named_view slots id (named_after (action.EndJoin id)) freed threads placed (join_stays id)
-    (λ k h found here named. join_view id (slot_at threads k) h here named (reclaimable_found id k threads h fits found here))
-named_first slots slot (action.CancelJoin id) threads placed fits =
-    on_named_view slots id (λ t. t) (with_change (with_joiner 0)) threads placed (λ t other. refl)
-    (λ k h found here named i. record { made = (slot_at threads k).made; here = joiner_here 0 (held_at threads k) i })
-named_first slots slot (action.Request id) threads placed fits =
-    on_named_view slots id (named_after (action.Request id)) (with_change held_requested) threads placed (request_stays id)
-    (λ k h found here named. request_view id (slot_at threads k) h here named)
-named_first slots slot (action.Detach id) threads placed fits =
-    on_named_view slots id (named_after (action.Detach id)) (after_change after_detach) threads placed (detach_stays id)
-    (λ k h found here named. detach_view id (slot_at threads k) h here named)
-named_first slots slot _ threads placed fits = same_slots open_view (changed_view (λ t. t)) threads (λ j i. record { made = (slot_at threads j).made; here = same_here (held_at threads j) i })
+-- a change of the data of each thread
+data_here : (row : KeyValues) (f : Thread → Thread) → ((own : KeyValues) (t : Thread) → with_specific own (f t) ≡ with_specific own t) → (ts : List Thread) → map (with_specific row) (filter holds_slot ts) ≡ map (with_specific row) (filter holds_slot (map f ts))
+data_here row f same [] = refl
+data_here row f same (t ∷ ts) =
+    let holds : holds_slot t ≡ holds_slot (f t) = sym (ap holds_slot (same row t)) in
+    either (holds_slot t) (data_here row f same ts) ∙ ap (λ (b : Bool). map (with_specific row) (cond b (f t ∷ filter holds_slot (map f ts)) (filter holds_slot (map f ts)))) holds
+  where
+    either : (b : Bool) → map (with_specific row) (filter holds_slot ts) ≡ map (with_specific row) (filter holds_slot (map f ts)) → map (with_specific row) (cond b (t ∷ filter holds_slot ts) (filter holds_slot ts)) ≡ map (with_specific row) (cond b (f t ∷ filter holds_slot (map f ts)) (filter holds_slot (map f ts)))
+    either true rest = ap (λ (x : Thread). x ∷ map (with_specific row) (filter holds_slot ts)) (sym (same row t)) ∙ ap (λ (xs : List Thread). with_specific row (f t) ∷ xs) rest
+    either false rest = rest
 
--- what is kept of a table after an action that may name a thread
-pub named_view : (slots slot : ℕ) (a : Action) (threads : List Slot) → AreOnTheirSlots slots threads → NameFits slot a threads → map open_view (named_on slot a threads) ≡ map (laws.with_change (named_after a)) (map open_view threads)
-named_view slots slot a threads placed fits = named_first slots slot a threads placed fits ∙ sym (change_of_open (named_after a) (named_keeps a) threads)
+module _ (rows : List KeyValues) (slots slot : ℕ) (threads : List Slot) (fit : length rows ≡ length threads) (placed : AreOnTheirSlots slots threads) where
+  -- what is kept of the slots, with these rows, after a change of one
+  abbrev Named : Action → Type 0
+  Named a = with_rows rows (map open_view (named_on slot a threads)) ≡ with_rows rows (map (changed_view (named_after a)) threads)
+
+  deleted_first : (k : ℕ) → with_rows rows (map open_view threads) ≡ with_rows rows (map (changed_view (named_after (action.DeleteKey k))) threads)
+  unfolding named_after
+  deleted_first k =
+      let f : Thread → Thread = named_after (action.DeleteKey k) in
+      same_with_rows rows (map open_view threads) (map (changed_view f) threads) (open_view unused) (fit ∙ sym (length-map threads open_view)) (length-map threads open_view ∙ sym (length-map threads (changed_view f)))
+      (λ j row inside.
+      let low : j < length threads = rw (← length-map threads open_view) inside in
+      ap (with_row row) (get_or-map open_view threads j unused (open_view unused) low)
+      ∙ (λ i. record { made = (slot_at threads j).made; here = data_here row f (λ own t. refl) (threads_of (held_at threads j)) i })
+      ∙ sym (ap (with_row row) (get_or-map (changed_view f) threads j unused (open_view unused) low)))
+
+  named_first : (a : Action) → NameFits slot a threads → Named a
+  unfolding named_on named_after
+  named_first (action.BeginJoin id) fits =
+      ap (with_rows rows) (on_named_view slots id (λ t. t) (with_change (with_joiner (id_at threads slot))) threads placed (λ t other. refl)
+      (λ k h found here named i. record { made = (slot_at threads k).made; here = joiner_here (id_at threads slot) (held_at threads k) i }))
+  named_first (action.EndJoin id) fits =
+      ap (with_rows rows) (on_named_view slots id (named_after (action.EndJoin id)) freed threads placed (join_stays id)
+      (λ k h found here named. join_view id (slot_at threads k) h here named (reclaimable_found id k threads h fits found here)))
+  named_first (action.CancelJoin id) fits =
+      ap (with_rows rows) (on_named_view slots id (λ t. t) (with_change (with_joiner 0)) threads placed (λ t other. refl)
+      (λ k h found here named i. record { made = (slot_at threads k).made; here = joiner_here 0 (held_at threads k) i }))
+  named_first (action.Request id) fits =
+      ap (with_rows rows) (on_named_view slots id (named_after (action.Request id)) (with_change held_requested) threads placed (request_stays id)
+      (λ k h found here named. request_view id (slot_at threads k) h here named))
+  named_first (action.Detach id) fits =
+      ap (with_rows rows) (on_named_view slots id (named_after (action.Detach id)) (after_change after_detach) threads placed (detach_stays id)
+      (λ k h found here named. detach_view id (slot_at threads k) h here named))
+  named_first (action.DeleteKey k) fits = deleted_first k
+  named_first _ fits = ap (with_rows rows) (same_slots open_view (changed_view (λ t. t)) threads (λ j i. record { made = (slot_at threads j).made; here = same_here (held_at threads j) i }))
+
+-- ---- the data of the threads
+
+either_data : (b : Bool) (own : KeyValues) (x y : Thread) → cond b (with_specific own x) (with_specific own y) ≡ with_specific own (cond b x y)
+either_data true own x y = refl
+either_data false own x y = refl
+
+-- an action that may name a thread, or a key
+pub named_commutes : (a : Action) → Commutes (named_after a) (named_row a)
+unfolding named_after
+named_commutes (action.EndJoin id) own t = either_data (is_live_thread id t) own (record t { joined = true }) t
+named_commutes (action.Request id) own t = either_data (is_live_thread id t && not t.ended) own (record t { pending = true }) t
+named_commutes (action.Detach id) own t = either_data (is_live_thread id t) own (record t { detached = true }) t
+named_commutes (action.DeleteKey k) own t = refl
+named_commutes _ own t = refl
+
+-- what is kept of a table, with its rows, after an action that may name a thread, or a key
+pub named_view : (rows : List KeyValues) (slots slot : ℕ) (a : Action) (threads : List Slot) → length rows ≡ length threads → AreOnTheirSlots slots threads → NameFits slot a threads
+    → with_rows (map (named_row a) rows) (map open_view (named_on slot a threads)) ≡ map (laws.with_change (named_after a)) (with_rows rows (map open_view threads))
+named_view rows slots slot a threads fit placed fits =
+    named_first (map (named_row a) rows) slots slot threads (length-map rows (named_row a) ∙ fit) placed a fits
+    ∙ ap (with_rows (map (named_row a) rows)) (sym (change_of_open (named_after a) (named_keeps a) threads))
+    ∙ changed_rows (named_after a) (named_row a) (named_commutes a) rows (map open_view threads) (fit ∙ sym (length-map threads open_view))

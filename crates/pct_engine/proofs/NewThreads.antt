@@ -7,11 +7,9 @@ use Rattle.std.proofs.lemmas.Nat.{mod-mul-add}
 use Rattle.pct_model.specs.declared.state.Status.{Status}
 use Rattle.pct_model.specs.declared.statement.Stmt.{Stmt}
 use Rattle.pct_model.specs.declared.schedule.Alt.{Alt}
-use Rattle.pct_model.specs.declared.schedule.Alt.TheVariants as alt
 use Rattle.pct_model.specs.declared.other_threads.Query.{Query}
 use Rattle.pct_model.specs.declared.other_threads.Query.TheVariants as query
 use Rattle.pct_model.specs.declared.transition.NewThread.{NewThread}
-use Rattle.pct_model.specs.declared.transition.Transition.{Transition}
 use Rattle.pct_model.specs.NextStatement.{NextStatement}
 use Rattle.pct_model.specs.OtherThreads.{Others}
 use Rattle.pct_model.specs.ThreadSlots.{slot_of}
@@ -23,9 +21,10 @@ use Rattle.pct_threads.specs.Tables.{slot_at, held_at, is_free_at, next_id_at}
 use Rattle.pct_threads.proofs.TableLemmas.{is_free_at-within}
 use Rattle.pct_engine_laws.specs.Seen.{SeenSlot}
 use Rattle.pct_engine_laws.specs.SeenSteps.{is_empty, new_ids_from, answer_in}
-use Rattle.pct_engine_laws.proofs.OfferedChoices.{IsChosen, offered_case, transition_chosen, taken_chosen}
+use Rattle.pct_engine_laws.proofs.OfferedChoices.{Creates, transition_makes}
 use Rattle.pct_engine.specs.Fitting.{IsNext, NewFits}
 use Rattle.pct_engine.specs.Views.{threads_of, slot_view}
+use Rattle.pct_engine.proofs.NamedFits.{each_among}
 
 -- ---- the ids that are offered
 
@@ -91,18 +90,14 @@ ids_asked slots tid n rows _ among = absurd (false≢true among)
 
 -- ---- the transitions
 
--- a choice is one of these ids, if it is an id for a new thread
-abbrev IsAmong : List ℕ → Alt → Type 0
-IsAmong ids (alt.New n) = list_any (nat_eq n) ids ≡ true
-IsAmong ids _ = Unit {0}
+-- the thread that is created, if there is one, fits the table
+created_fits : (threads : List Slot) (P : ℕ → Type 0) (created : Option NewThread) → ((new : NewThread) → P new.id → IsNext new threads) → Creates P created → NewFits created threads
+created_fits threads P None next_fits creates = tt
+created_fits threads P (Some new) next_fits creates = next_fits new creates
 
-module _ (threads : List Slot) (body : List Stmt) (shared : SharedState) (t : Thread) (others : Others) (next_fits : (new : NewThread) → list_any (nat_eq new.id) others.new_ids ≡ true → IsNext new threads) where
-  created_fits : (choice : Alt) (created : Option NewThread) → IsChosen choice created → IsAmong others.new_ids choice → NewFits created threads
-  created_fits choice None chosen among = tt
-  created_fits choice (Some new) chosen among = next_fits new (subst (IsAmong others.new_ids) chosen among)
-
-  -- the thread that the transition of a thread creates fits the table, if its choice is offered
-  pub transition_new : (choice : Alt) (next : NextStatement) (s : Status) → offers (choices_at t others next s) choice ≡ true → NewFits (acts_or choice s (transition_at body shared t others choice next s)).created threads
-  transition_new choice next s offered =
-      let goes : Transition = transition_at body shared t others choice next s in
-      created_fits choice (acts_or choice s goes).created (taken_chosen choice s goes (transition_chosen choice body shared t others next s)) (offered_case (IsAmong others.new_ids) tt tt t others (λ n among. among) next s choice offered)
+-- the thread that the transition of a thread creates fits the table, if its choice is offered
+pub transition_new : (threads : List Slot) (passes : ℕ) (body : List Stmt) (shared : SharedState) (t : Thread) (others : Others) → ((new : NewThread) → list_any (nat_eq new.id) others.new_ids ≡ true → IsNext new threads)
+    → (choice : Alt) (next : NextStatement) (s : Status) → offers (choices_at shared.keys t others next s) choice ≡ true → NewFits (acts_or choice s (transition_at passes body shared t others choice next s)).created threads
+transition_new threads passes body shared t others next_fits choice next s offered =
+    let P : ℕ → Type 0 = λ n. list_any (nat_eq n) others.new_ids ≡ true in
+    created_fits threads P _ next_fits (transition_makes P (λ n. Unit {0}) passes body shared t others choice (each_among others.new_ids) (λ i d inside. tt) next s offered).thread

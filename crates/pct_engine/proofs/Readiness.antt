@@ -1,10 +1,9 @@
 -- The threads that are ready, slot by slot, are the candidates of what is kept of a machine.
-use Rattle.std.proofs.Common.{◌≡◌, ℕ, ◌%◌, ◌<◌, Bool, true, false, not, ◌||◌, cond, List, [], ◌∷◌, ◌++◌, map, length, get_or, Option, Some, None, refl, sym, ap, ◌∙◌, inl, inr, arith}
+use Rattle.std.proofs.Common.{◌≡◌, ℕ, ◌%◌, ◌<◌, Bool, true, false, not, ◌||◌, cond, List, [], ◌∷◌, map, length, get_or, Option, Some, None, refl, sym, ap, ◌∙◌, inl, inr, arith}
 use Rattle.std.specs.Prelude.{filter, nat_eq, slice_get, is_none, option_map, option_and_then}
 use Rattle.std.specs.List.{flat_map, list_any}
-use Rattle.std.specs.Option.{option_to_list}
 use Rattle.std.proofs.lemmas.Bool.{cases_Bool, eqb-true, eqb-false, ne_eqb, false≢true}
-use Rattle.std.proofs.lemmas.List.{append-nil, map-append, length-map, nil_from_length}
+use Rattle.std.proofs.lemmas.List.{append-nil, length-map, nil_from_length}
 use Rattle.std.proofs.lemmas.List.Elements.{filter_passes}
 use Rattle.std.proofs.lemmas.Option.{slice_get-map, slice_get-get_or, slice_get_within, get_or_from_slice_get}
 use Rattle.pct_model.specs.declared.script.Script.{Script}
@@ -17,25 +16,12 @@ use Rattle.pct_model.specs.declared.stop.Verdict.TheVariants as verdict
 use Rattle.pct_model.specs.World.{Thread}
 use Rattle.pct_model.specs.ChoiceTable.{is_enabled}
 use Rattle.pct_model.specs.Chosen.{Candidate, item_at, entry_for}
-use Rattle.pct_threads.specs.Slots.{Held, Slot}
-use Rattle.pct_engine_laws.specs.SeenSteps.{threads_on, is_ready_in, ready_in, candidate_in, seen_candidates, seen_chosen, has_ready_in, seen_verdict, seen_verdict_by}
+use Rattle.pct_engine_laws.specs.SeenSteps.{threads_on, ready_in, candidate_in, seen_candidates, seen_chosen, has_ready_in, seen_verdict, seen_verdict_by}
 use Rattle.pct_engine.specs.declared.machine.Machine.{Machine}
-use Rattle.pct_engine.specs.Views.{thread_of, threads_of, slot_view, process_view, unless_ended, machine_view}
-use Rattle.pct_engine.specs.ReadyThreads.{choices_of_held, is_ready_held, all_held, ready_held, candidate_held}
+use Rattle.pct_engine.specs.Views.{slots_view, process_view, unless_ended, machine_view}
+use Rattle.pct_engine.specs.ReadyThreads.{choices_of, is_ready, ready_threads, candidate_of}
 
 -- ---- lists
-
-map-map : {A B C : Type 0} (f : A → B) (g : B → C) (xs : List A) → map g (map f xs) ≡ map (λ x. g (f x)) xs
-map-map f g [] = refl
-map-map f g (x ∷ xs) = ap (λ ys. g (f x) ∷ ys) (map-map f g xs)
-
-filter-map : {A B : Type 0} (p : B → Bool) (f : A → B) (xs : List A) → filter p (map f xs) ≡ map f (filter (λ x. p (f x)) xs)
-filter-map p f [] = refl
-filter-map p f (x ∷ xs) =
-    ap (λ ys. cond (p (f x)) (f x ∷ ys) ys) (filter-map p f xs) ∙ either (p (f x)) where
-      either : (b : Bool) → cond b (f x ∷ map f (filter (λ y. p (f y)) xs)) (map f (filter (λ y. p (f y)) xs)) ≡ map f (cond b (x ∷ filter (λ y. p (f y)) xs) (filter (λ y. p (f y)) xs))
-      either true = refl
-      either false = refl
 
 list_any-filter : {A : Type 0} (p : A → Bool) (xs : List A) → list_any p xs ≡ not (nat_eq (length (filter p xs)) 0)
 list_any-filter p [] = refl
@@ -59,51 +45,29 @@ none_either false o none = refl
 
 -- ---- the candidates
 
-threads_of-list : (o : Option Held) → threads_of o ≡ map thread_of (option_to_list o)
-threads_of-list None = refl
-threads_of-list (Some h) = refl
-
-threads_are : (threads : List Slot) → flat_map (λ s. s.here) (map slot_view threads) ≡ map thread_of (all_held threads)
-threads_are [] = refl
-threads_are (s ∷ rest) =
-    ap (λ ts. threads_of s.here ++ ts) (threads_are rest)
-    ∙ ap (λ ts. ts ++ map thread_of (all_held rest)) (threads_of-list s.here)
-    ∙ sym (map-append thread_of (option_to_list s.here) (all_held rest))
-
-ready_are : (script : Script) (m : Machine) → filter (is_ready_in script (length m.threads) (process_view script m)) (threads_on (map slot_view m.threads)) ≡ map thread_of (ready_held script m)
-ready_are script m =
-    let ready = is_ready_in script (length m.threads) (process_view script m) in
-    ap (filter ready) (threads_are m.threads) ∙ filter-map ready thread_of (all_held m.threads)
-
--- those of a machine that has not ended
-candidates_live : (script : Script) (m : Machine) → map (candidate_in script (length m.threads) (process_view script m)) (ready_in script (length m.threads) (process_view script m)) ≡ map (candidate_held script m) (ready_held script m)
-candidates_live script m =
-    let candidate = candidate_in script (length m.threads) (process_view script m) in
-    ap (map candidate) (ready_are script m) ∙ map-map thread_of candidate (ready_held script m)
-
 -- the candidates of a machine
 abbrev candidates_by : Bool → Script → Machine → List Candidate
 candidates_by true script m = []
-candidates_by false script m = map (candidate_held script m) (ready_held script m)
+candidates_by false script m = map (candidate_of script m) (ready_threads script m)
 
 candidates_are : (script : Script) (m : Machine) (b : Bool) → flat_map (λ p. map (candidate_in script (length m.threads) p) (ready_in script (length m.threads) p)) (unless_ended b (process_view script m)) ≡ candidates_by b script m
 candidates_are script m true = refl
-candidates_are script m false = append-nil (map (candidate_in script (length m.threads) (process_view script m)) (ready_in script (length m.threads) (process_view script m))) ∙ candidates_live script m
+candidates_are script m false = append-nil (map (candidate_of script m) (ready_threads script m))
 
 -- the entry that is chosen in a machine with this number of slots
 pub seen_chosen-machine : (script : Script) (slots : ℕ) (m : Machine) (worker a b : ℕ) → length m.threads ≡ slots → is_none m.stop ≡ true → m.has_ended ≡ false
-    → seen_chosen script slots (machine_view script m) worker a b ≡ option_and_then (λ h. entry_for worker b (candidate_held script m h)) (item_at (ready_held script m) a)
+    → seen_chosen script slots (machine_view script m) worker a b ≡ option_and_then (λ t. entry_for worker b (candidate_of script m t)) (item_at (ready_threads script m) a)
 unfolding seen_candidates
 seen_chosen-machine script slots m worker a b long running live =
     ap (λ n. seen_chosen script n (machine_view script m) worker a b) (sym long)
     ∙ ap (λ t. cond t (option_and_then (entry_for worker b) (item_at (seen_candidates script (length m.threads) (machine_view script m)) a)) None) running
     ∙ ap (λ (cs : List Candidate). option_and_then (entry_for worker b) (item_at cs a)) (candidates_are script m m.has_ended)
     ∙ ap (λ t. option_and_then (entry_for worker b) (item_at (candidates_by t script m) a)) live
-    ∙ ap (option_and_then (entry_for worker b)) (item-map (candidate_held script m) (ready_held script m) a)
-    ∙ through (item_at (ready_held script m) a) where
-      through : (o : Option Held) → option_and_then (entry_for worker b) (option_map (candidate_held script m) o) ≡ option_and_then (λ h. entry_for worker b (candidate_held script m h)) o
+    ∙ ap (option_and_then (entry_for worker b)) (item-map (candidate_of script m) (ready_threads script m) a)
+    ∙ through (item_at (ready_threads script m) a) where
+      through : (o : Option Thread) → option_and_then (entry_for worker b) (option_map (candidate_of script m) o) ≡ option_and_then (λ t. entry_for worker b (candidate_of script m t)) o
       through None = refl
-      through (Some h) = refl
+      through (Some t) = refl
 
 -- none is chosen in one that was stopped, or has ended
 pub seen_chosen-stopped : (script : Script) (slots : ℕ) (m : Machine) (worker a b : ℕ) → is_none m.stop ≡ false → seen_chosen script slots (machine_view script m) worker a b ≡ None
@@ -127,13 +91,9 @@ verdict_by_count (Some why) ended ready config n = verdict.Undefined why
 verdict_by_count None true ready config n = verdict.Complete
 verdict_by_count None false ready config n = cond (nat_eq ready 0) verdict.Deadlock (cond (nat_eq n config.budget) verdict.Budget verdict.Open)
 
-has_ready-live : (script : Script) (m : Machine) → (has_ready_in script (length m.threads) (process_view script m) || false) ≡ not (nat_eq (length (ready_held script m)) 0)
+has_ready-live : (script : Script) (m : Machine) → (has_ready_in script (length m.threads) (process_view script m) || false) ≡ not (nat_eq (length (ready_threads script m)) 0)
 has_ready-live script m =
-    let ready = is_ready_in script (length m.threads) (process_view script m) in
-    or_false (list_any ready (threads_on (map slot_view m.threads)))
-    ∙ list_any-filter ready (threads_on (map slot_view m.threads))
-    ∙ ap (λ (ts : List Thread). not (nat_eq (length ts) 0)) (ready_are script m)
-    ∙ ap (λ n. not (nat_eq n 0)) (length-map (ready_held script m) thread_of) where
+    or_false (list_any (is_ready script m) (threads_on (slots_view m))) ∙ list_any-filter (is_ready script m) (threads_on (slots_view m)) where
       or_false : (b : Bool) → (b || false) ≡ b
       or_false true = refl
       or_false false = refl
@@ -143,25 +103,25 @@ not-not true = refl
 not-not false = refl
 
 verdict_is : (script : Script) (config : Config) (m : Machine) (stop : Option Why) (ended : Bool) (n : ℕ) → (ended ≡ false → length m.threads ≡ config.slots)
-    → seen_verdict_by stop script config (unless_ended ended (process_view script m)) n ≡ verdict_by_count stop ended (length (ready_held script m)) config n
+    → seen_verdict_by stop script config (unless_ended ended (process_view script m)) n ≡ verdict_by_count stop ended (length (ready_threads script m)) config n
 verdict_is script config m (Some why) ended n long = refl
 verdict_is script config m None true n long = refl
 verdict_is script config m None false n long =
     ap (λ (slots : ℕ). cond (not (has_ready_in script slots (process_view script m) || false)) verdict.Deadlock (cond (nat_eq n config.budget) verdict.Budget verdict.Open)) (sym (long refl))
     ∙ ap (λ b. cond (not b) verdict.Deadlock (cond (nat_eq n config.budget) verdict.Budget verdict.Open)) (has_ready-live script m)
-    ∙ ap (λ b. cond b verdict.Deadlock (cond (nat_eq n config.budget) verdict.Budget verdict.Open)) (not-not (nat_eq (length (ready_held script m)) 0))
+    ∙ ap (λ b. cond b verdict.Deadlock (cond (nat_eq n config.budget) verdict.Budget verdict.Open)) (not-not (nat_eq (length (ready_threads script m)) 0))
 
 -- the verdict of a machine
-pub seen_verdict-machine : (script : Script) (config : Config) (m : Machine) (n : ℕ) → (m.has_ended ≡ false → length m.threads ≡ config.slots) → seen_verdict script config (machine_view script m) n ≡ verdict_by_count m.stop m.has_ended (length (ready_held script m)) config n
+pub seen_verdict-machine : (script : Script) (config : Config) (m : Machine) (n : ℕ) → (m.has_ended ≡ false → length m.threads ≡ config.slots) → seen_verdict script config (machine_view script m) n ≡ verdict_by_count m.stop m.has_ended (length (ready_threads script m)) config n
 unfolding seen_verdict
 seen_verdict-machine script config m n long = verdict_is script config m m.stop m.has_ended n long
 
 -- the same, by the stop and the end
-pub seen_verdict-by : (script : Script) (config : Config) (m : Machine) (n : ℕ) (stop : Option Why) (ended : Bool) → (m.has_ended ≡ false → length m.threads ≡ config.slots) → m.stop ≡ stop → m.has_ended ≡ ended → seen_verdict script config (machine_view script m) n ≡ verdict_by_count stop ended (length (ready_held script m)) config n
+pub seen_verdict-by : (script : Script) (config : Config) (m : Machine) (n : ℕ) (stop : Option Why) (ended : Bool) → (m.has_ended ≡ false → length m.threads ≡ config.slots) → m.stop ≡ stop → m.has_ended ≡ ended → seen_verdict script config (machine_view script m) n ≡ verdict_by_count stop ended (length (ready_threads script m)) config n
 seen_verdict-by script config m n stop ended long stop_is ended_is =
     seen_verdict-machine script config m n long
-    ∙ ap (λ (o : Option Why). verdict_by_count o m.has_ended (length (ready_held script m)) config n) stop_is
-    ∙ ap (λ b. verdict_by_count stop b (length (ready_held script m)) config n) ended_is
+    ∙ ap (λ (o : Option Why). verdict_by_count o m.has_ended (length (ready_threads script m)) config n) stop_is
+    ∙ ap (λ b. verdict_by_count stop b (length (ready_threads script m)) config n) ended_is
 
 -- ---- the verdict and the choice
 
@@ -169,7 +129,7 @@ seen_verdict-by script config m n stop ended long stop_is ended_is =
 pub record IsOpen (script : Script) (m : Machine) (budget n : ℕ) : Type 0 where
   pub running : is_none m.stop ≡ true
   pub live : m.has_ended ≡ false
-  pub ready : 0 < length (ready_held script m)
+  pub ready : 0 < length (ready_threads script m)
   pub left : nat_eq n budget ≡ false
 
 open_by : (b d : Bool) → cond b verdict.Deadlock (cond d verdict.Budget verdict.Open) ≡ verdict.Open → (b ≡ false) × (d ≡ false)
@@ -177,25 +137,25 @@ open_by true d is = absurd cc
 open_by false true is = absurd cc
 open_by false false is = (refl, refl)
 
-open_parts : (script : Script) (m : Machine) (stop : Option Why) (ended : Bool) (config : Config) (n : ℕ) → m.stop ≡ stop → m.has_ended ≡ ended → verdict_by_count stop ended (length (ready_held script m)) config n ≡ verdict.Open → IsOpen script m config.budget n
+open_parts : (script : Script) (m : Machine) (stop : Option Why) (ended : Bool) (config : Config) (n : ℕ) → m.stop ≡ stop → m.has_ended ≡ ended → verdict_by_count stop ended (length (ready_threads script m)) config n ≡ verdict.Open → IsOpen script m config.budget n
 open_parts script m (Some why) ended config n stop_is ended_is is = absurd cc
 open_parts script m None true config n stop_is ended_is is = absurd cc
 open_parts script m None false config n stop_is ended_is is =
-    let tests = open_by (nat_eq (length (ready_held script m)) 0) (nat_eq n config.budget) is in
-    let some = eqb-false (length (ready_held script m)) 0 tests.0 in
+    let tests = open_by (nat_eq (length (ready_threads script m)) 0) (nat_eq n config.budget) is in
+    let some = eqb-false (length (ready_threads script m)) 0 tests.0 in
     record { running = ap is_none stop_is; live = ended_is; ready = omega (arith, some); left = tests.1 }
 
 pub is_open : (script : Script) (config : Config) (m : Machine) (n : ℕ) → (m.has_ended ≡ false → length m.threads ≡ config.slots) → seen_verdict script config (machine_view script m) n ≡ verdict.Open → IsOpen script m config.budget n
 is_open script config m n long is = open_parts script m m.stop m.has_ended config n refl refl (sym (seen_verdict-machine script config m n long) ∙ is)
 
 -- a thread that is ready has a choice
-ready_item : (script : Script) (m : Machine) (a : ℕ) (h : Held) → item_at (ready_held script m) a ≡ Some h → is_ready_held script m h ≡ true
-ready_item script m a h at =
-    let these : List Held = ready_held script m in
+ready_item : (script : Script) (m : Machine) (a : ℕ) (t : Thread) → item_at (ready_threads script m) a ≡ Some t → is_ready script m t ≡ true
+ready_item script m a t at =
+    let these : List Thread = ready_threads script m in
     let k : ℕ = a % length these in
-    let inside : k < length these = slice_get_within these k h at in
-    let passes = filter_passes (is_ready_held script m) (all_held m.threads) k h inside in
-    ap (is_ready_held script m) (sym (get_or_from_slice_get these k h h at)) ∙ passes
+    let inside : k < length these = slice_get_within these k t at in
+    let passes = filter_passes (is_ready script m) (threads_on (slots_view m)) k t inside in
+    ap (is_ready script m) (sym (get_or_from_slice_get these k t t at)) ∙ passes
 
 some_choice : (choices : List Alt) → is_enabled choices ≡ true → 0 < length choices
 some_choice [] enabled = absurd (false≢true enabled)
@@ -205,24 +165,24 @@ some_choice (c ∷ rest) enabled = omega arith
 pub chosen-open : (script : Script) (config : Config) (m : Machine) (worker a b n : ℕ) → (m.has_ended ≡ false → length m.threads ≡ config.slots) → seen_verdict script config (machine_view script m) n ≡ verdict.Open → (e : Entry) × (seen_chosen script config.slots (machine_view script m) worker a b ≡ Some e)
 chosen-open script config m worker a b n long is =
     let parts = is_open script config m n long is in
-    let thread = item (ready_held script m) a parts.ready in
-    let choice = item (choices_of_held script m thread.0) b (some_choice (choices_of_held script m thread.0) (ready_item script m a thread.0 thread.1)) in (
+    let thread = item (ready_threads script m) a parts.ready in
+    let choice = item (choices_of script m thread.0) b (some_choice (choices_of script m thread.0) (ready_item script m a thread.0 thread.1)) in (
       record { worker = worker; pid = 1; tid = thread.0.id; alt = choice.0 },
       seen_chosen-machine script config.slots m worker a b (long parts.live) parts.running parts.live
-          ∙ ap (option_and_then (λ h. entry_for worker b (candidate_held script m h))) thread.1
+          ∙ ap (option_and_then (λ t. entry_for worker b (candidate_of script m t))) thread.1
           ∙ ap (option_map (λ (c : Alt). record { worker = worker; pid = 1; tid = thread.0.id; alt = c })) choice.1,
     )
 
-closed_by : (script : Script) (config : Config) (m : Machine) (worker a b n : ℕ) (stop : Option Why) (ended : Bool) → (m.has_ended ≡ false → length m.threads ≡ config.slots) → m.stop ≡ stop → m.has_ended ≡ ended → (verdict_by_count stop ended (length (ready_held script m)) config n ≡ verdict.Open → ⊥) → nat_eq n config.budget ≡ false
+closed_by : (script : Script) (config : Config) (m : Machine) (worker a b n : ℕ) (stop : Option Why) (ended : Bool) → (m.has_ended ≡ false → length m.threads ≡ config.slots) → m.stop ≡ stop → m.has_ended ≡ ended → (verdict_by_count stop ended (length (ready_threads script m)) config n ≡ verdict.Open → ⊥) → nat_eq n config.budget ≡ false
     → seen_chosen script config.slots (machine_view script m) worker a b ≡ None
 closed_by script config m worker a b n (Some why) ended long stop_is ended_is closed left = seen_chosen-stopped script config.slots m worker a b (ap is_none stop_is)
 closed_by script config m worker a b n None true long stop_is ended_is closed left = seen_chosen-ended script config.slots m worker a b ended_is
 closed_by script config m worker a b n None false long stop_is ended_is closed left =
-    elim (cases_Bool (nat_eq (length (ready_held script m)) 0)) [
+    elim (cases_Bool (nat_eq (length (ready_threads script m)) 0)) [
       | inl none ↦
-          let no_one : ready_held script m ≡ [] = nil_from_length (ready_held script m) (eqb-true (length (ready_held script m)) 0 none) in
+          let no_one : ready_threads script m ≡ [] = nil_from_length (ready_threads script m) (eqb-true (length (ready_threads script m)) 0 none) in
           seen_chosen-machine script config.slots m worker a b (long ended_is) (ap is_none stop_is) ended_is
-          ∙ ap (λ (hs : List Held). option_and_then (λ h. entry_for worker b (candidate_held script m h)) (item_at hs a)) no_one
+          ∙ ap (λ (ts : List Thread). option_and_then (λ t. entry_for worker b (candidate_of script m t)) (item_at ts a)) no_one
       | inr some ↦ absurd (closed (
           ap (λ t. cond t verdict.Deadlock (cond (nat_eq n config.budget) verdict.Budget verdict.Open)) some
           ∙ ap (λ t. cond t verdict.Budget verdict.Open) left))

@@ -1,19 +1,26 @@
 -- The slots whose threads are ready, found by a scan.
-use Rattle.std.proofs.Common.{◌≡◌, ℕ, zero, suc, ◌+◌, ◌%◌, ◌<◌, ◌≤◌, Bool, true, false, not, ◌&&◌, ◌||◌, cond, List, [], ◌∷◌, ◌++◌, map, drop, length, nat_lt, Option, Some, None, refl, sym, ap, ◌∙◌, inl, inr, arith}
+use Rattle.std.proofs.Common.{◌≡◌, ℕ, zero, suc, ◌+◌, ◌%◌, ◌<◌, ◌≤◌, Bool, true, false, not, ◌&&◌, ◌||◌, cond, List, [], ◌∷◌, ◌++◌, map, drop, length, get_or, nat_lt, Option, Some, None, refl, sym, ap, ◌∙◌, inl, inr, arith}
 use Rattle.std.specs.Prelude.{filter, nat_eq, slice_get, is_some, option_map, option_and_then, IfSome}
 use Rattle.std.specs.List.{range_with_len, list_any}
 use Rattle.std.specs.Option.{option_map_or, option_to_list}
 use Rattle.std.proofs.lemmas.Bool.{cases_eq, cases_lt, cases_Bool, eq-eqb, ne_eqb, lt-ltb, le-ltb, and_right, false≢true}
-use Rattle.std.proofs.lemmas.List.{length-map, drop_more, drop_all, get_or_past}
+use Rattle.std.proofs.lemmas.List.{length-map, get_or-map, drop_more, drop_all, get_or_past}
 use Rattle.std.proofs.lemmas.Option.{slice_get-map, none-some, same_Some}
 use Rattle.pct_model.specs.declared.script.Script.{Script}
 use Rattle.pct_model.specs.Chosen.{item_at}
+use Rattle.pct_model.specs.Keys.{KeyValues}
+use Rattle.pct_model.specs.World.{Thread}
 use Rattle.pct_set.specs.Slots.{slots_where, has_slot, with_slot, without_slot}
 use Rattle.pct_set.proofs.SlotLemmas.{slots_agree, has_where, with_slot-where}
 use Rattle.pct_threads.specs.Slots.{Held, Slot, unused}
-use Rattle.pct_threads.specs.Tables.{held_at, is_occupied_at}
+use Rattle.pct_threads.specs.Tables.{slot_at, held_at, is_occupied_at}
+use Rattle.pct_keys.specs.Tables.{row_at}
+use Rattle.pct_engine_laws.specs.Seen.{SeenSlot}
+use Rattle.pct_engine_laws.specs.SeenSteps.{threads_on}
 use Rattle.pct_engine.specs.declared.machine.Machine.{Machine}
-use Rattle.pct_engine.specs.ReadyThreads.{is_ready_held, is_ready_on, all_held, ready_among, ready_held}
+use Rattle.pct_engine.specs.ReadyThreads.{thread_in, is_ready, is_ready_on, ready_threads}
+use Rattle.pct_engine.specs.Views.{thread_of, threads_of, slot_view, with_specific, with_row, slots_view, machine_thread, HasRows}
+use Rattle.pct_engine.proofs.RowViews.{length-with_rows, get_or-with_rows}
 
 -- ---- a scan for the slots that pass a test
 
@@ -143,27 +150,26 @@ all_outside test (x ∷ xs) none = absurd (none-some x (sym none))
 module _ (script : Script) (m : Machine) where
   -- no thread holds a slot past the last one
   pub none_past : (s : ℕ) → length m.threads ≤ s → is_ready_on script m s ≡ false
-  none_past s past = ap (λ (slot : Slot). option_map_or (is_ready_held script m) slot.here false) (get_or_past m.threads s unused past)
+  none_past s past = ap (λ (slot : Slot). option_map_or (is_ready script m) (option_map (machine_thread m s) slot.here) false) (get_or_past m.threads s unused past)
 
-  -- a slot on which a thread is ready is in the table
-  pub ready_within : (s : ℕ) → is_ready_on script m s ≡ true → s < length m.threads
-  ready_within s ready =
-      elim (cases_lt s (length m.threads)) [
-        | inl inside ↦ inside
-        | inr past ↦ absurd (false≢true (sym (none_past s past) ∙ ready))
-      ]
+  -- a slot on which a thread is ready is occupied
+  pub ready_occupied : (s : ℕ) → is_ready_on script m s ≡ true → is_occupied_at m.threads s ≡ true
+  ready_occupied s ready = some_by (held_at m.threads s) ready where
+    some_by : (o : Option Held) → option_map_or (is_ready script m) (option_map (machine_thread m s) o) false ≡ true → is_some o ≡ true
+    some_by None ready = absurd (false≢true ready)
+    some_by (Some h) ready = refl
 
   -- the threads on some slots
-  abbrev on_slots : List ℕ → List (Option Held)
-  on_slots slots = map (held_at m.threads) slots
+  abbrev on_slots : List ℕ → List (Option Thread)
+  on_slots slots = map (thread_in m) slots
 
   -- one slot more, with the threads that are ready on the slots after it
-  one_more : (s : ℕ) (rest : List ℕ) (o : Option Held) (others : List Held) → held_at m.threads s ≡ o → on_slots rest ≡ map (λ h. Some h) (filter (is_ready_held script m) others)
-      → on_slots (cond (option_map_or (is_ready_held script m) o false) (s ∷ rest) rest) ≡ map (λ h. Some h) (filter (is_ready_held script m) (option_to_list o ++ others))
+  one_more : (s : ℕ) (rest : List ℕ) (o : Option Thread) (others : List Thread) → thread_in m s ≡ o → on_slots rest ≡ map (λ t. Some t) (filter (is_ready script m) others)
+      → on_slots (cond (option_map_or (is_ready script m) o false) (s ∷ rest) rest) ≡ map (λ t. Some t) (filter (is_ready script m) (option_to_list o ++ others))
   one_more s rest None others here more = more
-  one_more s rest (Some h) others here more = either (is_ready_held script m h) where
-    either : (b : Bool) → on_slots (cond b (s ∷ rest) rest) ≡ map (λ h. Some h) (cond b (h ∷ filter (is_ready_held script m) others) (filter (is_ready_held script m) others))
-    either true = ap (λ o. o ∷ on_slots rest) here ∙ ap (λ os. Some h ∷ os) more
+  one_more s rest (Some t) others here more = either (is_ready script m t) where
+    either : (b : Bool) → on_slots (cond b (s ∷ rest) rest) ≡ map (λ t. Some t) (cond b (t ∷ filter (is_ready script m) others) (filter (is_ready script m) others))
+    either true = ap (λ o. o ∷ on_slots rest) here ∙ ap (λ os. Some t ∷ os) more
     either false = more
 
   all_past : (s k : ℕ) → length m.threads ≤ s → on_slots (filter (is_ready_on script m) (range_with_len s k)) ≡ []
@@ -172,49 +178,72 @@ module _ (script : Script) (m : Machine) where
       ap (λ b. on_slots (cond b (s ∷ filter (is_ready_on script m) (range_with_len (s + 1) k)) (filter (is_ready_on script m) (range_with_len (s + 1) k)))) (none_past s past)
       ∙ all_past (s + 1) k (omega (arith, past))
 
-  -- the threads that are ready on the slots from one on
-  ready_from : (s k : ℕ) → length m.threads ≤ s + k → on_slots (filter (is_ready_on script m) (range_with_len s k)) ≡ map (λ h. Some h) (ready_among script m (drop s m.threads))
-  ready_from s zero within = ap (λ (rows : List Slot). map (λ h. Some h) (ready_among script m rows)) (sym (drop_all s m.threads (omega (arith, within))))
-  ready_from s (suc k) within =
-      elim (cases_lt s (length m.threads)) [
-        | inl inside ↦
-            one_more s (filter (is_ready_on script m) (range_with_len (s + 1) k)) (held_at m.threads s) (all_held (drop (s + 1) m.threads)) refl (ready_from (s + 1) k (omega (arith, within)))
-            ∙ ap (λ (rows : List Slot). map (λ h. Some h) (ready_among script m rows)) (sym (drop_more m.threads s unused inside))
-        | inr past ↦ all_past s (suc k) past ∙ ap (λ (rows : List Slot). map (λ h. Some h) (ready_among script m rows)) (sym (drop_all s m.threads past))
-      ]
+  listed_here : (row : KeyValues) (o : Option Held) → option_to_list (option_map (λ h. with_specific row (thread_of h)) o) ≡ map (with_specific row) (threads_of o)
+  listed_here row None = refl
+  listed_here row (Some h) = refl
 
-  -- the threads on the slots of the scan are the threads that are ready
-  ready_on_slots : length m.threads ≤ 64 → on_slots (slots_where (is_ready_on script m)) ≡ map (λ h. Some h) (ready_held script m)
-  unfolding slots_where
-  ready_on_slots few = ready_from 0 64 few
+  module _ (fit : HasRows m) where
+    slots_long : length (slots_view m) ≡ length m.threads
+    slots_long = length-with_rows m.keys.rows (map slot_view m.threads) ∙ length-map m.threads slot_view
 
-  -- as many
-  pub ready_counted : (set : List ℕ) → set ≡ slots_where (is_ready_on script m) → length m.threads ≤ 64 → length set ≡ length (ready_held script m)
-  ready_counted set is few =
-      sym (length-map set (held_at m.threads))
-      ∙ ap (λ (slots : List ℕ). length (on_slots slots)) is
-      ∙ ap length (ready_on_slots few)
-      ∙ length-map (ready_held script m) (λ h. Some h)
+    -- the threads on a slot and on those after it
+    threads_from : (s : ℕ) → s < length m.threads → option_to_list (thread_in m s) ++ threads_on (drop (s + 1) (slots_view m)) ≡ threads_on (drop s (slots_view m))
+    threads_from s inside =
+        let low : s < length (map slot_view m.threads) = rw (length-map m.threads slot_view) inside in
+        let row : get_or (slots_view m) s (slot_view unused) ≡ with_row (row_at m.keys s) (slot_view (slot_at m.threads s)) =
+        get_or-with_rows m.keys.rows (map slot_view m.threads) s _ (slot_view unused) (slot_view unused) (fit ∙ sym (length-map m.threads slot_view)) low
+        ∙ ap (with_row (row_at m.keys s)) (get_or-map slot_view m.threads s unused (slot_view unused) inside) in
+        ap (λ (ts : List Thread). ts ++ threads_on (drop (s + 1) (slots_view m))) (listed_here (row_at m.keys s) (held_at m.threads s))
+        ∙ sym (ap (λ (x : SeenSlot). x.here ++ threads_on (drop (s + 1) (slots_view m))) row)
+        ∙ sym (ap threads_on (drop_more (slots_view m) s (slot_view unused) (rw slots_long inside)))
 
-  -- the thread on a slot of the scan, by its number
-  numbered : (set : List ℕ) (n : ℕ) → set ≡ slots_where (is_ready_on script m) → length m.threads ≤ 64 → option_map (held_at m.threads) (slice_get set n) ≡ option_map (λ h. Some h) (slice_get (ready_held script m) n)
-  numbered set n is few =
-      sym (slice_get-map (held_at m.threads) set n)
-      ∙ ap (λ (slots : List ℕ). slice_get (on_slots slots) n) is
-      ∙ ap (λ (held : List (Option Held)). slice_get held n) (ready_on_slots few)
-      ∙ slice_get-map (λ h. Some h) (ready_held script m) n
+    -- the threads that are ready on the slots from one on
+    ready_from : (s k : ℕ) → length m.threads ≤ s + k → on_slots (filter (is_ready_on script m) (range_with_len s k)) ≡ map (λ t. Some t) (filter (is_ready script m) (threads_on (drop s (slots_view m))))
+    ready_from s zero within = ap (λ (rows : List SeenSlot). map (λ t. Some t) (filter (is_ready script m) (threads_on rows))) (sym (drop_all s (slots_view m) (omega (arith, within, slots_long))))
+    ready_from s (suc k) within =
+        elim (cases_lt s (length m.threads)) [
+          | inl inside ↦
+              one_more s (filter (is_ready_on script m) (range_with_len (s + 1) k)) (thread_in m s) (threads_on (drop (s + 1) (slots_view m))) refl (ready_from (s + 1) k (omega (arith, within)))
+              ∙ ap (λ (ts : List Thread). map (λ t. Some t) (filter (is_ready script m) ts)) (threads_from s inside)
+          | inr past ↦ all_past s (suc k) past ∙ ap (λ (rows : List SeenSlot). map (λ t. Some t) (filter (is_ready script m) (threads_on rows))) (sym (drop_all s (slots_view m) (omega (arith, past, slots_long))))
+        ]
 
-  joined : (o : Option ℕ) (h : Option Held) → option_map (held_at m.threads) o ≡ option_map (λ h. Some h) h → (option_and_then (held_at m.threads) o ≡ h) × IfSome o (λ slot. is_occupied_at m.threads slot ≡ true)
-  joined None None is = (refl, tt)
-  joined None (Some h) is = absurd (none-some (Some h) is)
-  joined (Some slot) None is = absurd (none-some (held_at m.threads slot) (sym is))
-  joined (Some slot) (Some h) is = let here : held_at m.threads slot ≡ Some h = same_Some (held_at m.threads slot) (Some h) is in (here, ap is_some here)
+    -- the threads on the slots of the scan are the threads that are ready
+    ready_on_slots : length m.threads ≤ 64 → on_slots (slots_where (is_ready_on script m)) ≡ map (λ t. Some t) (ready_threads script m)
+    unfolding slots_where
+    ready_on_slots few = ready_from 0 64 few
 
-  -- the thread that a number chooses, and its slot
-  pub ready_chosen : (set : List ℕ) (a count : ℕ) (slot : Option ℕ) → set ≡ slots_where (is_ready_on script m) → length m.threads ≤ 64 → count ≡ length set → slot ≡ slice_get set (a % count)
-      → (option_and_then (held_at m.threads) slot ≡ item_at (ready_held script m) a) × IfSome slot (λ s. is_occupied_at m.threads s ≡ true)
-  ready_chosen set a count slot is few counted at =
-      joined slot (item_at (ready_held script m) a)
-      (ap (option_map (held_at m.threads)) at
-      ∙ numbered set (a % count) is few
-      ∙ ap (λ n. option_map (λ h. Some h) (slice_get (ready_held script m) (a % n))) (counted ∙ ready_counted set is few))
+    -- as many
+    pub ready_counted : (set : List ℕ) → set ≡ slots_where (is_ready_on script m) → length m.threads ≤ 64 → length set ≡ length (ready_threads script m)
+    ready_counted set is few =
+        sym (length-map set (thread_in m))
+        ∙ ap (λ (slots : List ℕ). length (on_slots slots)) is
+        ∙ ap length (ready_on_slots few)
+        ∙ length-map (ready_threads script m) (λ t. Some t)
+
+    -- the thread on a slot of the scan, by its number
+    numbered : (set : List ℕ) (n : ℕ) → set ≡ slots_where (is_ready_on script m) → length m.threads ≤ 64 → option_map (thread_in m) (slice_get set n) ≡ option_map (λ t. Some t) (slice_get (ready_threads script m) n)
+    numbered set n is few =
+        sym (slice_get-map (thread_in m) set n)
+        ∙ ap (λ (slots : List ℕ). slice_get (on_slots slots) n) is
+        ∙ ap (λ (threads : List (Option Thread)). slice_get threads n) (ready_on_slots few)
+        ∙ slice_get-map (λ t. Some t) (ready_threads script m) n
+
+    occupied_by : (slot : ℕ) (o : Option Held) (t : Thread) → option_map (machine_thread m slot) o ≡ Some t → is_some o ≡ true
+    occupied_by slot None t is = absurd (none-some t is)
+    occupied_by slot (Some h) t is = refl
+
+    joined : (o : Option ℕ) (t : Option Thread) → option_map (thread_in m) o ≡ option_map (λ t. Some t) t → (option_and_then (thread_in m) o ≡ t) × IfSome o (λ slot. is_occupied_at m.threads slot ≡ true)
+    joined None None is = (refl, tt)
+    joined None (Some t) is = absurd (none-some (Some t) is)
+    joined (Some slot) None is = absurd (none-some (thread_in m slot) (sym is))
+    joined (Some slot) (Some t) is = let here : thread_in m slot ≡ Some t = same_Some (thread_in m slot) (Some t) is in (here, occupied_by slot (held_at m.threads slot) t here)
+
+    -- the thread that a number chooses, and its slot
+    pub ready_chosen : (set : List ℕ) (a count : ℕ) (slot : Option ℕ) → set ≡ slots_where (is_ready_on script m) → length m.threads ≤ 64 → count ≡ length set → slot ≡ slice_get set (a % count)
+        → (option_and_then (thread_in m) slot ≡ item_at (ready_threads script m) a) × IfSome slot (λ s. is_occupied_at m.threads s ≡ true)
+    ready_chosen set a count slot is few counted at =
+        joined slot (item_at (ready_threads script m) a)
+        (ap (option_map (thread_in m)) at
+        ∙ numbered set (a % count) is few
+        ∙ ap (λ n. option_map (λ t. Some t) (slice_get (ready_threads script m) (a % n))) (counted ∙ ready_counted set is few))

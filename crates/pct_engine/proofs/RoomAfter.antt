@@ -8,7 +8,7 @@ use Rattle.pct_model.specs.declared.transition.Action.TheVariants as action
 use Rattle.pct_model.specs.Actions.{at_pc, set_local, without_first}
 use Rattle.pct_threads.specs.Slots.{Held, Slot, without_frames}
 use Rattle.pct_threads.specs.Tables.{held_at, on_held}
-use Rattle.pct_engine.specs.Fitting.{AllFit, depth_after, handlers_after}
+use Rattle.pct_engine.specs.Fitting.{AllFit, depth_after, handlers_after, pass_after}
 use Rattle.pct_engine.specs.MachineChanges.{held_at_pc, held_after}
 use Rattle.pct_engine.proofs.HeldChanges.{held_at-on_held}
 
@@ -41,6 +41,11 @@ depth-after (action.EndJoin id) h = refl
 depth-after (action.CancelJoin id) h = refl
 depth-after (action.Request id) h = refl
 depth-after (action.Detach id) h = refl
+depth-after (action.MakeKey k destructor) h = refl
+depth-after (action.DeleteKey k) h = refl
+depth-after (action.SetSpecific k v) h = refl
+depth-after action.BeginPass h = refl
+depth-after (action.TakeKey k) h = refl
 depth-after (action.BeginEnd why) h = refl
 depth-after (action.EndThread v) h = refl
 depth-after action.MarkEnded h = refl
@@ -65,6 +70,11 @@ handlers-after (action.EndJoin id) h = refl
 handlers-after (action.CancelJoin id) h = refl
 handlers-after (action.Request id) h = refl
 handlers-after (action.Detach id) h = refl
+handlers-after (action.MakeKey k destructor) h = refl
+handlers-after (action.DeleteKey k) h = refl
+handlers-after (action.SetSpecific k v) h = refl
+handlers-after action.BeginPass h = refl
+handlers-after (action.TakeKey k) h = refl
 handlers-after (action.BeginEnd why) h = refl
 handlers-after (action.EndThread v) h = refl
 handlers-after action.MarkEnded h = refl
@@ -72,9 +82,15 @@ handlers-after (action.BeginExit v) h = refl
 handlers-after (action.EndProcess n) h = refl
 handlers-after (action.Stop why) h = refl
 
+pass-after : (a : Action) (h : Held) → (held_after a h).thread.pass ≡ pass_after a h.thread.pass
+unfolding held_after
+pass-after (action.SetLocal i v) h = refl
+pass-after action.BeginPass h = refl
+pass-after _ h = refl
+
 -- the actions fit the thread on a slot, if there is one
 abbrev pub FitOn : List Slot → ℕ → List Action → Type 0
-FitOn slots slot actions = (held : Held) → held_at slots slot ≡ Some held → AllFit (length held.frames) (length held.thread.handlers) actions
+FitOn slots slot actions = (held : Held) → held_at slots slot ≡ Some held → AllFit (length held.frames) (length held.thread.handlers) held.thread.pass actions
 
 -- the thread before a change
 held_before : (f : Held → Held) (o : Option Held) (held : Held) → option_map f o ≡ Some held → (h : Held) × (o ≡ Some h) × (held ≡ f h)
@@ -88,7 +104,9 @@ fit_rest slot a actions old mid moved fits held here =
     let h : Held = before.0 in
     let frames : depth_after a (length h.frames) ≡ length held.frames = sym (depth-after a h) ∙ sym (ap (λ (x : Held). length x.frames) before.2) in
     let handlers : handlers_after a (length h.thread.handlers) ≡ length held.thread.handlers = sym (handlers-after a h) ∙ sym (ap (λ (x : Held). length x.thread.handlers) before.2) in
-    subst (λ (n : ℕ). AllFit (length held.frames) n actions) handlers (subst (λ (n : ℕ). AllFit n (handlers_after a (length h.thread.handlers)) actions) frames (fits h before.1).1)
+    let passes : pass_after a h.thread.pass ≡ held.thread.pass = sym (pass-after a h) ∙ sym (ap (λ (x : Held). x.thread.pass) before.2) in
+    subst (λ (n : ℕ). AllFit (length held.frames) (length held.thread.handlers) n actions) passes
+    (subst (λ (n : ℕ). AllFit (length held.frames) n (pass_after a h.thread.pass) actions) handlers (subst (λ (n : ℕ). AllFit n (handlers_after a (length h.thread.handlers)) (pass_after a h.thread.pass) actions) frames (fits h before.1).1))
 
 frames_at-next : (next : Option ℕ) (h : Held) → length (held_at_pc next h).frames ≡ length h.frames
 unfolding held_at_pc
@@ -100,6 +118,11 @@ unfolding held_at_pc
 handlers_at-next None h = refl
 handlers_at-next (Some pc) h = refl
 
+pass_at-next : (next : Option ℕ) (h : Held) → (held_at_pc next h).thread.pass ≡ h.thread.pass
+unfolding held_at_pc
+pass_at-next None h = refl
+pass_at-next (Some pc) h = refl
+
 -- after the thread went on, they fit
 pub fit_next : (slot : ℕ) (next : Option ℕ) (actions : List Action) (old mid : List Slot) → mid ≡ on_held slot (held_at_pc next) old → FitOn old slot actions → FitOn mid slot actions
 fit_next slot next actions old mid moved fits held here =
@@ -107,7 +130,9 @@ fit_next slot next actions old mid moved fits held here =
     let h : Held = before.0 in
     let frames : length h.frames ≡ length held.frames = sym (frames_at-next next h) ∙ sym (ap (λ (x : Held). length x.frames) before.2) in
     let handlers : length h.thread.handlers ≡ length held.thread.handlers = sym (handlers_at-next next h) ∙ sym (ap (λ (x : Held). length x.thread.handlers) before.2) in
-    subst (λ (n : ℕ). AllFit (length held.frames) n actions) handlers (subst (λ (n : ℕ). AllFit n (length h.thread.handlers) actions) frames (fits h before.1))
+    let passes : h.thread.pass ≡ held.thread.pass = sym (pass_at-next next h) ∙ sym (ap (λ (x : Held). x.thread.pass) before.2) in
+    subst (λ (n : ℕ). AllFit (length held.frames) (length held.thread.handlers) n actions) passes
+    (subst (λ (n : ℕ). AllFit (length held.frames) n h.thread.pass actions) handlers (subst (λ (n : ℕ). AllFit n (length h.thread.handlers) h.thread.pass actions) frames (fits h before.1)))
 
 -- a thread that left all its frames has room for one
 pub no_frames : (slot : ℕ) (old mid : List Slot) (held : Held) → mid ≡ on_held slot without_frames old → held_at mid slot ≡ Some held → length held.frames ≤ 16

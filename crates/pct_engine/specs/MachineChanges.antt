@@ -1,6 +1,6 @@
--- What a transition changes in a machine: in the thread that makes it, in what its threads share, in a thread that it names, and
--- by the thread that it creates.
-use Rattle.std.specs.Prelude.{ℕ, Bool, true, ◌&&◌, if◌then◌else◌, List, [], ◌∷◌, length, Option, Some, None, slice_set, position}
+-- What a transition changes in a machine: in the thread that makes it, in what its threads share, in their thread-specific data, in a
+-- thread that it names, and by the thread that it creates.
+use Rattle.std.specs.Prelude.{ℕ, suc, Bool, true, ◌&&◌, if◌then◌else◌, List, [], ◌∷◌, length, map, Option, Some, None, slice_set, position}
 use Rattle.std.specs.Option.{option_map_or}
 use Rattle.pct_model.specs.declared.state.Reason.{Reason}
 use Rattle.pct_model.specs.declared.state.Status.{Status}
@@ -10,12 +10,14 @@ use Rattle.pct_model.specs.declared.transition.Action.TheVariants as action
 use Rattle.pct_model.specs.declared.transition.NewThread.{NewThread}
 use Rattle.pct_model.specs.declared.transition.Transition.{Transition}
 use Rattle.pct_model.specs.Cancelability.{ending_state, ending_mode}
+use Rattle.pct_model.specs.Keys.{no_values, key_place, with_key, without_key, with_value, without_value, with_pass}
 use Rattle.pct_model.specs.World.{new_frame}
 use Rattle.pct_model.specs.Actions.{at_pc, set_local, without_first, stop_after, for_each}
 use Rattle.pct_model.specs.ThreadSlots.{is_ended_status, slot_of}
 use Rattle.pct_threads.specs.Records.{ended_record}
 use Rattle.pct_threads.specs.Slots.{Held, Slot, has_id, with_joiner, after_detach, after_change, with_change, freed}
 use Rattle.pct_threads.specs.Tables.{id_at, on_slot, on_held, with_created}
+use Rattle.pct_keys.specs.Tables.{Table, on_row}
 use Rattle.pct_engine.specs.declared.machine.Machine.{Machine}
 
 -- ---- the thread
@@ -50,6 +52,7 @@ held_after (action.SetMode mode) h = record h { thread = record h.thread { cance
 held_after (action.BeginPoint index) h = held_with_status (AtPoint index) h
 held_after (action.BeginJoin id) h = held_with_status (Joining id) h
 held_after (action.CancelJoin id) h = held_with_status Running h
+held_after action.BeginPass h = record h { thread = record h.thread { pass = suc h.thread.pass } }
 held_after (action.BeginEnd why) h = held_ending why h
 held_after (action.EndThread v) h = record h { thread = ended_record v h.thread }
 held_after action.MarkEnded h = record h { thread = record h.thread { ended = true } }
@@ -106,6 +109,24 @@ unfoldable pub exit_value_after : Action → Option ℕ → Option ℕ
 exit_value_after (action.BeginExit v) exit_value = Some v
 exit_value_after _ exit_value = exit_value
 
+-- ---- keys, and the values of threads
+
+-- the table of keys after an action of the thread on a slot; no thread keeps its value of a key that is deleted
+unfoldable pub keys_after : ℕ → Action → Table → Table
+keys_after slot (action.MakeKey k destructor) keys = record keys { places = with_key (key_place k) k destructor keys.places }
+keys_after slot (action.DeleteKey k) keys = record { places = without_key (key_place k) keys.places; rows = map (without_value (key_place k)) keys.rows }
+keys_after slot (action.SetSpecific k v) keys = on_row slot (with_value (key_place k) v) keys
+keys_after slot action.BeginPass keys = on_row slot with_pass keys
+keys_after slot (action.TakeKey k) keys = on_row slot (without_value (key_place k)) keys
+keys_after slot _ keys = keys
+
+-- the table with the thread that a transition creates on one of a number of slots, if it does: it has no value
+abbrev pub with_new_row : ℕ → Option NewThread → Table → Table
+with_new_row slots None keys = keys
+with_new_row slots (Some new) keys = on_row (slot_of slots new.id) (λ row. no_values) keys
+
+-- ---- the process
+
 -- whether the process has ended, after an action
 unfoldable pub has_ended_after : Action → Bool → Bool
 has_ended_after (action.EndProcess n) has_ended = true
@@ -115,7 +136,7 @@ has_ended_after _ has_ended = has_ended
 
 -- a machine after an action of the thread on a slot
 abbrev pub machine_after : ℕ → Action → Machine → Machine
-machine_after slot a m = record { threads = on_held slot (held_after a) m.threads; globals = globals_after a m.globals; exit_value = exit_value_after a m.exit_value; has_ended = has_ended_after a m.has_ended; stop = stop_after a m.stop }
+machine_after slot a m = record { threads = on_held slot (held_after a) m.threads; globals = globals_after a m.globals; keys = keys_after slot a m.keys; exit_value = exit_value_after a m.exit_value; has_ended = has_ended_after a m.has_ended; stop = stop_after a m.stop }
 
 -- a machine after the thread on a slot went on, if it does, and made its actions on itself and on what is shared
 abbrev pub machine_acted : ℕ → Transition → Machine → Machine
@@ -125,6 +146,10 @@ machine_acted slot o m = for_each (machine_after slot) o.actions (record m { thr
 abbrev pub on_threads : (List Slot → List Slot) → Machine → Machine
 on_threads change m = record m { threads = change m.threads }
 
+-- a machine with the thread that a transition creates, if it does
+abbrev pub machine_with_new : Option NewThread → Machine → Machine
+machine_with_new created m = record m { threads = with_new created m.threads; keys = with_new_row (length m.threads) created m.keys }
+
 -- a machine after a transition of the thread on a slot
 abbrev pub machine_moved : ℕ → Transition → Machine → Machine
-machine_moved slot o m = on_threads (λ threads. with_new o.created (settled slot (for_each (named_on slot) o.actions threads))) (machine_acted slot o m)
+machine_moved slot o m = machine_with_new o.created (on_threads (λ threads. settled slot (for_each (named_on slot) o.actions threads)) (machine_acted slot o m))

@@ -14,8 +14,8 @@ use Rattle.pct_threads.specs.Tables.{held_at, on_held}
 use Rattle.pct_engine_laws.specs.Seen.{Seen, seen}
 use Rattle.pct_engine_laws.specs.SeenSteps.{seen_transition, seen_chosen, seen_verdict}
 use Rattle.pct_engine.specs.declared.machine.Machine.{Machine}
-use Rattle.pct_engine.specs.Answers.{IdsFit}
-use Rattle.pct_engine.specs.Fitting.{AllFit, NamesFit, NewFits}
+use Rattle.pct_engine.specs.Answers.{NumbersFit}
+use Rattle.pct_engine.specs.Fitting.{AllFit, KeysFit, NamesFit, NewFits}
 use Rattle.pct_engine.specs.Views.{machine_view, ArePlaced}
 use Rattle.pct_engine.specs.MachineChanges.{held_moved}
 
@@ -36,20 +36,21 @@ may_step m e = is_none m.stop && nat_le e.worker MAX_WORKER && nat_eq e.pid 1 &&
 abbrev pub ArePlacedIn : ℕ → Machine → Type 0
 ArePlacedIn slots m = m.has_ended ≡ false → ArePlaced slots m.threads
 
--- the id of the next thread on each slot fits 32 bits, while the process has not ended
-abbrev pub IdsFitIn : Machine → Type 0
-IdsFitIn m = m.has_ended ≡ false → IdsFit m.threads
+-- the numbers that new threads and new keys can get fit 32 bits, while the process has not ended
+abbrev pub NumbersFitIn : Machine → Type 0
+NumbersFitIn m = m.has_ended ≡ false → NumbersFit m.threads m.keys
 
 -- ---- a step
 
--- the entry names the thread on this slot, the thread has room for the actions of the transition, and the table fits those that
--- name a thread and the thread that it creates
+-- the entry names the thread on this slot, the thread has room for the actions of the transition, the table of keys fits them, and the
+-- table of threads those that name a thread and the thread that it creates
 pub record IsFound (m : Machine) (e : Entry) (slot : ℕ) (o : Transition) : Type 0 where
   pub may : may_step m e ≡ true
   pub held : Held
   pub here : held_at m.threads slot ≡ Some held
   pub named : held.id ≡ e.tid
-  pub fits : AllFit (length held.frames) (length held.thread.handlers) o.actions
+  pub fits : AllFit (length held.frames) (length held.thread.handlers) held.thread.pass o.actions
+  pub keys_fit : KeysFit slot o.actions m.keys
   pub names : NamesFit slot o.actions (on_held slot (held_moved o) m.threads)
   pub created : NewFits o.created m.threads
 

@@ -1,12 +1,15 @@
-//! What a transition changes: in the thread that makes it, in what the threads of its process share, and in the other threads.
+//! What a transition changes: in the thread that makes it, in what the threads of its process share, in their thread-specific data,
+//! and in the other threads.
 
-ghost use Rattle.std.specs.Prelude.{◌≡◌, drop, length, Some, true};
+ghost use Rattle.std.specs.Prelude.{◌≡◌, ◌<◌, drop, length, Some, true};
 ghost use Rattle.pct_model.specs.Actions.{for_each, stop_after};
 ghost use Rattle.pct_threads.specs.Slots.{Held};
 ghost use Rattle.pct_threads.specs.Tables.{held_at, is_occupied_at, on_held};
-ghost use Rattle.pct_engine.specs.Fitting.{Fits, AllFit, NamesFit, NewFits};
+ghost use Rattle.pct_engine.specs.Fitting.{Fits, AllFit, NamesFit, NewFits, KeyFits, KeysFit};
 ghost use Rattle.pct_engine.specs.MachineChanges.{held_after, held_moved, machine_after, machine_acted, machine_moved};
+ghost use Rattle.pct_engine.specs.Views.{HasRows};
 
+use crate::key_actions::act_on_keys;
 use crate::machine::Machine;
 use crate::named_threads::{create, name_all, settle};
 use crate::own_actions::{act_alone, go_on};
@@ -15,7 +18,9 @@ use pct_model::{Action, Transition, UpToThree};
 /// Makes the changes of a transition of the thread on a slot, which has room for them.
 pub(crate) fn change(machine: &mut Machine, slot: u32, transition: &Transition)
     requires occupied { is_occupied_at machine.old.threads slot ≡ true }
-    requires fits { (held : Held) → held_at machine.old.threads slot ≡ Some held → AllFit (length held.frames) (length held.thread.handlers) transition.now.actions }
+    requires rows { HasRows machine.old }
+    requires fits { (held : Held) → held_at machine.old.threads slot ≡ Some held → AllFit (length held.frames) (length held.thread.handlers) held.thread.pass transition.now.actions }
+    requires keys { KeysFit slot transition.now.actions machine.old.keys }
     requires names { NamesFit slot transition.now.actions (on_held slot (held_moved transition.now) machine.old.threads) }
     requires created { NewFits transition.now.created machine.old.threads }
     ensures { machine.new ≡ machine_moved slot transition.now machine.old }
@@ -23,13 +28,15 @@ pub(crate) fn change(machine: &mut Machine, slot: u32, transition: &Transition)
     act_own(machine, slot, transition);
     name_all(&mut machine.threads, slot, &transition.actions, 0);
     settle(&mut machine.threads, slot);
-    create(&mut machine.threads, transition.created);
+    create(machine, transition.created);
 }
 
 // Makes the changes of a transition in the thread that makes it, and in what the threads share.
 fn act_own(machine: &mut Machine, slot: u32, transition: &Transition)
     requires occupied { is_occupied_at machine.old.threads slot ≡ true }
-    requires fits { (held : Held) → held_at machine.old.threads slot ≡ Some held → AllFit (length held.frames) (length held.thread.handlers) transition.now.actions }
+    requires row { slot < length machine.old.keys.rows }
+    requires fits { (held : Held) → held_at machine.old.threads slot ≡ Some held → AllFit (length held.frames) (length held.thread.handlers) held.thread.pass transition.now.actions }
+    requires keys { KeysFit slot transition.now.actions machine.old.keys }
     ensures { machine.new ≡ machine_acted slot transition.now machine.old }
 {
     go_on(&mut machine.threads, slot, transition.next);
@@ -39,7 +46,9 @@ fn act_own(machine: &mut Machine, slot: u32, transition: &Transition)
 // Makes the changes of the actions from an index on, in order.
 fn act_all(machine: &mut Machine, slot: u32, actions: &UpToThree<Action>, from: usize)
     requires occupied { is_occupied_at machine.old.threads slot ≡ true }
-    requires fits { (held : Held) → held_at machine.old.threads slot ≡ Some held → AllFit (length held.frames) (length held.thread.handlers) (drop from actions.now) }
+    requires row { slot < length machine.old.keys.rows }
+    requires fits { (held : Held) → held_at machine.old.threads slot ≡ Some held → AllFit (length held.frames) (length held.thread.handlers) held.thread.pass (drop from actions.now) }
+    requires keys { KeysFit slot (drop from actions.now) machine.old.keys }
     ensures { machine.new ≡ for_each (machine_after slot) (drop from actions.now) machine.old }
 {
     if let Some(action) = actions.get(from) {
@@ -51,17 +60,20 @@ fn act_all(machine: &mut Machine, slot: u32, actions: &UpToThree<Action>, from: 
 // Makes the changes of one action.
 fn act(machine: &mut Machine, slot: u32, action: Action)
     requires occupied { is_occupied_at machine.old.threads slot ≡ true }
-    requires fits { (held : Held) → held_at machine.old.threads slot ≡ Some held → Fits (length held.frames) (length held.thread.handlers) action }
+    requires row { slot < length machine.old.keys.rows }
+    requires fits { (held : Held) → held_at machine.old.threads slot ≡ Some held → Fits (length held.frames) (length held.thread.handlers) held.thread.pass action }
+    requires keys { KeyFits slot action machine.old.keys }
     ensures { machine.new ≡ machine_after slot action machine.old }
 {
     act_alone(&mut machine.threads, slot, action);
+    act_on_keys(&mut machine.keys, slot, action);
     act_shared(machine, action);
 }
 
-// Makes the changes of one action in all but the thread.
+// Makes the changes of one action in all but the thread and the table of keys.
 #[tactic(auto, unfolding(crate::specs::MachineChanges::globals_after, crate::specs::MachineChanges::exit_value_after, crate::specs::MachineChanges::has_ended_after, pct_model::specs::Actions::stop_after))]
 fn act_shared(machine: &mut Machine, action: Action)
-    ensures { machine.new ≡ record (machine_after 0 action machine.old) { threads = machine.old.threads } }
+    ensures { machine.new ≡ record (machine_after 0 action machine.old) { threads = machine.old.threads; keys = machine.old.keys } }
 {
     match action {
         Action::SetGlobal(i, value) => machine.globals.set(i, value),
@@ -82,6 +94,11 @@ fn act_shared(machine: &mut Machine, action: Action)
         | Action::CancelJoin(_)
         | Action::Request(_)
         | Action::Detach(_)
+        | Action::MakeKey(_, _)
+        | Action::DeleteKey(_)
+        | Action::SetSpecific(_, _)
+        | Action::BeginPass
+        | Action::TakeKey(_)
         | Action::BeginEnd(_)
         | Action::EndThread(_)
         | Action::MarkEnded => {}

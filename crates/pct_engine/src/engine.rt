@@ -4,7 +4,7 @@ ghost use Rattle.std.specs.Prelude.{◌≡◌, ◌↔◌, ◌*◌, ◌≤◌, tr
 ghost use Rattle.pct_model.specs.World.{opening};
 ghost use Rattle.pct_model.specs.Run.{is_config, run};
 ghost use Rattle.pct_engine_laws.specs.Seen.{seen};
-ghost use Rattle.pct_engine.specs.Views.{machine_view};
+ghost use Rattle.pct_engine.specs.Views.{machine_view, HasRows};
 ghost use Rattle.pct_engine.specs.Joiners.{HaveJoiners};
 ghost use Rattle.pct_engine.specs.EngineStates.{StandsFor, HasRoom};
 ghost use Rattle.pct_engine.specs.UsedSlots.{Covers};
@@ -18,6 +18,7 @@ use crate::trace::{record_entry, record_events};
 use crate::transitions::no_change;
 use crate::used_slots::{add_created, occupied_slots};
 use pct_io::NoMemory;
+use pct_keys::Keys;
 use pct_model::{Config, Entry, Event, Script, Verdict, main_of};
 use pct_set::SlotSet;
 use pct_threads::Threads;
@@ -170,6 +171,7 @@ fn opening(alloc: Global, script: &Script, config: Config) -> Result<Machine, No
     requires { IsTrue (is_config config) }
     ensures view { IfOk result (λ machine. machine_view script.now machine ≡ seen config.slots (opening script.now)) }
     ensures joiners { IfOk result (λ machine. HaveJoiners machine.threads) }
+    ensures rows { IfOk result (λ machine. HasRows machine) }
 {
     let main = main_of(script.funcs.as_slice()) as u32;
     let mut threads = Threads::new(alloc, config.slots)?;
@@ -179,6 +181,7 @@ fn opening(alloc: Global, script: &Script, config: Config) -> Result<Machine, No
     Ok(Machine {
         threads,
         globals: Globals::new(alloc, script.globals.as_slice().len())?,
+        keys: Keys::new(alloc, config.slots)?,
         exit_value: None,
         has_ended: false,
         stop: None,

@@ -8,6 +8,8 @@ mod cleanup_handlers;
 mod current;
 mod engine;
 mod globals;
+mod key_actions;
+mod key_calls;
 mod machine;
 mod named_threads;
 mod other_threads;

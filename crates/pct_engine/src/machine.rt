@@ -1,7 +1,8 @@
-//! The state of a run: the threads of its process, what they share, and whether the process has ended or the run was
-//! stopped.
+//! The state of a run: the threads of its process and their thread-specific data, what the threads share, and whether the
+//! process has ended or the run was stopped.
 
 use crate::globals::Globals;
+use pct_keys::Keys;
 use pct_model::Why;
 use pct_threads::Threads;
 
@@ -10,6 +11,8 @@ use pct_threads::Threads;
 pub(crate) struct Machine {
     pub(crate) threads: Threads,
     pub(crate) globals: Globals,
+    /// The keys of thread-specific data, and a row for each slot: the data of the thread that holds it.
+    pub(crate) keys: Keys,
     /// The value with which exit began.
     pub(crate) exit_value: Option<u32>,
     pub(crate) has_ended: bool,

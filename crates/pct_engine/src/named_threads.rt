@@ -1,12 +1,15 @@
-//! What a transition changes in the other threads: in those that its actions name, and by the thread that it creates.
+//! What a transition changes in the other threads: in those that its actions name, and by the thread that it creates, which has no
+//! thread-specific data.
 
 ghost use Rattle.std.specs.Prelude.{◌≡◌, ◌<◌, drop, length, true};
 ghost use Rattle.pct_model.specs.Actions.{for_each};
 ghost use Rattle.pct_threads.specs.Slots.{with_joiner, after_detach, after_change, with_change, freed};
 ghost use Rattle.pct_threads.specs.Tables.{id_at, is_occupied_at, is_reclaimable_at, on_held};
 ghost use Rattle.pct_engine.specs.Fitting.{IfNamed, NameFits, NamesFit, NewFits};
-ghost use Rattle.pct_engine.specs.MachineChanges.{held_requested, named_on, on_named, settled, with_new};
+ghost use Rattle.pct_engine.specs.MachineChanges.{held_requested, named_on, on_named, settled, machine_with_new};
+ghost use Rattle.pct_engine.specs.Views.{HasRows};
 
+use crate::machine::Machine;
 use pct_model::{Action, NewThread, Status, UpToThree};
 use pct_threads::Threads;
 
@@ -32,13 +35,17 @@ pub(crate) fn settle(threads: &mut Threads, slot: u32)
 }
 
 /// Creates the thread that a transition creates, if it does.
-pub(crate) fn create(threads: &mut Threads, created: Option<NewThread>)
-    requires { NewFits created threads.old }
-    ensures { threads.new ≡ with_new created threads.old }
+pub(crate) fn create(machine: &mut Machine, created: Option<NewThread>)
+    requires fits { NewFits created machine.old.threads }
+    requires rows { HasRows machine.old }
+    ensures { machine.new ≡ machine_with_new created machine.old }
 {
     if let Some(new) = created {
-        let slot = (new.id - 1) % threads.slot_count();
-        threads.create(slot, new.func, new.arg, new.detached);
+        let slot = (new.id - 1) % machine.threads.slot_count();
+        machine
+            .threads
+            .create(slot, new.func, new.arg, new.detached);
+        machine.keys.clear_row(slot);
     }
 }
 
@@ -66,6 +73,11 @@ fn name(threads: &mut Threads, slot: u32, action: Action)
         | Action::SetState(_)
         | Action::SetMode(_)
         | Action::BeginPoint(_)
+        | Action::MakeKey(_, _)
+        | Action::DeleteKey(_)
+        | Action::SetSpecific(_, _)
+        | Action::BeginPass
+        | Action::TakeKey(_)
         | Action::BeginEnd(_)
         | Action::EndThread(_)
         | Action::MarkEnded

@@ -1,7 +1,7 @@
 //! What a transition changes in the thread that makes it.
 
-ghost use Rattle.std.specs.Prelude.{◌≡◌, ◌<◌, ◌≤◌, ◌∷◌, [], ℕ, List, length, Some, None, true};
-ghost use Rattle.pct_model.specs.declared.limits.TheConstants.{MAX_FRAMES, MAX_HANDLERS};
+ghost use Rattle.std.specs.Prelude.{◌≡◌, ◌<◌, ◌≤◌, ◌∷◌, [], ℕ, suc, List, length, Some, None, true};
+ghost use Rattle.pct_model.specs.declared.limits.TheConstants.{MAX_FRAMES, MAX_HANDLERS, MAX_PASSES};
 ghost use Rattle.pct_model.specs.declared.state.Status.TheVariants as status;
 ghost use Rattle.pct_model.specs.Actions.{set_local, at_pc, without_first};
 ghost use Rattle.pct_model.specs.World.{new_frame};
@@ -32,7 +32,7 @@ pub(crate) fn go_on(threads: &mut Threads, slot: u32, next: Option<u32>)
 #[tactic(auto, unfolding(crate::specs::MachineChanges::held_after))]
 pub(crate) fn act_alone(threads: &mut Threads, slot: u32, action: Action)
     requires occupied { is_occupied_at threads.old slot ≡ true }
-    requires fits { (held : Held) → held_at threads.old slot ≡ Some held → Fits (length held.frames) (length held.thread.handlers) action }
+    requires fits { (held : Held) → held_at threads.old slot ≡ Some held → Fits (length held.frames) (length held.thread.handlers) held.thread.pass action }
     ensures { threads.new ≡ on_held slot (held_after action) threads.old }
 {
     match action {
@@ -47,6 +47,7 @@ pub(crate) fn act_alone(threads: &mut Threads, slot: u32, action: Action)
         Action::BeginPoint(index) => set_status(threads, slot, Status::AtPoint(index)),
         Action::BeginJoin(id) => set_status(threads, slot, Status::Joining(id)),
         Action::CancelJoin(_) => set_status(threads, slot, Status::Running),
+        Action::BeginPass => begin_pass(threads, slot),
         Action::BeginEnd(why) => begin_end(threads, slot, why),
         Action::EndThread(value) => end_thread(threads, slot, value),
         Action::MarkEnded => mark_ended(threads, slot),
@@ -55,6 +56,10 @@ pub(crate) fn act_alone(threads: &mut Threads, slot: u32, action: Action)
         | Action::EndJoin(_)
         | Action::Request(_)
         | Action::Detach(_)
+        | Action::MakeKey(_, _)
+        | Action::DeleteKey(_)
+        | Action::SetSpecific(_, _)
+        | Action::TakeKey(_)
         | Action::EndProcess(_)
         | Action::Stop(_) => {}
     }
@@ -148,6 +153,15 @@ fn set_mode(threads: &mut Threads, slot: u32, mode: Mode)
     ensures { threads.new ≡ on_held slot (λ h. record h { thread = record h.thread { cancel = record h.thread.cancel { mode = mode } } }) threads.old }
 {
     threads.write(slot).cancel.mode = mode;
+}
+
+// The number of the thread's pass over the destructors is one more.
+fn begin_pass(threads: &mut Threads, slot: u32)
+    requires occupied { is_occupied_at threads.old slot ≡ true }
+    requires room { (held : Held) → held_at threads.old slot ≡ Some held → held.thread.pass < MAX_PASSES }
+    ensures { threads.new ≡ on_held slot (λ h. record h { thread = record h.thread { pass = suc h.thread.pass } }) threads.old }
+{
+    threads.write(slot).pass += 1;
 }
 
 // The thread leaves all its frames, and begins to exit its process.

@@ -1,13 +1,15 @@
 //! What a step reads of a thread.
 
-ghost use Rattle.std.specs.Prelude.{◌≡◌, Some, true};
+ghost use Rattle.std.specs.Prelude.{◌≡◌, ◌<◌, length, Some, true};
+ghost use Rattle.pct_keys.specs.Tables.{row_at};
 ghost use Rattle.pct_threads.specs.Slots.{Held};
 ghost use Rattle.pct_threads.specs.Tables.{held_at, is_occupied_at};
-ghost use Rattle.pct_engine.specs.Positions.{IsDecoded, IsPosition};
-ghost use Rattle.pct_engine.specs.Views.{thread_of};
+ghost use Rattle.pct_engine.specs.Positions.{HasRow, IsDecoded, IsPosition};
+ghost use Rattle.pct_engine.specs.Views.{thread_of, with_specific};
 
 use crate::current::next_of;
 use crate::program::Program;
+use pct_keys::Keys;
 use pct_model::{Frame, Stmt};
 use pct_threads::{Thread, Threads};
 
@@ -24,13 +26,25 @@ pub(crate) struct Position<'a> {
     pub(crate) frames: &'a [Frame],
     /// The record of the thread.
     pub(crate) thread: &'a Thread,
+    /// The keys of its process, and its slot: the row of the slot has its thread-specific data.
+    pub(crate) keys: &'a Keys,
+    pub(crate) slot: u32,
 }
 
-/// What a step reads of the thread on a slot.
-pub(crate) fn position_of<'a>(program: &'a Program, threads: &'a Threads, slot: u32) -> Position<'a>
-    requires { is_occupied_at threads.now slot ≡ true }
-    ensures position { (held : Held) → held_at threads.now slot ≡ Some held → IsPosition program.now.script result (thread_of held) }
+/// What a step reads of the thread on a slot, in a process with these keys.
+pub(crate) fn position_of<'a>(
+    program: &'a Program,
+    threads: &'a Threads,
+    keys: &'a Keys,
+    slot: u32,
+) -> Position<'a>
+    requires occupied { is_occupied_at threads.now slot ≡ true }
+    requires row { slot < length keys.now.rows }
+    ensures position { (held : Held) → held_at threads.now slot ≡ Some held → IsPosition program.now.script result (with_specific (row_at keys.now slot) (thread_of held)) }
     ensures decoded { IsDecoded program.now.script result.next }
+    ensures row { HasRow result }
+    ensures keys { result.keys.now ≡ keys.now }
+    ensures slot { result.slot ≡ slot }
 {
     let place = threads.place(slot);
     Position {
@@ -39,5 +53,7 @@ pub(crate) fn position_of<'a>(program: &'a Program, threads: &'a Threads, slot: 
         depth: place.depth,
         frames: threads.frames(slot),
         thread: threads.read(slot),
+        keys,
+        slot,
     }
 }

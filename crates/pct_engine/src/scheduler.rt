@@ -8,11 +8,11 @@ ghost use Rattle.pct_threads.specs.Slots.{Held};
 ghost use Rattle.pct_threads.specs.Tables.{held_at, is_occupied_at};
 ghost use Rattle.pct_engine_laws.specs.SeenSteps.{seen_chosen, seen_verdict};
 ghost use Rattle.pct_engine.specs.Listed.{listed, AreWithin};
-ghost use Rattle.pct_engine.specs.Views.{machine_view};
-ghost use Rattle.pct_engine.specs.Answers.{IdsFit};
-ghost use Rattle.pct_engine.specs.ReadyThreads.{choices_of_held, is_ready_held, is_ready_on, ready_held, candidate_held};
+ghost use Rattle.pct_engine.specs.Views.{machine_thread, machine_view, HasRows};
+ghost use Rattle.pct_engine.specs.Answers.{NumbersFit};
+ghost use Rattle.pct_engine.specs.ReadyThreads.{thread_in, choices_of, is_ready, is_ready_on, ready_threads, candidate_of};
 ghost use Rattle.pct_engine.specs.UsedSlots.{Covers};
-ghost use Rattle.pct_engine.specs.Steps.{legal_transition, ArePlacedIn, IdsFitIn, IsSeenChoice};
+ghost use Rattle.pct_engine.specs.Steps.{legal_transition, ArePlacedIn, NumbersFitIn, IsSeenChoice};
 
 use crate::cancel_calls::may_pass;
 use crate::choice_table::{Choices, choices_at};
@@ -33,6 +33,7 @@ pub(crate) fn verdict_after(
 ) -> Verdict
     requires used { Covers used machine.now.threads }
     requires slots { machine.now.has_ended ≡ false → length machine.now.threads ≡ program.now.config.slots }
+    requires rows { HasRows machine.now }
     ensures { result ≡ seen_verdict program.now.script program.now.config (machine_view program.now.script machine.now) count }
 {
     if let Some(why) = machine.stop {
@@ -63,7 +64,8 @@ pub(crate) fn chosen(
     requires used { Covers used machine.now.threads }
     requires count { count ≤ program.now.config.budget }
     requires slots { machine.now.has_ended ≡ false → length machine.now.threads ≡ program.now.config.slots }
-    requires ids { IdsFitIn machine.now }
+    requires rows { HasRows machine.now }
+    requires numbers { NumbersFitIn machine.now }
     ensures choice { IsSeenChoice program.now.script program.now.config (machine_view program.now.script machine.now) count worker a b result }
     ensures legal { ArePlacedIn program.now.config.slots machine.now → worker ≤ MAX_WORKER
         → IfSome result (λ e. is_some (legal_transition program.now.script program.now.config (machine_view program.now.script machine.now) e) ≡ true) }
@@ -86,7 +88,8 @@ fn chosen_in(
 ) -> Option<Entry>
     requires used { Covers used machine.now.threads }
     requires slots { machine.now.has_ended ≡ false → length machine.now.threads ≡ program.now.config.slots }
-    requires ids { IdsFitIn machine.now }
+    requires rows { HasRows machine.now }
+    requires numbers { NumbersFitIn machine.now }
     ensures value { result ≡ seen_chosen program.now.script program.now.config.slots (machine_view program.now.script machine.now) worker a b }
     ensures legal { ArePlacedIn program.now.config.slots machine.now → worker ≤ MAX_WORKER
         → IfSome result (λ e. is_some (legal_transition program.now.script program.now.config (machine_view program.now.script machine.now) e) ≡ true) }
@@ -105,8 +108,9 @@ fn chosen_in(
 
 // The slot of the ready thread that a number chooses, if a thread is ready.
 fn chosen_slot(program: &Program, machine: &Machine, used: SlotSet, a: u32) -> Option<u32>
-    requires { Covers used machine.now.threads }
-    ensures value { option_and_then (held_at machine.now.threads) result ≡ item_at (ready_held program.now.script machine.now) a }
+    requires used { Covers used machine.now.threads }
+    requires rows { HasRows machine.now }
+    ensures value { option_and_then (thread_in machine.now) result ≡ item_at (ready_threads program.now.script machine.now) a }
     ensures occupied { IfSome result (λ slot. is_occupied_at machine.now.threads slot ≡ true) }
 {
     let ready = ready_slots(program, machine, used);
@@ -120,15 +124,16 @@ fn chosen_slot(program: &Program, machine: &Machine, used: SlotSet, a: u32) -> O
 // The entry of a worker for the thread on a slot, by a number that chooses one of its choices.
 fn entry_on(program: &Program, machine: &Machine, slot: u32, worker: u32, b: u32) -> Option<Entry>
     requires occupied { is_occupied_at machine.now.threads slot ≡ true }
-    requires ids { IdsFit machine.now.threads }
-    ensures { (held : Held) → held_at machine.now.threads slot ≡ Some held → result ≡ entry_for worker b (candidate_held program.now.script machine.now held) }
+    requires rows { HasRows machine.now }
+    requires numbers { NumbersFit machine.now.threads machine.now.keys }
+    ensures { (held : Held) → held_at machine.now.threads slot ≡ Some held → result ≡ entry_for worker b (candidate_of program.now.script machine.now (machine_thread machine.now slot held)) }
 {
     let choices = choices_on(program, machine, slot);
-    let count = choices.count();
+    let count = choices.count(&machine.keys);
     if count == 0 {
         return None;
     }
-    let Some(alt) = choices.nth(&machine.threads, b as usize % count) else {
+    let Some(alt) = choices.nth(&machine.threads, &machine.keys, b as usize % count) else {
         return None;
     };
     Some(Entry {
@@ -141,9 +146,10 @@ fn entry_on(program: &Program, machine: &Machine, slot: u32, worker: u32, b: u32
 
 // The slots whose threads are ready.
 fn ready_slots(program: &Program, machine: &Machine, used: SlotSet) -> SlotSet
-    requires { Covers used machine.now.threads }
+    requires used { Covers used machine.now.threads }
+    requires rows { HasRows machine.now }
     ensures set { result ≡ slots_where (is_ready_on program.now.script machine.now) }
-    ensures count { length result ≡ length (ready_held program.now.script machine.now) }
+    ensures count { length result ≡ length (ready_threads program.now.script machine.now) }
     ensures few { length machine.now.threads ≤ 64 }
 {
     let slots = machine.threads.slot_count();
@@ -172,7 +178,7 @@ fn is_ready(program: &Program, machine: &Machine, slot: u32) -> bool
 // the thread that it joins has ended, or it may act upon a request there; or it is ending or exits its process.
 fn has_choice(program: &Program, machine: &Machine, slot: u32) -> bool
     requires { is_occupied_at machine.now.threads slot ≡ true }
-    ensures { (held : Held) → held_at machine.now.threads slot ≡ Some held → result ≡ is_ready_held program.now.script machine.now held }
+    ensures { (held : Held) → held_at machine.now.threads slot ≡ Some held → result ≡ is_ready program.now.script machine.now (machine_thread machine.now slot held) }
 {
     let threads = &machine.threads;
     let thread = threads.read(slot);
@@ -188,10 +194,11 @@ fn has_choice(program: &Program, machine: &Machine, slot: u32) -> bool
 
 // The choices of the thread on a slot.
 fn choices_on(program: &Program, machine: &Machine, slot: u32) -> Choices
-    requires { is_occupied_at machine.now.threads slot ≡ true }
-    ensures value { (held : Held) → held_at machine.now.threads slot ≡ Some held → listed machine.now.threads result ≡ choices_of_held program.now.script machine.now held }
+    requires occupied { is_occupied_at machine.now.threads slot ≡ true }
+    requires rows { HasRows machine.now }
+    ensures value { (held : Held) → held_at machine.now.threads slot ≡ Some held → listed machine.now.threads machine.now.keys result ≡ choices_of program.now.script machine.now (machine_thread machine.now slot held) }
     ensures within { AreWithin (length machine.now.threads) result }
 {
-    let position = position_of(program, &machine.threads, slot);
+    let position = position_of(program, &machine.threads, &machine.keys, slot);
     choices_at(&others_of(machine, &position), &position)
 }

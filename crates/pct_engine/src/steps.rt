@@ -3,10 +3,10 @@
 ghost use Rattle.std.specs.Prelude.{◌≡◌, ◌<◌, Some, None, true, IfSome, if◌then◌else◌, option_map};
 ghost use Rattle.pct_model.specs.World.{World};
 ghost use Rattle.pct_engine_laws.specs.Seen.{seen};
-ghost use Rattle.pct_engine.specs.Views.{machine_view};
+ghost use Rattle.pct_engine.specs.Views.{machine_view, HasRows};
 ghost use Rattle.pct_engine.specs.Joiners.{HaveJoiners};
 ghost use Rattle.pct_engine.specs.UsedSlots.{HeldOrCreated};
-ghost use Rattle.pct_engine.specs.Steps.{legal_transition, may_step, ArePlacedIn, IdsFitIn, IsFound, StepsBy};
+ghost use Rattle.pct_engine.specs.Steps.{legal_transition, may_step, ArePlacedIn, NumbersFitIn, IsFound, StepsBy};
 
 use crate::actions::change;
 use crate::choice_table::choices_at;
@@ -27,12 +27,14 @@ pub(crate) fn step(
 ) -> bool
     requires some { 0 < program.now.config.slots }
     requires placed { ArePlacedIn program.now.config.slots machine.old }
-    requires ids { IdsFitIn machine.old }
+    requires rows { HasRows machine.old }
+    requires numbers { NumbersFitIn machine.old }
     requires joiners { HaveJoiners machine.old.threads }
     ensures step { (w : World) → machine_view program.now.script machine.old ≡ seen program.now.config.slots w
         → StepsBy program.now.script program.now.config w machine.old machine.new entry (if result then Some transition.new.events else None) }
     ensures slots { result ≡ true → HeldOrCreated machine.old.threads machine.new.threads transition.new.created }
     ensures joiners { HaveJoiners machine.new.threads }
+    ensures rows { HasRows machine.new }
 {
     let Some(slot) = transition_of(program, machine, entry, transition) else {
         return false;
@@ -50,7 +52,8 @@ fn transition_of(
     transition: &mut Transition,
 ) -> Option<u32>
     requires placed { ArePlacedIn program.now.config.slots machine.now }
-    requires ids { IdsFitIn machine.now }
+    requires rows { HasRows machine.now }
+    requires numbers { NumbersFitIn machine.now }
     ensures found { IfSome result (λ slot. IsFound machine.now entry slot transition.new) }
     ensures value { legal_transition program.now.script program.now.config (machine_view program.now.script machine.now) entry ≡ option_map (λ slot. transition.new) result }
 {
@@ -60,10 +63,12 @@ fn transition_of(
     let Some(slot) = slot_with(&machine.threads, entry.tid) else {
         return None;
     };
-    let position = position_of(program, &machine.threads, slot);
+    // In every table the number of each key is one of its place.
+    let _none = machine.keys.find(0);
+    let position = position_of(program, &machine.threads, &machine.keys, slot);
     let globals = machine.globals.as_slice();
     let others = answer_to(&machine.threads, entry.tid, query_at(globals, &position));
-    if !choices_at(&others, &position).offers(&machine.threads, entry.alt) {
+    if !choices_at(&others, &position).offers(&machine.threads, &machine.keys, entry.alt) {
         return None;
     }
     transition_by(

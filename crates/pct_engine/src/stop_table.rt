@@ -7,17 +7,19 @@ ghost use Rattle.pct_model.specs.declared.limits.TheConstants.{MAX_HANDLERS};
 ghost use Rattle.pct_model.specs.Jumps.{open_of};
 ghost use Rattle.pct_model.specs.World.{Thread, SharedState, body_of};
 ghost use Rattle.pct_model.specs.OtherThreads.{Others, target_is};
+ghost use Rattle.pct_model.specs.Keys.{key_with};
 ghost use Rattle.pct_model.specs.StopTable.{stop_at, stops_of, first_stop, is_stack_full, has_begun_to_end, exits_twice, is_handler_kind, is_in_handler, is_async_safe, is_built};
 ghost use Rattle.pct_engine.specs.Positions.{AreShared, IsPosition};
 
 use crate::current::value_of;
 use crate::position::Position;
 use crate::program::Program;
+use pct_keys::Keys;
 use pct_model::{Frame, FrameKind, MAX_FRAMES, MAX_HANDLERS, Reason, Stmt, Target, Why};
 
-/// The stop of a running thread at this statement of its top frame, in a process with these globals and this value of exit,
-/// where the thread that it names, if it names one that holds its slot, is this target: whether the statement is implemented is tested first, and then the statement's own stops in their order. `None` if the
-/// statement does not stop.
+/// The stop of a running thread at this statement of its top frame, in a process with these globals and this value of exit, where the
+/// thread that it names, if it names one that holds its slot, is this target: whether the statement is implemented is tested first,
+/// and then the statement's own stops in their order. `None` if the statement does not stop.
 #[tactic(auto, unfolding(pct_model::specs::StopTable::stop_at))]
 pub(crate) fn stop_at(
     program: &Program,
@@ -28,7 +30,7 @@ pub(crate) fn stop_at(
     frame: &Frame,
     statement: &Stmt,
 ) -> Option<Why>
-    ensures { (shared : SharedState) (t : Thread) (others : Others) → AreShared globals.now exit_value shared → IsPosition program.now.script position.now t → target ≡ others.target
+    ensures { (shared : SharedState) (t : Thread) (others : Others) → AreShared globals.now position.now.keys.now.places exit_value shared → IsPosition program.now.script position.now t → target ≡ others.target
         → result ≡ stop_at (body_of program.now.script frame.now.func) shared t others frame.now statement.now }
 {
     if !is_built(statement) {
@@ -53,7 +55,7 @@ fn own_stop(
     frame: &Frame,
     statement: &Stmt,
 ) -> Option<Why>
-    ensures { (shared : SharedState) (t : Thread) (others : Others) → AreShared globals.now exit_value shared → IsPosition program.now.script position.now t → target ≡ others.target
+    ensures { (shared : SharedState) (t : Thread) (others : Others) → AreShared globals.now position.now.keys.now.places exit_value shared → IsPosition program.now.script position.now t → target ≡ others.target
         → result ≡ first_stop (stops_of (body_of program.now.script frame.now.func) shared t others frame.now statement.now) }
 {
     match statement {
@@ -64,6 +66,9 @@ fn own_stop(
             *enable && is_in_handler(position.frames),
             Why::EnableInHandler,
         )]),
+        Stmt::KeyDelete(key) | Stmt::SetSpecific(key, _) | Stmt::GetSpecific(_, key) => {
+            stop_of_key(position.keys, value_of(globals, frame, *key))
+        }
         Stmt::ThreadExit(_) => first_stop(&[(
             has_begun_to_end(position.thread.reason),
             Why::ExitInEnding,
@@ -108,6 +113,13 @@ fn stop_of_detach(target: Option<Target>) -> Option<Why>
         (is_detached(target), Why::NotJoinable),
         (is_joined(target), Why::DetachJoined),
     ])
+}
+
+// The stop of a call that names the key with a number: it was not made, or was deleted.
+fn stop_of_key(keys: &Keys, key: u32) -> Option<Why>
+    ensures { result ≡ first_stop ((is_none (key_with key keys.now.places), why.KeyId) ∷ []) }
+{
+    first_stop(&[(keys.find(key).is_none(), Why::KeyId)])
 }
 
 // The first stop whose guard holds.
@@ -245,6 +257,10 @@ pub(crate) fn is_built(statement: &Stmt) -> bool
             | Stmt::SetState { .. }
             | Stmt::SetMode { .. }
             | Stmt::PointCall(_)
+            | Stmt::KeyCreate { .. }
+            | Stmt::KeyDelete(_)
+            | Stmt::SetSpecific(_, _)
+            | Stmt::GetSpecific(_, _)
             | Stmt::Push(_, _)
             | Stmt::Pop(_)
     )

@@ -1,6 +1,7 @@
 //! The transition that a choice makes.
 
-ghost use Rattle.std.specs.Prelude.{◌≡◌, Some, length};
+ghost use Rattle.std.specs.Prelude.{◌≡◌, ◌≤◌, Some, length};
+ghost use Rattle.pct_model.specs.declared.limits.TheConstants.{MAX_PASSES};
 ghost use Rattle.pct_model.specs.declared.state.Status.TheVariants as status;
 ghost use Rattle.pct_model.specs.World.{Thread, SharedState, body_of, statement_at};
 ghost use Rattle.pct_model.specs.OtherThreads.{Others as SeenOthers};
@@ -8,7 +9,7 @@ ghost use Rattle.pct_model.specs.StopTable.{stop_at};
 ghost use Rattle.pct_model.specs.NextStatement.{next_of, body_at};
 ghost use Rattle.pct_model.specs.TransitionTable.{acts_or, transition_at, stops_or, runs};
 ghost use Rattle.pct_engine.specs.Answers.{SeesAlike};
-ghost use Rattle.pct_engine.specs.Positions.{AreShared, IsDecoded, IsPosition};
+ghost use Rattle.pct_engine.specs.Positions.{AreShared, HasRow, IsDecoded, IsPosition};
 ghost use Rattle.pct_engine.specs.Fitting.{TransitionFits};
 
 use crate::cancel_calls::{
@@ -16,6 +17,7 @@ use crate::cancel_calls::{
 };
 use crate::cleanup_handlers::{pops, pushes};
 use crate::current::{next_pc, value_of, variable_value};
+use crate::key_calls::{creates_key_by, deletes_key, gets_specific, key_place, sets_specific};
 use crate::other_threads::Others;
 use crate::position::Position;
 use crate::process_exit::{ends_process, returns_by};
@@ -33,8 +35,8 @@ use pct_model::{Alt, Frame, Status, Stmt, Target, Transition};
 /// these globals and this value of exit (`None` before exit has begun), in which no function is registered with atexit. By
 /// `act` it acts upon a request. By every other choice it goes on: a running thread stops the run, or makes the transition of its
 /// next statement; one that is suspended at a cancellation point goes on; one that joins another returns, once that has ended;
-/// one that is ending runs its handlers and ends; one that exits its process ends it; every other thread changes nothing. The
-/// program counter and the actions, one after another, keep the limits.
+/// one that is ending runs its handlers and destructors and ends; one that exits its process ends it; every other thread changes
+/// nothing. The program counter and the actions, one after another, keep the limits.
 pub(crate) fn transition_by(
     program: &Program,
     globals: &[u32],
@@ -45,9 +47,10 @@ pub(crate) fn transition_by(
     transition: &mut Transition,
 )
     requires decoded { IsDecoded program.now.script position.now.next }
-    ensures value { (shared : SharedState) (t : Thread) (seen : SeenOthers) → AreShared globals.now exit_value shared → IsPosition program.now.script position.now t → SeesAlike others.now seen
-        → transition.new ≡ acts_or choice t.status (transition_at (body_at program.now.script t.frames) shared t seen choice (next_of program.now.script t.frames) t.status) }
-    ensures fits { (t : Thread) → IsPosition program.now.script position.now t → TransitionFits (length t.frames) (length t.handlers) transition.new }
+    requires row { HasRow position.now }
+    ensures value { (shared : SharedState) (t : Thread) (seen : SeenOthers) → AreShared globals.now position.now.keys.now.places exit_value shared → IsPosition program.now.script position.now t → SeesAlike others.now seen
+        → transition.new ≡ acts_or choice t.status (transition_at program.now.config.passes (body_at program.now.script t.frames) shared t seen choice (next_of program.now.script t.frames) t.status) }
+    ensures fits { (t : Thread) → IsPosition program.now.script position.now t → TransitionFits (length t.frames) (length t.handlers) t.pass transition.new }
 {
     match choice {
         Alt::Act(_) => acts_on_request(position.thread.status, transition),
@@ -69,11 +72,13 @@ fn transition_at(
     transition: &mut Transition,
 )
     requires decoded { IsDecoded program.now.script position.now.next }
-    ensures { (shared : SharedState) (t : Thread) (seen : SeenOthers) → AreShared globals.now exit_value shared → IsPosition program.now.script position.now t → SeesAlike others.now seen
-        → transition.new ≡ transition_at (body_at program.now.script t.frames) shared t seen choice (next_of program.now.script t.frames) t.status }
+    requires row { HasRow position.now }
+    ensures value { (shared : SharedState) (t : Thread) (seen : SeenOthers) → AreShared globals.now position.now.keys.now.places exit_value shared → IsPosition program.now.script position.now t → SeesAlike others.now seen
+        → transition.new ≡ transition_at program.now.config.passes (body_at program.now.script t.frames) shared t seen choice (next_of program.now.script t.frames) t.status }
+    ensures limit { program.now.config.passes ≤ MAX_PASSES }
 {
-    let thread = position.thread;
-    match thread.status {
+    let passes = program.config.passes;
+    match position.thread.status {
         Status::Running => running(
             program,
             globals,
@@ -85,10 +90,7 @@ fn transition_at(
         ),
         Status::AtPoint(index) => passes_point(program, index, position.next, transition),
         Status::Joining(id) => joins_at(program, others.target, id, position.next, transition),
-        Status::Ending => {
-            let newest = thread.handlers.newest();
-            goes_on_ending(others.is_last, thread.reason, newest, transition);
-        }
+        Status::Ending => goes_on_ending(others.is_last, passes, position, choice, transition),
         Status::Exiting => ends_process(exit_value, transition),
         _ => *transition = no_change(),
     }
@@ -106,8 +108,9 @@ fn running(
     transition: &mut Transition,
 )
     requires decoded { IsDecoded program.now.script position.now.next }
-    ensures { (shared : SharedState) (t : Thread) (seen : SeenOthers) → AreShared globals.now exit_value shared → IsPosition program.now.script position.now t → target ≡ seen.target
-        → transition.new ≡ transition_at (body_at program.now.script t.frames) shared t seen choice (next_of program.now.script t.frames) status.Running }
+    requires row { HasRow position.now }
+    ensures { (shared : SharedState) (t : Thread) (seen : SeenOthers) → AreShared globals.now position.now.keys.now.places exit_value shared → IsPosition program.now.script position.now t → target ≡ seen.target
+        → transition.new ≡ transition_at program.now.config.passes (body_at program.now.script t.frames) shared t seen choice (next_of program.now.script t.frames) status.Running }
 {
     match position.next {
         None => *transition = no_change(),
@@ -130,9 +133,10 @@ fn stops_or_runs(
     transition: &mut Transition,
 )
     requires at { statement_at program.now.script frame.now ≡ Some statement.now }
-    ensures { (shared : SharedState) (t : Thread) (seen : SeenOthers) → AreShared globals.now exit_value shared → IsPosition program.now.script position.now t → target ≡ seen.target
+    requires row { HasRow position.now }
+    ensures { (shared : SharedState) (t : Thread) (seen : SeenOthers) → AreShared globals.now position.now.keys.now.places exit_value shared → IsPosition program.now.script position.now t → target ≡ seen.target
         → let body = body_of program.now.script frame.now.func in
-        transition.new ≡ stops_or (stop_at body shared t seen frame.now statement.now) (runs body shared t seen choice frame.now statement.now) }
+        transition.new ≡ stops_or (stop_at body shared t seen frame.now statement.now) (runs program.now.config.passes body shared t seen choice frame.now statement.now) }
 {
     match stop_at(
         program, globals, exit_value, position, target, frame, statement,
@@ -156,8 +160,9 @@ fn runs(
     transition: &mut Transition,
 )
     requires at { statement_at program.now.script frame.now ≡ Some statement.now }
+    requires row { HasRow position.now }
     ensures { (shared : SharedState) (t : Thread) (seen : SeenOthers) → globals.now ≡ shared.globals → IsPosition program.now.script position.now t
-        → transition.new ≡ runs (body_of program.now.script frame.now.func) shared t seen choice frame.now statement.now }
+        → transition.new ≡ runs program.now.config.passes (body_of program.now.script frame.now.func) shared t seen choice frame.now statement.now }
 {
     match statement {
         Stmt::Emit(operand) => {
@@ -229,6 +234,23 @@ fn runs(
             *transition = sets_mode(next_pc(frame), *asynchronous, *old, mode);
         }
         Stmt::PointCall(index) => calls_point(next_pc(frame), *index, transition),
+        Stmt::KeyCreate {
+            result: answer,
+            key,
+            dtor,
+        } => creates_key_by(choice, next_pc(frame), *answer, *key, *dtor, transition),
+        Stmt::KeyDelete(key) => {
+            *transition = deletes_key(next_pc(frame), value_of(globals, frame, *key));
+        }
+        Stmt::SetSpecific(key, operand) => {
+            let value = value_of(globals, frame, *operand);
+            *transition = sets_specific(next_pc(frame), value_of(globals, frame, *key), value);
+        }
+        Stmt::GetSpecific(dest, key) => {
+            let place = key_place(value_of(globals, frame, *key));
+            let value = position.keys.get(position.slot, place);
+            *transition = gets_specific(next_pc(frame), *dest, value);
+        }
         Stmt::ThreadExit(operand) => {
             *transition = ends_by_exit(value_of(globals, frame, *operand));
         }

@@ -12,5 +12,7 @@ pub mod PlacedThreads
 pub mod LongerRuns
 pub mod OpenRuns
 pub mod OfferedChoices
+pub mod KeyNumbers
 pub mod RunNumbers
 pub mod FewThreads
+pub mod FewKeys

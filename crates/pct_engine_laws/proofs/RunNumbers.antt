@@ -1,8 +1,8 @@
--- The numbers of a run that is limited in its entries: of its threads, and those in its entries.
-use Rattle.std.proofs.Common.{◌≡◌, ℕ, ◌+◌, ◌*◌, ◌<◌, ◌≤◌, Bool, true, false, not, ◌&&◌, ◌||◌, cond, List, [], ◌∷◌, length, map, filter, count_by, get_or, Option, Some, None, refl, sym, ap, ◌∙◌, subst, arith, length-append, zero-add, eqb-true}
+-- The numbers of a run that is limited in its entries: of its threads and keys, and those in its entries.
+use Rattle.std.proofs.Common.{◌≡◌, ℕ, ◌+◌, ◌*◌, ◌<◌, ◌≤◌, Bool, true, false, not, ◌&&◌, cond, List, [], ◌∷◌, length, map, filter, count_by, get_or, Option, Some, None, refl, sym, ap, ◌∙◌, subst, arith, length-append, zero-add, eqb-true}
 use Rattle.std.specs.Prelude.{All, nat_eq, nat_le, is_none, find, option_map, option_and_then}
-use Rattle.std.specs.List.{list_any, range_with_len}
-use Rattle.std.proofs.lemmas.Bool.{and_parts, leb-true, false≢true}
+use Rattle.std.specs.List.{range_with_len}
+use Rattle.std.proofs.lemmas.Bool.{and_parts, leb-true}
 use Rattle.std.proofs.lemmas.List.{length-map}
 use Rattle.std.proofs.lemmas.List.Elements.{All-nil, All-cons, All-head, All-tail, All-append, All-map, All-weaker, All-filter, All-from_get_or}
 use Rattle.std.proofs.lemmas.List.FromFn.{length-range_with_len, get_or-range_with_len}
@@ -21,6 +21,7 @@ use Rattle.pct_model.specs.declared.transition.Action.{Action}
 use Rattle.pct_model.specs.declared.transition.Action.TheVariants as action
 use Rattle.pct_model.specs.declared.transition.NewThread.{NewThread}
 use Rattle.pct_model.specs.declared.transition.Transition.{Transition}
+use Rattle.pct_model.specs.Keys.{KeyPlace}
 use Rattle.pct_model.specs.World.{Thread, Process, World, first_process, opening}
 use Rattle.pct_model.specs.Actions.{shared_after, process_after, has_ended, other_process_after, for_each, thread_moved, thread_created, threads_moved, changed, is_live_process, after_transition}
 use Rattle.pct_model.specs.ChoiceTable.{choices_of, offers}
@@ -32,26 +33,23 @@ use Rattle.pct_model.specs.Step.{Successor, if_offered, step, transition_of}
 use Rattle.pct_model.specs.Run.{Run, run_step, run_from, run}
 use Rattle.pct_engine_laws.specs.RunNumbers.{IsChoiceWithin, IsEntryWithin}
 use Rattle.pct_engine_laws.proofs.LongerRuns.{run_parts, run_step-is, run_after}
-use Rattle.pct_engine_laws.proofs.OfferedChoices.{IsChosen, offered_case, transition_chosen, taken_chosen}
+use Rattle.pct_engine_laws.proofs.KeyNumbers.{HasFewOn, new_keys_within, left_keys_within, few_keys_more, few_keys_after, no_keys_few}
+use Rattle.pct_engine_laws.proofs.OfferedChoices.{offered_has, each_choice, Creates, MakesWith, transition_makes}
 use Rattle.pct_engine_laws.proofs.StepSeen.{successor_of, may_step}
 use Rattle.pct_engine_laws.proofs.ThreadChanges.{transition_keeps}
 
 -- ---- the numbers of a process
 
--- a process has an id of at most n, and at most n threads, with ids that are limited by n
-pub record HasFew (n pid : ℕ) (threads : List Thread) : Type 0 where
+-- a process has an id of at most n, at most n threads, with ids that are limited by n, and few keys on each place
+pub record HasFew (n pid : ℕ) (threads : List Thread) (keys : List KeyPlace) : Type 0 where
   pub pid_few : pid ≤ n
   pub few : length threads ≤ n
   pub ids : All (λ (t : Thread). t.id ≤ 64 + 64 * n) threads
+  pub keys_few : All (HasFewOn n) keys
 
--- a thread that is created has an id of at most a limit
-abbrev CreatedWithin : ℕ → Option NewThread → Type 0
-CreatedWithin limit None = Unit {0}
-CreatedWithin limit (Some new) = new.id ≤ limit
-
-created_within : (limit : ℕ) (choice : Alt) (created : Option NewThread) → IsChosen choice created → IsChoiceWithin limit choice → CreatedWithin limit created
-created_within limit choice None chosen within = tt
-created_within limit choice (Some new) chosen within = subst (IsChoiceWithin limit) chosen within
+-- a transition makes a thread and a key with numbers that are limited by n
+abbrev MakesWithin : ℕ → Transition → Type 0
+MakesWithin n o = MakesWith (λ id. id ≤ 64 + 64 * n) (λ k. k ≤ 128 + 128 * n) o
 
 -- ---- the ids of new threads
 
@@ -79,26 +77,37 @@ unfolding answer_to
 asked_within slots tid n threads query.NewIds few within = free_within slots n threads few within
 asked_within slots tid n threads _ few within = All-nil (λ (id : ℕ). id ≤ 64 + 64 * n)
 
--- a number among others with a property has it
-any_all : (P : ℕ → Type 0) (n : ℕ) (ids : List ℕ) → list_any (nat_eq n) ids ≡ true → All P ids → P n
-any_all P n [] among all = absurd (false≢true among)
-any_all P n (id ∷ ids) among all = either (nat_eq n id) refl among (λ later. any_all P n ids later (All-tail P id ids all)) where
-  either : (b : Bool) → nat_eq n id ≡ b → (b || list_any (nat_eq n) ids) ≡ true → (list_any (nat_eq n) ids ≡ true → P n) → P n
-  either true same found rest = subst P (sym (eqb-true n id same)) (All-head P id ids all)
-  either false same found rest = rest found
+module _ (script : Script) (config : Config) (p : Process) (t : Thread) (choice : Alt) (n : ℕ) (slots : config.slots ≤ 64) (has : HasFew n p.pid p.threads p.shared.keys) (offered : offers (choices_of script config p t) choice ≡ true) where
+  ids_within : All (λ (id : ℕ). id ≤ 64 + 64 * n) (others_of script config p t).new_ids
+  ids_within = asked_within config.slots t.id n p.threads (query_at p.shared (next_of script t.frames) t.status) slots has.few
 
--- a choice that a thread is offered
-choice_within : (script : Script) (config : Config) (p : Process) (t : Thread) (choice : Alt) (n : ℕ) → config.slots ≤ 64 → length p.threads ≤ n → offers (choices_of script config p t) choice ≡ true → IsChoiceWithin (64 + 64 * n) choice
-choice_within script config p t choice n few within offered =
-    offered_case (IsChoiceWithin (64 + 64 * n)) tt (omega arith) t (others_of script config p t)
-    (λ id among. any_all (λ (k : ℕ). k ≤ 64 + 64 * n) id (others_of script config p t).new_ids among (asked_within config.slots t.id n p.threads (query_at p.shared (next_of script t.frames) t.status) few within))
-    (next_of script t.frames) t.status choice offered
+  -- a choice that the thread is offered
+  choice_within : IsChoiceWithin (128 + 128 * n) choice
+  choice_within =
+      let others = others_of script config p t in
+      offered_has (IsChoiceWithin (128 + 128 * n)) (choices_of script config p t) choice
+      (each_choice (IsChoiceWithin (128 + 128 * n)) tt (omega arith) p.shared.keys t others
+      (All-weaker (λ (id : ℕ). id ≤ 64 + 64 * n) (λ id. id ≤ 128 + 128 * n) (λ id small. omega (arith, small)) others.new_ids ids_within)
+      (new_keys_within n p.shared.keys has.keys_few) (left_keys_within n p.shared.keys has.keys_few t.specific)
+      (next_of script t.frames) t.status) offered
+
+  -- what its transition makes
+  made_within : MakesWithin n (transition_by script config p t choice)
+  made_within =
+      transition_makes (λ id. id ≤ 64 + 64 * n) (λ k. k ≤ 128 + 128 * n) config.passes (body_at script t.frames) p.shared t (others_of script config p t) choice ids_within (new_keys_within n p.shared.keys has.keys_few) (next_of script t.frames) t.status offered
 
 -- ---- a process after a transition
 
--- the id of a process, and its threads
-abbrev numbered : Process → ℕ × List Thread
-numbered p = (p.pid, p.threads)
+-- the id of a process, its threads and its keys
+abbrev numbered : Process → ℕ × List Thread × List KeyPlace
+numbered p = (p.pid, p.threads, p.shared.keys)
+
+abbrev HasFewBy : ℕ → ℕ × List Thread × List KeyPlace → Type 0
+HasFewBy n parts = HasFew n parts.0 parts.1 parts.2
+
+-- the process has few threads and keys
+abbrev pub HasFewIn : ℕ → Process → Type 0
+HasFewIn n p = HasFewBy n (numbered p)
 
 own_action_same : (a : Action) (p : Process) → numbered (process_after a p) ≡ numbered p
 unfolding process_after
@@ -127,56 +136,54 @@ few_created : (created : Option NewThread) → length (thread_created created) �
 few_created None = omega arith
 few_created (Some new) = omega arith
 
-small_created : (limit : ℕ) (created : Option NewThread) → CreatedWithin limit created → All (λ (t : Thread). t.id ≤ limit) (thread_created created)
+small_created : (limit : ℕ) (created : Option NewThread) → Creates (λ id. id ≤ limit) created → All (λ (t : Thread). t.id ≤ limit) (thread_created created)
 small_created limit None within = All-nil (λ (t : Thread). t.id ≤ limit)
 small_created limit (Some new) within = All-cons (λ (t : Thread). t.id ≤ limit) _ [] within (All-nil (λ (t : Thread). t.id ≤ limit))
 
 -- more of all
-few_more : (n m pid : ℕ) (threads : List Thread) → n ≤ m → HasFew n pid threads → HasFew m pid threads
-few_more n m pid threads within has = record {
+few_more : (n m pid : ℕ) (threads : List Thread) (keys : List KeyPlace) → n ≤ m → HasFew n pid threads keys → HasFew m pid threads keys
+few_more n m pid threads keys within has = record {
   pid_few = omega (arith, has.pid_few, within);
   few = omega (arith, has.few, within);
   ids = All-weaker (λ (t : Thread). t.id ≤ 64 + 64 * n) (λ t. t.id ≤ 64 + 64 * m) (λ t id. omega (arith, id, within)) threads has.ids;
+  keys_few = few_keys_more n m keys within has.keys_few;
 }
 
 -- the process of the thread after its transition
-own_few : (n tid : ℕ) (o : Transition) (p : Process) → CreatedWithin (64 + 64 * n) o.created → HasFew n p.pid p.threads → HasFew (n + 1) (changed tid o p).pid (changed tid o p).threads
-own_few n tid o p created has =
+own_few : (n tid : ℕ) (o : Transition) (p : Process) → MakesWithin n o → HasFewIn n p → HasFewIn (n + 1) (changed tid o p)
+own_few n tid o p makes has =
     let moved : List Thread = map (thread_moved tid o) p.threads in
     let small = λ (t : Thread). t.id ≤ 64 + 64 * n in
     let kept : All small moved = All-map small (thread_moved tid o) p.threads (All-weaker small (λ t. (thread_moved tid o t).id ≤ 64 + 64 * n) (λ t id. subst (λ (k : ℕ). k ≤ 64 + 64 * n) (sym ((transition_keeps tid o).same_id t)) id) p.threads has.ids) in
-    let all : All small (threads_moved tid o p.threads) = All-append small moved (thread_created o.created) kept (small_created (64 + 64 * n) o.created created) in
-    subst (λ (q : ℕ × List Thread). HasFew (n + 1) q.0 q.1) (sym (own_same o.actions (record p { threads = threads_moved tid o p.threads; shared = for_each shared_after o.actions p.shared })))
+    let all : All small (threads_moved tid o p.threads) = All-append small moved (thread_created o.created) kept (small_created (64 + 64 * n) o.created makes.thread) in
+    subst (HasFewBy (n + 1)) (sym (own_same o.actions (record p { threads = threads_moved tid o p.threads; shared = for_each shared_after o.actions p.shared })))
     (record {
       pid_few = omega (arith, has.pid_few);
       few = omega (arith, length-append moved (thread_created o.created), length-map p.threads (thread_moved tid o), few_created o.created, has.few);
       ids = All-weaker small (λ t. t.id ≤ 64 + 64 * (n + 1)) (λ t id. omega (arith, id)) (threads_moved tid o p.threads) all;
+      keys_few = few_keys_after n o.actions p.shared makes.key has.keys_few;
     })
 
 -- another process
-other_few : (n pid : ℕ) (o : Transition) (p : Process) → HasFew n p.pid p.threads → HasFew (n + 1) (for_each (other_process_after pid) o.actions p).pid (for_each (other_process_after pid) o.actions p).threads
-other_few n pid o p has =
-    subst (λ (q : ℕ × List Thread). HasFew (n + 1) q.0 q.1) (sym (other_same pid o.actions p)) (few_more n (n + 1) p.pid p.threads (omega arith) has)
+other_few : (n pid : ℕ) (o : Transition) (p : Process) → HasFewIn n p → HasFewIn (n + 1) (for_each (other_process_after pid) o.actions p)
+other_few n pid o p has = subst (HasFewBy (n + 1)) (sym (other_same pid o.actions p)) (few_more n (n + 1) p.pid p.threads p.shared.keys (omega arith) has)
 
 -- ---- a state
 
-abbrev pub HasFewIn : ℕ → Process → Type 0
-HasFewIn n p = HasFew n p.pid p.threads
-
--- each process does
+-- each process has few threads and keys
 abbrev pub AllHaveFew : ℕ → World → Type 0
 AllHaveFew n w = All (HasFewIn n) w.processes
 
-few_if : (n pid tid : ℕ) (o : Transition) (p : Process) (own : Bool) → CreatedWithin (64 + 64 * n) o.created → HasFewIn n p → HasFewIn (n + 1) (cond own (changed tid o p) (for_each (other_process_after pid) o.actions p))
-few_if n pid tid o p true created has = own_few n tid o p created has
-few_if n pid tid o p false created has = other_few n pid o p has
+few_if : (n pid tid : ℕ) (o : Transition) (p : Process) (own : Bool) → MakesWithin n o → HasFewIn n p → HasFewIn (n + 1) (cond own (changed tid o p) (for_each (other_process_after pid) o.actions p))
+few_if n pid tid o p true makes has = own_few n tid o p makes has
+few_if n pid tid o p false makes has = other_few n pid o p has
 
 -- after a transition
-few_after : (n pid tid : ℕ) (o : Transition) (w : World) → CreatedWithin (64 + 64 * n) o.created → AllHaveFew n w → AllHaveFew (n + 1) (after_transition pid tid o w)
+few_after : (n pid tid : ℕ) (o : Transition) (w : World) → MakesWithin n o → AllHaveFew n w → AllHaveFew (n + 1) (after_transition pid tid o w)
 unfolding after_transition
-few_after n pid tid o w created has =
+few_after n pid tid o w makes has =
     let next : Process → Process = λ p. cond (is_live_process pid p) (changed tid o p) (for_each (other_process_after pid) o.actions p) in
-    All-map (HasFewIn (n + 1)) next w.processes (All-weaker (HasFewIn n) (λ p. HasFewIn (n + 1) (next p)) (λ p. few_if n pid tid o p (is_live_process pid p) created) w.processes has)
+    All-map (HasFewIn (n + 1)) next w.processes (All-weaker (HasFewIn n) (λ p. HasFewIn (n + 1) (next p)) (λ p. few_if n pid tid o p (is_live_process pid p) makes) w.processes has)
 
 -- ---- an entry
 
@@ -190,14 +197,13 @@ found_all {X} P test (y ∷ ys) x is all = either (test y) refl is (λ later. fo
 
 -- the entry has numbers of at most a limit, and at most n are made with it
 record StepsWithin (n : ℕ) (e : Entry) (w : World) : Type 0 where
-  numbers : IsEntryWithin (64 + 64 * n) e
+  numbers : IsEntryWithin (128 + 128 * n) e
   few : AllHaveFew (n + 1) w
 
 module _ (script : Script) (config : Config) (n : ℕ) (w : World) (e : Entry) (slots : config.slots ≤ 64) (has : AllHaveFew n w) (may : may_step w e ≡ true) where
   offered_within : (p : Process) (t : Thread) (o : Transition) (b : Bool) → HasFewIn n p × (is_live_process e.pid p ≡ true) → (t.id ≤ 64 + 64 * n) × (is_live_thread e.tid t ≡ true) → offers (choices_of script config p t) e.alt ≡ b → cond b (Some (transition_by script config p t e.alt)) None ≡ Some o → StepsWithin n e (successor_of w e o).world
   offered_within p t o true process thread offered is =
-      let choice : IsChoiceWithin (64 + 64 * n) e.alt = choice_within script config p t e.alt n slots process.0.few offered in
-      let chosen : IsChosen e.alt o.created = subst (λ (x : Transition). IsChosen e.alt x.created) (same_Some (transition_by script config p t e.alt) o is) (taken_chosen e.alt t.status _ (transition_chosen e.alt (body_at script t.frames) p.shared t (others_of script config p t) (next_of script t.frames) t.status)) in
+      let makes : MakesWithin n o = subst (MakesWithin n) (same_Some (transition_by script config p t e.alt) o is) (made_within script config p t e.alt n slots process.0 offered) in
       let pid : p.pid ≡ e.pid = eqb-true p.pid e.pid (and_parts (nat_eq p.pid e.pid) (not (has_ended p)) process.1).0 in
       let tid : t.id ≡ e.tid = eqb-true t.id e.tid (and_parts (nat_eq t.id e.tid) (holds_slot t) thread.1).0 in
       record {
@@ -205,9 +211,9 @@ module _ (script : Script) (config : Config) (n : ℕ) (w : World) (e : Entry) (
           worker = leb-true e.worker MAX_WORKER (and_parts (is_none w.stop) (nat_le e.worker MAX_WORKER) may).1;
           pid = omega (arith, pid, process.0.pid_few);
           tid = omega (arith, tid, thread.0);
-          choice = choice;
+          choice = choice_within script config p t e.alt n slots process.0 offered;
         };
-        few = few_after n e.pid e.tid o w (created_within (64 + 64 * n) e.alt o.created chosen choice) has;
+        few = few_after n e.pid e.tid o w makes has;
       }
   offered_within p t o false process thread offered is = absurd (none-some o is)
 
@@ -244,7 +250,7 @@ entry_more limit more e within small = record { worker = small.worker; pid = ome
 
 -- the numbers of a run of these entries, with at most m entries in all
 pub record RunsWithin (m : ℕ) (entries : List Entry) (after : Run) : Type 0 where
-  pub numbers : All (IsEntryWithin (64 + 64 * m)) entries
+  pub numbers : All (IsEntryWithin (128 + 128 * m)) entries
   pub few : AllHaveFew m after.world
 
 module _ (script : Script) (config : Config) (m : ℕ) (slots : config.slots ≤ 64) (after : Run) where
@@ -258,13 +264,13 @@ module _ (script : Script) (config : Config) (m : ℕ) (slots : config.slots ≤
   runs_then n r e entries (Some next) at is within has rest =
       let made = by_step n r next e (step script config r.world e) refl (sym (run_step-is script config r e (step script config r.world e) refl) ∙ at) has in
       let later = rest next is made.few in
-      record { numbers = All-cons (IsEntryWithin (64 + 64 * m)) e entries (entry_more (64 + 64 * n) (64 + 64 * m) e (omega (arith, within)) made.numbers) later.numbers; few = later.few }
+      record { numbers = All-cons (IsEntryWithin (128 + 128 * m)) e entries (entry_more (128 + 128 * n) (128 + 128 * m) e (omega (arith, within)) made.numbers) later.numbers; few = later.few }
 
   runs_from : (n : ℕ) (r : Run) (entries : List Entry) → run_from script config r entries ≡ Some after → n + length entries ≤ m → AllHaveFew n r.world → RunsWithin m entries after
   unfolding run_from
   runs_from n r [] is within has = record {
-    numbers = All-nil (IsEntryWithin (64 + 64 * m));
-    few = subst (λ (x : Run). AllHaveFew m x.world) (same_Some r after is) (All-weaker (HasFewIn n) (HasFewIn m) (λ p. few_more n m p.pid p.threads (omega (arith, within))) r.world.processes has);
+    numbers = All-nil (IsEntryWithin (128 + 128 * m));
+    few = subst (λ (x : Run). AllHaveFew m x.world) (same_Some r after is) (All-weaker (HasFewIn n) (HasFewIn m) (λ p. few_more n m p.pid p.threads p.shared.keys (omega (arith, within))) r.world.processes has);
   }
   runs_from n r (e ∷ entries) is within has =
       runs_then n r e entries (run_step script config r e) refl is (omega (arith, within)) has (λ next ran more. runs_from (n + 1) next entries ran (omega (arith, within)) more)
@@ -297,12 +303,12 @@ unfolding opening
 run_within script config entries after is =
     let parts = run_parts script config entries after is in
     let small = λ (t : Thread). t.id ≤ 64 + 64 * 1 in
-    let first : HasFewIn 1 (first_process script) = record { pid_few = omega arith; few = omega arith; ids = All-cons small _ [] (omega arith) (All-nil small) } in
+    let first : HasFewIn 1 (first_process script) = record { pid_few = omega arith; few = omega arith; ids = All-cons small _ [] (omega arith) (All-nil small); keys_few = no_keys_few } in
     runs_from script config (1 + length entries) (run_limited script config entries after is).slots after 1 (record { world = opening script; events = [] }) entries parts.ran (omega arith) (All-cons (HasFewIn 1) (first_process script) [] first (All-nil (HasFewIn 1)))
 
 -- the entries of a run have numbers of 32 bits
 pub run_numbers_fit : (script : Script) (config : Config) (entries : List Entry) (after : Run) → run script config entries ≡ Some after → All (IsEntryWithin 4294967295) entries
 run_numbers_fit script config entries after is =
-    let limit : ℕ = 64 + 64 * (1 + length entries) in
+    let limit : ℕ = 128 + 128 * (1 + length entries) in
     let few : limit ≤ 4294967295 = omega (arith, (run_limited script config entries after is).budget) in
     All-weaker (IsEntryWithin limit) (IsEntryWithin 4294967295) (λ e. entry_more limit 4294967295 e few) entries (run_within script config entries after is).numbers

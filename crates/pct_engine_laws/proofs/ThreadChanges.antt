@@ -114,6 +114,7 @@ unfolding named_after
 named_keeps (action.EndJoin id) = on_thread_keeps id (λ t. record t { joined = true }) (λ t. refl)
 named_keeps (action.Request id) = passing_keeps (λ t. is_live_thread id t && not t.ended) (λ t. record t { pending = true }) (record { same_id = λ t. refl; reclaimed = λ t gone. gone })
 named_keeps (action.Detach id) = on_thread_keeps id (λ t. record t { detached = true }) (λ t. refl)
+named_keeps (action.DeleteKey k) = record { same_id = λ t. refl; reclaimed = λ t gone. gone }
 named_keeps _ = nothing_keeps
 
 -- the actions of a transition, on the threads that they name

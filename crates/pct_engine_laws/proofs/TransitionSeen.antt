@@ -22,15 +22,15 @@ use Rattle.pct_engine_laws.proofs.AnswerSeen.{thread_seen, others_seen}
 -- ---- threads
 
 -- the transition of a thread by an entry
-pub offered_seen : (script : Script) (config : Config) (p : Process) (e : Entry) (t : Thread) → 0 < config.slots → if_offered script config p e t ≡ if_offered_in script config.slots (seen_process config.slots p) e t
+pub offered_seen : (script : Script) (config : Config) (p : Process) (e : Entry) (t : Thread) → 0 < config.slots → if_offered script config p e t ≡ if_offered_in script config.slots config.passes (seen_process config.slots p) e t
 offered_seen script config p e t some =
-    ap (λ (others : Others). if offers (choices_at t others (next_of script t.frames) t.status) e.alt then Some (acts_or e.alt t.status (transition_at (body_at script t.frames) p.shared t others e.alt (next_of script t.frames) t.status)) else None) (others_seen script config p t some)
+    ap (λ (others : Others). if offers (choices_at p.shared.keys t others (next_of script t.frames) t.status) e.alt then Some (acts_or e.alt t.status (transition_at config.passes (body_at script t.frames) p.shared t others e.alt (next_of script t.frames) t.status)) else None) (others_seen script config p t some)
 
 -- the transition of an entry by a process
-pub taken_seen : (script : Script) (config : Config) (e : Entry) (p : Process) → 0 < config.slots → option_and_then (if_offered script config p e) (with_id e.tid p.threads) ≡ option_and_then (if_offered_in script config.slots (seen_process config.slots p) e) (thread_with config.slots e.tid (seen_process config.slots p).slots)
+pub taken_seen : (script : Script) (config : Config) (e : Entry) (p : Process) → 0 < config.slots → option_and_then (if_offered script config p e) (with_id e.tid p.threads) ≡ option_and_then (if_offered_in script config.slots config.passes (seen_process config.slots p) e) (thread_with config.slots e.tid (seen_process config.slots p).slots)
 taken_seen script config e p some =
     ap (λ (f : Thread → Option Transition). option_and_then f (with_id e.tid p.threads)) (fun_ext (λ t. offered_seen script config p e t some))
-    ∙ ap (option_and_then (if_offered_in script config.slots (seen_process config.slots p) e)) (sym (thread_seen config.slots e.tid p.threads some))
+    ∙ ap (option_and_then (if_offered_in script config.slots config.passes (seen_process config.slots p) e)) (sym (thread_seen config.slots e.tid p.threads some))
 
 -- ---- processes
 
@@ -53,7 +53,7 @@ process_found slots pid ps =
 pub transition_is_seen : (script : Script) (config : Config) (w : World) (e : Entry) → 0 < config.slots → transition_of script config w e ≡ seen_transition script config (seen config.slots w) e
 transition_is_seen script config w e some =
     let found : find (is_live_seen e.pid) (seen config.slots w).processes ≡ option_map (seen_process config.slots) (find (is_live_process e.pid) w.processes) = process_found config.slots e.pid w.processes in
-    let after : SeenProcess → Option Transition = λ p. option_and_then (if_offered_in script config.slots p e) (thread_with config.slots e.tid p.slots) in
+    let after : SeenProcess → Option Transition = λ p. option_and_then (if_offered_in script config.slots config.passes p e) (thread_with config.slots e.tid p.slots) in
     ap (λ (f : Process → Option Transition). option_and_then f (find (is_live_process e.pid) w.processes)) (fun_ext (λ p. taken_seen script config e p some))
     ∙ sym (then-map after (seen_process config.slots) (find (is_live_process e.pid) w.processes))
     ∙ sym (ap (option_and_then after) found)

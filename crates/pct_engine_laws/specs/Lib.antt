@@ -3,4 +3,5 @@ pub mod SeenSteps
 pub mod SeenLaws
 pub mod RunLaws
 pub mod ThreadCounts
+pub mod KeyCounts
 pub mod RunNumbers

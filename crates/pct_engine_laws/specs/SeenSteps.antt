@@ -70,21 +70,21 @@ others_in script slots p t = answer_in slots t.id p.slots (query_at p.shared (ne
 
 -- the choices of a thread of a process
 abbrev pub choices_in : Script → ℕ → SeenProcess → Thread → List Alt
-choices_in script slots p t = choices_at t (others_in script slots p t) (next_of script t.frames) t.status
+choices_in script slots p t = choices_at p.shared.keys t (others_in script slots p t) (next_of script t.frames) t.status
 
--- what a thread of a process does by a choice
-abbrev pub transition_in : Script → ℕ → SeenProcess → Thread → Alt → Transition
-transition_in script slots p t choice = acts_or choice t.status (transition_at (body_at script t.frames) p.shared t (others_in script slots p t) choice (next_of script t.frames) t.status)
+-- what a thread of a process does by a choice, with this limit on the passes over destructors
+abbrev pub transition_in : Script → ℕ → ℕ → SeenProcess → Thread → Alt → Transition
+transition_in script slots passes p t choice = acts_or choice t.status (transition_at passes (body_at script t.frames) p.shared t (others_in script slots p t) choice (next_of script t.frames) t.status)
 
 -- ---- transitions
 
 -- the transition of a thread by an entry, if its choice is offered
-abbrev pub if_offered_in : Script → ℕ → SeenProcess → Entry → Thread → Option Transition
-if_offered_in script slots p e t = if offers (choices_in script slots p t) e.alt then Some (transition_in script slots p t e.alt) else None
+abbrev pub if_offered_in : Script → ℕ → ℕ → SeenProcess → Entry → Thread → Option Transition
+if_offered_in script slots passes p e t = if offers (choices_in script slots p t) e.alt then Some (transition_in script slots passes p t e.alt) else None
 
 -- the transition that an entry takes
 abbrev pub seen_transition : Script → Config → Seen → Entry → Option Transition
-seen_transition script config v e = option_and_then (λ p. option_and_then (if_offered_in script config.slots p e) (thread_with config.slots e.tid p.slots)) (find (is_live_seen e.pid) v.processes)
+seen_transition script config v e = option_and_then (λ p. option_and_then (if_offered_in script config.slots config.passes p e) (thread_with config.slots e.tid p.slots)) (find (is_live_seen e.pid) v.processes)
 
 -- ---- the scheduler
 

@@ -1,5 +1,5 @@
-//! The tests of the crates below the command, through their public calls. They stand in a crate of their own, since the
-//! tests of a crate prove it a second time.
+//! The tests of the crates that an engine is made of, and of input and output, through their public calls. They stand in a crate of
+//! their own, since the tests of a crate prove it a second time.
 #![tactic(auto)]
 
 #[cfg(test)]
@@ -11,18 +11,6 @@ mod input_output;
 #[cfg(test)]
 mod jump_tables;
 #[cfg(test)]
-mod laws;
-#[cfg(test)]
-mod lines;
-#[cfg(test)]
-mod scanning;
-#[cfg(test)]
-mod schedules;
-#[cfg(test)]
-mod scripts;
-#[cfg(test)]
 mod slot_sets;
-#[cfg(test)]
-mod spelling;
 #[cfg(test)]
 mod thread_tables;

@@ -1,7 +1,7 @@
 -- What a transition changes: the thread that makes it, a thread that it names, the state that the threads of its process share,
 -- the process, the other processes, and the run. The thread that makes it and its process are looked up once, before the first
 -- action.
-use Rattle.std.specs.Prelude.{ℕ, Bool, true, not, ◌&&◌, ◌||◌, if◌then◌else◌, List, [], ◌∷◌, ◌++◌, map, Option, Some, None, is_some, nat_eq, slice_set}
+use Rattle.std.specs.Prelude.{ℕ, suc, Bool, true, not, ◌&&◌, ◌||◌, if◌then◌else◌, List, [], ◌∷◌, ◌++◌, map, Option, Some, None, is_some, nat_eq, slice_set}
 use Rattle.pct_model.specs.declared.frame.Frame.{Frame}
 use Rattle.pct_model.specs.declared.state.FrameKind.TheVariants.{Start}
 use Rattle.pct_model.specs.declared.state.Status.TheVariants.{Running, AtPoint, Joining, Ending, Exiting, Ended}
@@ -11,6 +11,7 @@ use Rattle.pct_model.specs.declared.transition.Action.TheVariants as action
 use Rattle.pct_model.specs.declared.transition.NewThread.{NewThread}
 use Rattle.pct_model.specs.declared.transition.Transition.{Transition}
 use Rattle.pct_model.specs.Cancelability.{ending_state, ending_mode}
+use Rattle.pct_model.specs.Keys.{key_place, with_key, without_key, with_value, without_value, with_pass}
 use Rattle.pct_model.specs.World.{Thread, SharedState, Process, World, new_frame, new_thread}
 use Rattle.pct_model.specs.ThreadSlots.{is_live_thread}
 
@@ -49,6 +50,9 @@ thread_after (action.SetMode mode) t = record t { mode = mode }
 thread_after (action.BeginPoint index) t = record t { status = AtPoint index }
 thread_after (action.BeginJoin id) t = record t { status = Joining id }
 thread_after (action.CancelJoin id) t = record t { status = Running }
+thread_after (action.SetSpecific k v) t = record t { specific = with_value (key_place k) v t.specific }
+thread_after action.BeginPass t = record t { pass = suc t.pass; specific = with_pass t.specific }
+thread_after (action.TakeKey k) t = record t { specific = without_value (key_place k) t.specific }
 thread_after (action.BeginEnd why) t = record t { status = Ending; frames = []; state = ending_state; mode = ending_mode; reason = why }
 thread_after (action.EndThread v) t = record t { status = Ended v; ended = true }
 thread_after action.MarkEnded t = record t { ended = true }
@@ -57,12 +61,14 @@ thread_after _ t = t
 
 -- ---- the threads of its process
 
--- any thread of the process after an action, which may name it
+-- any thread of the process after an action, which may name it, or name a key
 unfoldable pub named_after : Action → Thread → Thread
 named_after (action.EndJoin id) t = if is_live_thread id t then record t { joined = true } else t
 -- a request for a thread that has ended changes nothing, which is a choice of this host
 named_after (action.Request id) t = if is_live_thread id t && not t.ended then record t { pending = true } else t
 named_after (action.Detach id) t = if is_live_thread id t then record t { detached = true } else t
+-- no thread keeps its value of a key that is deleted
+named_after (action.DeleteKey k) t = record t { specific = without_value (key_place k) t.specific }
 named_after _ t = t
 
 -- the thread that a transition creates
@@ -75,6 +81,8 @@ thread_created (Some new) = new_thread new.id new.detached (new_frame new.func n
 -- the shared state after an action
 unfoldable pub shared_after : Action → SharedState → SharedState
 shared_after (action.SetGlobal i v) s = record s { globals = slice_set s.globals i v }
+shared_after (action.MakeKey k destructor) s = record s { keys = with_key (key_place k) k destructor s.keys }
+shared_after (action.DeleteKey k) s = record s { keys = without_key (key_place k) s.keys }
 shared_after (action.BeginExit v) s = record s { exit_value = Some v }
 shared_after _ s = s
 

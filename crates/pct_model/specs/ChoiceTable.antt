@@ -13,6 +13,7 @@ use Rattle.pct_model.specs.declared.state.Status.{Status}
 use Rattle.pct_model.specs.declared.state.Status.TheVariants as status
 use Rattle.pct_model.specs.Cancelability.{is_deliverable, is_asynchronous}
 use Rattle.pct_model.specs.CancelCalls.{called_kind, is_required, is_optional, may_pass}
+use Rattle.pct_model.specs.Keys.{KeyPlace, new_keys, left_keys}
 use Rattle.pct_model.specs.World.{Thread, Process}
 use Rattle.pct_model.specs.NextStatement.{NextStatement, NoStatement, StatementIn, next_of}
 use Rattle.pct_model.specs.OtherThreads.{Others, target_is, others_of}
@@ -44,14 +45,20 @@ abbrev pub new_or_go : List ℕ → List Alt
 new_or_go [] = alt.Go ∷ []
 new_or_go (id ∷ ids) = alt.New id ∷ map (λ n. alt.New n) ids
 
+-- one of these destructors, by the numbers of their keys, or `go` if there is none
+abbrev pub dtor_or_go : List ℕ → List Alt
+dtor_or_go [] = alt.Go ∷ []
+dtor_or_go (key ∷ keys) = alt.Dtor key ∷ map (λ n. alt.Dtor n) keys
+
 -- the choices that a statement gives a running thread; a stop is a step too
-unfoldable pub statement_choices : Others → Stmt → List Alt
-statement_choices others (statement.Create result id f v detached) = new_or_go others.new_ids
-statement_choices others s = alt.Go ∷ []
+unfoldable pub statement_choices : List KeyPlace → Others → Stmt → List Alt
+statement_choices keys others (statement.Create result id f v detached) = new_or_go others.new_ids
+statement_choices keys others (statement.KeyCreate result key destructor) = new_or_go (new_keys keys)
+statement_choices keys others s = alt.Go ∷ []
 
 -- ---- the table
 
-module _ (t : Thread) (others : Others) where
+module _ (keys : List KeyPlace) (t : Thread) (others : Others) where
   -- what comes before the statement of a running thread: whether it is implemented, and what the thread's cancelability decides. The
   -- first row whose test holds
   unfoldable pub cancel_rows : Stmt → List ChoiceRow
@@ -69,7 +76,13 @@ module _ (t : Thread) (others : Others) where
 
   -- the choices of a running thread at a statement
   unfoldable pub running_choices : Stmt → List Alt
-  running_choices s = first_row (cancel_rows s) (statement_choices others s)
+  running_choices s = first_row (cancel_rows s) (statement_choices keys others s)
+
+  -- the choices of an ending thread, by its cleanup handlers: without one, the order in which the destructors of a pass are called
+  -- is left to the scheduler (XSH 2.9.5.3, pthread_key_create)
+  unfoldable pub ending_choices : List (ℕ × ℕ) → List Alt
+  ending_choices (handler ∷ handlers) = alt.Go ∷ []
+  ending_choices [] = dtor_or_go (left_keys keys t.specific)
 
   -- the choices of a thread, by its status; one that is suspended at a cancellation point acts upon a pending request, or goes on
   -- once what it waits for has occurred (XSH 2.9.5.2)
@@ -78,7 +91,7 @@ module _ (t : Thread) (others : Others) where
   choices_at NoStatement status.Running = []
   choices_at next (status.AtPoint index) = go_if (may_pass index) ++ act_if (is_deliverable t.state t.pending)
   choices_at next (status.Joining id) = go_if (target_is (λ target. is_some target.value) others.target) ++ act_if (is_deliverable t.state t.pending)
-  choices_at next status.Ending = alt.Go ∷ []
+  choices_at next status.Ending = ending_choices t.handlers
   choices_at next status.Exiting = alt.Go ∷ []
   choices_at next (status.Ended v) = []
   -- no thread has one of the other statuses yet
@@ -86,7 +99,7 @@ module _ (t : Thread) (others : Others) where
 
 -- the choices of a thread of a process
 abbrev pub choices_of : Script → Config → Process → Thread → List Alt
-choices_of script config p t = choices_at t (others_of script config p t) (next_of script t.frames) t.status
+choices_of script config p t = choices_at p.shared.keys t (others_of script config p t) (next_of script t.frames) t.status
 
 -- ---- membership
 

@@ -1,10 +1,11 @@
 -- The invariant of reachable states: what each state that a run reaches keeps, beside the events that led to it.
-use Rattle.std.specs.Prelude.{◌≡◌, ◌≢◌, ℕ, ◌<◌, Bool, true, false, not, ◌&&◌, ◌||◌, List, [], ◌∷◌, ◌++◌, length, map, Option, Some, None, is_some, nat_eq, All}
+use Rattle.std.specs.Prelude.{◌≡◌, ◌≢◌, ℕ, ◌+◌, ◌*◌, ◌<◌, Bool, true, false, not, ◌&&◌, ◌||◌, List, [], ◌∷◌, ◌++◌, length, map, Option, Some, None, is_some, nat_eq, slice_get, All}
 use Rattle.std.specs.List.{list_any}
 use Rattle.std.specs.Option.{option_map_or}
 use Rattle.pct_model.specs.declared.event.Event.{Event}
 use Rattle.pct_model.specs.declared.event.What.TheVariants.{Called}
 use Rattle.pct_model.specs.declared.frame.Frame.{Frame}
+use Rattle.pct_model.specs.declared.limits.TheConstants.{MAX_KEYS}
 use Rattle.pct_model.specs.declared.script.Script.{Script}
 use Rattle.pct_model.specs.declared.schedule.Config.{Config}
 use Rattle.pct_model.specs.declared.state.FrameKind.{FrameKind}
@@ -14,9 +15,11 @@ use Rattle.pct_model.specs.declared.state.Status.{Status}
 use Rattle.pct_model.specs.declared.state.Status.TheVariants as status
 use Rattle.pct_model.specs.declared.statement.Stmt.TheVariants as statement
 use Rattle.pct_model.specs.CancelCalls.{point_kind, is_required}
+use Rattle.pct_model.specs.Keys.{Key, KeyPlace, key_at, value_at}
 use Rattle.pct_model.specs.KnownThreads.{is_known, is_detached, is_joined, newest_event}
 use Rattle.pct_model.specs.LineParsing.{is_empty}
 use Rattle.pct_model.specs.NextStatement.{NextStatement, StatementIn, next_of}
+use Rattle.pct_model.specs.Once.{is_pair}
 use Rattle.pct_model.specs.OpenPushes.{open_pushes}
 use Rattle.pct_model.specs.OwnEvents.{made_process, thread_with, made_thread}
 use Rattle.pct_model.specs.StopTable.{has_begun_to_end}
@@ -107,8 +110,8 @@ is_call_of index _ = false
 
 -- ---- threads
 
--- a thread, and what the events so far report of it
-pub record ThreadKept (script : Script) (t : Thread) (s : ThreadSummary) : Type 0 where
+-- a thread of a process with these keys, and what the events so far report of it
+pub record ThreadKept (script : Script) (keys : List KeyPlace) (t : Thread) (s : ThreadSummary) : Type 0 where
   -- the open handlers are its handlers
   pub handlers : s.handlers ≡ t.handlers
   -- it has an ending event exactly if it has a reason, and the event is that of the reason
@@ -144,6 +147,23 @@ pub record ThreadKept (script : Script) (t : Thread) (s : ThreadSummary) : Type 
   pub joining : (id : ℕ) → t.status ≡ status.Joining id → is_join (next_of script t.frames) ≡ true
   -- the next statement of a thread that is suspended at a generic cancellation point is a call of this point, which is a required one
   pub at_point : (index : ℕ) → t.status ≡ status.AtPoint index → is_call_of index (next_of script t.frames) ≡ true
+  -- the number of its passes over destructors
+  pub passes : s.passes ≡ t.pass
+  -- the destructor of a key whose place is in the current pass was not called in it
+  pub not_destroyed : (place : ℕ) (key : Key) → slice_get t.specific.in_pass place ≡ Some true → key_at keys place ≡ Some key → list_any (is_pair t.pass key.number) s.destroyed ≡ false
+  -- at a place without a key it has no value, and the place is not in its pass
+  pub no_key : (place : ℕ) → key_at keys place ≡ None → (value_at place t.specific ≡ 0) × (slice_get t.specific.in_pass place ≢ Some true)
+  -- before the first pass no place is in a pass
+  pub no_pass : t.pass ≡ 0 → All (λ in_pass. in_pass ≡ false) t.specific.in_pass
+
+-- ---- keys
+
+-- the keys of a process: the key on a place has the number of the last one that was made on it, and its destructor is a function of
+-- the script
+pub record KeysKept (script : Script) (keys : List KeyPlace) : Type 0 where
+  pub places : length keys ≡ MAX_KEYS
+  pub numbers : (place : ℕ) (p : KeyPlace) (key : Key) → slice_get keys place ≡ Some p → p.key ≡ Some key → (0 < p.made) × (1 + place + MAX_KEYS * p.made ≡ key.number + MAX_KEYS)
+  pub destructors : (place : ℕ) (key : Key) (f : ℕ) → key_at keys place ≡ Some key → key.destructor ≡ Some f → f < length script.funcs
 
 -- ---- joins
 
@@ -169,8 +189,10 @@ pub record Kept (script : Script) (config : Config) (w : World) (events : List E
   pub numbers : NumbersThreads config.slots w events
   -- the threads that were made and are not gone are the known ones
   pub known : (pid tid : ℕ) → is_known pid tid events ≡ option_map_or (λ t. not t.gone) (made_thread pid tid w) false
+  -- the keys of each process
+  pub keys : (pid : ℕ) (p : Process) → made_process pid w ≡ Some p → KeysKept script p.shared.keys
   -- each thread that was made and is not gone
-  pub threads : (pid tid : ℕ) (t : Thread) → made_thread pid tid w ≡ Some t → t.gone ≡ false → ThreadKept script t (summary_of pid tid events)
+  pub threads : (pid tid : ℕ) (p : Process) (t : Thread) → made_process pid w ≡ Some p → thread_with tid p ≡ Some t → t.gone ≡ false → ThreadKept script p.shared.keys t (summary_of pid tid events)
   -- each is joined or detached if the events report so
   pub joined : (pid tid : ℕ) (t : Thread) → made_thread pid tid w ≡ Some t → t.gone ≡ false → t.joined ≡ is_joined pid tid events
   pub detached : (pid tid : ℕ) (t : Thread) → made_thread pid tid w ≡ Some t → t.gone ≡ false → t.detached ≡ is_detached pid tid events

@@ -6,8 +6,9 @@ use Rattle.pct_model.specs.Once.{Once}
 
 -- the laws of the events of a run, newest first, with the greatest number of passes over destructors and the number of slots
 pub record Laws (events : List Event) (passes slots : ℕ) : Type 0 where
-  -- no cleanup handler is removed twice, the newest is removed first, and a thread that has ended has none left
-  pub once : Once events
+  -- no cleanup handler is removed twice, the newest is removed first, a thread that has ended has none left, and after its handlers
+  -- no key's destructor is called twice in a pass
+  pub once : Once passes events
   -- each join gets the value of a thread that has ended, no thread is joined twice or while it is detached, and no request or detach
   -- names a thread outside the lifetime of its id
   pub joins : JoinLaw events

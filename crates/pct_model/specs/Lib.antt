@@ -17,6 +17,7 @@ pub mod Spells
 pub mod Canon
 pub mod Jumps
 pub mod OpenPushes
+pub mod Keys
 pub mod World
 pub mod ThreadSlots
 pub mod NextStatement
@@ -26,6 +27,7 @@ pub mod ScriptStatements
 pub mod CleanupHandlers
 pub mod ThreadCalls
 pub mod CancelCalls
+pub mod KeyCalls
 pub mod ThreadEnds
 pub mod ProcessExit
 pub mod StopTable

@@ -10,9 +10,10 @@ use Rattle.pct_model.specs.declared.state.Reason.{Reason}
 use Rattle.pct_model.specs.declared.state.Reason.TheVariants as reason
 use Rattle.pct_model.specs.declared.limits.TheConstants.{MAX_FRAMES, MAX_HANDLERS}
 use Rattle.pct_model.specs.declared.stop.Why.{Why}
-use Rattle.pct_model.specs.declared.stop.Why.TheVariants.{Unbuilt, AsyncCall, EnableInHandler, ThreadId, JoinSelf, NotJoinable, JoinTwice, DetachJoined, ExitInEnding, ExitTwice, StackFull, CleanupFull}
+use Rattle.pct_model.specs.declared.stop.Why.TheVariants.{Unbuilt, AsyncCall, EnableInHandler, ThreadId, JoinSelf, NotJoinable, JoinTwice, DetachJoined, KeyId, ExitInEnding, ExitTwice, StackFull, CleanupFull}
 use Rattle.pct_model.specs.Cancelability.{is_asynchronous}
 use Rattle.pct_model.specs.Jumps.{open_of}
+use Rattle.pct_model.specs.Keys.{key_with}
 use Rattle.pct_model.specs.World.{Thread, SharedState, value_of}
 use Rattle.pct_model.specs.OtherThreads.{Others, target_is}
 
@@ -91,6 +92,10 @@ is_built statement.TestCancel = true
 is_built (statement.SetState enable old) = true
 is_built (statement.SetMode asynchronous old) = true
 is_built (statement.PointCall index) = true
+is_built (statement.KeyCreate result key destructor) = true
+is_built (statement.KeyDelete key) = true
+is_built (statement.SetSpecific key v) = true
+is_built (statement.GetSpecific d key) = true
 is_built (statement.Push f v) = true
 is_built (statement.Pop v) = true
 is_built _ = false
@@ -119,6 +124,10 @@ module _ (body : List Stmt) (shared : SharedState) (t : Thread) (others : Others
   -- XSH 2.9.5.3: a cleanup handler or a destructor may not enable cancelability; that this includes a handler which
   -- pthread_cleanup_pop called is a choice of this host
   stops_of frame (statement.SetState enable old) = (enable && is_in_handler t.frames, EnableInHandler) ∷ []
+  -- XSH pthread_key_delete, pthread_getspecific: a key that was not made, or was deleted
+  stops_of frame (statement.KeyDelete key) = (is_none (key_with (value_of shared.globals frame key) shared.keys), KeyId) ∷ []
+  stops_of frame (statement.SetSpecific key v) = (is_none (key_with (value_of shared.globals frame key) shared.keys), KeyId) ∷ []
+  stops_of frame (statement.GetSpecific d key) = (is_none (key_with (value_of shared.globals frame key) shared.keys), KeyId) ∷ []
   -- XSH pthread_exit: a call from a cleanup handler or a destructor that pthread_exit called is undefined; that this includes one
   -- which a request called is a choice of this host
   stops_of frame (statement.ThreadExit v) = (has_begun_to_end t.reason, ExitInEnding) ∷ []

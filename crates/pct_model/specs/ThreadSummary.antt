@@ -1,6 +1,6 @@
--- What the events of a run report of a thread: its cleanup handlers and its end. A thread is given by the id of its process and
+-- What the events of a run report of a thread: its cleanup handlers, the destructors that it called, and its end. A thread is given by the id of its process and
 -- its own. The events are listed newest first, as in the trace of a run.
-use Rattle.std.specs.Prelude.{ℕ, Bool, true, false, if◌then◌else◌, List, [], ◌∷◌, Option, Some, None, nat_eq}
+use Rattle.std.specs.Prelude.{ℕ, suc, Bool, true, false, if◌then◌else◌, List, [], ◌∷◌, Option, Some, None, nat_eq}
 use Rattle.pct_model.specs.declared.event.Event.{Event}
 use Rattle.pct_model.specs.declared.event.What.{What}
 use Rattle.pct_model.specs.declared.event.What.TheVariants as what
@@ -21,10 +21,13 @@ pub record ThreadSummary : Type 0 where
   pub ended : Option ℕ
   -- it has begun to exit its process
   pub exiting : Bool
+  -- the number of passes over destructors that it began, and the destructors that it called: pass and key, newest first
+  pub passes : ℕ
+  pub destroyed : List (ℕ × ℕ)
 
 -- the summary of a thread without events
 abbrev pub no_events : ThreadSummary
-no_events = record { handlers = []; reason = reason.None; left = []; ended = None; exiting = false }
+no_events = record { handlers = []; reason = reason.None; left = []; ended = None; exiting = false; passes = 0; destroyed = [] }
 
 -- the summary after an ending event
 abbrev pub with_ending : Reason → ThreadSummary → ThreadSummary
@@ -40,6 +43,8 @@ with_event what.EndingCanceled s = with_ending reason.Canceled s
 with_event (what.EndingInWait c m) s = with_ending reason.Canceled s
 with_event (what.EndedWith v) s = record s { ended = Some v }
 with_event (what.ExitBegun v) s = record s { exiting = true }
+with_event (what.PassBegun n) s = record s { passes = suc s.passes }
+with_event (what.DtorRun pass key f v) s = record s { destroyed = (pass, key) ∷ s.destroyed }
 with_event _ s = s
 
 -- the summary of a thread that fork replicates if the event makes its process: it inherits the open handlers of the thread that

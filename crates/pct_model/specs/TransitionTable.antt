@@ -20,6 +20,8 @@ use Rattle.pct_model.specs.Transitions.{no_change, stops}
 use Rattle.pct_model.specs.ScriptStatements.{jumps, emits, sets, adds, variable_value, calls, after_block, after_test, after_end}
 use Rattle.pct_model.specs.CleanupHandlers.{pushes, pops}
 use Rattle.pct_model.specs.CancelCalls.{requests, sets_state, sets_mode, tests_cancel, calls_point, point_kind, passes_point, acts_on_request}
+use Rattle.pct_model.specs.Keys.{key_place, value_at}
+use Rattle.pct_model.specs.KeyCalls.{creates_key_by, deletes_key, sets_specific, gets_specific}
 use Rattle.pct_model.specs.ThreadCalls.{creates_by, begins_join, joins_at, detaches, gets_self}
 use Rattle.pct_model.specs.ThreadEnds.{ends_by_exit, goes_on_ending}
 use Rattle.pct_model.specs.ProcessExit.{returns_by, ends_process}
@@ -37,7 +39,7 @@ stops_or None other = other
 
 -- ---- the table
 
-module _ (body : List Stmt) (shared : SharedState) (t : Thread) (others : Others) (choice : Alt) where
+module _ (passes : ℕ) (body : List Stmt) (shared : SharedState) (t : Thread) (others : Others) (choice : Alt) where
   -- a running thread at a statement that does not stop
   unfoldable pub runs : Frame → Stmt → Transition
   runs frame (statement.Emit v) = emits (suc frame.pc) (value_of shared.globals frame v)
@@ -59,6 +61,10 @@ module _ (body : List Stmt) (shared : SharedState) (t : Thread) (others : Others
   runs frame (statement.SetState enable old) = sets_state (suc frame.pc) enable old t.state
   runs frame (statement.SetMode asynchronous old) = sets_mode (suc frame.pc) asynchronous old t.mode
   runs frame (statement.PointCall index) = calls_point (suc frame.pc) index (point_kind index)
+  runs frame (statement.KeyCreate result key destructor) = creates_key_by choice (suc frame.pc) result key destructor
+  runs frame (statement.KeyDelete key) = deletes_key (suc frame.pc) (value_of shared.globals frame key)
+  runs frame (statement.SetSpecific key v) = sets_specific (suc frame.pc) (value_of shared.globals frame key) (value_of shared.globals frame v)
+  runs frame (statement.GetSpecific d key) = gets_specific (suc frame.pc) d (value_at (key_place (value_of shared.globals frame key)) t.specific)
   runs frame (statement.ThreadExit v) = ends_by_exit (value_of shared.globals frame v)
   runs frame (statement.Push f v) = pushes (suc frame.pc) f (value_of shared.globals frame v)
   runs frame (statement.Pop v) = pops (suc frame.pc) (value_of shared.globals frame v) t.handlers
@@ -69,7 +75,7 @@ module _ (body : List Stmt) (shared : SharedState) (t : Thread) (others : Others
   transition_at (StatementIn frame s) status.Running = stops_or (stop_at body shared t others frame s) (runs frame s)
   transition_at next (status.AtPoint index) = passes_point index next
   transition_at next (status.Joining id) = joins_at others.target id next
-  transition_at next status.Ending = goes_on_ending others.is_last t.reason t.handlers
+  transition_at next status.Ending = goes_on_ending others.is_last passes shared.keys t choice t.handlers
   transition_at next status.Exiting = ends_process shared.exit_functions shared.exit_value
   transition_at next _ = no_change
 
@@ -80,4 +86,4 @@ acts_or _ s goes = goes
 
 -- what a thread of a process does by a choice
 abbrev pub transition_by : Script → Config → Process → Thread → Alt → Transition
-transition_by script config p t choice = acts_or choice t.status (transition_at (body_at script t.frames) p.shared t (others_of script config p t) choice (next_of script t.frames) t.status)
+transition_by script config p t choice = acts_or choice t.status (transition_at config.passes (body_at script t.frames) p.shared t (others_of script config p t) choice (next_of script t.frames) t.status)

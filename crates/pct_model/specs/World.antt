@@ -1,6 +1,6 @@
 -- The state of the machine: processes, their threads, and the state of each (XSH 2.9, pthread_create, fork). Frames,
--- cleanup handlers and exit functions are listed newest first; processes, threads, keys and fork handlers in the order
--- in which they were created or registered. Entries are never removed from the lists of processes, threads and keys.
+-- cleanup handlers and exit functions are listed newest first; processes, threads and fork handlers in the order
+-- in which they were created or registered. Entries are never removed from the lists of processes and threads.
 use Rattle.std.specs.Prelude.{ℕ, Bool, false, List, [], ◌∷◌, length, map, replicate, Option, None, slice_get, slice_index, option_and_then}
 use Rattle.std.specs.Option.{option_map_or}
 use Rattle.pct_model.specs.declared.script.Script.{Script}
@@ -20,6 +20,7 @@ use Rattle.pct_model.specs.declared.state.Status.{Status}
 use Rattle.pct_model.specs.declared.state.Status.TheVariants.{Running}
 use Rattle.pct_model.specs.declared.state.ForkAt.{ForkAt}
 use Rattle.pct_model.specs.declared.stop.Why.{Why}
+use Rattle.pct_model.specs.Keys.{KeyPlace, no_keys, KeyValues, no_values}
 use Rattle.pct_model.specs.Names.{names_of, main_of}
 
 -- a thread (XSH 2.9, pthread_create)
@@ -37,22 +38,14 @@ pub record Thread : Type 0 where
   -- the cleanup handlers: function and argument
   pub handlers : List (ℕ × ℕ)
   pub reason : Reason
-  -- the number of the current pass over the destructors (0 before the first), and the keys of this pass that were not
-  -- taken
+  -- the number of the current pass over the destructors, 0 before the first
   pub pass : ℕ
-  pub keys_left : List ℕ
-  -- thread-specific data: a key's value is the first one with its number, or 0 if there is none
-  pub specific : List (ℕ × ℕ)
+  -- thread-specific data
+  pub specific : KeyValues
   -- the values of a fork in progress, while one of its fork handlers runs
   pub kept : Option ForkAt
   -- the thread was not inherited by a child process
   pub gone : Bool
-
--- a key of thread-specific data (XSH pthread_key_create)
-pub record Key : Type 0 where
-  pub number : ℕ
-  pub destructor : Option ℕ
-  pub deleted : Bool
 
 -- the functions of one call of pthread_atfork
 pub record ForkHandlers : Type 0 where
@@ -67,7 +60,8 @@ pub record SharedState : Type 0 where
   pub owners : List ℕ
   -- the count of each semaphore
   pub counts : List ℕ
-  pub keys : List Key
+  -- the keys of thread-specific data, by place
+  pub keys : List KeyPlace
   pub fork_handlers : List ForkHandlers
   pub exit_functions : List ℕ
   -- the value with which exit began
@@ -117,11 +111,11 @@ new_frame func arg kind = record { func = func; pc = 0; locals = arg ∷ 0 ∷ 0
 
 -- a new thread: cancelability enabled and deferred (XSH pthread_setcancelstate), no handlers, no thread-specific data
 abbrev pub new_thread : ℕ → Bool → Frame → Thread
-new_thread id detached frame = record { id = id; detached = detached; joined = false; status = Running; ended = false; frames = frame ∷ []; state = Enable; mode = Deferred; pending = false; handlers = []; reason = reason.None; pass = 0; keys_left = []; specific = []; kept = None; gone = false }
+new_thread id detached frame = record { id = id; detached = detached; joined = false; status = Running; ended = false; frames = frame ∷ []; state = Enable; mode = Deferred; pending = false; handlers = []; reason = reason.None; pass = 0; specific = no_values; kept = None; gone = false }
 
 -- the shared state at the start of a script
 abbrev pub new_shared : Script → SharedState
-new_shared script = record { globals = replicate (length script.globals) 0; owners = replicate (length script.mutexes) 0; counts = map (λ d. d.count) script.sems; keys = []; fork_handlers = []; exit_functions = []; exit_value = None }
+new_shared script = record { globals = replicate (length script.globals) 0; owners = replicate (length script.mutexes) 0; counts = map (λ d. d.count) script.sems; keys = no_keys; fork_handlers = []; exit_functions = []; exit_value = None }
 
 -- process 1, with thread 1 in `main`
 abbrev pub first_process : Script → Process

@@ -30,7 +30,7 @@ pub use frame::Frame;
 pub use keyword::Keyword;
 pub use limits::{
     MAX_BUDGET, MAX_COUNT, MAX_DECLARED, MAX_FRAMES, MAX_FUNCTIONS, MAX_HANDLERS, MAX_INPUT,
-    MAX_LOCALS, MAX_PASSES, MAX_SLOTS, MAX_STATEMENTS, MAX_WORKER, MIN_PASSES,
+    MAX_KEYS, MAX_LOCALS, MAX_PASSES, MAX_SLOTS, MAX_STATEMENTS, MAX_WORKER, MIN_PASSES,
 };
 pub use line_kind::{ArgumentKind, LINE_KINDS, LineKind, SymbolKind};
 pub use name::{MAX_NAME, Name};

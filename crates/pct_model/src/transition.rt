@@ -47,6 +47,17 @@ pub enum Action {
     Request(u32),
     /// The thread with this id becomes detached. It may be the thread itself.
     Detach(u32),
+    /// A key of thread-specific data is made: its number, and its destructor, if it has one.
+    MakeKey(u32, Option<u32>),
+    /// The key with this number is deleted, and no thread keeps its value of it.
+    DeleteKey(u32),
+    /// The thread's value of the key with this number becomes the second number.
+    SetSpecific(u32, u32),
+    /// The thread begins a pass over the destructors of its thread-specific data.
+    BeginPass,
+    /// The key with this number is taken out of the thread's pass, and the thread's value of it becomes NULL: its destructor is
+    /// called.
+    TakeKey(u32),
     /// The thread begins to end, for a reason: it leaves all its frames, and its cancelability is disabled and deferred.
     BeginEnd(Reason),
     /// The thread ends with a value.

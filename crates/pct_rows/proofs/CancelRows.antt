@@ -20,6 +20,7 @@ use Rattle.pct_model.specs.declared.stop.Why.TheVariants as why
 use Rattle.pct_model.specs.Contents.{Contents}
 use Rattle.pct_model.specs.Static.{is_static}
 use Rattle.pct_model.specs.Points.{points, point_name}
+use Rattle.pct_model.specs.Keys.{no_keys}
 use Rattle.pct_model.specs.World.{Thread, new_frame, new_thread, new_shared}
 use Rattle.pct_model.specs.OtherThreads.{no_answer}
 use Rattle.pct_model.specs.CancelCalls.{may_pass}
@@ -111,6 +112,6 @@ unfolding stops_of stop_at
 asynchronous_first = (refl, refl)
 
 -- such a call has the choice `go`, also one that creates a thread
-asynchronous_choices : (running_choices asynchronous (record no_answer { new_ids = 2 ∷ 3 ∷ [] }) (statement.Create destination.Drop destination.Drop 0 (operand.Num 0) false) ≡ alt.Go ∷ []) × (running_choices (thread_in (kind.Main ∷ [])) (record no_answer { new_ids = 2 ∷ 3 ∷ [] }) (statement.Create destination.Drop destination.Drop 0 (operand.Num 0) false) ≡ alt.New 2 ∷ alt.New 3 ∷ [])
+asynchronous_choices : (running_choices no_keys asynchronous (record no_answer { new_ids = 2 ∷ 3 ∷ [] }) (statement.Create destination.Drop destination.Drop 0 (operand.Num 0) false) ≡ alt.Go ∷ []) × (running_choices no_keys (thread_in (kind.Main ∷ [])) (record no_answer { new_ids = 2 ∷ 3 ∷ [] }) (statement.Create destination.Drop destination.Drop 0 (operand.Num 0) false) ≡ alt.New 2 ∷ alt.New 3 ∷ [])
 unfolding runs_on_literals
 asynchronous_choices = (refl, refl)

@@ -10,6 +10,7 @@ mod ThreadEdgeRows
 mod EndingRows
 mod CancelRows
 mod CancelRequestRows
+mod KeyRows
 mod Rows
 mod ChoiceRows
 mod EventRows

@@ -303,7 +303,7 @@ unfolding stops_of stop_at value_of open_of close_of
 do_at_16 = (refl, refl)
 
 -- a statement that is not implemented is a stop before all others
-unbuilt_first : (stop_of exit_begun (with_frames 16) (statement.Fork destination.Drop destination.Drop) ≡ Some why.Unbuilt) × (stop_of no_exit (with_handlers 32) (statement.KeyCreate destination.Drop destination.Drop None) ≡ Some why.Unbuilt)
+unbuilt_first : (stop_of exit_begun (with_frames 16) (statement.Fork destination.Drop destination.Drop) ≡ Some why.Unbuilt) × (stop_of no_exit (with_handlers 32) (statement.Lock 0) ≡ Some why.Unbuilt)
 unfolding stops_of stop_at
 unbuilt_first = (refl, refl)
 
@@ -323,7 +323,7 @@ unfolding stops_of stop_at value_of open_of close_of
 second_exit_only_in_main = refl
 
 -- a stop changes nothing but the run
-stopped_by_second_exit : transition_at (returns_0 ∷ []) exit_begun (with_handlers 0) no_answer alt.Go (StatementIn main_frame returns_0) Running ≡ record { next = None; created = None; actions = Stop why.ExitTwice ∷ []; events = what.Stopped why.ExitTwice ∷ [] }
+stopped_by_second_exit : transition_at 4 (returns_0 ∷ []) exit_begun (with_handlers 0) no_answer alt.Go (StatementIn main_frame returns_0) Running ≡ record { next = None; created = None; actions = Stop why.ExitTwice ∷ []; events = what.Stopped why.ExitTwice ∷ [] }
 unfolding transition_at stops_of stop_at value_of open_of close_of
 stopped_by_second_exit = refl
 

@@ -209,12 +209,12 @@ abbrev threads_after : Script → Config → List Entry → Option (List (List T
 threads_after script config entries = option_map (λ r. (map (λ p. p.threads) r.world.processes, is_some r.world.stop)) (run script config entries)
 
 -- a new thread: joinable, running at the first statement of its start routine, enabled, deferred, no request
-new_thread_is : threads_after reuser (with_slots 2) (new 1 2 ∷ []) ≡ Some ((record (new_thread 1 false (new_frame 1 0 kind.Main)) { frames = record { func = 1; pc = 1; locals = 0 ∷ 2 ∷ 0 ∷ 0 ∷ replicate 4 0; kind = kind.Main } ∷ [] } ∷ record { id = 2; detached = true; joined = false; status = status.Running; ended = false; frames = record { func = 0; pc = 0; locals = 3 ∷ replicate 7 0; kind = kind.Start } ∷ []; state = Enable; mode = Deferred; pending = false; handlers = []; reason = reason.None; pass = 0; keys_left = []; specific = []; kept = None; gone = false } ∷ []) ∷ [], false)
+new_thread_is : threads_after reuser (with_slots 2) (new 1 2 ∷ []) ≡ Some ((record (new_thread 1 false (new_frame 1 0 kind.Main)) { frames = record { func = 1; pc = 1; locals = 0 ∷ 2 ∷ 0 ∷ 0 ∷ replicate 4 0; kind = kind.Main } ∷ [] } ∷ record { id = 2; detached = true; joined = false; status = status.Running; ended = false; frames = record { func = 0; pc = 0; locals = 3 ∷ replicate 7 0; kind = kind.Start } ∷ []; state = Enable; mode = Deferred; pending = false; handlers = []; reason = reason.None; pass = 0; specific = record { values = replicate 128 0; in_pass = replicate 128 false }; kept = None; gone = false } ∷ []) ∷ [], false)
 unfolding runs_on_literals
 new_thread_is = refl
 
 -- what the end of thread 2 and its join leave: DISABLE and DEFERRED, no frame, the reason; then the status, the end and the join
-left_by_the_end : threads_after old_id (with_slots 2) (new 1 2 ∷ go 1 ∷ go 2 ∷ go 2 ∷ go 1 ∷ []) ≡ Some ((record (new_thread 1 false (new_frame 2 0 kind.Main)) { frames = record { func = 2; pc = 2; locals = 0 ∷ 2 ∷ 0 ∷ replicate 5 0; kind = kind.Main } ∷ [] } ∷ record { id = 2; detached = false; joined = true; status = status.Ended 0; ended = true; frames = []; state = Disable; mode = Deferred; pending = false; handlers = []; reason = reason.Exit 0; pass = 0; keys_left = []; specific = []; kept = None; gone = false } ∷ []) ∷ [], false)
+left_by_the_end : threads_after old_id (with_slots 2) (new 1 2 ∷ go 1 ∷ go 2 ∷ go 2 ∷ go 1 ∷ []) ≡ Some ((record (new_thread 1 false (new_frame 2 0 kind.Main)) { frames = record { func = 2; pc = 2; locals = 0 ∷ 2 ∷ 0 ∷ replicate 5 0; kind = kind.Main } ∷ [] } ∷ record { id = 2; detached = false; joined = true; status = status.Ended 0; ended = true; frames = []; state = Disable; mode = Deferred; pending = false; handlers = []; reason = reason.Exit 0; pass = 0; specific = record { values = replicate 128 0; in_pass = replicate 128 false }; kept = None; gone = false } ∷ []) ∷ [], false)
 unfolding runs_on_literals
 left_by_the_end = refl
 

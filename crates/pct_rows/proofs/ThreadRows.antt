@@ -5,6 +5,7 @@ use Rattle.pct_model.specs.declared.script.Script.{Script}
 use Rattle.pct_model.specs.declared.statement.Dest.TheVariants as destination
 use Rattle.pct_model.specs.declared.statement.Operand.TheVariants as operand
 use Rattle.pct_model.specs.declared.statement.Stmt.TheVariants as statement
+use Rattle.pct_model.specs.declared.schedule.Alt.TheVariants as alt
 use Rattle.pct_model.specs.declared.event.Caller.TheVariants as caller
 use Rattle.pct_model.specs.declared.event.What.{What}
 use Rattle.pct_model.specs.declared.event.What.TheVariants as what
@@ -17,6 +18,7 @@ use Rattle.pct_model.specs.declared.stop.Why.TheVariants as why
 use Rattle.pct_model.specs.Points.{points, point_name}
 use Rattle.pct_model.specs.Contents.{Contents}
 use Rattle.pct_model.specs.Static.{is_static}
+use Rattle.pct_model.specs.Keys.{no_keys}
 use Rattle.pct_model.specs.World.{Thread, World, first_process, new_frame, new_thread}
 use Rattle.pct_model.specs.ThreadSlots.{is_ended_status, is_unreclaimed, holds_slot, next_id, free_ids}
 use Rattle.pct_model.specs.ThreadCalls.{creates, join_point}
@@ -231,7 +233,7 @@ unfolding runs_on_literals
 ends_last = (refl, refl)
 
 -- a thread that ends calls its cleanup handlers first, the newest one before the others
-calls_a_handler : (goes_on_ending false (reason.Exit 5) ((0, 7) ∷ (1, 8) ∷ [])).events ≡ what.HandlerRun 0 7 ∷ []
+calls_a_handler : (goes_on_ending false 4 no_keys (ending 1) alt.Go ((0, 7) ∷ (1, 8) ∷ [])).events ≡ what.HandlerRun 0 7 ∷ []
 unfolding goes_on_ending
 calls_a_handler = refl
 

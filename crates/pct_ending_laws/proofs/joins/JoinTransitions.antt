@@ -2,7 +2,7 @@
 -- and an event reports it.
 use Rattle.std.proofs.Common.{◌≡◌, ℕ, suc, ◌+◌, ◌%◌, Bool, true, false, not, ◌||◌, ◌&&◌, cond, List, [], ◌∷◌, ◌++◌, reverse, nat_eq, is_none, find, Option, Some, None, option_map, refl, sym, ap, ◌∙◌}
 use Rattle.std.specs.List.{list_all, list_any}
-use Rattle.std.proofs.lemmas.Bool.{false≢true, true≢false, or_parts}
+use Rattle.std.proofs.lemmas.Bool.{false≢true, true≢false, or_parts, cond_both}
 use Rattle.std.proofs.lemmas.Option.{none-some}
 use Rattle.pct_model.specs.declared.event.What.{What}
 use Rattle.pct_model.specs.declared.event.What.TheVariants as what
@@ -16,7 +16,6 @@ use Rattle.pct_model.specs.declared.point.PointKind.{PointKind}
 use Rattle.pct_model.specs.declared.point.PointKind.TheVariants as kinds
 use Rattle.pct_model.specs.declared.state.FrameKind.{FrameKind}
 use Rattle.pct_model.specs.declared.state.FrameKind.TheVariants as kind
-use Rattle.pct_model.specs.declared.state.Reason.{Reason}
 use Rattle.pct_model.specs.declared.state.Status.{Status}
 use Rattle.pct_model.specs.declared.state.Status.TheVariants as status
 use Rattle.pct_model.specs.declared.statement.Dest.{Dest}
@@ -31,6 +30,8 @@ use Rattle.pct_model.specs.CancelCalls.{requests, state_number, mode_number, set
 use Rattle.pct_model.specs.ChoiceTable.{choices_at, choices_of, offers}
 use Rattle.pct_model.specs.CleanupHandlers.{pushes, pops}
 use Rattle.pct_model.specs.Jumps.{open_of}
+use Rattle.pct_model.specs.KeyCalls.{creates_key, fails_to_create_key, creates_key_by, deletes_key, sets_specific, gets_specific}
+use Rattle.pct_model.specs.Keys.{KeyPlace, key_place, value_at}
 use Rattle.pct_model.specs.NextStatement.{NextStatement, NoStatement, StatementIn, next_of, body_at}
 use Rattle.pct_model.specs.OtherThreads.{Others, target_is, exit_value_of, is_joined_by_one, is_last, query_at, statement_query, answer_to, others_of}
 use Rattle.pct_model.specs.ProcessExit.{exits, returns_by, ends_process}
@@ -39,12 +40,13 @@ use Rattle.pct_model.specs.Cancelability.{is_asynchronous}
 use Rattle.pct_model.specs.declared.stop.Why.TheVariants.{Unbuilt, AsyncCall}
 use Rattle.pct_model.specs.StopTable.{StopTest, first_stop, is_async_safe, is_built, stops_of, stop_at}
 use Rattle.pct_model.specs.ThreadCalls.{creates, fails_to_create, creates_by, begins_join, ends_join, joins_with, joins_at, detaches, gets_self}
-use Rattle.pct_model.specs.ThreadEnds.{ends_by_exit, ends_thread, goes_on_ending}
+use Rattle.pct_model.specs.ThreadEnds.{ends_by_exit, end_value, ends_thread, goes_on_ending}
 use Rattle.pct_model.specs.ThreadSlots.{is_ended_status, with_id}
-use Rattle.pct_model.specs.Transitions.{goes_on, no_change, written}
+use Rattle.pct_model.specs.Transitions.{goes_on, acts, no_change, written}
 use Rattle.pct_model.specs.TransitionTable.{ends_block, stops_or, runs, transition_at, transition_by}
 use Rattle.pct_model.specs.World.{Thread, SharedState, Process, value_of}
 use Rattle.pct_ending_laws.proofs.lift.Choices.{by_choice}
+use Rattle.pct_ending_laws.proofs.lift.EndingTransitions.{ending_by}
 
 -- ---- actions and events that name no thread
 
@@ -147,11 +149,21 @@ unfolding passes_point
 passes_quiet index (StatementIn frame (statement.PointCall i)) = record { actions = refl; events = refl; none = refl }
 passes_quiet index _ = record { actions = refl; events = refl; none = refl }
 
-ending_quiet : (is_last : Bool) (why : Reason) (handlers : List (ℕ × ℕ)) → IsQuiet (goes_on_ending is_last why handlers)
-unfolding goes_on_ending ends_thread
-ending_quiet is_last why ((f, a) ∷ handlers) = record { actions = refl; events = refl; none = refl }
-ending_quiet false why [] = record { actions = refl; events = refl; none = refl }
-ending_quiet true why [] = record { actions = refl; events = refl; none = refl }
+end_quiet : (is_last : Bool) (left v : ℕ) → IsQuiet (ends_thread is_last left v)
+unfolding ends_thread
+end_quiet false left v =
+    cond_both (nat_eq left 0) [] (what.Leftover left ∷ []) (λ (added : List What). IsQuiet (acts (action.EndThread v ∷ []) (added ++ what.EndedWith v ∷ [])))
+    (λ none. record { actions = refl; events = refl; none = refl }) (λ some. record { actions = refl; events = refl; none = refl })
+end_quiet true left v =
+    cond_both (nat_eq left 0) [] (what.Leftover left ∷ []) (λ (added : List What). IsQuiet (acts (action.MarkEnded ∷ action.BeginExit 0 ∷ []) (added ++ what.EndedWith v ∷ what.ExitBegun 0 ∷ [])))
+    (λ none. record { actions = refl; events = refl; none = refl }) (λ some. record { actions = refl; events = refl; none = refl })
+
+ending_quiet : (is_last : Bool) (passes : ℕ) (keys : List KeyPlace) (t : Thread) (choice : Alt) (handlers : List (ℕ × ℕ)) → IsQuiet (goes_on_ending is_last passes keys t choice handlers)
+unfolding goes_on_ending
+ending_quiet is_last passes keys t choice ((f, a) ∷ handlers) = record { actions = refl; events = refl; none = refl }
+ending_quiet is_last passes keys t choice [] =
+    ending_by IsQuiet is_last passes keys t choice (record { actions = refl; events = refl; none = refl }) (λ k f key by is destructor. record { actions = refl; events = refl; none = refl })
+    (λ more. record { actions = refl; events = refl; none = refl }) (λ left last. end_quiet is_last left (end_value t.reason))
 
 exit_quiet : (functions : List ℕ) (value : Option ℕ) → IsQuiet (ends_process functions value)
 unfolding ends_process
@@ -219,6 +231,12 @@ module _ (slots : ℕ) (threads : List Thread) (t : Thread) where
   create_kind alt.Go next result id f v detached = running_quiet (creates_by alt.Go next result id f v detached) (record { actions = one_written result 1; events = refl; none = refl })
   create_kind choice next result id f v detached = running_quiet no_change (record { actions = refl; events = refl; none = refl })
 
+  key_kind : (choice : Alt) (next : ℕ) (result key : Dest) (destructor : Option ℕ) → Kind t.id threads status.Running (creates_key_by choice next result key destructor)
+  unfolding creates_key fails_to_create_key
+  key_kind (alt.New k) next result key destructor = running_quiet (creates_key_by (alt.New k) next result key destructor) (record { actions = two_written result key 0 k; events = refl; none = refl })
+  key_kind alt.Go next result key destructor = running_quiet (creates_key_by alt.Go next result key destructor) (record { actions = one_written result 1; events = refl; none = refl })
+  key_kind choice next result key destructor = running_quiet no_change (record { actions = refl; events = refl; none = refl })
+
   stop_kind : (stop : Option Why) (other : Transition) → (stop ≡ None → Kind t.id threads status.Running other) → Kind t.id threads status.Running (stops_or stop other)
   stop_kind (Some why) other kind = running_quiet (stops_or (Some why) other) (record { actions = refl; events = refl; none = refl })
   stop_kind None other kind = kind refl
@@ -232,13 +250,13 @@ module _ (slots : ℕ) (threads : List Thread) (t : Thread) where
   join_kind id next (Some u) is = joined_kind id u u.status next is refl
   join_kind id next None is = quiet (record { actions = refl; events = refl; none = refl }) (λ joins. refl)
 
-  module _ (body : List Stmt) (shared : SharedState) (choice : Alt) where
+  module _ (passes : ℕ) (body : List Stmt) (shared : SharedState) (choice : Alt) where
     -- what the thread sees of the others
     abbrev asked : NextStatement → Status → Others
     asked next s = answer_to slots t.id threads (query_at shared next s)
 
-    runs_kind : (frame : Frame) (s : Stmt) → stop_at body shared t (asked (StatementIn frame s) status.Running) frame s ≡ None → Kind t.id threads status.Running (runs body shared t (asked (StatementIn frame s) status.Running) choice frame s)
-    unfolding runs emits sets adds jumps calls gets_self ends_by_exit pushes sets_state sets_mode tests_cancel stop_at stops_of answer_to query_at statement_query
+    runs_kind : (frame : Frame) (s : Stmt) → stop_at body shared t (asked (StatementIn frame s) status.Running) frame s ≡ None → Kind t.id threads status.Running (runs passes body shared t (asked (StatementIn frame s) status.Running) choice frame s)
+    unfolding runs emits sets adds jumps calls gets_self ends_by_exit pushes sets_state sets_mode tests_cancel deletes_key sets_specific gets_specific stop_at stops_of answer_to query_at statement_query
     runs_kind frame (statement.Set d v) none = running_quiet (sets (suc frame.pc) d (value_of shared.globals frame v)) (record { actions = one_written d (value_of shared.globals frame v); events = refl; none = refl })
     runs_kind frame (statement.Add d v) none =
         let sum : ℕ = (variable_value shared.globals frame d + value_of shared.globals frame v) % 4294967296 in
@@ -258,18 +276,22 @@ module _ (slots : ℕ) (threads : List Thread) (t : Thread) where
     runs_kind frame (statement.SelfId d) none = running_quiet (gets_self (suc frame.pc) d t.id) (record { actions = one_written d t.id; events = refl; none = refl })
     runs_kind frame (statement.SetState enable old) none = running_quiet (sets_state (suc frame.pc) enable old t.state) (record { actions = one_written old (state_number t.state); events = refl; none = refl })
     runs_kind frame (statement.SetMode asynchronous old) none = running_quiet (sets_mode (suc frame.pc) asynchronous old t.mode) (record { actions = one_written old (mode_number t.mode); events = refl; none = refl })
+    runs_kind frame (statement.KeyCreate result key destructor) none = key_kind choice (suc frame.pc) result key destructor
+    runs_kind frame (statement.GetSpecific d key) none =
+        let n : ℕ = value_at (key_place (value_of shared.globals frame key)) t.specific in
+        running_quiet (gets_specific (suc frame.pc) d n) (record { actions = one_written d n; events = refl; none = refl })
     runs_kind frame (statement.PointCall index) none = running_quiet (calls_point (suc frame.pc) index (point_kind index)) (point_quiet (suc frame.pc) index (point_kind index))
     runs_kind frame (statement.Pop v) none = running_quiet (pops (suc frame.pc) (value_of shared.globals frame v) t.handlers) (pops_quiet (suc frame.pc) (value_of shared.globals frame v) t.handlers)
     runs_kind frame s none = quiet (record { actions = refl; events = refl; none = refl }) (λ joins. absurd (false≢true joins))
 
-    goes_kind : (next : NextStatement) (s : Status) → Kind t.id threads s (transition_at body shared t (asked next s) choice next s)
+    goes_kind : (next : NextStatement) (s : Status) → Kind t.id threads s (transition_at passes body shared t (asked next s) choice next s)
     unfolding transition_at answer_to query_at
     goes_kind (StatementIn frame s) status.Running =
         let others : Others = asked (StatementIn frame s) status.Running in
-        stop_kind (stop_at body shared t others frame s) (runs body shared t others choice frame s) (runs_kind frame s)
+        stop_kind (stop_at body shared t others frame s) (runs passes body shared t others choice frame s) (runs_kind frame s)
     goes_kind next (status.AtPoint index) = quiet (passes_quiet index next) (λ joins. absurd (false≢true joins))
     goes_kind next (status.Joining id) = join_kind id next (with_id id threads) refl
-    goes_kind next status.Ending = quiet (ending_quiet (is_last t.id threads) t.reason t.handlers) (λ joins. absurd (false≢true joins))
+    goes_kind next status.Ending = quiet (ending_quiet (is_last t.id threads) passes shared.keys t choice t.handlers) (λ joins. absurd (false≢true joins))
     goes_kind next status.Exiting = quiet (exit_quiet shared.exit_functions shared.exit_value) (λ joins. absurd (false≢true joins))
     goes_kind next s = quiet (record { actions = refl; events = refl; none = refl }) (λ joins. refl)
 
@@ -286,17 +308,17 @@ pub kind_of : (script : Script) (config : Config) (p : Process) (t : Thread) (ch
 kind_of script config p t choice =
     let next : NextStatement = next_of script t.frames in
     let body : List Stmt = body_at script t.frames in
-    by_choice (Kind t.id p.threads t.status) choice t.status (transition_at body p.shared t (others_of script config p t) choice next t.status)
-    (λ n acts. acts_kind config.slots p.threads t t.status) (goes_kind config.slots p.threads t body p.shared choice next t.status)
+    by_choice (Kind t.id p.threads t.status) choice t.status (transition_at config.passes body p.shared t (others_of script config p t) choice next t.status)
+    (λ n acts. acts_kind config.slots p.threads t t.status) (goes_kind config.slots p.threads t config.passes body p.shared choice next t.status)
 
 -- ---- a thread that moves
 
-ended_not_offered : (t : Thread) (others : Others) (choice : Alt) (next : NextStatement) (s : Status) → offers (choices_at t others next s) choice ≡ true → is_ended_status s ≡ false
+ended_not_offered : (keys : List KeyPlace) (t : Thread) (others : Others) (choice : Alt) (next : NextStatement) (s : Status) → offers (choices_at keys t others next s) choice ≡ true → is_ended_status s ≡ false
 unfolding choices_at
-ended_not_offered t others choice NoStatement (status.Ended v) offered = absurd (false≢true offered)
-ended_not_offered t others choice (StatementIn frame s) (status.Ended v) offered = absurd (false≢true offered)
-ended_not_offered t others choice next s offered = refl
+ended_not_offered keys t others choice NoStatement (status.Ended v) offered = absurd (false≢true offered)
+ended_not_offered keys t others choice (StatementIn frame s) (status.Ended v) offered = absurd (false≢true offered)
+ended_not_offered keys t others choice next s offered = refl
 
 -- a thread that has a choice does not have the status of its end
 pub moves_alive : (script : Script) (config : Config) (p : Process) (t : Thread) (choice : Alt) → offers (choices_of script config p t) choice ≡ true → is_ended_status t.status ≡ false
-moves_alive script config p t choice offered = ended_not_offered t (others_of script config p t) choice (next_of script t.frames) t.status offered
+moves_alive script config p t choice offered = ended_not_offered p.shared.keys t (others_of script config p t) choice (next_of script t.frames) t.status offered

@@ -29,10 +29,10 @@ use Rattle.pct_ending_laws.proofs.lift.MadeThreads.{own_thread_with, is_here, th
 use Rattle.pct_ending_laws.proofs.lift.MadeNumbers.{HaveNumbers, first_numbers}
 use Rattle.pct_ending_laws.proofs.lift.TakenSteps.{every_run}
 use Rattle.pct_ending_laws.proofs.lift.EveryThread.{initial_thread, created_thread}
-use Rattle.pct_ending_laws.proofs.lift.EveryProcess.{OfItsThreads, IsProcessRule, every_process}
+use Rattle.pct_ending_laws.proofs.lift.EveryProcess.{IsProcessRule, every_process}
 use Rattle.pct_ending_laws.proofs.joins.JoinTransitions.{is_in_join, MayJoin, Kind, quiet, creates_one, begins, ends, detaches_one, requests_one, cancels, kind_of, moves_alive}
 use Rattle.pct_ending_laws.proofs.joins.NamedThreads.{names_join, names_detach, releases, naming, or_none, unnamed, joined_after, detached_after}
-use Rattle.pct_ending_laws.proofs.joins.NewestEvents.{InJoin, stays, begun, in_join_after, named_status, NewestIsCall, newest_rule}
+use Rattle.pct_ending_laws.proofs.joins.NewestEvents.{InJoin, stays, begun, in_join_after, named_status}
 
 -- ---- the rule of a process
 
@@ -296,10 +296,10 @@ first_joins script slots some =
       joins = λ tid t is here id joins. absurd (false≢true (ap (λ (x : Thread). is_in_join x.status) (initial tid t is) ∙ ap is_in_join joins));
     }
 
-joins_rule : (script : Script) (config : Config) → 0 < config.slots → IsProcessRule script config NewestIsCall (JoinsKept config)
+joins_rule : (script : Script) (config : Config) → 0 < config.slots → IsProcessRule script config (λ p. Unit {0}) (JoinsKept config)
 joins_rule script config some = record {
   initial = first_joins script config.slots some;
-  own = λ p tid t choice of_threads is_thread found offered rule. joins_after script config some p tid t choice is_thread found offered rule;
+  own = λ p tid t choice nothing is_thread found offered rule. joins_after script config some p tid t choice is_thread found offered rule;
   other = λ pid o p rule. subst (HaveJoins config.slots) (sym (other_threads pid o p)) rule;
 }
 
@@ -307,4 +307,4 @@ joins_rule script config some = record {
 pub joins_of_processes : (script : Script) (config : Config) (entries : List Entry) (r : Run) → run script config entries ≡ Some r → (pid : ℕ) (p : Process) → made_process pid r.world ≡ Some p → HaveJoins config.slots p.threads
 joins_of_processes script config entries r is =
     let some : 0 < config.slots = every_run script config (λ r. 0 < config.slots) (λ r e p t some taken holds. some) (λ some. some) entries r is in
-    every_process script config NewestIsCall (JoinsKept config) (newest_rule script config) (joins_rule script config some) entries r is
+    every_process script config (λ p. Unit {0}) (JoinsKept config) (joins_rule script config some) (λ entries r is pid p made. tt) entries r is

@@ -24,12 +24,13 @@ use Rattle.pct_model.specs.ThreadSlots.{is_ended_status, holds_slot, is_live_thr
 use Rattle.pct_model.specs.ThreadSummary.{ThreadSummary, with_event, replicated, summary_of}
 use Rattle.pct_model.specs.TransitionTable.{transition_by}
 use Rattle.pct_model.specs.World.{Thread, Process}
-use Rattle.pct_ending_laws.proofs.ThreadsOfRun.{thread_rule, rule_kept, threads_kept}
+use Rattle.pct_ending_laws.proofs.ThreadsOfRun.{rule_kept, threads_kept}
 use Rattle.pct_ending_laws.proofs.LastThreads.{last_exits}
 use Rattle.pct_ending_laws.proofs.lift.KeyedLists.{found_passes}
-use Rattle.pct_ending_laws.proofs.lift.TakenSteps.{IsTaken, with_step, every_run}
+use Rattle.pct_ending_laws.proofs.lift.TakenSteps.{IsTaken, with_step}
+use Rattle.pct_ending_laws.proofs.lift.RunsSoFar.{every_run_so_far}
 use Rattle.pct_ending_laws.proofs.lift.MadeThreads.{process_is_made, own_thread_before, is_here, thread_is_made}
-use Rattle.pct_ending_laws.proofs.lift.MadeNumbers.{HaveNumbers, first_numbers, numbers_after}
+use Rattle.pct_ending_laws.proofs.lift.MadeNumbers.{HaveNumbers, have_numbers}
 use Rattle.pct_ending_laws.proofs.lift.MadeKnown.{known_of_run}
 use Rattle.pct_ending_laws.proofs.thread.OwnSummary.{summary}
 use Rattle.pct_ending_laws.proofs.thread.ThreadRule.{ByStatus, Rule}
@@ -37,7 +38,6 @@ use Rattle.pct_ending_laws.proofs.joins.JoinTransitions.{is_in_join, names_none,
 use Rattle.pct_ending_laws.proofs.joins.ReportedFlags.{joined_of_run, detached_of_run}
 use Rattle.pct_ending_laws.proofs.joins.NewestEvents.{newest_of_run}
 use Rattle.pct_ending_laws.proofs.joins.JoiningThreads.{JoinsOne, joins_of_processes}
-use Rattle.pct_ending_laws.proofs.joins.RunsSoFar.{every_run_so_far}
 
 -- ---- the event of the end of a thread
 
@@ -97,8 +97,8 @@ unreclaimed_by false true true true holds has_status = absurd (false≢true hold
 unreclaimed_by gone true false true holds has_status = absurd (false≢true (has_status refl))
 
 -- a running thread has not ended
-running_alive : (script : Script) (t : Thread) (events : List What) → t.status ≡ status.Running → Rule script t events → t.ended ≡ false
-running_alive script t events runs rule =
+running_alive : (script : Script) (passes : ℕ) (t : Thread) (events : List What) → t.status ≡ status.Running → Rule script passes t events → t.ended ≡ false
+running_alive script passes t events runs rule =
     let fits : ByStatus script status.Running t.reason t.frames t.handlers (summary events) = subst (λ (s : Status). ByStatus script s t.reason t.frames t.handlers (summary events)) runs rule.0.by_status in
     sym rule.0.agrees.end ∙ ap is_some fits.not_ended
 
@@ -119,7 +119,7 @@ silent_lawful e (w ∷ added) all earlier law =
 
 module _ (script : Script) (config : Config) (before : List Entry) (r : Run) (is : run script config before ≡ Some r) (e : Entry) (p : Process) (t : Thread) (taken : IsTaken script config r.world e p t) where
   numbers : HaveNumbers config.slots r
-  numbers = every_run script config (HaveNumbers config.slots) (λ r e p t some taken numbers. numbers_after script config r e p t some taken numbers) (λ some. first_numbers script config.slots some) before r is
+  numbers = have_numbers script config before r is
 
   process_is : made_process e.pid r.world ≡ Some p
   process_is = process_is_made e.pid e.tid r.world p numbers.pids taken.is_process
@@ -144,12 +144,12 @@ module _ (script : Script) (config : Config) (before : List Entry) (r : Run) (is
   names_live : (id : ℕ) (u : Thread) → t.status ≡ status.Running → with_id id p.threads ≡ Some u → NamesLive e.pid id r.events
   names_live id u runs is_u =
       let target : IsLive id u = live id u is_u in
-      let kept : ThreadKept script u (summary_of e.pid id r.events) = threads_kept script config before r is e.pid id u target.made target.here in
+      let kept : ThreadKept script p.shared.keys u (summary_of e.pid id r.events) = threads_kept script config before r is e.pid id p u process_is target.of_process target.here in
       let events : List What = own_events e.pid e.tid r.events in
-      let own : OfMade (Rule script) t events = subst (λ (found : Option Thread). OfThread (Rule script) found events) it.made (rule_kept script config before r is e.pid e.tid) in
-      let alive : t.ended ≡ false = running_alive script t events runs (own.here it.here) in
+      let own : OfMade (Rule script config.passes) t events = subst (λ (found : Option Thread). OfThread (Rule script config.passes) found events) it.made (rule_kept script config before r is e.pid e.tid) in
+      let alive : t.ended ≡ false = running_alive script config.passes t events runs (own.here it.here) in
       let has_status : u.ended ≡ true → is_ended_status u.status ≡ true = λ ended. true_from_ne_false (is_ended_status u.status) (λ exits.
-      true≢false (sym (last_exits script config (thread_rule script config) before r is e.pid p process_is id u target.of_process (target.here, ended, exits) e.tid t it.of_process it.here) ∙ alive)) in
+      true≢false (sym (last_exits script config (rule_kept script config) before r is e.pid p process_is id u target.of_process (target.here, ended, exits) e.tid t it.of_process it.here) ∙ alive)) in
       record {
         known = known_of_run script config before r is e.pid id ∙ ap (λ (found : Option Thread). option_map_or (λ x. not x.gone) found false) target.made ∙ ap not target.here;
         unreclaimed =
@@ -163,7 +163,7 @@ module _ (script : Script) (config : Config) (before : List Entry) (r : Run) (is
   joins_ended : (id v : ℕ) (u : Thread) → t.status ≡ status.Joining id → with_id id p.threads ≡ Some u → u.status ≡ status.Ended v → JoinsEnded e.pid e.tid id v r.events
   joins_ended id v u joins is_u ended =
       let target : IsLive id u = live id u is_u in
-      let kept : ThreadKept script u (summary_of e.pid id r.events) = threads_kept script config before r is e.pid id u target.made target.here in
+      let kept : ThreadKept script p.shared.keys u (summary_of e.pid id r.events) = threads_kept script config before r is e.pid id p u process_is target.of_process target.here in
       let one : JoinsOne p.threads e.tid id = (joins_of_processes script config before r is e.pid p process_is).joins e.tid t it.of_process it.here id joins in
       let same : one.target ≡ u = same_Some one.target u (sym one.made ∙ target.of_process) in
       record {

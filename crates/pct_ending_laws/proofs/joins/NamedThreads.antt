@@ -24,7 +24,7 @@ use Rattle.pct_model.specs.Transitions.{written}
 use Rattle.pct_model.specs.World.{Thread, Process}
 use Rattle.pct_ending_laws.proofs.lift.KeyedLists.{AreDistinct, found_passes}
 use Rattle.pct_ending_laws.proofs.lift.ThreadIds.{ids_of}
-use Rattle.pct_ending_laws.proofs.lift.ChangedThreads.{either_keeps, all_keep}
+use Rattle.pct_ending_laws.proofs.lift.ChangedThreads.{either_keeps, all_keep, all_keep_if}
 use Rattle.pct_ending_laws.proofs.lift.MadeThreads.{is_here, thread_is_made}
 use Rattle.pct_ending_laws.proofs.joins.JoinTransitions.{is_quiet, names_none, Kind, quiet, creates_one, begins, ends, detaches_one, requests_one, cancels, two_written, one_written}
 
@@ -50,31 +50,6 @@ naming (ends next d id v target s is_target ended is) = action.EndJoin id
 naming (detaches_one next id target s is_target alone is) = action.Detach id
 naming (requests_one next id target s is_target is) = action.Request id
 naming _ = action.PopHandler
-
-quiet_names : (a : Action) → is_quiet a ≡ true → (u : Thread) → named_after a u ≡ u
-unfolding named_after
-quiet_names (action.EndJoin id) is u = absurd (false≢true is)
-quiet_names (action.Request id) is u = absurd (false≢true is)
-quiet_names (action.Detach id) is u = absurd (false≢true is)
-quiet_names _ is u = refl
-
--- actions that name no thread change none by its name
-none_named : (actions : List Action) → list_all is_quiet actions ≡ true → (u : Thread) → for_each named_after actions u ≡ u
-none_named [] all u = refl
-none_named (a ∷ actions) all u =
-    let parts = and_parts (is_quiet a) (list_all is_quiet actions) all in
-    none_named actions parts.1 (named_after a u) ∙ quiet_names a parts.0 u
-
--- only this action changes a thread by its name
-pub only_named : {tid : ℕ} {threads : List Thread} {s : Status} {o : Transition} → (k : Kind tid threads s o) → (u : Thread) → for_each named_after o.actions u ≡ named_after (naming k) u
-unfolding creates begins_join ends_join detaches requests acts_on_request named_after
-only_named {o} (quiet is nothing) u = none_named o.actions is.actions u
-only_named (creates_one next result id new f v detached s is) u = ap (λ (x : Transition). for_each named_after x.actions u) is ∙ none_named (creates next result id new f v detached).actions (two_written result id 0 new) u
-only_named (begins id s may is) u = ap (λ (x : Transition). for_each named_after x.actions u) is
-only_named (ends next d id v target s is_target ended is) u = ap (λ (x : Transition). for_each named_after x.actions u) is ∙ none_named (written d v) (one_written d v) (named_after (action.EndJoin id) u)
-only_named (detaches_one next id target s is_target alone is) u = ap (λ (x : Transition). for_each named_after x.actions u) is
-only_named (requests_one next id target s is_target is) u = ap (λ (x : Transition). for_each named_after x.actions u) is
-only_named (cancels id s is) u = ap (λ (x : Transition). for_each named_after x.actions u) is
 
 -- ---- what the events report
 
@@ -172,6 +147,28 @@ named_detached (action.Request id) t = either_keeps (λ (u : Thread). u.detached
 named_detached (action.Detach id) t = becomes (λ (u : Thread). u.detached) (is_live_thread id t) (record t { detached = true }) t refl
 named_detached _ t = refl
 
+quiet_flags : (a : Action) → is_quiet a ≡ true → (t : Thread) → flags (named_after a t) ≡ flags t
+unfolding named_after
+quiet_flags (action.EndJoin id) is t = absurd (false≢true is)
+quiet_flags (action.Request id) is t = absurd (false≢true is)
+quiet_flags (action.Detach id) is t = absurd (false≢true is)
+quiet_flags _ is t = refl
+
+-- actions that name no thread
+none_named : (actions : List Action) → list_all is_quiet actions ≡ true → (t : Thread) → flags (for_each named_after actions t) ≡ flags t
+none_named actions all t = all_keep_if flags named_after is_quiet quiet_flags actions all t
+
+-- only one action names a thread
+only_named : {tid : ℕ} {threads : List Thread} {s : Status} {o : Transition} → (k : Kind tid threads s o) → (u : Thread) → flags (for_each named_after o.actions u) ≡ flags (named_after (naming k) u)
+unfolding creates begins_join ends_join detaches requests acts_on_request named_after
+only_named {o} (quiet is nothing) u = none_named o.actions is.actions u
+only_named (creates_one next result id new f v detached s is) u = ap (λ (x : Transition). flags (for_each named_after x.actions u)) is ∙ none_named (creates next result id new f v detached).actions (two_written result id 0 new) u
+only_named (begins id s may is) u = ap (λ (x : Transition). flags (for_each named_after x.actions u)) is
+only_named (ends next d id v target s is_target ended is) u = ap (λ (x : Transition). flags (for_each named_after x.actions u)) is ∙ none_named (written d v) (one_written d v) (named_after (action.EndJoin id) u)
+only_named (detaches_one next id target s is_target alone is) u = ap (λ (x : Transition). flags (for_each named_after x.actions u)) is
+only_named (requests_one next id target s is_target is) u = ap (λ (x : Transition). flags (for_each named_after x.actions u)) is
+only_named (cancels id s is) u = ap (λ (x : Transition). flags (for_each named_after x.actions u)) is
+
 -- the thread runs after a transition that joins or detaches a thread
 runs_after : {tid : ℕ} {threads : List Thread} {s : Status} {o : Transition} → (k : Kind tid threads s o) (id : ℕ) → releases id (naming k) ≡ true → (t : Thread) → (moved o t).status ≡ status.Running
 unfolding ends_join detaches thread_at thread_after
@@ -193,12 +190,12 @@ module _ (tid : ℕ) (o : Transition) where
     -- a thread becomes joined where the action joins it, and detached where it detaches it
     pub joined_after : (u : Thread) → (thread_moved tid o u).joined ≡ ((names_join u.id (naming k) && holds_slot (unnamed u)) || u.joined)
     joined_after u =
-        ap (λ (x : Thread). x.joined) (only_named k (unnamed u)) ∙ named_joined (naming k) (unnamed u)
+        ap (λ (f : ℕ × Bool × Bool × Bool). f.2) (only_named k (unnamed u)) ∙ named_joined (naming k) (unnamed u)
         ∙ ap (λ (f : ℕ × Bool × Bool × Bool). (names_join f.0 (naming k) && holds_slot (unnamed u)) || f.2) (unnamed_flags u)
 
     pub detached_after : (u : Thread) → (thread_moved tid o u).detached ≡ ((names_detach u.id (naming k) && holds_slot (unnamed u)) || u.detached)
     detached_after u =
-        ap (λ (x : Thread). x.detached) (only_named k (unnamed u)) ∙ named_detached (naming k) (unnamed u)
+        ap (λ (f : ℕ × Bool × Bool × Bool). f.3) (only_named k (unnamed u)) ∙ named_detached (naming k) (unnamed u)
         ∙ ap (λ (f : ℕ × Bool × Bool × Bool). (names_detach f.0 (naming k) && holds_slot (unnamed u)) || f.3) (unnamed_flags u)
 
 module _ (p : Process) (tid : ℕ) (t : Thread) (o : Transition) (k : Kind t.id p.threads t.status o) (distinct : AreDistinct (ids_of p.threads)) where

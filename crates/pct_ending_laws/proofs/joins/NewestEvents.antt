@@ -27,7 +27,7 @@ use Rattle.pct_model.specs.Transitions.{written}
 use Rattle.pct_model.specs.World.{Thread, Process}
 use Rattle.pct_ending_laws.proofs.lift.ChangedThreads.{either_keeps}
 use Rattle.pct_ending_laws.proofs.lift.CreatedThreads.{makes_no_process}
-use Rattle.pct_ending_laws.proofs.lift.EveryThread.{IsThreadRule, OfEveryThread, every_thread}
+use Rattle.pct_ending_laws.proofs.lift.EveryThread.{IsThreadRule, every_thread}
 use Rattle.pct_ending_laws.proofs.lift.LaterEvents.{own_after}
 use Rattle.pct_ending_laws.proofs.lift.TakenSteps.{IsTaken, with_step, first_run, every_run}
 use Rattle.pct_ending_laws.proofs.joins.JoinTransitions.{is_in_join, is_quiet, IsQuiet, MayJoin, Kind, quiet, creates_one, begins, ends, detaches_one, requests_one, cancels, kind_of, one_written, two_written}
@@ -116,12 +116,12 @@ newest_kept t k events newest_is (stays same none unnamed) in_join =
     ap (λ (added : List What). newest (reverse added ++ events)) none ∙ newest_is (ap is_in_join (sym same) ∙ in_join)
 newest_kept t k events newest_is (begun n joins may is unnamed) in_join = ap (λ (x : Transition). newest (reverse x.events ++ events)) is
 
-pub newest_rule : (script : Script) (config : Config) → IsThreadRule script config NewestIsCall
+newest_rule : (script : Script) (config : Config) → IsThreadRule script config (λ p. Unit {0}) NewestIsCall
 newest_rule script config = record {
   initial = λ in_join. absurd (false≢true in_join);
-  created = λ p t events choice new offered newest_is makes in_join. absurd (false≢true in_join);
+  created = λ p t events choice new nothing offered newest_is makes in_join. absurd (false≢true in_join);
   named = λ a t events newest_is in_join. newest_is (ap is_in_join (sym (named_status a t)) ∙ in_join);
-  kept = λ p t events choice offered newest_is in_join.
+  kept = λ p t events choice nothing offered newest_is in_join.
       let k : Kind t.id p.threads t.status (transition_by script config p t choice) = kind_of script config p t choice in
       newest_kept t k events newest_is (in_join_after t k in_join) in_join;
 }
@@ -152,5 +152,5 @@ are_own script config entries r is = every_run script config AreOwn (λ r e p t 
 pub newest_of_run : (script : Script) (config : Config) (entries : List Entry) (r : Run) → run script config entries ≡ Some r → (pid tid : ℕ) (t : Thread) → made_thread pid tid r.world ≡ Some t → t.gone ≡ false → is_in_join t.status ≡ true → newest_event pid tid r.events ≡ Some (Called join_point)
 newest_of_run script config entries r is pid tid t made here in_join =
     let events : List What = own_events pid tid r.events in
-    let rule : OfMade NewestIsCall t events = subst (λ (found : Option Thread). OfThread NewestIsCall found events) made (every_thread script config NewestIsCall (newest_rule script config) entries r is pid tid) in
+    let rule : OfMade NewestIsCall t events = subst (λ (found : Option Thread). OfThread NewestIsCall found events) made (every_thread script config (λ p. Unit {0}) NewestIsCall (newest_rule script config) (λ entries r is pid p made. tt) entries r is pid tid) in
     are_own script config entries r is pid tid ∙ rule.here here in_join

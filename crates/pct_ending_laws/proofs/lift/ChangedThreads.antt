@@ -1,9 +1,11 @@
 -- What no transition changes: the numbers of processes and threads, and which threads a process did not inherit.
 use Rattle.std.proofs.Common.{◌≡◌, ℕ, Bool, true, false, not, ◌&&◌, cond, List, [], ◌∷◌, map, nat_eq, Option, Some, None, refl, ap, ◌∙◌}
+use Rattle.std.specs.List.{list_all}
+use Rattle.std.proofs.lemmas.Bool.{and_parts}
 use Rattle.pct_model.specs.declared.transition.Action.{Action}
 use Rattle.pct_model.specs.declared.transition.Action.TheVariants as action
 use Rattle.pct_model.specs.declared.transition.Transition.{Transition}
-use Rattle.pct_model.specs.World.{Thread, Process}
+use Rattle.pct_model.specs.World.{Thread, SharedState, Process}
 use Rattle.pct_model.specs.ThreadSlots.{is_live_thread}
 use Rattle.pct_model.specs.Actions.{thread_at, thread_after, named_after, shared_after, process_after, has_ended, other_process_after, for_each, moved, thread_moved, threads_moved, changed, is_live_process}
 
@@ -18,6 +20,13 @@ either_keeps view false x y t first second = second
 pub all_keep : {T V : Type 0} (view : T → V) (change : Action → T → T) → ((a : Action) (t : T) → view (change a t) ≡ view t) → (actions : List Action) (t : T) → view (for_each change actions t) ≡ view t
 all_keep view change keeps [] t = refl
 all_keep view change keeps (a ∷ actions) t = all_keep view change keeps actions (change a t) ∙ keeps a t
+
+-- the same, for actions that pass a test, if none that does changes the view
+pub all_keep_if : {T V : Type 0} (view : T → V) (change : Action → T → T) (test : Action → Bool) → ((a : Action) → test a ≡ true → (t : T) → view (change a t) ≡ view t) → (actions : List Action) → list_all test actions ≡ true → (t : T) → view (for_each change actions t) ≡ view t
+all_keep_if view change test keeps [] all t = refl
+all_keep_if view change test keeps (a ∷ actions) all t =
+    let parts = and_parts (test a) (list_all test actions) all in
+    all_keep_if view change test keeps actions parts.1 (change a t) ∙ keeps a parts.0 t
 
 -- ---- threads
 
@@ -57,9 +66,9 @@ thread_moved_keeps tid o t =
 abbrev pub pids_of : List Process → List ℕ
 pids_of processes = map (λ p. p.pid) processes
 
--- the pid of a process, and its threads
-abbrev contents : Process → ℕ × List Thread
-contents p = (p.pid, p.threads)
+-- the pid of a process, its threads, and the state that they share
+abbrev contents : Process → ℕ × List Thread × SharedState
+contents p = (p.pid, p.threads, p.shared)
 
 own_action_keeps : (a : Action) (p : Process) → contents (process_after a p) ≡ contents p
 unfolding process_after
@@ -77,19 +86,30 @@ other_action_keeps pid _ p = refl
 abbrev pub process_moved : ℕ → ℕ → Transition → Process → Process
 process_moved pid tid o p = cond (is_live_process pid p) (changed tid o p) (for_each (other_process_after pid) o.actions p)
 
-changed_keeps : (tid : ℕ) (o : Transition) (p : Process) → contents (changed tid o p) ≡ (p.pid, threads_moved tid o p.threads)
+changed_keeps : (tid : ℕ) (o : Transition) (p : Process) → contents (changed tid o p) ≡ (p.pid, threads_moved tid o p.threads, for_each shared_after o.actions p.shared)
 changed_keeps tid o p = all_keep contents process_after own_action_keeps o.actions (record p { threads = threads_moved tid o p.threads; shared = for_each shared_after o.actions p.shared })
 
 -- the threads of the thread's own process
 pub changed_threads : (tid : ℕ) (o : Transition) (p : Process) → (changed tid o p).threads ≡ threads_moved tid o p.threads
-changed_threads tid o p = ap (λ (c : ℕ × List Thread). c.1) (changed_keeps tid o p)
+changed_threads tid o p = ap (λ (c : ℕ × List Thread × SharedState). c.1) (changed_keeps tid o p)
+
+-- the state that they share
+pub changed_shared : (tid : ℕ) (o : Transition) (p : Process) → (changed tid o p).shared ≡ for_each shared_after o.actions p.shared
+changed_shared tid o p = ap (λ (c : ℕ × List Thread × SharedState). c.2) (changed_keeps tid o p)
+
+other_keeps : (pid : ℕ) (o : Transition) (p : Process) → contents (for_each (other_process_after pid) o.actions p) ≡ contents p
+other_keeps pid o p = all_keep contents (other_process_after pid) (other_action_keeps pid) o.actions p
 
 -- the threads of another process
 pub other_threads : (pid : ℕ) (o : Transition) (p : Process) → (for_each (other_process_after pid) o.actions p).threads ≡ p.threads
-other_threads pid o p = ap (λ (c : ℕ × List Thread). c.1) (all_keep contents (other_process_after pid) (other_action_keeps pid) o.actions p)
+other_threads pid o p = ap (λ (c : ℕ × List Thread × SharedState). c.1) (other_keeps pid o p)
+
+-- the state that they share
+pub other_shared : (pid : ℕ) (o : Transition) (p : Process) → (for_each (other_process_after pid) o.actions p).shared ≡ p.shared
+other_shared pid o p = ap (λ (c : ℕ × List Thread × SharedState). c.2) (other_keeps pid o p)
 
 pub process_moved_pid : (pid tid : ℕ) (o : Transition) (p : Process) → (process_moved pid tid o p).pid ≡ p.pid
 process_moved_pid pid tid o p =
     either_keeps (λ (q : Process). q.pid) (is_live_process pid p) (changed tid o p) (for_each (other_process_after pid) o.actions p) p
-    (ap (λ (c : ℕ × List Thread). c.0) (changed_keeps tid o p))
-    (ap (λ (c : ℕ × List Thread). c.0) (all_keep contents (other_process_after pid) (other_action_keeps pid) o.actions p))
+    (ap (λ (c : ℕ × List Thread × SharedState). c.0) (changed_keeps tid o p))
+    (ap (λ (c : ℕ × List Thread × SharedState). c.0) (other_keeps pid o p))

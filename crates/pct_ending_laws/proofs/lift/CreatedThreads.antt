@@ -1,9 +1,9 @@
 -- What each transition creates, by the tables: no process, and a thread only with an id that is offered.
-use Rattle.std.proofs.Common.{◌≡◌, ℕ, suc, Bool, true, false, ◌||◌, cond, List, [], ◌∷◌, map, reverse, nat_eq, Option, Some, None, refl, sym, ◌∙◌, subst}
+use Rattle.std.proofs.Common.{◌≡◌, ℕ, suc, Bool, true, false, ◌||◌, cond, List, [], ◌∷◌, ◌++◌, reverse, nat_eq, Option, Some, None, refl, subst}
 use Rattle.std.specs.Prelude.{IfSome}
 use Rattle.std.specs.List.{list_any}
 use Rattle.std.specs.Option.{option_map_or}
-use Rattle.std.proofs.lemmas.Bool.{false≢true}
+use Rattle.std.proofs.lemmas.Bool.{false≢true, cond_both}
 use Rattle.pct_model.specs.declared.script.Script.{Script}
 use Rattle.pct_model.specs.declared.statement.Dest.{Dest}
 use Rattle.pct_model.specs.declared.statement.Stmt.{Stmt}
@@ -11,7 +11,8 @@ use Rattle.pct_model.specs.declared.statement.Stmt.TheVariants as statement
 use Rattle.pct_model.specs.declared.schedule.Alt.{Alt}
 use Rattle.pct_model.specs.declared.schedule.Alt.TheVariants as alt
 use Rattle.pct_model.specs.declared.schedule.Config.{Config}
-use Rattle.pct_model.specs.declared.event.What.TheVariants.{Popped}
+use Rattle.pct_model.specs.declared.event.What.{What}
+use Rattle.pct_model.specs.declared.event.What.TheVariants as what
 use Rattle.pct_model.specs.declared.frame.Frame.{Frame}
 use Rattle.pct_model.specs.declared.other_threads.Query.{Query}
 use Rattle.pct_model.specs.declared.other_threads.Query.TheVariants as query
@@ -20,7 +21,6 @@ use Rattle.pct_model.specs.declared.point.PointKind.{PointKind}
 use Rattle.pct_model.specs.declared.point.PointKind.TheVariants as kinds
 use Rattle.pct_model.specs.declared.state.FrameKind.{FrameKind}
 use Rattle.pct_model.specs.declared.state.FrameKind.TheVariants as kind
-use Rattle.pct_model.specs.declared.state.Reason.{Reason}
 use Rattle.pct_model.specs.declared.state.Status.{Status}
 use Rattle.pct_model.specs.declared.state.Status.TheVariants as status
 use Rattle.pct_model.specs.declared.stop.Why.{Why}
@@ -32,70 +32,25 @@ use Rattle.pct_model.specs.World.{Thread, SharedState, Process, value_of}
 use Rattle.pct_model.specs.ThreadSlots.{free_ids}
 use Rattle.pct_model.specs.NextStatement.{NextStatement, StatementIn, next_of, body_at}
 use Rattle.pct_model.specs.OtherThreads.{Others, query_at, answer_to, others_of}
-use Rattle.pct_model.specs.Transitions.{goes_on}
+use Rattle.pct_model.specs.Transitions.{goes_on, acts}
 use Rattle.pct_model.specs.ScriptStatements.{jumps, emits, sets, adds, calls}
 use Rattle.pct_model.specs.CleanupHandlers.{pushes, pops}
 use Rattle.pct_model.specs.CancelCalls.{requests, sets_state, sets_mode, tests_cancel, point_kind, calls_point, passes_point, acts_on_request}
 use Rattle.pct_model.specs.ThreadCalls.{creates, fails_to_create, creates_by, begins_join, ends_join, joins_with, joins_at, detaches, gets_self}
-use Rattle.pct_model.specs.ThreadEnds.{ends_by_exit, ends_thread, goes_on_ending}
+use Rattle.pct_model.specs.Keys.{KeyPlace}
+use Rattle.pct_model.specs.KeyCalls.{creates_key, fails_to_create_key, creates_key_by, deletes_key, sets_specific, gets_specific}
+use Rattle.pct_model.specs.ThreadEnds.{ends_by_exit, end_value, ends_thread, goes_on_ending}
 use Rattle.pct_model.specs.ProcessExit.{exits, returns_by, ends_process}
 use Rattle.pct_model.specs.StopTable.{stop_at}
-use Rattle.pct_model.specs.ChoiceTable.{is_new, offers, act_if, new_or_go, statement_choices, cancel_rows, running_choices, choices_at, choices_of}
+use Rattle.pct_model.specs.ChoiceTable.{offers, choices_at, choices_of}
 use Rattle.pct_model.specs.TransitionTable.{ends_block, stops_or, runs, transition_at, transition_by}
 use Rattle.pct_model.specs.OwnEvents.{makes_process}
 use Rattle.pct_model.specs.KnownThreads.{creates_id}
-use Rattle.pct_ending_laws.proofs.lift.Choices.{first_row_has, by_choice}
+use Rattle.pct_ending_laws.proofs.lift.Choices.{by_choice}
+use Rattle.pct_ending_laws.proofs.lift.OfferedNumbers.{IsAmong, numbers_at, among_running}
+use Rattle.pct_ending_laws.proofs.lift.EndingTransitions.{ending_by}
 
 -- ---- the ids that are offered
-
-new_among_mapped : (n : ℕ) (ids : List ℕ) → list_any (is_new n) (map (λ k. alt.New k) ids) ≡ list_any (nat_eq n) ids
-new_among_mapped n [] = refl
-new_among_mapped n (id ∷ ids) = λ i. nat_eq n id || new_among_mapped n ids i
-
--- the id of a choice is one of these
-new_among : (n : ℕ) (ids : List ℕ) → offers (new_or_go ids) (alt.New n) ≡ true → list_any (nat_eq n) ids ≡ true
-new_among n [] offered = absurd (false≢true offered)
-new_among n (id ∷ ids) offered = sym (new_among_mapped n (id ∷ ids)) ∙ offered
-
--- a choice that creates a thread gives it one of these ids
-abbrev IsAmong : List ℕ → Alt → Type 0
-IsAmong ids (alt.New n) = list_any (nat_eq n) ids ≡ true
-IsAmong ids _ = Unit {0}
-
-among_new : (ids : List ℕ) (choice : Alt) → offers (new_or_go ids) choice ≡ true → IsAmong ids choice
-among_new ids (alt.New n) offered = new_among n ids offered
-among_new ids _ offered = tt
-
--- where no thread may be created
-among_none : (ids : List ℕ) (choices : List Alt) (choice : Alt) → ((n : ℕ) → offers choices (alt.New n) ≡ false) → offers choices choice ≡ true → IsAmong ids choice
-among_none ids choices (alt.New n) none offered = absurd (false≢true (sym (none n) ∙ offered))
-among_none ids choices _ none offered = tt
-
-among_statement : (others : Others) (s : Stmt) (choice : Alt) → offers (statement_choices others s) choice ≡ true → IsAmong others.new_ids choice
-unfolding statement_choices
-among_statement others (statement.Create result id f v detached) choice offered = among_new others.new_ids choice offered
-among_statement others _ choice offered = among_none others.new_ids (alt.Go ∷ []) choice (λ n. refl) offered
-
-act_creates_none : (pending : Bool) (n : ℕ) → offers (alt.Go ∷ act_if pending) (alt.New n) ≡ false
-act_creates_none true n = refl
-act_creates_none false n = refl
-
--- a choice of a running thread that creates a thread gives it one of the ids that were asked for
-among_running : (t : Thread) (others : Others) (s : Stmt) (choice : Alt) → offers (running_choices t others s) choice ≡ true → IsAmong others.new_ids choice
-unfolding running_choices cancel_rows
-among_running t others s choice =
-    let ids : List ℕ = others.new_ids in
-    first_row_has (λ choices. offers choices choice ≡ true → IsAmong ids choice) (cancel_rows t others s) (statement_choices others s) (
-      λ unbuilt. among_none ids (alt.Go ∷ []) choice (λ n. refl),
-      (
-        λ asynchronous. among_none ids (alt.Go ∷ act_if t.pending) choice (act_creates_none t.pending),
-        (
-          λ required. among_none ids (alt.Act 0 ∷ []) choice (λ n. refl),
-          (λ optional. among_none ids (alt.Go ∷ alt.Act 0 ∷ []) choice (λ n. refl), tt),
-        ),
-      ),
-    )
-    (among_statement others s choice)
 
 -- only a query for them is answered with ids
 ids_asked : (slots tid n : ℕ) (threads : List Thread) (q : Query) → list_any (nat_eq n) (answer_to slots tid threads q).new_ids ≡ true → list_any (nat_eq n) (free_ids slots threads) ≡ true
@@ -124,7 +79,7 @@ module _ (pid : ℕ) (ids : List ℕ) where
   unfolding pops
   pops_creates next v [] = record { no_process = refl; new_id = tt; reports = λ tid. refl }
   pops_creates next v ((f, a) ∷ handlers) =
-      either_creates (nat_eq v 0) (goes_on next (action.PopHandler ∷ []) (Popped f a false ∷ [])) (goes_on next (action.PopHandler ∷ action.Call f a kind.PopHandler ∷ []) (Popped f a true ∷ []))
+      either_creates (nat_eq v 0) (goes_on next (action.PopHandler ∷ []) (what.Popped f a false ∷ [])) (goes_on next (action.PopHandler ∷ action.Call f a kind.PopHandler ∷ []) (what.Popped f a true ∷ []))
       (record { no_process = refl; new_id = tt; reports = λ tid. refl }) (record { no_process = refl; new_id = tt; reports = λ tid. refl })
 
   returns_creates : (k : FrameKind) (v : ℕ) → CreatesOnly pid ids (returns_by k v)
@@ -137,11 +92,24 @@ module _ (pid : ℕ) (ids : List ℕ) where
   ends_creates (Some opened) body frame = record { no_process = refl; new_id = tt; reports = λ tid. refl }
   ends_creates None body frame = returns_creates frame.kind 0
 
-  ending_creates : (is_last : Bool) (why : Reason) (handlers : List (ℕ × ℕ)) → CreatesOnly pid ids (goes_on_ending is_last why handlers)
-  unfolding goes_on_ending ends_thread
-  ending_creates is_last why ((f, a) ∷ handlers) = record { no_process = refl; new_id = tt; reports = λ tid. refl }
-  ending_creates false why [] = record { no_process = refl; new_id = tt; reports = λ tid. refl }
-  ending_creates true why [] = record { no_process = refl; new_id = tt; reports = λ tid. refl }
+  end_creates : (is_last : Bool) (left v : ℕ) → CreatesOnly pid ids (ends_thread is_last left v)
+  unfolding ends_thread
+  end_creates false left v =
+      cond_both (nat_eq left 0) [] (what.Leftover left ∷ []) (λ (added : List What). CreatesOnly pid ids (acts (action.EndThread v ∷ []) (added ++ what.EndedWith v ∷ [])))
+      (λ none. record { no_process = refl; new_id = tt; reports = λ tid. refl }) (λ some. record { no_process = refl; new_id = tt; reports = λ tid. refl })
+  end_creates true left v =
+      cond_both (nat_eq left 0) [] (what.Leftover left ∷ []) (λ (added : List What). CreatesOnly pid ids (acts (action.MarkEnded ∷ action.BeginExit 0 ∷ []) (added ++ what.EndedWith v ∷ what.ExitBegun 0 ∷ [])))
+      (λ none. record { no_process = refl; new_id = tt; reports = λ tid. refl }) (λ some. record { no_process = refl; new_id = tt; reports = λ tid. refl })
+
+  ending_creates : (is_last : Bool) (passes : ℕ) (keys : List KeyPlace) (t : Thread) (choice : Alt) (handlers : List (ℕ × ℕ)) → CreatesOnly pid ids (goes_on_ending is_last passes keys t choice handlers)
+  unfolding goes_on_ending
+  ending_creates is_last passes keys t choice ((f, a) ∷ handlers) = record { no_process = refl; new_id = tt; reports = λ tid. refl }
+  ending_creates is_last passes keys t choice [] =
+      ending_by (CreatesOnly pid ids) is_last passes keys t choice
+      (record { no_process = refl; new_id = tt; reports = λ tid. refl })
+      (λ k f key by is destructor. record { no_process = refl; new_id = tt; reports = λ tid. refl })
+      (λ more. record { no_process = refl; new_id = tt; reports = λ tid. refl })
+      (λ left last. end_creates is_last left (end_value t.reason))
 
   exit_creates : (functions : List ℕ) (exit_value : Option ℕ) → CreatesOnly pid ids (ends_process functions exit_value)
   unfolding ends_process
@@ -183,24 +151,31 @@ module _ (pid : ℕ) (ids : List ℕ) where
   creates_creates alt.Go next result id f v detached among = record { no_process = refl; new_id = tt; reports = λ tid. refl }
   creates_creates _ next result id f v detached among = record { no_process = refl; new_id = tt; reports = λ tid. refl }
 
+  key_creates : (choice : Alt) (next : ℕ) (result key : Dest) (destructor : Option ℕ) → CreatesOnly pid ids (creates_key_by choice next result key destructor)
+  unfolding creates_key fails_to_create_key
+  key_creates (alt.New k) next result key destructor = record { no_process = refl; new_id = tt; reports = λ tid. refl }
+  key_creates alt.Go next result key destructor = record { no_process = refl; new_id = tt; reports = λ tid. refl }
+  key_creates _ next result key destructor = record { no_process = refl; new_id = tt; reports = λ tid. refl }
+
 -- ---- the tables
 
-module _ (pid : ℕ) (body : List Stmt) (shared : SharedState) (t : Thread) (others : Others) (choice : Alt) where
-  runs_creates : (frame : Frame) (s : Stmt) → IsAmong others.new_ids choice → CreatesOnly pid others.new_ids (runs body shared t others choice frame s)
-  unfolding runs emits sets adds jumps calls begins_join detaches gets_self ends_by_exit pushes sets_state sets_mode tests_cancel requests
+module _ (pid passes : ℕ) (body : List Stmt) (shared : SharedState) (t : Thread) (others : Others) (choice : Alt) where
+  runs_creates : (frame : Frame) (s : Stmt) → IsAmong (numbers_at shared.keys others s) choice → CreatesOnly pid others.new_ids (runs passes body shared t others choice frame s)
+  unfolding runs emits sets adds jumps calls begins_join detaches gets_self ends_by_exit pushes sets_state sets_mode tests_cancel requests deletes_key sets_specific gets_specific
   runs_creates frame statement.End among = ends_creates pid others.new_ids (open_of body frame.pc) body frame
   runs_creates frame (statement.Return v) among = returns_creates pid others.new_ids frame.kind (value_of shared.globals frame v)
   runs_creates frame (statement.Create result id f v detached) among = creates_creates pid others.new_ids choice (suc frame.pc) result id f (value_of shared.globals frame v) detached among
+  runs_creates frame (statement.KeyCreate result key destructor) among = key_creates pid others.new_ids choice (suc frame.pc) result key destructor
   runs_creates frame (statement.PointCall index) among = point_creates pid others.new_ids (suc frame.pc) index (point_kind index)
   runs_creates frame (statement.Pop v) among = pops_creates pid others.new_ids (suc frame.pc) (value_of shared.globals frame v) t.handlers
   runs_creates frame s among = record { no_process = refl; new_id = tt; reports = λ tid. refl }
 
-  transition_creates : (next : NextStatement) (s : Status) → offers (choices_at t others next s) choice ≡ true → CreatesOnly pid others.new_ids (transition_at body shared t others choice next s)
+  transition_creates : (next : NextStatement) (s : Status) → offers (choices_at shared.keys t others next s) choice ≡ true → CreatesOnly pid others.new_ids (transition_at passes body shared t others choice next s)
   unfolding transition_at choices_at
-  transition_creates (StatementIn frame s) status.Running offered = stop_creates pid others.new_ids (stop_at body shared t others frame s) (runs body shared t others choice frame s) (runs_creates frame s (among_running t others s choice offered))
+  transition_creates (StatementIn frame s) status.Running offered = stop_creates pid others.new_ids (stop_at body shared t others frame s) (runs passes body shared t others choice frame s) (runs_creates frame s (among_running shared.keys t others s choice offered))
   transition_creates next (status.AtPoint index) offered = passes_creates pid others.new_ids index next
   transition_creates next (status.Joining id) offered = joins_creates pid others.new_ids others.target id next
-  transition_creates next status.Ending offered = ending_creates pid others.new_ids others.is_last t.reason t.handlers
+  transition_creates next status.Ending offered = ending_creates pid others.new_ids others.is_last passes shared.keys t choice t.handlers
   transition_creates next status.Exiting offered = exit_creates pid others.new_ids shared.exit_functions shared.exit_value
   transition_creates next _ offered = record { no_process = refl; new_id = tt; reports = λ tid. refl }
 
@@ -210,8 +185,8 @@ module _ (script : Script) (config : Config) (p : Process) (t : Thread) (choice 
   all_of_it : (pid : ℕ) → CreatesOnly pid (others_of script config p t).new_ids (transition_by script config p t choice)
   all_of_it pid =
       let others : Others = others_of script config p t in
-      by_choice (CreatesOnly pid others.new_ids) choice t.status (transition_at (body_at script t.frames) p.shared t others choice (next_of script t.frames) t.status)
-      (λ n acts. acting_creates pid others.new_ids t.status) (transition_creates pid (body_at script t.frames) p.shared t others choice (next_of script t.frames) t.status offered)
+      by_choice (CreatesOnly pid others.new_ids) choice t.status (transition_at config.passes (body_at script t.frames) p.shared t others choice (next_of script t.frames) t.status)
+      (λ n acts. acting_creates pid others.new_ids t.status) (transition_creates pid config.passes (body_at script t.frames) p.shared t others choice (next_of script t.frames) t.status offered)
 
   -- no transition makes a process
   pub makes_no_process : (pid : ℕ) → list_any (makes_process pid) (reverse (transition_by script config p t choice).events) ≡ false

@@ -167,9 +167,13 @@ module _ (script : Script) (config : Config) (r : Run) (e : Entry) (p : Process)
 
 -- ---- every run
 
+-- what is kept of numbers holds after every run
+pub have_numbers : (script : Script) (config : Config) (entries : List Entry) (r : Run) → run script config entries ≡ Some r → HaveNumbers config.slots r
+have_numbers script config =
+    every_run script config (HaveNumbers config.slots) (λ r e p t some taken numbers. numbers_after script config r e p t some taken numbers) (λ some. first_numbers script config.slots some)
+
 -- the numbers after every run, and the threads and forks of its events
 pub numbers_of_run : (script : Script) (config : Config) (entries : List Entry) (r : Run) → run script config entries ≡ Some r → NumbersThreads config.slots r.world r.events
 numbers_of_run script config entries r is =
-    let numbers : HaveNumbers config.slots r = every_run script config (HaveNumbers config.slots)
-    (λ r e p t some taken numbers. numbers_after script config r e p t some taken numbers) (λ some. first_numbers script config.slots some) entries r is in
+    let numbers : HaveNumbers config.slots r = have_numbers script config entries r is in
     record { processes = numbers.processes; threads = λ pid p made. (numbers.ids pid p made).numbers; of_threads = numbers.of_threads; forks = numbers.forks }

@@ -1,8 +1,8 @@
 -- The ids of the threads of a process: on each slot they are numbered in order, and so no two threads have one id.
-use Rattle.std.proofs.Common.{◌≡◌, ℕ, zero, suc, ◌+◌, ◌-◌, ◌*◌, ◌%◌, ◌<◌, ◌≤◌, Bool, true, false, cond, List, [], ◌∷◌, ◌++◌, length, map, filter, count_by, nat_eq, slice_get, Option, Some, None, ◌⊎◌, inl, inr, refl, sym, ap, ◌∙◌, subst, eqb-true, eq-eqb, append-nil, mul_comm, arith}
-use Rattle.std.specs.List.{list_any, range_with_len}
+use Rattle.std.proofs.Common.{◌≡◌, ℕ, ◌+◌, ◌-◌, ◌*◌, ◌%◌, ◌<◌, true, false, List, [], ◌∷◌, ◌++◌, length, map, filter, count_by, nat_eq, slice_get, Option, Some, None, ◌⊎◌, inl, inr, refl, sym, ap, ◌∙◌, subst, eqb-true, eq-eqb, append-nil, mul_comm, arith}
+use Rattle.std.specs.List.{list_any}
 use native.Mathlib.Nat.{mul-lt-mul_of_pos_left}
-use Rattle.std.proofs.lemmas.Bool.{false≢true, or_cases, false_from_ne_true}
+use Rattle.std.proofs.lemmas.Bool.{false_from_ne_true}
 use Rattle.std.proofs.lemmas.Nat.{mod-mul-add}
 use Rattle.std.proofs.lemmas.List.{map-append, length-map}
 use Rattle.std.proofs.lemmas.List.Elements.{filter-append}
@@ -14,6 +14,7 @@ use Rattle.pct_model.specs.World.{Thread, new_frame, new_thread}
 use Rattle.pct_model.specs.ThreadSlots.{slot_of, is_on, is_free, next_id, free_ids}
 use Rattle.pct_model.specs.Actions.{thread_created}
 use Rattle.pct_model.specs.ThreadNumbers.{HasThreadNumbers}
+use Rattle.pct_ending_laws.proofs.lift.OfferedNumbers.{from_range}
 use Rattle.pct_ending_laws.proofs.lift.KeyedLists.{AreDistinct, distinct_push, index_among, keys_changed, filter_changed, item_pushed, mapped_some}
 
 -- the ids of these threads
@@ -31,24 +32,10 @@ pub record HaveIds (slots : ℕ) (threads : List Thread) : Type 0 where
 abbrev IsNextId : ℕ → List Thread → ℕ → Type 0
 IsNextId slots threads id = (s : ℕ) × (s < slots) × (id ≡ next_id slots threads s)
 
-next_id_by : (slots : ℕ) (threads : List Thread) (id s : ℕ) (ids : List ℕ) (free : Bool) → s < slots → (list_any (nat_eq id) (map (next_id slots threads) ids) ≡ true → IsNextId slots threads id)
-    → list_any (nat_eq id) (map (next_id slots threads) (cond free (s ∷ ids) ids)) ≡ true → IsNextId slots threads id
-next_id_by slots threads id s ids true low later among = elim (or_cases (nat_eq id (next_id slots threads s)) (list_any (nat_eq id) (map (next_id slots threads) ids)) among) [
-  | inl here ↦ (s, low, eqb-true id (next_id slots threads s) here)
-  | inr there ↦ later there
-]
-next_id_by slots threads id s ids false low later among = later among
-
-next_id_from : (slots : ℕ) (threads : List Thread) (id s n : ℕ) → s + n ≤ slots → list_any (nat_eq id) (map (next_id slots threads) (filter (is_free slots threads) (range_with_len s n))) ≡ true → IsNextId slots threads id
-next_id_from slots threads id s zero within among = absurd (false≢true among)
-next_id_from slots threads id s (suc n) within among =
-    next_id_by slots threads id s (filter (is_free slots threads) (range_with_len (s + 1) n)) (is_free slots threads s) (omega (arith, within))
-    (next_id_from slots threads id (s + 1) n (omega (arith, within))) among
-
 -- an id that is free is the next one of a slot
 pub is_next_id : (slots : ℕ) (threads : List Thread) (id : ℕ) → list_any (nat_eq id) (free_ids slots threads) ≡ true → IsNextId slots threads id
 unfolding free_ids
-is_next_id slots threads id among = next_id_from slots threads id 0 slots (omega arith) among
+is_next_id slots threads id among = let of = from_range (next_id slots threads) (is_free slots threads) slots id 0 slots (omega arith) among in (of.item, of.low, of.is)
 
 -- the next id of a slot is on that slot
 slot_of_next : (slots s n : ℕ) → s < slots → slot_of slots (1 + s + slots * n) ≡ s

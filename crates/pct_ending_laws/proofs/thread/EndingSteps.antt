@@ -2,7 +2,7 @@
 use Rattle.std.proofs.Common.{◌≡◌, ℕ, suc, ◌+◌, ◌%◌, Bool, true, false, cond, List, [], ◌∷◌, ◌++◌, nat_eq, Option, Some, None, ◌⊎◌, inl, inr, refl, sym, ap, ◌∙◌}
 use Rattle.std.specs.Prelude.{is_some}
 use Rattle.std.specs.List.{list_all}
-use Rattle.std.proofs.lemmas.Bool.{false≢true, and_parts}
+use Rattle.std.proofs.lemmas.Bool.{false≢true}
 use Rattle.pct_model.specs.declared.event.What.TheVariants.{Popped}
 use Rattle.pct_model.specs.declared.frame.Frame.{Frame}
 use Rattle.pct_model.specs.declared.other_threads.Target.{Target}
@@ -24,11 +24,13 @@ use Rattle.pct_model.specs.declared.stop.Why.{Why}
 use Rattle.pct_model.specs.declared.transition.Action.{Action}
 use Rattle.pct_model.specs.declared.transition.Action.TheVariants as action
 use Rattle.pct_model.specs.declared.transition.Transition.{Transition}
-use Rattle.pct_model.specs.Actions.{thread_at, thread_after, for_each, moved}
+use Rattle.pct_model.specs.Actions.{thread_at, thread_after, moved}
 use Rattle.pct_model.specs.ChoiceTable.{choices_at, offers}
 use Rattle.pct_model.specs.CleanupHandlers.{pushes, pops}
 use Rattle.pct_model.specs.CancelCalls.{requests, state_number, mode_number, sets_state, sets_mode, tests_cancel, point_kind, calls_point, passes_point, acts_on_request}
 use Rattle.pct_model.specs.Jumps.{open_of}
+use Rattle.pct_model.specs.KeyCalls.{creates_key, fails_to_create_key, creates_key_by, deletes_key, sets_specific, gets_specific}
+use Rattle.pct_model.specs.Keys.{key_place, value_at}
 use Rattle.pct_model.specs.NextStatement.{NextStatement, NoStatement, StatementIn}
 use Rattle.pct_model.specs.OtherThreads.{Others}
 use Rattle.pct_model.specs.ProcessExit.{exits, returns_by, ends_process}
@@ -41,7 +43,9 @@ use Rattle.pct_model.specs.ThreadSummary.{ThreadSummary}
 use Rattle.pct_model.specs.Transitions.{goes_on, written}
 use Rattle.pct_model.specs.TransitionTable.{ends_block, stops_or, runs, transition_at, acts_or}
 use Rattle.pct_model.specs.World.{Thread, SharedState, value_of}
+use Rattle.pct_ending_laws.proofs.lift.ChangedThreads.{all_keep_if}
 use Rattle.pct_ending_laws.proofs.lift.Choices.{by_choice}
+use Rattle.pct_ending_laws.proofs.lift.EndingTransitions.{ending_by}
 use Rattle.pct_ending_laws.proofs.thread.ThreadRule.{ByStatus}
 
 -- ---- actions
@@ -62,12 +66,6 @@ action_end (action.EndThread v) keeps t = absurd (false≢true keeps)
 action_end action.MarkEnded keeps t = absurd (false≢true keeps)
 action_end _ keeps t = refl
 
-actions_end : (actions : List Action) → list_all keeps_end actions ≡ true → (t : Thread) → (for_each thread_after actions t).ended ≡ t.ended
-actions_end [] all t = refl
-actions_end (a ∷ actions) all t =
-    let parts = and_parts (keeps_end a) (list_all keeps_end actions) all in
-    actions_end actions parts.1 (thread_after a t) ∙ action_end a parts.0 t
-
 going_on_end : (next : Option ℕ) (t : Thread) → (thread_at next t).ended ≡ t.ended
 unfolding thread_at
 going_on_end None t = refl
@@ -75,7 +73,7 @@ going_on_end (Some pc) t = refl
 
 -- such a transition leaves it open whether the thread has ended
 pub moved_end : (o : Transition) → NeverEnds o → (t : Thread) → (moved o t).ended ≡ t.ended
-moved_end o never t = actions_end o.actions never (thread_at o.next t) ∙ going_on_end o.next t
+moved_end o never t = all_keep_if (λ (u : Thread). u.ended) thread_after keeps_end action_end o.actions never (thread_at o.next t) ∙ going_on_end o.next t
 
 -- ---- the table of statements
 
@@ -114,6 +112,12 @@ unfolding creates fails_to_create
 create_never (alt.New n) next result id f v detached = two_written result id 0 n
 create_never alt.Go next result id f v detached = one_written result 1
 create_never _ next result id f v detached = refl
+
+key_never : (choice : Alt) (next : ℕ) (result key : Dest) (destructor : Option ℕ) → NeverEnds (creates_key_by choice next result key destructor)
+unfolding creates_key fails_to_create_key
+key_never (alt.New k) next result key destructor = two_written result key 0 k
+key_never alt.Go next result key destructor = one_written result 1
+key_never _ next result key destructor = refl
 
 point_never : (next index : ℕ) (kind : Option PointKind) → NeverEnds (calls_point next index kind)
 unfolding calls_point
@@ -162,28 +166,28 @@ acting_creates_none _ = refl
 -- ---- a thread that ends
 
 -- the end of a thread that is not the last one of its process gives it the status of its end
-pub is_last_if : (last : Bool) (v : ℕ) (t : Thread) → is_ended_status (moved (ends_thread last v) t).status ≡ false → last ≡ true
+pub is_last_if : (last : Bool) (left v : ℕ) (t : Thread) → is_ended_status (moved (ends_thread last left v) t).status ≡ false → last ≡ true
 unfolding ends_thread thread_at thread_after
-is_last_if true v t alive = refl
-is_last_if false v t alive = absurd (false≢true (sym alive))
+is_last_if true left v t alive = refl
+is_last_if false left v t alive = absurd (false≢true (sym alive))
 
-pub end_creates_none : (last : Bool) (v : ℕ) → (ends_thread last v).created ≡ None
+pub end_creates_none : (last : Bool) (left v : ℕ) → (ends_thread last left v).created ≡ None
 unfolding ends_thread
-end_creates_none true v = refl
-end_creates_none false v = refl
+end_creates_none true left v = refl
+end_creates_none false left v = refl
 
-module _ (body : List Stmt) (shared : SharedState) (t : Thread) (others : Others) (choice : Alt) where
-  -- the transition is the end of the thread
+module _ (passes : ℕ) (body : List Stmt) (shared : SharedState) (t : Thread) (others : Others) (choice : Alt) where
+  -- the transition is the end of the thread, with a number of due keys left
   abbrev pub IsEnd : Transition → Type 0
-  IsEnd o = o ≡ ends_thread others.is_last (end_value t.reason)
+  IsEnd o = (left : ℕ) × (o ≡ ends_thread others.is_last left (end_value t.reason))
 
-  ending_ends : (handlers : List (ℕ × ℕ)) → NeverEnds (goes_on_ending others.is_last t.reason handlers) ⊎ IsEnd (goes_on_ending others.is_last t.reason handlers)
+  ending_ends : (handlers : List (ℕ × ℕ)) → NeverEnds (goes_on_ending others.is_last passes shared.keys t choice handlers) ⊎ IsEnd (goes_on_ending others.is_last passes shared.keys t choice handlers)
   unfolding goes_on_ending
-  ending_ends [] = inr refl
+  ending_ends [] = ending_by (λ (o : Transition). NeverEnds o ⊎ IsEnd o) others.is_last passes shared.keys t choice (inl refl) (λ k f key by is destructor. inl refl) (λ more. inl refl) (λ left last. inr (left, refl))
   ending_ends ((f, a) ∷ handlers) = inl refl
 
-  statement_never : (frame : Frame) (s : Stmt) → NeverEnds (runs body shared t others choice frame s)
-  unfolding runs emits sets adds jumps calls begins_join detaches gets_self ends_by_exit pushes sets_state sets_mode tests_cancel requests
+  statement_never : (frame : Frame) (s : Stmt) → NeverEnds (runs passes body shared t others choice frame s)
+  unfolding runs emits sets adds jumps calls begins_join detaches gets_self ends_by_exit pushes sets_state sets_mode tests_cancel requests deletes_key sets_specific gets_specific
   statement_never frame (statement.Set d v) = one_written d (value_of shared.globals frame v)
   statement_never frame (statement.Add d v) = one_written d ((variable_value shared.globals frame d + value_of shared.globals frame v) % 4294967296)
   statement_never frame statement.End = block_never (open_of body frame.pc) body frame
@@ -192,17 +196,19 @@ module _ (body : List Stmt) (shared : SharedState) (t : Thread) (others : Others
   statement_never frame (statement.SelfId d) = one_written d t.id
   statement_never frame (statement.SetState enable old) = one_written old (state_number t.state)
   statement_never frame (statement.SetMode asynchronous old) = one_written old (mode_number t.mode)
+  statement_never frame (statement.KeyCreate result key destructor) = key_never choice (suc frame.pc) result key destructor
+  statement_never frame (statement.GetSpecific d key) = one_written d (value_at (key_place (value_of shared.globals frame key)) t.specific)
   statement_never frame (statement.PointCall index) = point_never (suc frame.pc) index (point_kind index)
   statement_never frame (statement.Pop v) = pops_never (suc frame.pc) (value_of shared.globals frame v) t.handlers
   statement_never frame s = refl
 
   -- what a thread does as it goes on
   abbrev going : NextStatement → Status → Transition
-  going next s = transition_at body shared t others choice next s
+  going next s = transition_at passes body shared t others choice next s
 
   going_ends : (next : NextStatement) (s : Status) → NeverEnds (going next s) ⊎ IsEnd (going next s)
   unfolding transition_at
-  going_ends (StatementIn frame s) status.Running = inl (stops_never (stop_at body shared t others frame s) (runs body shared t others choice frame s) (statement_never frame s))
+  going_ends (StatementIn frame s) status.Running = inl (stops_never (stop_at body shared t others frame s) (runs passes body shared t others choice frame s) (statement_never frame s))
   going_ends next (status.AtPoint index) = inl (passes_never index next)
   going_ends next (status.Joining id) = inl (joins_never others.target id next)
   going_ends next status.Ending = ending_ends t.handlers
@@ -225,7 +231,7 @@ module _ (body : List Stmt) (shared : SharedState) (t : Thread) (others : Others
     not_ended : reported.ended ≡ None → ⊥
     not_ended none = false≢true (sym (ap is_some none) ∙ ended)
 
-    going_on : (next : NextStatement) (s : Status) → ByStatus script s why frames handlers reported → offers (choices_at t others next s) choice ≡ true → GoesOn s (going next s)
+    going_on : (next : NextStatement) (s : Status) → ByStatus script s why frames handlers reported → offers (choices_at shared.keys t others next s) choice ≡ true → GoesOn s (going next s)
     unfolding transition_at choices_at
     going_on next status.Running fits offered = absurd (not_ended fits.not_ended)
     going_on next (status.AtPoint index) fits offered = absurd (not_ended fits.0.not_ended)
@@ -237,7 +243,7 @@ module _ (body : List Stmt) (shared : SharedState) (t : Thread) (others : Others
     going_on (StatementIn frame s) status.Exiting fits offered = record { alive = refl; never = exit_never shared.exit_functions shared.exit_value; none = exit_creates_none shared.exit_functions shared.exit_value }
     going_on next _ fits offered = absurd fits
 
-    pub after_end : (next : NextStatement) (s : Status) → ByStatus script s why frames handlers reported → offers (choices_at t others next s) choice ≡ true → GoesOn s (acts_or choice s (going next s))
+    pub after_end : (next : NextStatement) (s : Status) → ByStatus script s why frames handlers reported → offers (choices_at shared.keys t others next s) choice ≡ true → GoesOn s (acts_or choice s (going next s))
     after_end next s fits offered =
         let goes : GoesOn s (going next s) = going_on next s fits offered in
         by_choice (GoesOn s) choice s (going next s) (λ n acts. record { alive = goes.alive; never = acting_never s; none = acting_creates_none s }) goes

@@ -18,6 +18,7 @@ use Rattle.pct_model.specs.declared.transition.NewThread.{NewThread}
 use Rattle.pct_model.specs.declared.transition.Transition.{Transition}
 use Rattle.pct_model.specs.Actions.{set_local, thread_at, thread_after, for_each}
 use Rattle.pct_model.specs.Kept.{AreOpen, open_functions}
+use Rattle.pct_model.specs.Keys.{key_place, with_value}
 use Rattle.pct_model.specs.OpenPushes.{open_pushes}
 use Rattle.pct_model.specs.ThreadSummary.{ThreadSummary}
 use Rattle.pct_model.specs.TransitionTable.{stops_or}
@@ -29,7 +30,7 @@ use Rattle.pct_ending_laws.proofs.thread.ThreadRule.{Fits, Rule, Keeps}
 
 -- ---- actions that write
 
--- the action writes a variable, sets a cancelability type, or changes a thread that it names
+-- the action writes a variable, sets a cancelability type, changes a thread or a key that it names, makes a key, or sets a value of one
 abbrev pub writes : Action → Bool
 writes (action.SetLocal i v) = true
 writes (action.SetGlobal i v) = true
@@ -37,6 +38,9 @@ writes (action.SetMode mode) = true
 writes (action.EndJoin id) = true
 writes (action.Request id) = true
 writes (action.Detach id) = true
+writes (action.MakeKey k destructor) = true
+writes (action.DeleteKey k) = true
+writes (action.SetSpecific k v) = true
 writes _ = false
 
 -- the actions that write to one destination
@@ -55,13 +59,13 @@ two_written destination.Drop e v w = one_written e w
 abbrev pub running : Thread → List Frame → Thread
 running t frames = record t { status = Running; frames = frames }
 
-module _ (script : Script) where
-  local_fits : (i v : ℕ) (t : Thread) (frames : List Frame) (s : ThreadSummary) → Fits script (running t frames) s → Fits script (running t (set_local i v frames)) s
+module _ (script : Script) (passes : ℕ) where
+  local_fits : (i v : ℕ) (t : Thread) (frames : List Frame) (s : ThreadSummary) → Fits script passes (running t frames) s → Fits script passes (running t (set_local i v frames)) s
   local_fits i v t [] s fits = fits
   local_fits i v t (frame ∷ below) s fits = fits
 
   -- a running thread after actions that write
-  pub writes_fit : (actions : List Action) → list_all writes actions ≡ true → (t : Thread) (frames : List Frame) (s : ThreadSummary) → Fits script (running t frames) s → Fits script (for_each thread_after actions (running t frames)) s
+  pub writes_fit : (actions : List Action) → list_all writes actions ≡ true → (t : Thread) (frames : List Frame) (s : ThreadSummary) → Fits script passes (running t frames) s → Fits script passes (for_each thread_after actions (running t frames)) s
   unfolding thread_after
   writes_fit [] all t frames s fits = fits
   writes_fit (action.SetLocal i v ∷ actions) all t frames s fits = writes_fit actions all t (set_local i v frames) s (local_fits i v t frames s fits)
@@ -70,26 +74,29 @@ module _ (script : Script) where
   writes_fit (action.EndJoin id ∷ actions) all t frames s fits = writes_fit actions all t frames s fits
   writes_fit (action.Request id ∷ actions) all t frames s fits = writes_fit actions all t frames s fits
   writes_fit (action.Detach id ∷ actions) all t frames s fits = writes_fit actions all t frames s fits
+  writes_fit (action.MakeKey k destructor ∷ actions) all t frames s fits = writes_fit actions all t frames s fits
+  writes_fit (action.DeleteKey k ∷ actions) all t frames s fits = writes_fit actions all t frames s fits
+  writes_fit (action.SetSpecific k v ∷ actions) all t frames s fits = writes_fit actions all (record t { specific = with_value (key_place k) v t.specific }) frames s fits
   writes_fit (_ ∷ actions) all t frames s fits = absurd (false≢true all)
 
   -- ---- transitions
 
   -- no thread is created
-  pub none_created : (new : NewThread) → None ≡ Some new → Rule script (created_thread new) []
+  pub none_created : (new : NewThread) → None ≡ Some new → Rule script passes (created_thread new) []
   none_created new e = absurd (none-some new e)
 
   -- a transition that changes nothing
-  pub no_change_keeps : (t : Thread) (events : List What) → Rule script t events → Keeps script t events no_change
+  pub no_change_keeps : (t : Thread) (events : List What) → Rule script passes t events → Keeps script passes t events no_change
   unfolding thread_at
   no_change_keeps t events rule = record { own = rule; created = none_created }
 
   -- a stop
-  pub stop_keeps : (why : Why) (t : Thread) (events : List What) → Rule script t events → Keeps script t events (stops why)
+  pub stop_keeps : (why : Why) (t : Thread) (events : List What) → Rule script passes t events → Keeps script passes t events (stops why)
   unfolding thread_at thread_after
   stop_keeps why t events rule = record { own = (rule.0, (refl, tt, rule.1)); created = none_created }
 
   -- a stop, or the transition if there is none
-  pub stops_or_keeps : (t : Thread) (events : List What) → Rule script t events → (stop : Option Why) (other : Transition) → (stop ≡ None → Keeps script t events other) → Keeps script t events (stops_or stop other)
+  pub stops_or_keeps : (t : Thread) (events : List What) → Rule script passes t events → (stop : Option Why) (other : Transition) → (stop ≡ None → Keeps script passes t events other) → Keeps script passes t events (stops_or stop other)
   stops_or_keeps t events rule None other keeps = keeps refl
   stops_or_keeps t events rule (Some why) other keeps = stop_keeps why t events rule
 
@@ -99,7 +106,7 @@ module _ (script : Script) where
     body = body_of script frame.func
 
     -- the thread goes on at a pc with the same open pushes
-    pub at_pc_fits : (pc : ℕ) → open_pushes body pc ≡ open_pushes body frame.pc → pc < length body → (s : ThreadSummary) → Fits script (running t (frame ∷ below)) s → Fits script (running t (record frame { pc = pc } ∷ below)) s
+    pub at_pc_fits : (pc : ℕ) → open_pushes body pc ≡ open_pushes body frame.pc → pc < length body → (s : ThreadSummary) → Fits script passes (running t (frame ∷ below)) s → Fits script passes (running t (record frame { pc = pc } ∷ below)) s
     at_pc_fits pc same within s fits = record {
       agrees = fits.agrees;
       placed = (within, fits.placed.1);
@@ -109,12 +116,13 @@ module _ (script : Script) where
         fit = fits.by_status.fit;
         pushes = subst (λ (functions : List ℕ). AreOpen (functions ++ open_functions script below) t.handlers s.left) (sym same) fits.by_status.pushes;
       };
+      in_passes = fits.in_passes;
     }
 
     -- the same, after actions that write and events that do not change the summary
-    pub going_on_keeps : (status : Status) (events : List What) (pc : ℕ) (actions : List Action) (added : List What) → open_pushes body pc ≡ open_pushes body frame.pc → pc < length body → list_all writes actions ≡ true → summary (reverse added ++ events) ≡ summary events → AreLawful (reverse added ++ events) → Fits script (running t (frame ∷ below)) (summary events) → Keeps script (record t { status = status; frames = frame ∷ below }) events (goes_on pc actions added)
+    pub going_on_keeps : (status : Status) (events : List What) (pc : ℕ) (actions : List Action) (added : List What) → open_pushes body pc ≡ open_pushes body frame.pc → pc < length body → list_all writes actions ≡ true → summary (reverse added ++ events) ≡ summary events → AreLawful passes (reverse added ++ events) → Fits script passes (running t (frame ∷ below)) (summary events) → Keeps script passes (record t { status = status; frames = frame ∷ below }) events (goes_on pc actions added)
     unfolding thread_at
     going_on_keeps status events pc actions added same within all unchanged lawful fits = record {
-      own = (writes_fit actions all t (record frame { pc = pc } ∷ below) (summary (reverse added ++ events)) (subst (λ (s : ThreadSummary). Fits script (running t (record frame { pc = pc } ∷ below)) s) (sym unchanged) (at_pc_fits pc same within (summary events) fits)), lawful);
+      own = (writes_fit actions all t (record frame { pc = pc } ∷ below) (summary (reverse added ++ events)) (subst (λ (s : ThreadSummary). Fits script passes (running t (record frame { pc = pc } ∷ below)) s) (sym unchanged) (at_pc_fits pc same within (summary events) fits)), lawful);
       created = none_created;
     }

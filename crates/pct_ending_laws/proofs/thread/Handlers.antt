@@ -39,11 +39,11 @@ left_below functions handler handlers left are =
     let parts : length handlers ≡ length are.pushed + length left = ap length are.parts ∙ length-append are.pushed left in
     omega arith
 
-module _ (script : Script) (matches : PushesMatch script) where
+module _ (script : Script) (passes : ℕ) (matches : PushesMatch script) where
   -- ---- calls
 
   -- a running thread that calls a function
-  pub call_fits : (f a : ℕ) (k : FrameKind) (t : Thread) (frames : List Frame) (s : ThreadSummary) → f < length script.funcs → FramesFit t.reason (new_frame f a k ∷ frames) → Fits script (running t frames) s → Fits script (running t (new_frame f a k ∷ frames)) s
+  pub call_fits : (f a : ℕ) (k : FrameKind) (t : Thread) (frames : List Frame) (s : ThreadSummary) → f < length script.funcs → FramesFit t.reason (new_frame f a k ∷ frames) → Fits script passes (running t frames) s → Fits script passes (running t (new_frame f a k ∷ frames)) s
   call_fits f a k t frames s in_script fit fits = record {
     agrees = fits.agrees;
     placed = (matches.first_within f in_script, fits.placed);
@@ -53,21 +53,22 @@ module _ (script : Script) (matches : PushesMatch script) where
       fit = fit;
       pushes = fits.by_status.pushes;
     };
+    in_passes = fits.in_passes;
   }
 
-  module _ (t : Thread) (frame : Frame) (below : List Frame) (events : List What) (lawful : AreLawful events) where
+  module _ (t : Thread) (frame : Frame) (below : List Frame) (events : List What) (lawful : AreLawful passes events) where
     -- `do`
-    pub call_keeps : (f : ℕ) (x : Operand) (v : ℕ) → statement_at script frame ≡ Some (statement.Do f x) → f < length script.funcs → Fits script (running t (frame ∷ below)) (summary events) → Keeps script (running t (frame ∷ below)) events (calls (suc frame.pc) f v)
+    pub call_keeps : (f : ℕ) (x : Operand) (v : ℕ) → statement_at script frame ≡ Some (statement.Do f x) → f < length script.funcs → Fits script passes (running t (frame ∷ below)) (summary events) → Keeps script passes (running t (frame ∷ below)) events (calls (suc frame.pc) f v)
     unfolding calls thread_at thread_after
     call_keeps f x v at in_script fits =
-        let next : Fits script (running t (record frame { pc = suc frame.pc } ∷ below)) (summary events) = at_pc_fits script t frame below (suc frame.pc) (matches.next frame (statement.Do f x) at) (matches.next_within frame (statement.Do f x) at refl) (summary events) fits in
+        let next : Fits script passes (running t (record frame { pc = suc frame.pc } ∷ below)) (summary events) = at_pc_fits script passes t frame below (suc frame.pc) (matches.next frame (statement.Do f x) at) (matches.next_within frame (statement.Do f x) at refl) (summary events) fits in
         record {
           own = (call_fits f v kind.Call t (record frame { pc = suc frame.pc } ∷ below) (summary events) in_script next.by_status.fit next, lawful);
-          created = none_created script;
+          created = none_created script passes;
         }
 
     -- pthread_cleanup_push
-    pub push_keeps : (f : ℕ) (x : Operand) (v : ℕ) → statement_at script frame ≡ Some (statement.Push f x) → f < length script.funcs → Fits script (running t (frame ∷ below)) (summary events) → Keeps script (running t (frame ∷ below)) events (pushes (suc frame.pc) f v)
+    pub push_keeps : (f : ℕ) (x : Operand) (v : ℕ) → statement_at script frame ≡ Some (statement.Push f x) → f < length script.funcs → Fits script passes (running t (frame ∷ below)) (summary events) → Keeps script passes (running t (frame ∷ below)) events (pushes (suc frame.pc) f v)
     unfolding pushes thread_at thread_after
     push_keeps f x v at in_script fits = record {
       own = (
@@ -90,17 +91,18 @@ module _ (script : Script) (matches : PushesMatch script) where
               named = ap (λ (fs : List ℕ). f ∷ fs) fits.by_status.pushes.named ∙ sym (ap (λ (fs : List ℕ). fs ++ open_functions script below) (matches.next frame (statement.Push f x) at));
             };
           };
+          in_passes = fits.in_passes;
         },
         (refl, tt, lawful),
       );
-      created = none_created script;
+      created = none_created script passes;
     }
 
     -- ---- pthread_cleanup_pop
 
-    module _ (f a : ℕ) (handlers : List (ℕ × ℕ)) (fits : Fits script (running (record t { handlers = (f, a) ∷ handlers }) (frame ∷ below)) (summary events)) (popped : AreOpen (open_functions script (record frame { pc = suc frame.pc } ∷ below)) handlers (summary events).left) (within : suc frame.pc < length (body_of script frame.func)) where
+    module _ (f a : ℕ) (handlers : List (ℕ × ℕ)) (fits : Fits script passes (running (record t { handlers = (f, a) ∷ handlers }) (frame ∷ below)) (summary events)) (popped : AreOpen (open_functions script (record frame { pc = suc frame.pc } ∷ below)) handlers (summary events).left) (within : suc frame.pc < length (body_of script frame.func)) where
       -- the thread after a pop
-      pop_fits : (run : Bool) → Fits script (running (record t { handlers = handlers }) (record frame { pc = suc frame.pc } ∷ below)) (summary (Popped f a run ∷ events))
+      pop_fits : (run : Bool) → Fits script passes (running (record t { handlers = handlers }) (record frame { pc = suc frame.pc } ∷ below)) (summary (Popped f a run ∷ events))
       pop_fits run = record {
         agrees = record {
           handlers_agree = ap without_first fits.agrees.handlers_agree;
@@ -116,27 +118,28 @@ module _ (script : Script) (matches : PushesMatch script) where
           fit = fits.by_status.fit;
           pushes = popped;
         };
+        in_passes = fits.in_passes;
       }
 
       -- the event of a pop
-      pop_lawful : (run : Bool) → AreLawful (Popped f a run ∷ events)
+      pop_lawful : (run : Bool) → AreLawful passes (Popped f a run ∷ events)
       pop_lawful run =
           let fewer : length (summary events).left < length ((f, a) ∷ handlers) = left_below (open_functions script (record frame { pc = suc frame.pc } ∷ below)) (f, a) handlers (summary events).left popped in
           (refl, (ap newest fits.agrees.handlers_agree, λ begun. subst (λ (hs : List (ℕ × ℕ)). length (summary events).left < length hs) (sym fits.agrees.handlers_agree) fewer), lawful)
 
       -- by the argument of the pop
-      pop_by : (drop : Bool) → Keeps script (running (record t { handlers = (f, a) ∷ handlers }) (frame ∷ below)) events (cond drop (goes_on (suc frame.pc) (action.PopHandler ∷ []) (Popped f a false ∷ [])) (goes_on (suc frame.pc) (action.PopHandler ∷ action.Call f a kind.PopHandler ∷ []) (Popped f a true ∷ [])))
+      pop_by : (drop : Bool) → Keeps script passes (running (record t { handlers = (f, a) ∷ handlers }) (frame ∷ below)) events (cond drop (goes_on (suc frame.pc) (action.PopHandler ∷ []) (Popped f a false ∷ [])) (goes_on (suc frame.pc) (action.PopHandler ∷ action.Call f a kind.PopHandler ∷ []) (Popped f a true ∷ [])))
       unfolding thread_at thread_after
-      pop_by true = record { own = (pop_fits false, pop_lawful false); created = none_created script }
+      pop_by true = record { own = (pop_fits false, pop_lawful false); created = none_created script passes }
       pop_by false = record {
         own = (call_fits f a kind.PopHandler (record t { handlers = handlers }) (record frame { pc = suc frame.pc } ∷ below) (summary (Popped f a true ∷ events)) fits.agrees.functions.0 fits.by_status.fit (pop_fits true), pop_lawful true);
-        created = none_created script;
+        created = none_created script passes;
       }
 
     -- pthread_cleanup_pop
-    pub pop_keeps : (handlers : List (ℕ × ℕ)) (x : Operand) (v : ℕ) → statement_at script frame ≡ Some (statement.Pop x) → Fits script (running (record t { handlers = handlers }) (frame ∷ below)) (summary events) → Keeps script (running (record t { handlers = handlers }) (frame ∷ below)) events (pops (suc frame.pc) v handlers)
+    pub pop_keeps : (handlers : List (ℕ × ℕ)) (x : Operand) (v : ℕ) → statement_at script frame ≡ Some (statement.Pop x) → Fits script passes (running (record t { handlers = handlers }) (frame ∷ below)) (summary events) → Keeps script passes (running (record t { handlers = handlers }) (frame ∷ below)) events (pops (suc frame.pc) v handlers)
     unfolding pops
-    pop_keeps [] x v at fits = no_change_keeps script (running (record t { handlers = [] }) (frame ∷ below)) events (fits, lawful)
+    pop_keeps [] x v at fits = no_change_keeps script passes (running (record t { handlers = [] }) (frame ∷ below)) events (fits, lawful)
     pop_keeps ((f, a) ∷ handlers) x v at fits =
         let top : (g : ℕ) × (open_pushes (body_of script frame.func) frame.pc ≡ g ∷ open_pushes (body_of script frame.func) (suc frame.pc)) = matches.pop frame x at in
         let are : AreOpen (top.0 ∷ open_functions script (record frame { pc = suc frame.pc } ∷ below)) ((f, a) ∷ handlers) (summary events).left = subst (λ (fs : List ℕ). AreOpen (fs ++ open_functions script below) ((f, a) ∷ handlers) (summary events).left) top.1 fits.by_status.pushes in

@@ -5,6 +5,7 @@ use Rattle.std.specs.List.{list_any}
 use Rattle.std.specs.Option.{option_map_or}
 use Rattle.std.proofs.lemmas.Bool.{false≢true}
 use Rattle.std.proofs.lemmas.List.Elements.{All-from_recursion}
+use Rattle.std.proofs.lemmas.Option.{get_or_from_slice_get}
 use Rattle.pct_model.specs.declared.frame.Frame.{Frame}
 use Rattle.pct_model.specs.declared.script.Script.{Script}
 use Rattle.pct_model.specs.declared.state.FrameKind.{FrameKind}
@@ -12,12 +13,16 @@ use Rattle.pct_model.specs.declared.state.FrameKind.TheVariants as kind
 use Rattle.pct_model.specs.declared.state.Reason.{Reason}
 use Rattle.pct_model.specs.declared.state.Status.{Status}
 use Rattle.pct_model.specs.declared.state.Status.TheVariants as status
-use Rattle.pct_model.specs.Kept.{AreOpen, open_functions, HasOneBottom, bottom_kind, is_bottom_kind, is_end_kind, is_exit_kind, has_no_frame, is_ending_status, is_exiting, ThreadKept}
+use Rattle.pct_model.specs.Keys.{KeyPlace}
+use Rattle.pct_model.specs.Kept.{KeysKept, AreOpen, open_functions, HasOneBottom, bottom_kind, is_bottom_kind, is_end_kind, is_exit_kind, has_no_frame, is_ending_status, is_exiting, ThreadKept}
 use Rattle.pct_model.specs.LineParsing.{is_empty}
 use Rattle.pct_model.specs.StopTable.{has_begun_to_end}
 use Rattle.pct_model.specs.ThreadSlots.{is_ended_status}
 use Rattle.pct_model.specs.ThreadSummary.{ThreadSummary}
 use Rattle.pct_model.specs.World.{Thread}
+use Rattle.pct_ending_laws.proofs.keys.KeptKeys.{AreEmpty}
+use Rattle.pct_ending_laws.proofs.keys.LeftKeys.{on_own_place}
+use Rattle.pct_ending_laws.proofs.thread.Passes.{is_in, not_taken}
 use Rattle.pct_ending_laws.proofs.thread.ThreadRule.{Below, FramesFit, IsHandler, IsPlaced, HasFrames, GoesToHandlers, HasEnded, ByStatus, Fits}
 
 -- ---- frames
@@ -56,7 +61,7 @@ module _ (why : Reason) (frame : Frame) where
   facts_by kind.Handler below rest fit = alone kind.Handler below fit.1 (record { some = refl; bottom = (refl, tt); has_reason = fit.0; no_exit = refl; not_exiting = refl })
   facts_by kind.Call below rest fit = above kind.Call below refl refl (rest fit)
   facts_by kind.PopHandler below rest fit = above kind.PopHandler below refl refl (rest fit)
-  facts_by kind.Destructor below rest fit = absurd fit
+  facts_by kind.Destructor below rest fit = alone kind.Destructor below fit.1 (record { some = refl; bottom = (refl, tt); has_reason = fit.0; no_exit = refl; not_exiting = refl })
   facts_by kind.ForkFn below rest fit = absurd fit
   facts_by kind.ExitFn below rest fit = absurd fit
 
@@ -166,9 +171,9 @@ module _ (script : Script) where
 
   -- ---- threads
 
-  -- a thread, in the sentences of Kept.antt
-  pub kept_thread : (t : Thread) (s : ThreadSummary) → Fits script t s → ThreadKept script t s
-  kept_thread t s fits =
+  -- a thread of a process with these keys, in the sentences of Kept.antt
+  pub kept_thread : (passes : ℕ) (keys : List KeyPlace) (t : Thread) (s : ThreadSummary) → KeysKept script keys → AreEmpty keys t.specific → Fits script passes t s → ThreadKept script keys t s
+  kept_thread passes keys t s kept empty fits =
       let facts : StatusFacts t.status t.reason t.frames t.handlers s = of_status t.reason t.handlers s t.status t.frames fits.by_status in
       record {
         handlers = fits.agrees.handlers_agree;
@@ -187,4 +192,9 @@ module _ (script : Script) where
         disabled = fits.agrees.disabled;
         joining = λ id is. (subst (λ (st : Status). ByStatus script st t.reason t.frames t.handlers s) is fits.by_status).1;
         at_point = λ index is. (subst (λ (st : Status). ByStatus script st t.reason t.frames t.handlers s) is fits.by_status).1;
+        passes = fits.in_passes.current;
+        not_destroyed = λ place key in_pass at. not_taken passes t.pass t.specific.in_pass s.passes s.destroyed fits.in_passes key.number
+            (ap (is_in t.specific.in_pass) (on_own_place script keys kept place key at) ∙ get_or_from_slice_get t.specific.in_pass place true false in_pass);
+        no_key = λ place none. ((empty place none).0, λ in_pass. false≢true (sym (empty place none).1 ∙ get_or_from_slice_get t.specific.in_pass place true false in_pass));
+        no_pass = fits.in_passes.no_pass;
       }

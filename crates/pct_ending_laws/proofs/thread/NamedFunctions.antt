@@ -30,6 +30,7 @@ pub record NamesFunctions (script : Script) : Type 0 where
   pub called : (frame : Frame) (f : ℕ) (x : Operand) → statement_at script frame ≡ Some (statement.Do f x) → f < length script.funcs
   pub pushed : (frame : Frame) (f : ℕ) (x : Operand) → statement_at script frame ≡ Some (statement.Push f x) → f < length script.funcs
   pub created : (frame : Frame) (result id : Dest) (f : ℕ) (x : Operand) (detached : Bool) → statement_at script frame ≡ Some (statement.Create result id f x detached) → f < length script.funcs
+  pub destructor : (frame : Frame) (result key : Dest) (f : ℕ) → statement_at script frame ≡ Some (statement.KeyCreate result key (Some f)) → f < length script.funcs
 
 -- ---- lists
 
@@ -94,6 +95,10 @@ module _ (script : Script) where
   unfolding has_line has_first_word have_words has_word encode syntax_of
   created_below result id f x detached line = item_below line.0 f (and_parts _ _ (and_parts _ _ (and_parts _ _ line.1).1).1).0
 
+  destructor_below : (result key : Dest) (f : ℕ) → IsLine (statement.KeyCreate result key (Some f)) → f < length script.funcs
+  unfolding has_line has_first_word have_words has_word encode syntax_of
+  destructor_below result key f line = item_below line.0 f (and_parts _ _ (and_parts _ _ (and_parts _ _ line.1).1).1).0
+
   main_below : main_of (names_of script.funcs) < length script.funcs
   unfolding main_of
   main_below =
@@ -106,4 +111,5 @@ module _ (script : Script) where
     called = λ frame f x at. called_below f x (line_of frame (statement.Do f x) at);
     pushed = λ frame f x at. pushed_below f x (line_of frame (statement.Push f x) at);
     created = λ frame result id f x detached at. created_below result id f x detached (line_of frame (statement.Create result id f x detached) at);
+    destructor = λ frame result key f at. destructor_below result key f (line_of frame (statement.KeyCreate result key (Some f)) at);
   }

@@ -1,4 +1,4 @@
--- The law of cleanup handlers holds of a run if it holds of the own events of each thread.
+-- The law of cleanup handlers and destructors holds of a run if it holds of the own events of each thread.
 use Rattle.std.proofs.Common.{◌≡◌, ℕ, Bool, true, false, ◌&&◌, cond, List, [], ◌∷◌, nat_eq, refl, sym, ap, ◌∙◌, subst, eq-eqb}
 use Rattle.std.proofs.lemmas.Bool.{false≢true}
 use Rattle.pct_model.specs.declared.event.Event.{Event}
@@ -10,8 +10,8 @@ use Rattle.pct_model.specs.ThreadSummary.{ThreadSummary, with_event, replicated,
 use Rattle.pct_ending_laws.proofs.thread.OwnSummary.{summary, is_fork, AreLawful}
 
 -- the own events of each thread are lawful
-abbrev pub EachLawful : List Event → Type 0
-EachLawful events = (pid tid : ℕ) → AreLawful (own_events pid tid events)
+abbrev pub EachLawful : ℕ → List Event → Type 0
+EachLawful passes events = (pid tid : ℕ) → AreLawful passes (own_events pid tid events)
 
 -- ---- no event is a fork
 
@@ -50,13 +50,13 @@ module _ (e : Event) (earlier : List Event) (quiet : is_fork e.what ≡ false) (
   summary_more : summary_of pid tid earlier ≡ summary (own_events pid tid earlier) → summary_of pid tid (e ∷ earlier) ≡ summary (own_events pid tid (e ∷ earlier))
   summary_more same = summary_step ∙ summary_cond is_own same ∙ sym (ap summary own_step)
 
-  lawful_cond : (own : Bool) → AreLawful (cond own (e.what ∷ own_events pid tid earlier) (own_events pid tid earlier)) → AreLawful (own_events pid tid earlier)
-  lawful_cond true lawful = lawful.2
-  lawful_cond false lawful = lawful
+  lawful_cond : (passes : ℕ) (own : Bool) → AreLawful passes (cond own (e.what ∷ own_events pid tid earlier) (own_events pid tid earlier)) → AreLawful passes (own_events pid tid earlier)
+  lawful_cond passes true lawful = lawful.2
+  lawful_cond passes false lawful = lawful
 
   -- its own events were lawful before
-  lawful_before : AreLawful (own_events pid tid (e ∷ earlier)) → AreLawful (own_events pid tid earlier)
-  lawful_before lawful = lawful_cond is_own (subst AreLawful own_step lawful)
+  lawful_before : (passes : ℕ) → AreLawful passes (own_events pid tid (e ∷ earlier)) → AreLawful passes (own_events pid tid earlier)
+  lawful_before passes lawful = lawful_cond passes is_own (subst (AreLawful passes) own_step lawful)
 
 -- the own events of the thread of an event begin with it
 own_first : (e : Event) (earlier : List Event) → own_events e.pid e.tid (e ∷ earlier) ≡ e.what ∷ own_events e.pid e.tid earlier
@@ -67,23 +67,24 @@ own_first e earlier = first (nat_eq e.pid e.pid) (nat_eq e.tid e.tid) (eq-eqb e.
     first true false p t = absurd (false≢true t)
     first false same_tid p t = absurd (false≢true p)
 
-module _ (e : Event) (earlier : List Event) (each : EachLawful (e ∷ earlier)) where
-  -- the law, at the first event
-  first_lawful : AreLawful (e.what ∷ own_events e.pid e.tid earlier)
-  first_lawful = subst AreLawful (own_first e earlier) (each e.pid e.tid)
+module _ (passes : ℕ) where
+  module _ (e : Event) (earlier : List Event) (each : EachLawful passes (e ∷ earlier)) where
+    -- the law, at the first event
+    first_lawful : AreLawful passes (e.what ∷ own_events e.pid e.tid earlier)
+    first_lawful = subst (AreLawful passes) (own_first e earlier) (each e.pid e.tid)
 
-  each_before : EachLawful earlier
-  each_before pid tid = lawful_before e earlier first_lawful.0 pid tid (each pid tid)
+    each_before : EachLawful passes earlier
+    each_before pid tid = lawful_before e earlier first_lawful.0 pid tid passes (each pid tid)
 
--- the summary of a thread is that of its own events
-pub same_summary : (events : List Event) → EachLawful events → (pid tid : ℕ) → summary_of pid tid events ≡ summary (own_events pid tid events)
-same_summary [] each pid tid = refl
-same_summary (e ∷ earlier) each pid tid = summary_more e earlier (first_lawful e earlier each).0 pid tid (same_summary earlier (each_before e earlier each) pid tid)
+  -- the summary of a thread is that of its own events
+  pub same_summary : (events : List Event) → EachLawful passes events → (pid tid : ℕ) → summary_of pid tid events ≡ summary (own_events pid tid events)
+  same_summary [] each pid tid = refl
+  same_summary (e ∷ earlier) each pid tid = summary_more e earlier (first_lawful e earlier each).0 pid tid (same_summary earlier (each_before e earlier each) pid tid)
 
--- the law of cleanup handlers
-pub once_by_threads : (events : List Event) → EachLawful events → Once events
-once_by_threads [] each = tt
-once_by_threads (e ∷ earlier) each = (
-  subst (λ (s : ThreadSummary). MayCome e.what s) (sym (same_summary earlier (each_before e earlier each) e.pid e.tid)) (first_lawful e earlier each).1,
-  once_by_threads earlier (each_before e earlier each),
-)
+  -- the law of cleanup handlers and destructors
+  pub once_by_threads : (events : List Event) → EachLawful passes events → Once passes events
+  once_by_threads [] each = tt
+  once_by_threads (e ∷ earlier) each = (
+    subst (λ (s : ThreadSummary). MayCome passes e.what s) (sym (same_summary earlier (each_before e earlier each) e.pid e.tid)) (first_lawful e earlier each).1,
+    once_by_threads earlier (each_before e earlier each),
+  )

@@ -1,5 +1,5 @@
--- What a thread's own events report of it, and the law of cleanup handlers on them.
-use Rattle.std.specs.Prelude.{◌≡◌, Bool, true, false, List, [], ◌∷◌}
+-- What a thread's own events report of it, and the law of cleanup handlers and destructors on them.
+use Rattle.std.specs.Prelude.{◌≡◌, ℕ, Bool, true, false, List, [], ◌∷◌}
 use Rattle.pct_model.specs.declared.event.What.{What}
 use Rattle.pct_model.specs.declared.event.What.TheVariants as what
 use Rattle.pct_model.specs.Once.{MayCome}
@@ -15,7 +15,7 @@ abbrev pub is_fork : What → Bool
 is_fork (what.Forked pid) = true
 is_fork _ = false
 
--- each event may come after those before it; no process forks yet
-abbrev pub AreLawful : List What → Type 0
-AreLawful [] = Unit {0}
-AreLawful (what ∷ earlier) = (is_fork what ≡ false) × MayCome what (summary earlier) × AreLawful earlier
+-- each event may come after those before it, with a limit on the passes over destructors; no process forks yet
+abbrev pub AreLawful : ℕ → List What → Type 0
+AreLawful passes [] = Unit {0}
+AreLawful passes (what ∷ earlier) = (is_fork what ≡ false) × MayCome passes what (summary earlier) × AreLawful passes earlier

@@ -2,7 +2,7 @@
 use Rattle.std.proofs.Common.{◌≡◌, ℕ, suc, ◌+◌, ◌%◌, ◌<◌, Bool, true, false, ◌&&◌, ◌||◌, List, [], ◌∷◌, ◌++◌, length, reverse, Option, Some, None, refl, sym, ap, ◌∙◌, subst, inl, inr, nat_eq, eq-eqb}
 use Rattle.std.specs.List.{list_all}
 use Rattle.std.proofs.lemmas.Bool.{false≢true, and_from}
-use Rattle.std.proofs.lemmas.Option.{none-some, same_Some}
+use Rattle.std.proofs.lemmas.Option.{same_Some}
 use Rattle.pct_model.specs.declared.event.Caller.TheVariants as caller
 use Rattle.pct_model.specs.declared.event.What.{What}
 use Rattle.pct_model.specs.declared.event.What.TheVariants as what
@@ -23,45 +23,35 @@ use Rattle.pct_model.specs.declared.statement.Dest.{Dest}
 use Rattle.pct_model.specs.declared.statement.Operand.{Operand}
 use Rattle.pct_model.specs.declared.statement.Stmt.{Stmt}
 use Rattle.pct_model.specs.declared.statement.Stmt.TheVariants as statement
-use Rattle.pct_model.specs.declared.stop.Why.{Why}
-use Rattle.pct_model.specs.declared.stop.Why.TheVariants.{Unbuilt, AsyncCall, EnableInHandler, ExitInEnding}
+use Rattle.pct_model.specs.declared.stop.Why.TheVariants.{EnableInHandler, ExitInEnding}
 use Rattle.pct_model.specs.declared.transition.Action.{Action}
 use Rattle.pct_model.specs.declared.transition.Action.TheVariants as action
 use Rattle.pct_model.specs.declared.transition.NewThread.{NewThread}
 use Rattle.pct_model.specs.Actions.{thread_at, thread_after}
 use Rattle.pct_model.specs.CancelCalls.{requests, state_number, mode_number, state_if, mode_if, sets_state, sets_mode, testcancel_point, tests_cancel, point_kind, is_required, calls_point}
 use Rattle.pct_model.specs.Jumps.{is_end, open_of}
+use Rattle.pct_model.specs.KeyCalls.{creates_key, fails_to_create_key, creates_key_by, deletes_key, sets_specific, gets_specific}
+use Rattle.pct_model.specs.Keys.{key_place, value_at}
 use Rattle.pct_model.specs.Kept.{is_join, is_call_of}
 use Rattle.pct_model.specs.NextStatement.{next_in}
 use Rattle.pct_model.specs.OpenPushes.{pushes_after, open_pushes}
 use Rattle.pct_model.specs.OtherThreads.{Others}
 use Rattle.pct_model.specs.ScriptStatements.{jumps, emits, sets, adds, variable_value, after_block, after_test, after_end}
-use Rattle.pct_model.specs.StopTable.{StopTest, has_begun_to_end, first_stop, is_handler_kind, is_in_handler, stops_of, stop_at}
+use Rattle.pct_model.specs.StopTable.{has_begun_to_end, is_handler_kind, is_in_handler, stops_of, stop_at}
 use Rattle.pct_model.specs.ThreadCalls.{creates, fails_to_create, creates_by, begins_join, detaches, gets_self}
 use Rattle.pct_model.specs.Transitions.{goes_on, written}
 use Rattle.pct_model.specs.TransitionTable.{ends_block, runs}
 use Rattle.pct_model.specs.World.{Thread, SharedState, body_of, statement_at, value_of, new_frame, new_thread}
 use Rattle.pct_ending_laws.proofs.StaticPushes.{PushesMatch}
 use Rattle.pct_ending_laws.proofs.lift.EveryThread.{created_thread}
+use Rattle.pct_ending_laws.proofs.lift.Choices.{own_stop}
 use Rattle.pct_ending_laws.proofs.thread.OwnSummary.{summary, AreLawful}
+use Rattle.pct_ending_laws.proofs.thread.Passes.{first_pass}
 use Rattle.pct_ending_laws.proofs.thread.ThreadRule.{Below, FramesFit, Fits, Rule, Keeps}
 use Rattle.pct_ending_laws.proofs.thread.NamedFunctions.{NamesFunctions}
 use Rattle.pct_ending_laws.proofs.thread.GoingOn.{writes, one_written, two_written, running, none_created, no_change_keeps, going_on_keeps}
 use Rattle.pct_ending_laws.proofs.thread.Handlers.{call_keeps, push_keeps, pop_keeps}
 use Rattle.pct_ending_laws.proofs.thread.Ends.{begin_keeps, return_keeps}
-
--- where a stop does not come, none of those after it does
-later_stops : (b : Bool) (why : Why) (rest : List StopTest) → first_stop ((b, why) ∷ rest) ≡ None → first_stop rest ≡ None
-later_stops true why rest quiet = absurd (none-some why (sym quiet))
-later_stops false why rest quiet = quiet
-
-last_stop : (b : Bool) (why : Why) → first_stop ((b, why) ∷ []) ≡ None → b ≡ false
-last_stop true why quiet = absurd (none-some why (sym quiet))
-last_stop false why quiet = refl
-
--- the own stop of a statement, which is tested after that of asynchronous cancelability, does not come
-own_stop : (b asynchronous : Bool) (why : Why) → first_stop ((false, Unbuilt) ∷ (asynchronous, AsyncCall) ∷ (b, why) ∷ []) ≡ None → b ≡ false
-own_stop b asynchronous why quiet = last_stop b why (later_stops asynchronous AsyncCall ((b, why) ∷ []) quiet)
 
 -- a thread that has not begun to end has no reason to
 not_begun : (why : Reason) → has_begun_to_end why ≡ false → why ≡ reason.None
@@ -91,9 +81,9 @@ may_enable : (why : Reason) (frames : List Frame) (exiting begun : Bool) → has
 may_enable why frames exiting true is alive fit outside any = absurd (false≢true (sym outside ∙ in_handler why frames is fit))
 may_enable why frames exiting false is alive fit outside any = absurd (false≢true (sym alive ∙ any))
 
-module _ (script : Script) (matches : PushesMatch script) (names : NamesFunctions script) where
+module _ (script : Script) (passes : ℕ) (matches : PushesMatch script) (names : NamesFunctions script) where
   -- a new thread, in a frame of a kind that may be its only one
-  pub new_fits : (id f a : ℕ) (detached : Bool) (k : FrameKind) → f < length script.funcs → Below k reason.None [] ⊥ → Rule script (new_thread id detached (new_frame f a k)) []
+  pub new_fits : (id f a : ℕ) (detached : Bool) (k : FrameKind) → f < length script.funcs → Below k reason.None [] ⊥ → Rule script passes (new_thread id detached (new_frame f a k)) []
   new_fits id f a detached k in_script alone = (
     record {
       agrees = record { handlers_agree = refl; reason = refl; end = refl; functions = tt; disabled = λ any. absurd (false≢true any) };
@@ -104,11 +94,12 @@ module _ (script : Script) (matches : PushesMatch script) (names : NamesFunction
         fit = alone;
         pushes = record { pushed = []; parts = refl; named = refl };
       };
+      in_passes = first_pass passes;
     },
     tt,
   )
 
-  module _ (shared : SharedState) (t : Thread) (others : Others) (choice : Alt) (frame : Frame) (below : List Frame) (events : List What) (lawful : AreLawful events) (fits : Fits script (running t (frame ∷ below)) (summary events)) where
+  module _ (shared : SharedState) (t : Thread) (others : Others) (choice : Alt) (frame : Frame) (below : List Frame) (events : List What) (lawful : AreLawful passes events) (fits : Fits script passes (running t (frame ∷ below)) (summary events)) where
     -- the thread
     abbrev own : Thread
     own = running t (frame ∷ below)
@@ -118,29 +109,36 @@ module _ (script : Script) (matches : PushesMatch script) (names : NamesFunction
     body = body_of script frame.func
 
     -- the thread goes on at the next statement
-    next_keeps : (s : Stmt) → statement_at script frame ≡ Some s → pushes_after (s ∷ []) (open_pushes body frame.pc) ≡ open_pushes body frame.pc → is_end s ≡ false → (actions : List Action) (added : List What) → list_all writes actions ≡ true → summary (reverse added ++ events) ≡ summary events → AreLawful (reverse added ++ events) → Keeps script own events (goes_on (suc frame.pc) actions added)
+    next_keeps : (s : Stmt) → statement_at script frame ≡ Some s → pushes_after (s ∷ []) (open_pushes body frame.pc) ≡ open_pushes body frame.pc → is_end s ≡ false → (actions : List Action) (added : List What) → list_all writes actions ≡ true → summary (reverse added ++ events) ≡ summary events → AreLawful passes (reverse added ++ events) → Keeps script passes own events (goes_on (suc frame.pc) actions added)
     next_keeps s at same inner actions added all unchanged added_lawful =
-        going_on_keeps script t frame below status.Running events (suc frame.pc) actions added (matches.next frame s at ∙ same) (matches.next_within frame s at inner) all unchanged added_lawful fits
+        going_on_keeps script passes t frame below status.Running events (suc frame.pc) actions added (matches.next frame s at ∙ same) (matches.next_within frame s at inner) all unchanged added_lawful fits
 
     -- the thread goes on at a pc
-    jump_keeps : (pc : ℕ) → open_pushes body pc ≡ open_pushes body frame.pc → pc < length body → Keeps script own events (jumps pc)
+    jump_keeps : (pc : ℕ) → open_pushes body pc ≡ open_pushes body frame.pc → pc < length body → Keeps script passes own events (jumps pc)
     unfolding jumps
-    jump_keeps pc same within = going_on_keeps script t frame below status.Running events pc [] [] same within refl refl lawful fits
+    jump_keeps pc same within = going_on_keeps script passes t frame below status.Running events pc [] [] same within refl refl lawful fits
 
     -- `end`
-    end_keeps : statement_at script frame ≡ Some statement.End → (opened : Option ℕ) → open_of body frame.pc ≡ opened → Keeps script own events (ends_block opened body frame)
+    end_keeps : statement_at script frame ≡ Some statement.End → (opened : Option ℕ) → open_of body frame.pc ≡ opened → Keeps script passes own events (ends_block opened body frame)
     end_keeps at (Some opened) opens = jump_keeps (after_end body frame.pc opened) (matches.end frame opened at opens) (matches.end_within frame opened at opens)
-    end_keeps at None opens = return_keeps script t frame below events fits lawful (matches.closes frame at opens) frame.kind 0 fits.by_status.fit
+    end_keeps at None opens = return_keeps script passes t frame below events fits lawful (matches.closes frame at opens) frame.kind 0 fits.by_status.fit
 
     -- pthread_create
-    create_keeps : (result id : Dest) (f : ℕ) (x : Operand) (v : ℕ) (detached : Bool) → statement_at script frame ≡ Some (statement.Create result id f x detached) → (by : Alt) → Keeps script own events (creates_by by (suc frame.pc) result id f v detached)
+    create_keeps : (result id : Dest) (f : ℕ) (x : Operand) (v : ℕ) (detached : Bool) → statement_at script frame ≡ Some (statement.Create result id f x detached) → (by : Alt) → Keeps script passes own events (creates_by by (suc frame.pc) result id f v detached)
     unfolding creates fails_to_create
     create_keeps result id f x v detached at (alt.New new) = record {
       own = (next_keeps (statement.Create result id f x detached) at refl refl (written result 0 ++ written id new) (what.Created new detached ∷ []) (two_written result id 0 new) refl (refl, tt, lawful)).own;
-      created = λ made e. subst (λ (n : NewThread). Rule script (created_thread n) []) (same_Some (record { id = new; detached = detached; func = f; arg = v }) made e) (new_fits new f v detached kind.Start (names.created frame result id f x detached at) (refl, refl));
+      created = λ made e. subst (λ (n : NewThread). Rule script passes (created_thread n) []) (same_Some (record { id = new; detached = detached; func = f; arg = v }) made e) (new_fits new f v detached kind.Start (names.created frame result id f x detached at) (refl, refl));
     }
     create_keeps result id f x v detached at alt.Go = next_keeps (statement.Create result id f x detached) at refl refl (written result 1) (what.Answer caller.Create 1 ∷ []) (one_written result 1) refl (refl, tt, lawful)
-    create_keeps result id f x v detached at _ = no_change_keeps script own events (fits, lawful)
+    create_keeps result id f x v detached at _ = no_change_keeps script passes own events (fits, lawful)
+
+    -- pthread_key_create
+    key_create_keeps : (result key : Dest) (destructor : Option ℕ) → statement_at script frame ≡ Some (statement.KeyCreate result key destructor) → (by : Alt) → Keeps script passes own events (creates_key_by by (suc frame.pc) result key destructor)
+    unfolding creates_key fails_to_create_key
+    key_create_keeps result key destructor at (alt.New k) = next_keeps (statement.KeyCreate result key destructor) at refl refl (action.MakeKey k destructor ∷ (written result 0 ++ written key k)) (what.KeyMade k ∷ []) (two_written result key 0 k) refl (refl, tt, lawful)
+    key_create_keeps result key destructor at alt.Go = next_keeps (statement.KeyCreate result key destructor) at refl refl (written result 1) (what.Answer caller.KeyCreate 1 ∷ []) (one_written result 1) refl (refl, tt, lawful)
+    key_create_keeps result key destructor at _ = no_change_keeps script passes own events (fits, lawful)
 
     -- a state that the thread may have
     abbrev MayHave : State → Type 0
@@ -152,37 +150,38 @@ module _ (script : Script) (matches : PushesMatch script) (names : NamesFunction
     state_allowed false outside = λ any. refl
 
     -- pthread_setcancelstate
-    state_keeps : (enable : Bool) (old : Dest) → statement_at script frame ≡ Some (statement.SetState enable old) → MayHave (state_if enable) → Keeps script own events (sets_state (suc frame.pc) enable old t.state)
+    state_keeps : (enable : Bool) (old : Dest) → statement_at script frame ≡ Some (statement.SetState enable old) → MayHave (state_if enable) → Keeps script passes own events (sets_state (suc frame.pc) enable old t.state)
     unfolding sets_state thread_at thread_after
     state_keeps enable old at allowed =
         let s : Stmt = statement.SetState enable old in
-        let with_state : Keeps script (running (record t { state = state_if enable }) (frame ∷ below)) events (goes_on (suc frame.pc) (written old (state_number t.state)) (what.StateSet enable ∷ [])) =
-        going_on_keeps script (record t { state = state_if enable }) frame below status.Running events (suc frame.pc) (written old (state_number t.state)) (what.StateSet enable ∷ []) (matches.next frame s at) (matches.next_within frame s at refl) (one_written old (state_number t.state)) refl (refl, tt, lawful)
+        let with_state : Keeps script passes (running (record t { state = state_if enable }) (frame ∷ below)) events (goes_on (suc frame.pc) (written old (state_number t.state)) (what.StateSet enable ∷ [])) =
+        going_on_keeps script passes (record t { state = state_if enable }) frame below status.Running events (suc frame.pc) (written old (state_number t.state)) (what.StateSet enable ∷ []) (matches.next frame s at) (matches.next_within frame s at refl) (one_written old (state_number t.state)) refl (refl, tt, lawful)
         (record {
           agrees = record { handlers_agree = fits.agrees.handlers_agree; reason = fits.agrees.reason; end = fits.agrees.end; functions = fits.agrees.functions; disabled = allowed };
           placed = fits.placed;
           by_status = fits.by_status;
+          in_passes = fits.in_passes;
         }) in
-        record { own = with_state.own; created = none_created script }
+        record { own = with_state.own; created = none_created script passes }
 
     -- a call of a cancellation point
-    point_keeps : (index : ℕ) → statement_at script frame ≡ Some (statement.PointCall index) → (kind : Option PointKind) → point_kind index ≡ kind → Keeps script own events (calls_point (suc frame.pc) index kind)
+    point_keeps : (index : ℕ) → statement_at script frame ≡ Some (statement.PointCall index) → (kind : Option PointKind) → point_kind index ≡ kind → Keeps script passes own events (calls_point (suc frame.pc) index kind)
     unfolding calls_point thread_at thread_after
-    point_keeps index at (Some kinds.Required) is = record { own = (record { agrees = fits.agrees; placed = fits.placed; by_status = (fits.by_status, ap (λ (s : Option Stmt). is_call_of index (next_in frame s)) at ∙ and_from (nat_eq index index) (is_required (point_kind index)) (eq-eqb index index refl) (ap is_required is)) }, (refl, tt, lawful)); created = none_created script }
+    point_keeps index at (Some kinds.Required) is = record { own = (record { agrees = fits.agrees; placed = fits.placed; by_status = (fits.by_status, ap (λ (s : Option Stmt). is_call_of index (next_in frame s)) at ∙ and_from (nat_eq index index) (is_required (point_kind index)) (eq-eqb index index refl) (ap is_required is)); in_passes = fits.in_passes }, (refl, tt, lawful)); created = none_created script passes }
     point_keeps index at (Some kinds.Optional) is = next_keeps (statement.PointCall index) at refl refl [] (what.Done index ∷ []) refl refl (refl, tt, lawful)
-    point_keeps index at None is = no_change_keeps script own events (fits, lawful)
+    point_keeps index at None is = no_change_keeps script passes own events (fits, lawful)
 
     -- pthread_join
-    join_keeps : (id : Operand) (d : Dest) (v : ℕ) → statement_at script frame ≡ Some (statement.Join id d) → Keeps script own events (begins_join v)
+    join_keeps : (id : Operand) (d : Dest) (v : ℕ) → statement_at script frame ≡ Some (statement.Join id d) → Keeps script passes own events (begins_join v)
     unfolding begins_join thread_at thread_after
     join_keeps id d v at = record {
-      own = (record { agrees = fits.agrees; placed = fits.placed; by_status = (fits.by_status, ap (λ (s : Option Stmt). is_join (next_in frame s)) at) }, (refl, tt, lawful));
-      created = none_created script;
+      own = (record { agrees = fits.agrees; placed = fits.placed; by_status = (fits.by_status, ap (λ (s : Option Stmt). is_join (next_in frame s)) at); in_passes = fits.in_passes }, (refl, tt, lawful));
+      created = none_created script passes;
     }
 
     -- a statement that does not stop
-    pub statement_keeps : (s : Stmt) → statement_at script frame ≡ Some s → stop_at body shared own others frame s ≡ None → Keeps script own events (runs body shared own others choice frame s)
-    unfolding stop_at stops_of runs emits sets adds jumps detaches gets_self sets_mode tests_cancel requests
+    pub statement_keeps : (s : Stmt) → statement_at script frame ≡ Some s → stop_at body shared own others frame s ≡ None → Keeps script passes own events (runs passes body shared own others choice frame s)
+    unfolding stop_at stops_of runs emits sets adds jumps detaches gets_self sets_mode tests_cancel requests deletes_key sets_specific gets_specific
     statement_keeps (statement.Emit v) at quiet = next_keeps (statement.Emit v) at refl refl [] (what.Emit (value_of shared.globals frame v) ∷ []) refl refl (refl, tt, lawful)
     statement_keeps (statement.Set d v) at quiet = next_keeps (statement.Set d v) at refl refl (written d (value_of shared.globals frame v)) [] (one_written d (value_of shared.globals frame v)) refl lawful
     statement_keeps (statement.Add d v) at quiet =
@@ -197,8 +196,8 @@ module _ (script : Script) (matches : PushesMatch script) (names : NamesFunction
         let n : ℕ = value_of shared.globals frame v in
         jump_keeps (after_test body frame.pc n) (matches.test frame v n (inr at)) (matches.test_within frame v n (inr at))
     statement_keeps statement.End at quiet = end_keeps at (open_of body frame.pc) refl
-    statement_keeps (statement.Do f v) at quiet = call_keeps script matches t frame below events lawful f v (value_of shared.globals frame v) at (names.called frame f v at) fits
-    statement_keeps (statement.Return v) at quiet = return_keeps script t frame below events fits lawful (matches.returns frame v at) frame.kind (value_of shared.globals frame v) fits.by_status.fit
+    statement_keeps (statement.Do f v) at quiet = call_keeps script passes matches t frame below events lawful f v (value_of shared.globals frame v) at (names.called frame f v at) fits
+    statement_keeps (statement.Return v) at quiet = return_keeps script passes t frame below events fits lawful (matches.returns frame v at) frame.kind (value_of shared.globals frame v) fits.by_status.fit
     statement_keeps (statement.Create result id f v detached) at quiet = create_keeps result id f v (value_of shared.globals frame v) detached at choice
     statement_keeps (statement.Join id d) at quiet = join_keeps id d (value_of shared.globals frame id) at
     statement_keeps (statement.Detach id) at quiet =
@@ -208,12 +207,20 @@ module _ (script : Script) (matches : PushesMatch script) (names : NamesFunction
         let n : ℕ = value_of shared.globals frame id in
         next_keeps (statement.CancelThread id) at refl refl (action.Request n ∷ []) (what.Request n ∷ []) refl refl (refl, tt, lawful)
     statement_keeps (statement.SelfId d) at quiet = next_keeps (statement.SelfId d) at refl refl (written d t.id) [] (one_written d t.id) refl lawful
-    statement_keeps (statement.ThreadExit v) at quiet = begin_keeps script t (frame ∷ below) events fits lawful (value_of shared.globals frame v) (not_begun t.reason (own_stop (has_begun_to_end t.reason) _ ExitInEnding quiet))
+    statement_keeps (statement.ThreadExit v) at quiet = begin_keeps script passes t (frame ∷ below) events fits lawful (value_of shared.globals frame v) (not_begun t.reason (own_stop (has_begun_to_end t.reason) _ ExitInEnding quiet))
     statement_keeps statement.TestCancel at quiet = next_keeps statement.TestCancel at refl refl [] (what.Done testcancel_point ∷ []) refl refl (refl, tt, lawful)
     statement_keeps (statement.SetState enable old) at quiet = state_keeps enable old at (state_allowed enable (own_stop (enable && is_in_handler (frame ∷ below)) _ EnableInHandler quiet))
     statement_keeps (statement.SetMode asynchronous old) at quiet =
         next_keeps (statement.SetMode asynchronous old) at refl refl (action.SetMode (mode_if asynchronous) ∷ written old (mode_number t.mode)) (what.ModeSet asynchronous ∷ []) (one_written old (mode_number t.mode)) refl (refl, tt, lawful)
     statement_keeps (statement.PointCall index) at quiet = point_keeps index at (point_kind index) refl
-    statement_keeps (statement.Push f v) at quiet = push_keeps script matches t frame below events lawful f v (value_of shared.globals frame v) at (names.pushed frame f v at) fits
-    statement_keeps (statement.Pop v) at quiet = pop_keeps script matches t frame below events lawful t.handlers v (value_of shared.globals frame v) at fits
-    statement_keeps s at quiet = no_change_keeps script own events (fits, lawful)
+    statement_keeps (statement.KeyCreate result key destructor) at quiet = key_create_keeps result key destructor at choice
+    statement_keeps (statement.KeyDelete key) at quiet =
+        let n : ℕ = value_of shared.globals frame key in
+        next_keeps (statement.KeyDelete key) at refl refl (action.DeleteKey n ∷ []) (what.KeyGone n ∷ []) refl refl (refl, tt, lawful)
+    statement_keeps (statement.SetSpecific key v) at quiet = next_keeps (statement.SetSpecific key v) at refl refl (action.SetSpecific (value_of shared.globals frame key) (value_of shared.globals frame v) ∷ []) [] refl refl lawful
+    statement_keeps (statement.GetSpecific d key) at quiet =
+        let n : ℕ = value_at (key_place (value_of shared.globals frame key)) t.specific in
+        next_keeps (statement.GetSpecific d key) at refl refl (written d n) [] (one_written d n) refl lawful
+    statement_keeps (statement.Push f v) at quiet = push_keeps script passes matches t frame below events lawful f v (value_of shared.globals frame v) at (names.pushed frame f v at) fits
+    statement_keeps (statement.Pop v) at quiet = pop_keeps script passes matches t frame below events lawful t.handlers v (value_of shared.globals frame v) at fits
+    statement_keeps s at quiet = no_change_keeps script passes own events (fits, lawful)

@@ -23,6 +23,7 @@ use Rattle.pct_model.specs.ThreadSummary.{ThreadSummary}
 use Rattle.pct_model.specs.World.{Thread, body_of}
 use Rattle.pct_ending_laws.proofs.lift.EveryThread.{created_thread}
 use Rattle.pct_ending_laws.proofs.thread.OwnSummary.{summary, AreLawful}
+use Rattle.pct_ending_laws.proofs.thread.Passes.{PassesFit}
 
 -- ---- frames
 
@@ -31,6 +32,7 @@ abbrev pub Below : FrameKind → Reason → List Frame → Type 0 → Type 0
 Below kind.Main why below below_fits = (why ≡ reason.None) × (below ≡ [])
 Below kind.Start why below below_fits = (why ≡ reason.None) × (below ≡ [])
 Below kind.Handler why below below_fits = (has_begun_to_end why ≡ true) × (below ≡ [])
+Below kind.Destructor why below below_fits = (has_begun_to_end why ≡ true) × (below ≡ [])
 Below kind.Call why below below_fits = below_fits
 Below kind.PopHandler why below below_fits = below_fits
 Below _ why below below_fits = ⊥
@@ -60,7 +62,7 @@ module _ (script : Script) where
     pushes : AreOpen (open_functions script frames) handlers s.left;
   }
 
-  -- a thread that goes on to run its handlers
+  -- a thread that goes on to run its handlers, and then the destructors of its data
   abbrev pub GoesToHandlers : Reason → List Frame → List (ℕ × ℕ) → ThreadSummary → Type 0
   GoesToHandlers why frames handlers s = record {
     no_frames : frames ≡ [];
@@ -101,21 +103,23 @@ module _ (script : Script) where
     pub functions : AllByRecursion IsHandler handlers
     pub disabled : (has_begun_to_end why || s.exiting) ≡ true → state ≡ Disable
 
-  -- a thread and what its events report
-  abbrev pub Fits : Thread → ThreadSummary → Type 0
-  Fits t s = record {
-    agrees : Agrees t.handlers t.reason t.ended t.state s;
-    placed : AllByRecursion IsPlaced t.frames;
-    by_status : ByStatus t.status t.reason t.frames t.handlers s;
-  }
+  module _ (passes : ℕ) where
+    -- a thread and what its events report
+    abbrev pub Fits : Thread → ThreadSummary → Type 0
+    Fits t s = record {
+      agrees : Agrees t.handlers t.reason t.ended t.state s;
+      placed : AllByRecursion IsPlaced t.frames;
+      by_status : ByStatus t.status t.reason t.frames t.handlers s;
+      in_passes : PassesFit passes t.pass t.specific.in_pass s.passes s.destroyed;
+    }
 
-  -- what each thread keeps, beside its own events
-  abbrev pub Rule : Thread → List What → Type 0
-  Rule t events = Fits t (summary events) × AreLawful events
+    -- what each thread keeps, beside its own events
+    abbrev pub Rule : Thread → List What → Type 0
+    Rule t events = Fits t (summary events) × AreLawful passes events
 
-  -- ---- transitions
+    -- ---- transitions
 
-  -- a transition of a thread keeps the rule, for it and for a thread that it creates
-  pub record Keeps (t : Thread) (events : List What) (o : Transition) : Type 0 where
-    pub own : Rule (moved o t) (reverse o.events ++ events)
-    pub created : (new : NewThread) → o.created ≡ Some new → Rule (created_thread new) []
+    -- a transition of a thread keeps the rule, for it and for a thread that it creates
+    pub record Keeps (t : Thread) (events : List What) (o : Transition) : Type 0 where
+      pub own : Rule (moved o t) (reverse o.events ++ events)
+      pub created : (new : NewThread) → o.created ≡ Some new → Rule (created_thread new) []

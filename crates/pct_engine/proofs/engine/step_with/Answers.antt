@@ -5,7 +5,7 @@ use Rattle.pct_engine.specs.Programs.{ProgramValue}
 use Rattle.pct_engine.specs.Steps.{StepsBy}
 use Rattle.pct_engine.proofs.UsedSlots.{covers_after}
 use Rattle.pct_engine.proofs.StepViews.{placed_in}
-use Rattle.pct_engine.proofs.FittingIds.{ids_in}
+use Rattle.pct_engine.proofs.FittingIds.{numbers_in}
 use Rattle.pct_engine.proofs.EngineRuns.{stands-more, legal-more, illegal-more, illegal-full}
 use Rattle.pct_engine.proofs.engine.step_with.Goals as goal
 
@@ -13,13 +13,13 @@ pub step-requires-clause-placed : goal.step-requires-clause-placed
 step-requires-clause-placed c =
     let program = c.args.program.now in
     let stands = c.requires.stands in
-    placed_in program.script program.config.slots c.args.machine.now stands.after.world stands.parts_are
+    placed_in program.script program.config.slots c.args.machine.now stands.after.world stands.parts_are stands.rows_are
 
-pub step-requires-clause-ids : goal.step-requires-clause-ids
-step-requires-clause-ids c =
+pub step-requires-clause-numbers : goal.step-requires-clause-numbers
+step-requires-clause-numbers c =
     let program = c.args.program.now in
     let stands = c.requires.stands in
-    ids_in program.script program.config c.args.history.now.items stands.after c.args.machine.now stands.is_run stands.parts_are
+    numbers_in program.script program.config c.args.history.now.items stands.after c.args.machine.now stands.is_run stands.parts_are stands.rows_are
 
 pub returns-then-len-program-clause-legal : goal.returns-then-len-program-clause-legal
 returns-then-len-program-clause-legal c =
@@ -59,7 +59,7 @@ returns-clause-stands c =
     let budget = ap (λ (p : ProgramValue). p.config.budget) c.program.view_is in
     let left : length c.args.history.now.items < program.config.budget = omega (arith, budget, c.len.ensures, c.if-len-program.false) in
     let made = subst (λ b. StepsBy program.script program.config stands.after.world c.args.machine.now c.step.new.machine c.args.entry (if b then Some c.step.new.transition.events else None)) c.if-not-step.false (c.step.ensures.step stands.after.world stands.parts_are) in
-    let more = stands-more program.script program.config c.args.history.now.items c.args.events.now.items c.args.machine.now c.step.new.machine c.args.entry c.step.new.transition.events left stands made (c.step.ensures.joiners) in
+    let more = stands-more program.script program.config c.args.history.now.items c.args.events.now.items c.args.machine.now c.step.new.machine c.args.entry c.step.new.transition.events left stands made c.step.ensures.rows c.step.ensures.joiners in
     rw (c.record_entry.ensures.last, c.record_events.ensures.last) more
 
 pub returns-clause-used : goal.returns-clause-used

@@ -2,10 +2,8 @@ use Rattle.std.proofs.Common.{◌≡◌, ℕ, ◌<◌, not, ◌&&◌, List, leng
 use Rattle.std.specs.Prelude.{nat_eq}
 use Rattle.pct_set.specs.Slots.{slots_where, has_slot, with_slot, without_slot}
 use Rattle.pct_set.proofs.SlotLemmas.{determined}
-use Rattle.pct_threads.specs.Tables.{held_at}
-use Rattle.pct_threads.proofs.TableLemmas.{occupied-test}
-use Rattle.pct_engine.specs.ReadyThreads.{is_ready_held, is_ready_on}
-use Rattle.pct_engine.proofs.ReadySlots.{passes_outside, none_outside, all_outside, fewer_left, left_out, taken_in, none_past, ready_counted}
+use Rattle.pct_engine.specs.ReadyThreads.{is_ready_on}
+use Rattle.pct_engine.proofs.ReadySlots.{passes_outside, none_outside, all_outside, fewer_left, left_out, taken_in, none_past, ready_occupied, ready_counted}
 use Rattle.pct_engine.proofs.scheduler.ready_slots.Goals.{then-slot-slots+then-is_ready, else-slot-slots, else-slot-slots-via-then-slot-slots+else-is_ready, else-slot-slots-via-else-slot-slots}
 use Rattle.pct_engine.proofs.scheduler.ready_slots.Goals as goal
 
@@ -15,7 +13,7 @@ loop-slot-init c =
     let machine = c.args.machine.now in
     record {
       set = c.len-count.ensures.determined;
-      so_far = c.new-ready.ensures ∙ none_outside (is_ready_on script machine) c.args.used (λ s ready. c.requires s (occupied-test (is_ready_held script machine) (held_at machine.threads s) ready));
+      so_far = c.new-ready.ensures ∙ none_outside (is_ready_on script machine) c.args.used (λ s ready. c.requires.used s (ready_occupied script machine s ready));
     }
 
 pub loop-slot-smaller : goal.loop-slot-smaller
@@ -48,4 +46,4 @@ returns-clause-set c = c.loop-slot.invariant.so_far ∙ all_outside (is_ready_on
 pub returns-clause-count : goal.returns-clause-count
 returns-clause-count c =
     let set = c.loop-slot.invariant.so_far ∙ all_outside (is_ready_on c.args.program.now.script c.args.machine.now) c.loop-slot.rest (sym c.in_default.ensures.value) in
-    ready_counted c.args.program.now.script c.args.machine.now c.loop-slot.ready set (omega (arith, c.slot_count-slots.ensures.value, c.slot_count-slots.ensures.few))
+    ready_counted c.args.program.now.script c.args.machine.now c.requires.rows c.loop-slot.ready set (omega (arith, c.slot_count-slots.ensures.value, c.slot_count-slots.ensures.few))

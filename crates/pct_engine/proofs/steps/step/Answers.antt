@@ -1,8 +1,10 @@
-use Rattle.std.proofs.Common.{None, refl}
+use Rattle.std.proofs.Common.{None, refl, sym, ap, subst}
 use Rattle.pct_engine.proofs.JoinersAfter.{joiners_made}
 use Rattle.pct_engine.proofs.StepViews.{step_by_view, step_made}
+use Rattle.pct_threads.proofs.TableLemmas.{within-occupied}
+use Rattle.pct_engine.specs.Views.{HasRows}
+use Rattle.pct_engine.proofs.MachineViews.{rows_moved}
 use Rattle.pct_engine.proofs.UsedSlots.{slots_moved}
-use Rattle.std.proofs.Common.{ap}
 use Rattle.std.specs.Prelude.{is_some}
 use Rattle.pct_engine.proofs.steps.step.Goals as goal
 
@@ -15,7 +17,7 @@ pub returns-clause-step : goal.returns-clause-step
 returns-clause-step c = λ w view.
     let program = c.args.program.now in
     let machine = c.args.machine.now in
-    step_made program.script program.config w machine c.change.new.machine c.args.entry c.in-Some.slot c.transition_of.new.transition c.requires.some view c.in-Some.ensures.found c.in-Some.ensures.value c.change.ensures
+    step_made program.script program.config w machine c.change.new.machine c.args.entry c.in-Some.slot c.transition_of.new.transition c.requires.some view c.requires.rows c.in-Some.ensures.found c.in-Some.ensures.value c.change.ensures
 
 pub returns-clause-slots : goal.returns-clause-slots
 returns-clause-slots c = λ made.
@@ -25,4 +27,9 @@ pub returns-clause-joiners : goal.returns-clause-joiners
 returns-clause-joiners c =
     let program = c.args.program.now in
     let machine = c.args.machine.now in
-    joiners_made program.script program.config machine c.change.new.machine c.args.entry c.in-Some.slot c.transition_of.new.transition c.requires.placed c.requires.joiners c.in-Some.ensures.found c.in-Some.ensures.value c.change.ensures
+    joiners_made program.script program.config machine c.change.new.machine c.args.entry c.in-Some.slot c.transition_of.new.transition c.requires.placed c.requires.rows c.requires.joiners c.in-Some.ensures.found c.in-Some.ensures.value c.change.ensures
+
+pub returns-clause-rows : goal.returns-clause-rows
+returns-clause-rows c =
+    let machine = c.args.machine.now in
+    subst HasRows (sym c.change.ensures) (rows_moved c.in-Some.slot c.transition_of.new.transition machine (within-occupied machine.threads c.in-Some.slot (ap is_some c.in-Some.ensures.found.here)) c.requires.rows)

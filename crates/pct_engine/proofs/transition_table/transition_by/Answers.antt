@@ -1,5 +1,6 @@
 use Rattle.std.proofs.Common.{ℕ, List, [], length, Option, refl, sym, subst}
 use Rattle.pct_model.specs.declared.transition.Transition.{Transition}
+use Rattle.pct_model.specs.Keys.{KeyPlace}
 use Rattle.pct_model.specs.World.{SharedState}
 use Rattle.pct_model.specs.OtherThreads.{Others}
 use Rattle.pct_engine.specs.Fitting.{TransitionFits}
@@ -7,9 +8,9 @@ use Rattle.pct_engine.specs.declared.other_threads.Others.{Others as Answer}
 use Rattle.pct_engine.proofs.Fits.{acting_fits, transition_fits}
 use Rattle.pct_engine.proofs.transition_table.transition_by.Goals as goal
 
--- a shared state with these globals and this value of exit
-abbrev shared_with : List ℕ → Option ℕ → SharedState
-shared_with globals exit_value = record { globals = globals; owners = []; counts = []; keys = []; fork_handlers = []; exit_functions = []; exit_value = exit_value }
+-- a shared state with these globals, these keys and this value of exit
+abbrev shared_with : List ℕ → List KeyPlace → Option ℕ → SharedState
+shared_with globals keys exit_value = record { globals = globals; owners = []; counts = []; keys = keys; fork_handlers = []; exit_functions = []; exit_value = exit_value }
 
 -- an answer with this target
 abbrev seen_with : Answer → Others
@@ -17,11 +18,11 @@ seen_with others = record { target = others.target; new_ids = []; is_last = othe
 
 pub returns-in-Act-clause-fits : goal.returns-in-Act-clause-fits
 returns-in-Act-clause-fits c = λ t position.
-    subst (λ (o : Transition). TransitionFits (length t.frames) (length t.handlers) o) (sym c.acts_on_request.ensures) (acting_fits (length t.frames) (length t.handlers) c.args.position.now.thread.now.status)
+    subst (λ (o : Transition). TransitionFits (length t.frames) (length t.handlers) t.pass o) (sym c.acts_on_request.ensures) (acting_fits (length t.frames) (length t.handlers) t.pass c.args.position.now.thread.now.status)
 
 pub returns-in_default-clause-fits : goal.returns-in_default-clause-fits
 returns-in_default-clause-fits c = λ t position.
-    let shared = shared_with c.args.globals.now c.args.exit_value in
+    let shared = shared_with c.args.globals.now c.args.position.now.keys.now.places c.args.exit_value in
     let seen = seen_with c.args.others.now in
-    let is = c.transition_at.ensures shared t seen (record { globals_are = refl; exit_value_is = refl; no_exit_functions = refl }) position (record { target_is = refl; is_last_is = refl }) in
-    subst (λ (o : Transition). TransitionFits (length t.frames) (length t.handlers) o) (sym is) (transition_fits c.args.program.now.script shared t seen c.args.choice)
+    let is = c.transition_at.ensures.value shared t seen (record { globals_are = refl; keys_are = refl; exit_value_is = refl; no_exit_functions = refl }) position (record { target_is = refl; is_last_is = refl }) in
+    subst (λ (o : Transition). TransitionFits (length t.frames) (length t.handlers) t.pass o) (sym is) (transition_fits c.args.program.now.script c.args.program.now.config.passes c.transition_at.ensures.limit shared t seen c.args.choice)

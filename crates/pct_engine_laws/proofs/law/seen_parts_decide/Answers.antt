@@ -4,6 +4,7 @@ use Rattle.pct_engine_laws.proofs.VerdictSeen.{verdict_is_seen}
 use Rattle.pct_engine_laws.proofs.ChosenSeen.{chosen_is_seen}
 use Rattle.pct_engine_laws.proofs.OpenRuns.{goes_on_while_open}
 use Rattle.pct_engine_laws.proofs.FewThreads.{few_made}
+use Rattle.pct_engine_laws.proofs.FewKeys.{few_keys_made}
 use Rattle.pct_engine_laws.proofs.RunNumbers.{run_numbers_fit}
 use Rattle.pct_engine_laws.proofs.law.seen_parts_decide.Goals as goal
 
@@ -24,6 +25,9 @@ returns-clause-open c = goes_on_while_open
 
 pub returns-clause-few : goal.returns-clause-few
 returns-clause-few c = few_made
+
+pub returns-clause-few_keys : goal.returns-clause-few_keys
+returns-clause-few_keys c = few_keys_made
 
 pub returns-clause-numbers : goal.returns-clause-numbers
 returns-clause-numbers c = run_numbers_fit

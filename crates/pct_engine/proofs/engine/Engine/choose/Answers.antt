@@ -3,7 +3,7 @@ use Rattle.pct_model.specs.Run.{Run}
 use Rattle.pct_engine.specs.Views.{machine_view}
 use Rattle.pct_engine.specs.Steps.{IsSeenChoice}
 use Rattle.pct_engine.specs.EngineStates.{EngineValue, IsRunOf, IsChoice}
-use Rattle.pct_engine.proofs.EngineChoices.{choice_after, slots_after, ids_after}
+use Rattle.pct_engine.proofs.EngineChoices.{choice_after, slots_after, numbers_after}
 use Rattle.pct_engine.proofs.engine.Engine.choose.Goals as goal
 
 pub chosen-requires-clause-slots : goal.chosen-requires-clause-slots
@@ -11,10 +11,10 @@ chosen-requires-clause-slots c =
     let e = c.self.inside in
     slots_after e.program.script e.program.config e.history.items e.events.items e.machine c.self.invariant.0
 
-pub chosen-requires-clause-ids : goal.chosen-requires-clause-ids
-chosen-requires-clause-ids c =
+pub chosen-requires-clause-numbers : goal.chosen-requires-clause-numbers
+chosen-requires-clause-numbers c =
     let e = c.self.inside in
-    ids_after e.program.script e.program.config e.history.items e.events.items e.machine c.self.invariant.0
+    numbers_after e.program.script e.program.config e.history.items e.events.items e.machine c.self.invariant.0
 
 pub returns : goal.returns
 returns c =

@@ -9,7 +9,7 @@ use Rattle.pct_engine.proofs.engine.Engine.verdict.Goals as goal
 pub verdict_after-requires : goal.verdict_after-requires
 verdict_after-requires c =
     let e = c.self.inside in
-    record { used = c.self.invariant.2; slots = slots_after e.program.script e.program.config e.history.items e.events.items e.machine c.self.invariant.0 }
+    record { used = c.self.invariant.2; slots = slots_after e.program.script e.program.config e.history.items e.events.items e.machine c.self.invariant.0; rows = c.self.invariant.0.rows_are }
 
 pub returns-clause-value : goal.returns-clause-value
 returns-clause-value c =

@@ -1,0 +1,155 @@
+-- After every run, what is kept of keys holds of the keys of each process, and the data of its threads are empty at each place without a
+-- key.
+use Rattle.std.proofs.Common.{◌≡◌, ℕ, Bool, true, false, not, ◌&&◌, cond, List, [], ◌∷◌, find, nat_eq, Option, Some, None, option_map, refl, sym, ap, ◌∙◌, subst}
+use Rattle.std.specs.List.{list_all}
+use Rattle.std.specs.Option.{option_or}
+use Rattle.std.proofs.lemmas.Bool.{false≢true}
+use Rattle.std.proofs.lemmas.Option.{none-some, same_Some, cond_some}
+use Rattle.pct_model.specs.declared.script.Script.{Script}
+use Rattle.pct_model.specs.declared.schedule.Alt.{Alt}
+use Rattle.pct_model.specs.declared.schedule.Config.{Config}
+use Rattle.pct_model.specs.declared.transition.Action.{Action}
+use Rattle.pct_model.specs.declared.transition.Action.TheVariants as action
+use Rattle.pct_model.specs.declared.transition.NewThread.{NewThread}
+use Rattle.pct_model.specs.declared.transition.Transition.{Transition}
+use Rattle.pct_model.specs.Actions.{without_first, thread_at, thread_after, named_after, shared_after, other_process_after, thread_created, for_each, moved, thread_moved, changed}
+use Rattle.pct_model.specs.ChoiceTable.{choices_of, offers}
+use Rattle.pct_model.specs.Kept.{KeysKept}
+use Rattle.pct_model.specs.Keys.{KeyPlace, KeyValues}
+use Rattle.pct_model.specs.OwnEvents.{thread_with}
+use Rattle.pct_model.specs.ThreadSlots.{is_live_thread}
+use Rattle.pct_model.specs.TransitionTable.{transition_by}
+use Rattle.pct_model.specs.World.{Thread, SharedState, Process, first_process}
+use Rattle.pct_ending_laws.proofs.lift.ChangedThreads.{either_keeps, all_keep_if, changed_shared, other_threads, other_shared}
+use Rattle.pct_ending_laws.proofs.lift.MadeThreads.{own_thread_with}
+use Rattle.pct_ending_laws.proofs.lift.RunsSoFar.{AfterEveryRun}
+use Rattle.pct_ending_laws.proofs.lift.EveryThread.{OfEveryProcess, initial_thread, created_thread}
+use Rattle.pct_ending_laws.proofs.lift.EveryProcess.{IsProcessRule, every_process}
+use Rattle.pct_ending_laws.proofs.keys.KeyActions.{is_keyless, first_of, OnlyFirst, key_actions}
+use Rattle.pct_ending_laws.proofs.keys.KeptKeys.{keys_after, own_data, named_data, kept_after, no_keys_kept, AreEmpty, new_empty, empty_after}
+
+-- ---- one action
+
+own_specific : (a : Action) (t : Thread) → (thread_after a t).specific ≡ own_data a t.specific
+unfolding thread_after
+own_specific (action.SetLocal i v) t = refl
+own_specific _ t = refl
+
+named_specific : (a : Action) (t : Thread) → (named_after a t).specific ≡ named_data a t.specific
+unfolding named_after
+named_specific (action.EndJoin id) t = either_keeps (λ (u : Thread). u.specific) (is_live_thread id t) (record t { joined = true }) t t refl refl
+named_specific (action.Request id) t = either_keeps (λ (u : Thread). u.specific) (is_live_thread id t && not t.ended) (record t { pending = true }) t t refl refl
+named_specific (action.Detach id) t = either_keeps (λ (u : Thread). u.specific) (is_live_thread id t) (record t { detached = true }) t t refl refl
+named_specific _ t = refl
+
+shared_keys : (a : Action) (s : SharedState) → (shared_after a s).keys ≡ keys_after a s.keys
+unfolding shared_after
+shared_keys (action.SetGlobal i v) s = refl
+shared_keys _ s = refl
+
+-- an action that changes no keys changes no data
+own_same : (a : Action) → is_keyless a ≡ true → (own : KeyValues) → own_data a own ≡ own
+own_same (action.SetSpecific k v) is own = absurd (false≢true is)
+own_same action.BeginPass is own = absurd (false≢true is)
+own_same (action.TakeKey k) is own = absurd (false≢true is)
+own_same _ is own = refl
+
+named_same : (a : Action) → is_keyless a ≡ true → (own : KeyValues) → named_data a own ≡ own
+named_same (action.DeleteKey k) is own = absurd (false≢true is)
+named_same _ is own = refl
+
+keys_same : (a : Action) → is_keyless a ≡ true → (keys : List KeyPlace) → keys_after a keys ≡ keys
+keys_same (action.MakeKey k destructor) is keys = absurd (false≢true is)
+keys_same (action.DeleteKey k) is keys = absurd (false≢true is)
+keys_same _ is keys = refl
+
+-- ---- the actions of a transition
+
+-- only the first action changes the keys
+keys_moved : (actions : List Action) → list_all is_keyless (without_first actions) ≡ true → (s : SharedState) → (for_each shared_after actions s).keys ≡ keys_after (first_of actions) s.keys
+keys_moved [] rest s = refl
+keys_moved (a ∷ actions) rest s = all_keep_if (λ (x : SharedState). x.keys) shared_after is_keyless (λ b is x. shared_keys b x ∙ keys_same b is x.keys) actions rest (shared_after a s) ∙ shared_keys a s
+
+-- and the data
+own_moved : (actions : List Action) → list_all is_keyless (without_first actions) ≡ true → (t : Thread) → (for_each thread_after actions t).specific ≡ own_data (first_of actions) t.specific
+own_moved [] rest t = refl
+own_moved (a ∷ actions) rest t = all_keep_if (λ (x : Thread). x.specific) thread_after is_keyless (λ b is x. own_specific b x ∙ own_same b is x.specific) actions rest (thread_after a t) ∙ own_specific a t
+
+named_moved : (actions : List Action) → list_all is_keyless (without_first actions) ≡ true → (t : Thread) → (for_each named_after actions t).specific ≡ named_data (first_of actions) t.specific
+named_moved [] rest t = refl
+named_moved (a ∷ actions) rest t = all_keep_if (λ (x : Thread). x.specific) named_after is_keyless (λ b is x. named_specific b x ∙ named_same b is x.specific) actions rest (named_after a t) ∙ named_specific a t
+
+going_on_same : (next : Option ℕ) (t : Thread) → (thread_at next t).specific ≡ t.specific
+unfolding thread_at
+going_on_same None t = refl
+going_on_same (Some pc) t = refl
+
+-- the data of a thread after a transition of the one with an id
+data_moved : (tid : ℕ) (o : Transition) → list_all is_keyless (without_first o.actions) ≡ true → (t : Thread)
+    → (thread_moved tid o t).specific ≡ named_data (first_of o.actions) (cond (is_live_thread tid t) (own_data (first_of o.actions) t.specific) t.specific)
+data_moved tid o rest t = named_moved o.actions rest (cond (is_live_thread tid t) (moved o t) t) ∙ ap (named_data (first_of o.actions)) (by_live (is_live_thread tid t))
+  where
+    by_live : (live : Bool) → (cond live (moved o t) t).specific ≡ cond live (own_data (first_of o.actions) t.specific) t.specific
+    by_live true = own_moved o.actions rest (thread_at o.next t) ∙ ap (own_data (first_of o.actions)) (going_on_same o.next t)
+    by_live false = refl
+
+-- ---- the rule of a process
+
+-- what is kept of the keys of a process, and of the data of its threads
+pub record KeysFit (script : Script) (p : Process) : Type 0 where
+  pub keys : KeysKept script p.shared.keys
+  pub empty : (tid : ℕ) (t : Thread) → thread_with tid p ≡ Some t → AreEmpty p.shared.keys t.specific
+
+created_empty : (keys : List KeyPlace) (created : Option NewThread) (id : ℕ) (t : Thread) → find (λ u. nat_eq u.id id) (thread_created created) ≡ Some t → AreEmpty keys t.specific
+created_empty keys None id t is = absurd (none-some t is)
+created_empty keys (Some new) id t is = subst (λ (u : Thread). AreEmpty keys u.specific) (cond_some (nat_eq new.id id) (created_thread new) t is).1 (new_empty keys)
+
+first_fits : (script : Script) → KeysFit script (first_process script)
+first_fits script = record {
+  keys = no_keys_kept script;
+  empty = λ tid t is. subst (λ (u : Thread). AreEmpty (first_process script).shared.keys u.specific) (cond_some (nat_eq 1 tid) (initial_thread script) t is).1 (new_empty (first_process script).shared.keys);
+}
+
+module _ (script : Script) (config : Config) (p : Process) (tid : ℕ) (t : Thread) (choice : Alt) (offered : offers (choices_of script config p t) choice ≡ true) (fits : KeysFit script p) where
+  abbrev o : Transition
+  o = transition_by script config p t choice
+
+  only : OnlyFirst script p.shared.keys o.actions
+  only = key_actions script config p t choice offered
+
+  -- the keys after the transition
+  abbrev next : List KeyPlace
+  next = keys_after (first_of o.actions) p.shared.keys
+
+  next_is : (changed tid o p).shared.keys ≡ next
+  next_is = ap (λ (s : SharedState). s.keys) (changed_shared tid o p) ∙ keys_moved o.actions only.rest p.shared
+
+  empty_by : (id : ℕ) (w : Thread) (before : Option Thread) → thread_with id p ≡ before → option_or (option_map (thread_moved tid o) before) (find (λ u. nat_eq u.id id) (thread_created o.created)) ≡ Some w → AreEmpty next w.specific
+  empty_by id w None none is = created_empty next o.created id w is
+  empty_by id w (Some u) some is =
+      subst (λ (x : Thread). AreEmpty next x.specific) (same_Some (thread_moved tid o u) w is)
+      (subst (AreEmpty next) (sym (data_moved tid o only.rest u)) (empty_after script p.shared.keys (first_of o.actions) only.first u.specific (is_live_thread tid u) (fits.empty id u some)))
+
+  fits_after : KeysFit script (changed tid o p)
+  fits_after = record {
+    keys = subst (KeysKept script) (sym next_is) (kept_after script p.shared.keys fits.keys (first_of o.actions) only.first);
+    empty = λ id w is. subst (λ (keys : List KeyPlace). AreEmpty keys w.specific) (sym next_is) (empty_by id w (thread_with id p) refl (sym (own_thread_with p.pid tid o p id) ∙ is));
+  }
+
+-- a transition of another process
+other_fits : (script : Script) (pid : ℕ) (o : Transition) (p : Process) → KeysFit script p → KeysFit script (for_each (other_process_after pid) o.actions p)
+other_fits script pid o p fits = record {
+  keys = subst (λ (s : SharedState). KeysKept script s.keys) (sym (other_shared pid o p)) fits.keys;
+  empty = λ tid t is. subst (λ (s : SharedState). AreEmpty s.keys t.specific) (sym (other_shared pid o p)) (fits.empty tid t (ap (λ (threads : List Thread). find (λ u. nat_eq u.id tid) threads) (sym (other_threads pid o p)) ∙ is));
+}
+
+keys_rule : (script : Script) (config : Config) → IsProcessRule script config (λ p. Unit {0}) (KeysFit script)
+keys_rule script config = record {
+  initial = first_fits script;
+  own = λ p tid t choice nothing is_thread found offered fits. fits_after script config p tid t choice offered fits;
+  other = other_fits script;
+}
+
+-- after every run
+pub keys_of_run : (script : Script) (config : Config) → AfterEveryRun script config (OfEveryProcess (KeysFit script))
+keys_of_run script config = every_process script config (λ p. Unit {0}) (KeysFit script) (keys_rule script config) (λ entries r is pid p made. tt)

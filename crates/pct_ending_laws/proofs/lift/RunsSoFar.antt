@@ -1,0 +1,90 @@
+-- A fact that each legal entry keeps, by what holds of the run so far, holds after every run.
+use Rattle.std.proofs.Common.{◌≡◌, ℕ, ◌+◌, ◌≤◌, Bool, true, false, ◌&&◌, cond, List, [], ◌∷◌, ◌++◌, length, map, reverse, find, is_none, nat_le, Option, Some, None, option_map, option_and_then, refl, sym, ap, ◌∙◌, subst, arith}
+use Rattle.std.proofs.lemmas.Bool.{and_parts, and_from, leb-true, le-leb}
+use Rattle.std.proofs.lemmas.List.{length-append}
+use Rattle.std.proofs.lemmas.Option.{none-some, same_Some, cond_some, option_and_then_some}
+use Rattle.pct_model.specs.declared.script.Script.{Script}
+use Rattle.pct_model.specs.declared.schedule.Config.{Config}
+use Rattle.pct_model.specs.declared.schedule.Entry.{Entry}
+use Rattle.pct_model.specs.declared.limits.TheConstants.{MAX_WORKER}
+use Rattle.pct_model.specs.declared.transition.Transition.{Transition}
+use Rattle.pct_model.specs.Actions.{is_live_process, after_transition}
+use Rattle.pct_model.specs.ChoiceTable.{choices_of, offers}
+use Rattle.pct_model.specs.Run.{Run, event_of, run_step, run_from, is_config, run}
+use Rattle.pct_model.specs.Step.{Successor, if_offered, transition_of, step}
+use Rattle.pct_model.specs.ThreadSlots.{with_id}
+use Rattle.pct_model.specs.TransitionTable.{transition_by}
+use Rattle.pct_model.specs.World.{Thread, Process}
+use Rattle.pct_ending_laws.proofs.lift.KeyedLists.{mapped_some}
+use Rattle.pct_ending_laws.proofs.lift.TakenSteps.{IsTaken, with_step, first_run}
+
+module _ (script : Script) (config : Config) where
+  -- the fact holds after every run
+  abbrev pub AfterEveryRun : (Run → Type 0) → Type 0
+  AfterEveryRun Holds = (entries : List Entry) (after : Run) → run script config entries ≡ Some after → Holds after
+
+  -- ---- one entry more
+
+  -- a legal entry leads to the next run
+  record LeadsTo (r : Run) (e : Entry) (next : Run) : Type 0 where
+    process : Process
+    thread : Thread
+    taken : IsTaken script config r.world e process thread
+    is_next : with_step e (transition_by script config process thread e.alt) r ≡ next
+
+  taken_by : (r : Run) (e : Entry) (o : Transition) (next : Run) → transition_of script config r.world e ≡ Some o → with_step e o r ≡ next → LeadsTo r e next
+  taken_by r e o next is leads =
+      option_and_then_some (λ p. option_and_then (if_offered script config p e) (with_id e.tid p.threads)) (find (is_live_process e.pid) r.world.processes) o is
+      (λ p is_process found. option_and_then_some (if_offered script config p e) (with_id e.tid p.threads) o found
+      (λ t is_thread offered.
+      let parts = cond_some (offers (choices_of script config p t) e.alt) (transition_by script config p t e.alt) o offered in
+      record { process = p; thread = t; taken = record { is_process = is_process; is_thread = is_thread; offered = parts.0 }; is_next = ap (λ (x : Transition). with_step e x r) parts.1 ∙ leads }))
+
+  step_by : (r : Run) (e : Entry) (next : Run) (may : Bool) (o : Option Transition) → transition_of script config r.world e ≡ o
+      → option_map (λ (s : Successor). record { world = s.world; events = map (event_of e) (reverse s.events) ++ r.events }) (cond may (option_map (λ (x : Transition). record { world = after_transition e.pid e.tid x r.world; events = x.events }) o) None) ≡ Some next → LeadsTo r e next
+  step_by r e next true (Some o) found is = taken_by r e o next found (same_Some (with_step e o r) next is)
+  step_by r e next true None found is = absurd (none-some next is)
+  step_by r e next false o found is = absurd (none-some next is)
+
+  leads : (r : Run) (e : Entry) (next : Run) → run_step script config r e ≡ Some next → LeadsTo r e next
+  unfolding run_step step
+  leads r e next is = step_by r e next (is_none r.world.stop && nat_le e.worker MAX_WORKER) (transition_of script config r.world e) refl is
+
+  -- the run of some entries and one more
+  run_more : (r mid next : Run) (before : List Entry) (e : Entry) → run_from script config r before ≡ Some mid → run_step script config mid e ≡ Some next → run_from script config r (before ++ e ∷ []) ≡ Some next
+  unfolding run_from
+  run_more r mid next [] e is stepped = ap (λ (x : Run). option_and_then (λ n. run_from script config n []) (run_step script config x e)) (same_Some r mid is) ∙ ap (option_and_then (λ n. run_from script config n [])) stepped
+  run_more r mid next (first ∷ before) e is stepped =
+      option_and_then_some (λ n. run_from script config n before) (run_step script config r first) mid is
+      (λ n first_step ran. ap (option_and_then (λ x. run_from script config x (before ++ e ∷ []))) first_step ∙ run_more n mid next before e ran stepped)
+
+  -- ---- every run
+
+  module _ (Holds : Run → Type 0)
+      (keeps : (before : List Entry) (r : Run) → run script config before ≡ Some r → (e : Entry) (p : Process) (t : Thread) → IsTaken script config r.world e p t → Holds r → Holds (with_step e (transition_by script config p t e.alt) r)) where
+    step_keeps : (before : List Entry) (r next : Run) (e : Entry) → run script config before ≡ Some r → run_step script config r e ≡ Some next → Holds r → Holds next
+    step_keeps before r next e is stepped holds =
+        let to = leads r e next stepped in
+        subst Holds to.is_next (keeps before r is e to.process to.thread to.taken holds)
+
+    from_keeps : (entries before : List Entry) (r after : Run) → is_config config ≡ true → length before + length entries ≤ config.budget → run_from script config (first_run script) before ≡ Some r → run_from script config r entries ≡ Some after → Holds r → Holds after
+    unfolding run_from run
+    from_keeps [] before r after limits within so_far is holds = subst Holds (same_Some r after is) holds
+    from_keeps (e ∷ entries) before r after limits within so_far is holds =
+        let ran : run script config before ≡ Some r =
+        ap (λ (b : Bool). cond b (run_from script config (first_run script) before) None) (and_from (is_config config) (nat_le (length before) config.budget) limits (le-leb (length before) config.budget (omega (arith, within)))) ∙ so_far in
+        option_and_then_some (λ next. run_from script config next entries) (run_step script config r e) after is
+        (λ next stepped rest.
+        from_keeps entries (before ++ e ∷ []) next after limits (omega (arith, within, length-append before (e ∷ []))) (run_more (first_run script) r next before e so_far stepped) rest
+        (step_keeps before r next e ran stepped holds))
+
+    run_by : (entries : List Entry) (after : Run) (limits within : Bool) → is_config config ≡ limits → nat_le (length entries) config.budget ≡ within → cond (limits && within) (run_from script config (first_run script) entries) None ≡ Some after → Holds (first_run script) → Holds after
+    unfolding run_from
+    run_by entries after true true limits within is first = from_keeps entries [] (first_run script) after limits (omega (arith, leb-true (length entries) config.budget within)) refl is first
+    run_by entries after true false limits within is first = absurd (none-some after is)
+    run_by entries after false within limits fits is first = absurd (none-some after is)
+
+    -- what holds of the initial state, and is kept by each legal entry that goes on from a run, holds after every run
+    pub every_run_so_far : Holds (first_run script) → AfterEveryRun Holds
+    unfolding run
+    every_run_so_far first entries after is = run_by entries after (is_config config) (nat_le (length entries) config.budget) refl refl is first

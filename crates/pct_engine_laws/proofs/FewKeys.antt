@@ -1,0 +1,24 @@
+-- On each place, a run makes at most one key for each entry.
+use Rattle.std.proofs.Common.{◌≡◌, ◌≤◌, ◌+◌, not, List, length, filter, Some, arith}
+use Rattle.std.specs.Prelude.{All}
+use Rattle.std.proofs.lemmas.List.Elements.{All-map, All-weaker, All-filter}
+use Rattle.pct_model.specs.declared.script.Script.{Script}
+use Rattle.pct_model.specs.declared.schedule.Config.{Config}
+use Rattle.pct_model.specs.declared.schedule.Entry.{Entry}
+use Rattle.pct_model.specs.Keys.{KeyPlace}
+use Rattle.pct_model.specs.World.{Process}
+use Rattle.pct_model.specs.Run.{Run, run}
+use Rattle.pct_engine_laws.specs.Seen.{SeenProcess, seen_process, seen}
+use Rattle.pct_engine_laws.specs.KeyCounts.{KeysAtMost}
+use Rattle.pct_engine_laws.proofs.KeyNumbers.{HasFewOn}
+use Rattle.pct_engine_laws.proofs.RunNumbers.{HasFewIn, run_within}
+
+-- on each place
+pub few_keys_made : (script : Script) (config : Config) (entries : List Entry) (after : Run) → run script config entries ≡ Some after → All (λ (p : SeenProcess). KeysAtMost (length entries) p.shared.keys) (seen config.slots after.world).processes
+few_keys_made script config entries after is =
+    let n = length entries in
+    let m = 1 + length entries in
+    let left : List Process = filter (λ p. not p.reaped) after.world.processes in
+    let few : All (HasFewIn m) left = All-filter (λ (p : Process). not p.reaped) (HasFewIn m) after.world.processes (run_within script config entries after is).few in
+    All-map (λ (p : SeenProcess). KeysAtMost n p.shared.keys) (seen_process config.slots) left
+    (All-weaker (HasFewIn m) (λ (p : Process). KeysAtMost n p.shared.keys) (λ p each. All-weaker (HasFewOn m) (λ (place : KeyPlace). place.made ≤ n) (λ place has. omega (arith, has.made)) p.shared.keys each.keys_few) left few)

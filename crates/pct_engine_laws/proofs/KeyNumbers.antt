@@ -1,0 +1,100 @@
+-- The numbers of keys, limited by the number of transitions.
+use Rattle.std.proofs.Common.{◌≡◌, ℕ, ◌+◌, ◌*◌, ◌<◌, ◌≤◌, false, List, [], ◌∷◌, get_or, Option, Some, None, slice_get, slice_set, refl, sym, ◌∙◌, subst, arith, zero-add}
+use Rattle.std.specs.Prelude.{All, is_none, option_and_then}
+use Rattle.std.specs.List.{list_any, range_with_len}
+use Rattle.std.specs.Option.{option_map_or}
+use Rattle.std.proofs.lemmas.Bool.{or_parts, true≢false}
+use Rattle.std.proofs.lemmas.List.Elements.{All-get_or, All-map, All-weaker, All-filter, All-set, All-replicate}
+use Rattle.std.proofs.lemmas.List.FromFn.{length-range_with_len, get_or-range_with_len}
+use Rattle.std.proofs.lemmas.Option.{slice_get_within, get_or_from_slice_get}
+use Rattle.pct_model.specs.declared.limits.TheConstants.{MAX_KEYS}
+use Rattle.pct_model.specs.declared.transition.Action.{Action}
+use Rattle.pct_model.specs.declared.transition.Action.TheVariants as action
+use Rattle.pct_model.specs.Keys.{Key, KeyPlace, no_keys, KeyValues, key_place, key_at, next_key, number_at, free_places, new_keys, on_place, left_places, left_keys}
+use Rattle.pct_model.specs.World.{SharedState}
+use Rattle.pct_model.specs.Actions.{shared_after, for_each}
+use Rattle.pct_engine_laws.proofs.OfferedChoices.{makes_key, Makes, FirstMakes}
+
+-- fewer than n keys were ever made on a place, and the number of the key on it is limited by n
+pub record HasFewOn (n : ℕ) (p : KeyPlace) : Type 0 where
+  pub made : p.made < n
+  pub number : option_map_or (λ (key : Key). key.number) p.key 0 ≤ 128 + 128 * n
+
+-- ---- one place
+
+-- what holds of none, and of a place if the place has a property, holds of one of these places
+at_place : (P : KeyPlace → Type 0) (Q : Option KeyPlace → Type 0) (keys : List KeyPlace) (place : ℕ) → Q None → ((p : KeyPlace) → P p → Q (Some p)) → All P keys → Q (slice_get keys place)
+at_place P Q keys place none some all = by (slice_get keys place) refl where
+  by : (o : Option KeyPlace) → slice_get keys place ≡ o → Q o
+  by None at = none
+  by (Some p) at = some p (subst P (get_or_from_slice_get keys place p p at) (All-get_or P keys place p (slice_get_within keys place p at) all))
+
+-- the places with a change of one
+on_place_all : (P Q : KeyPlace → Type 0) (place : ℕ) (change : KeyPlace → KeyPlace) (keys : List KeyPlace) → ((p : KeyPlace) → P p → Q (change p)) → ((p : KeyPlace) → P p → Q p) → All P keys → All Q (on_place place change keys)
+on_place_all P Q place change keys changed others all =
+    let same : All Q keys = All-weaker P Q others keys all in
+    at_place P (λ (o : Option KeyPlace). All Q (option_map_or (λ (p : KeyPlace). slice_set keys place (change p)) o keys)) keys place same (λ p has. All-set Q keys place (change p) (changed p has) same) all
+
+-- ---- the numbers that are offered
+
+module _ (n : ℕ) (keys : List KeyPlace) (few : All (HasFewOn n) keys) where
+  made_few : (place : ℕ) → option_map_or (λ (p : KeyPlace). p.made) (slice_get keys place) 0 ≤ n
+  made_few place = at_place (HasFewOn n) (λ (o : Option KeyPlace). option_map_or (λ (p : KeyPlace). p.made) o 0 ≤ n) keys place (omega arith) (λ p has. omega (arith, has.made)) few
+
+  number_within : (place : ℕ) → number_at keys place ≤ 128 + 128 * n
+  number_within place =
+      at_place (HasFewOn n) (λ (o : Option KeyPlace). option_map_or (λ (key : Key). key.number) (option_and_then (λ (p : KeyPlace). p.key) o) 0 ≤ 128 + 128 * n) keys place (omega arith) (λ p has. has.number) few
+
+  next_within : (place : ℕ) → place < 128 → next_key keys place ≤ 128 + 128 * n
+  next_within place low = omega (arith, made_few place, low)
+
+  -- a new key
+  pub new_keys_within : All (λ (k : ℕ). k ≤ 128 + 128 * n) (new_keys keys)
+  unfolding free_places
+  new_keys_within =
+      let all : List ℕ = range_with_len 0 MAX_KEYS in
+      All-map (λ (k : ℕ). k ≤ 128 + 128 * n) (next_key keys) (free_places keys)
+      (All-filter (λ (place : ℕ). is_none (key_at keys place)) (λ (place : ℕ). next_key keys place ≤ 128 + 128 * n) all (λ i d low.
+      let below : i < 128 = subst (λ (k : ℕ). i < k) (length-range_with_len 0 MAX_KEYS) low in
+      subst (λ (place : ℕ). next_key keys place ≤ 128 + 128 * n) (sym (get_or-range_with_len 0 MAX_KEYS i d below ∙ zero-add i)) (next_within i below)))
+
+  -- a key whose destructor is to be called
+  pub left_keys_within : (own : KeyValues) → All (λ (k : ℕ). k ≤ 128 + 128 * n) (left_keys keys own)
+  left_keys_within own = All-map (λ (k : ℕ). k ≤ 128 + 128 * n) (number_at keys) (left_places keys own) (λ i d low. number_within (get_or (left_places keys own) i d))
+
+-- ---- after a transition
+
+-- the limits at a higher number
+pub few_keys_more : (n m : ℕ) (keys : List KeyPlace) → n ≤ m → All (HasFewOn n) keys → All (HasFewOn m) keys
+few_keys_more n m keys more few = All-weaker (HasFewOn n) (HasFewOn m) (λ p has. record { made = omega (arith, has.made, more); number = omega (arith, has.number, more) }) keys few
+
+action_keeps_few : (n : ℕ) (a : Action) (s : SharedState) → makes_key a ≡ false → All (HasFewOn n) s.keys → All (HasFewOn n) (shared_after a s).keys
+unfolding shared_after
+action_keeps_few n (action.MakeKey k destructor) s none few = absurd (true≢false none)
+action_keeps_few n (action.DeleteKey k) s none few =
+    on_place_all (HasFewOn n) (HasFewOn n) (key_place k) (λ (p : KeyPlace). record p { key = None }) s.keys (λ p has. record { made = has.made; number = omega arith }) (λ p has. has) few
+action_keeps_few n _ s none few = few
+
+actions_keep_few : (n : ℕ) (actions : List Action) (s : SharedState) → list_any makes_key actions ≡ false → All (HasFewOn n) s.keys → All (HasFewOn n) (for_each shared_after actions s).keys
+actions_keep_few n [] s none few = few
+actions_keep_few n (a ∷ actions) s none few =
+    let parts = or_parts (makes_key a) (list_any makes_key actions) none in
+    actions_keep_few n actions (shared_after a s) parts.1 (action_keeps_few n a s parts.0 few)
+
+first_makes_few : (n : ℕ) (a : Action) (s : SharedState) → Makes (λ (k : ℕ). k ≤ 128 + 128 * n) a → All (HasFewOn n) s.keys → All (HasFewOn (n + 1)) (shared_after a s).keys
+unfolding shared_after
+first_makes_few n (action.MakeKey k destructor) s small few =
+    on_place_all (HasFewOn n) (HasFewOn (n + 1)) (key_place k) (λ (p : KeyPlace). record { made = p.made + 1; key = Some (record { number = k; destructor = destructor }) }) s.keys
+    (λ p has. record { made = omega (arith, has.made); number = omega (arith, small) })
+    (λ p has. record { made = omega (arith, has.made); number = omega (arith, has.number) }) few
+first_makes_few n (action.DeleteKey k) s small few = few_keys_more n (n + 1) (shared_after (action.DeleteKey k) s).keys (omega arith) (action_keeps_few n (action.DeleteKey k) s refl few)
+first_makes_few n _ s small few = few_keys_more n (n + 1) s.keys (omega arith) few
+
+-- after the actions of a transition, which make at most one key
+pub few_keys_after : (n : ℕ) (actions : List Action) (s : SharedState) → FirstMakes (λ (k : ℕ). k ≤ 128 + 128 * n) actions → All (HasFewOn n) s.keys → All (HasFewOn (n + 1)) (for_each shared_after actions s).keys
+few_keys_after n [] s makes few = few_keys_more n (n + 1) s.keys (omega arith) few
+few_keys_after n (a ∷ actions) s makes few = actions_keep_few (n + 1) actions (shared_after a s) makes.1 (first_makes_few n a s makes.0 few)
+
+-- before the first transition
+pub no_keys_few : All (HasFewOn 1) no_keys
+no_keys_few = All-replicate (HasFewOn 1) MAX_KEYS (record { made = 0; key = None }) (record { made = omega arith; number = omega arith })

@@ -1,0 +1,17 @@
+use Rattle.std.proofs.Common.{ap, length, arith}
+use Rattle.pct_model.specs.Keys.{is_left}
+use Rattle.pct_keys.specs.Tables.{row_at}
+use Rattle.pct_keys.proofs.Scan.{left-start, count-step, count-end}
+use Rattle.pct_keys.proofs.keys.Keys.left.Goals as goal
+
+pub loop-place-init : goal.loop-place-init
+loop-place-init c = record { few = omega arith; counted = omega (arith, ap length (left-start c.args.self.now.places (row_at c.args.self.now c.args.slot))) }
+
+pub loop-place-preserved : goal.loop-place-preserved
+loop-place-preserved c =
+    let loop = c.loop-place.invariant in
+    let next = count-step (is_left c.args.self.now.places (row_at c.args.self.now c.args.slot)) c.loop-place.place c.loop-place.count c.from-count.result _ c.is_left.result (omega arith) c.is_left.ensures c.from-count.ensures loop.counted in
+    record { few = omega (arith, next.0, loop.few); counted = next.1 }
+
+pub returns : goal.returns
+returns c = count-end (is_left c.args.self.now.places (row_at c.args.self.now c.args.slot)) c.loop-place.place c.loop-place.count _ (omega arith) c.loop-place.invariant.counted

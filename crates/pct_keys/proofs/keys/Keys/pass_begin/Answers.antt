@@ -1,0 +1,11 @@
+use Rattle.std.proofs.Common.{◌<◌, length}
+use Rattle.std.proofs.lemmas.List.{get_or_read}
+use Rattle.pct_keys.specs.Tables.{no_row}
+use Rattle.pct_keys.proofs.SoundTables.{IsSound-row, FitsRow-with_pass}
+use Rattle.pct_keys.proofs.keys.Keys.pass_begin.Goals as goal
+
+pub invariant_of-self : goal.invariant_of-self
+invariant_of-self c =
+    let inside : c.args.slot < length c.self.inside.rows.items = rw (← c.self.view_is) at c.requires in
+    rw (c.begin_pass.ensures, get_or_read c.self.inside.rows.items c.args.slot c.index_mut.result.now inside c.index_mut.ensures.value no_row)
+    (IsSound-row _ c.self.invariant c.args.slot _ (FitsRow-with_pass _ c.self.invariant c.args.slot inside))

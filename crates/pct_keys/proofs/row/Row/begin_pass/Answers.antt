@@ -1,0 +1,20 @@
+use Rattle.std.proofs.Common.{◌≡◌, sym, ap, ◌∙◌, ℕ, ◌<◌, Bool, false, not, List, length, map, get_or, nat_eq, arith}
+use Rattle.std.proofs.lemmas.List.{ext_get_or, get_or-map, length-map}
+use Rattle.pct_model.specs.Keys.{KeyValues, with_pass}
+use Rattle.pct_keys.proofs.row.Row.begin_pass.Goals as goal
+
+-- the values are those at the start, and each place with a value is marked
+passed : (own : KeyValues) (values : List ℕ) (marks : List Bool) → values ≡ own.values → length marks ≡ length values → ((place : ℕ) → place < length marks → get_or marks place false ≡ not (nat_eq (get_or values place 0) 0))
+    → record { values = values; in_pass = marks } ≡ with_pass own
+passed own values marks same long marked =
+    let all : marks ≡ map (λ value. not (nat_eq value 0)) values =
+    ext_get_or false marks (map (λ value. not (nat_eq value 0)) values) (long ∙ sym (length-map values (λ value. not (nat_eq value 0)))) (λ place within.
+    marked place within ∙ sym (get_or-map (λ value. not (nat_eq value 0)) values place 0 false (omega (arith, within, long)))) in
+    let P : List Bool → KeyValues = λ passed. record { values = values; in_pass = passed } in
+    let Q : List ℕ → KeyValues = λ start. record { values = start; in_pass = map (λ value. not (nat_eq value 0)) start } in
+    ap P all ∙ ap Q same
+
+pub returns : goal.returns
+returns c =
+    let loop = c.loop-place.invariant in
+    passed c.args.self.now c.loop-place.self-inside.values c.loop-place.self-inside.in_pass loop.same (omega (arith, loop.values, loop.in_pass)) (λ place within. loop.marked place (omega (arith, within, loop.in_pass)))

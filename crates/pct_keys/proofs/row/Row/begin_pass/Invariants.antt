@@ -1,0 +1,11 @@
+use Rattle.std.proofs.Common.{◌≡◌, ℕ, ◌<◌, false, not, length, get_or, nat_eq}
+use Rattle.pct_model.specs.declared.limits.TheConstants.{MAX_KEYS}
+use Rattle.pct_keys.proofs.row.Row.begin_pass.Given as goal
+
+abbrev pub invariant-loop-place : goal.invariant-loop-place
+invariant-loop-place l = record {
+  same : l.self-inside.values ≡ l.fn.self.values;
+  values : length l.self-inside.values ≡ MAX_KEYS;
+  in_pass : length l.self-inside.in_pass ≡ MAX_KEYS;
+  marked : (place : ℕ) → place < l.place → get_or l.self-inside.in_pass place false ≡ not (nat_eq (get_or l.self-inside.values place 0) 0);
+}

@@ -1,0 +1,6 @@
+use Rattle.std.proofs.Common.{◌≡◌, ◌++◌, take, drop, map}
+use Rattle.pct_model.specs.Keys.{without_value}
+use Rattle.pct_keys.proofs.row.clear_place.Given as goal
+
+abbrev pub invariant-loop-row : goal.invariant-loop-row
+invariant-loop-row l = l.rows ≡ map (without_value l.place) (take l.row-index l.fn.rows) ++ drop l.row-index l.fn.rows

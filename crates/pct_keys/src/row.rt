@@ -1,0 +1,113 @@
+//! The thread-specific data of the thread on one slot.
+
+ghost use Rattle.std.specs.Prelude.{◌≡◌, ◌<◌, length, map, replicate, slice_get, Some};
+ghost use Rattle.pct_model.specs.declared.limits.TheConstants.{MAX_KEYS};
+ghost use Rattle.pct_model.specs.Keys.{no_values, value_at, with_value, without_value, with_pass};
+
+use crate::place::PLACES;
+use std::marker::Model;
+
+/// The thread-specific data of a thread, by place.
+#[derive(Clone, Copy, Debug)]
+pub(crate) struct Row {
+    values: [u32; PLACES],
+    in_pass: [bool; PLACES],
+}
+
+impl Model for Row {
+    ghost use Rattle.pct_model.specs.Keys.{KeyValues};
+
+    ghost Value = { KeyValues };
+
+    ghost view = { λ r. record { values = r.values; in_pass = r.in_pass } };
+
+    ghost inverse = { λ r. record { values = r.values; in_pass = r.in_pass } };
+}
+
+impl Row {
+    /// The data of a new thread.
+    pub(crate) fn new() -> Row
+        ensures { result ≡ no_values }
+    {
+        Row {
+            values: [0; PLACES],
+            in_pass: [false; PLACES],
+        }
+    }
+
+    /// The value of the key on the place.
+    pub(crate) fn value(&self, place: u32) -> u32
+        requires { place < MAX_KEYS }
+        ensures { result ≡ value_at place self.now }
+    {
+        self.values[place as usize]
+    }
+
+    /// Whether the place is in the pass.
+    pub(crate) fn is_in_pass(&self, place: u32) -> bool
+        requires { place < MAX_KEYS }
+        ensures { slice_get self.now.in_pass place ≡ Some result }
+    {
+        self.in_pass[place as usize]
+    }
+
+    /// Sets the value of the key on the place.
+    pub(crate) fn set(&mut self, place: u32, value: u32)
+        requires { place < MAX_KEYS }
+        ensures { self.new ≡ with_value place value self.old }
+    {
+        self.values[place as usize] = value;
+    }
+
+    /// Makes the value of the key on the place 0, and takes the place out of the pass.
+    pub(crate) fn clear(&mut self, place: u32)
+        requires { place < MAX_KEYS }
+        ensures { self.new ≡ without_value place self.old }
+    {
+        self.values[place as usize] = 0;
+        self.in_pass[place as usize] = false;
+    }
+
+    /// Gives the slot the data of a new thread.
+    pub(crate) fn clear_all(&mut self)
+        ensures { self.new ≡ no_values }
+    {
+        *self = Row::new();
+    }
+
+    /// Begins a pass, which takes the places that have a value.
+    pub(crate) fn begin_pass(&mut self)
+        ensures { self.new ≡ with_pass self.old }
+    {
+        for place in 0..PLACES {
+            self.in_pass[place] = self.values[place] != 0;
+        }
+    }
+
+    /// The same values, with no place in a pass.
+    pub(crate) fn values_alone(&self) -> Row
+        ensures { result ≡ record self.now { in_pass = no_values.in_pass } }
+    {
+        Row {
+            values: self.values,
+            in_pass: [false; PLACES],
+        }
+    }
+}
+
+/// Makes each value of the key on the place 0, and takes the place out of each pass.
+pub(crate) fn clear_place(rows: &mut [Row], place: u32)
+    requires { place < MAX_KEYS }
+    ensures { rows.new ≡ map (without_value place) rows.old }
+{
+    for row in rows.iter_mut() {
+        row.clear(place);
+    }
+}
+
+/// Gives each slot the data of a new thread.
+pub(crate) fn clear_rows(rows: &mut [Row])
+    ensures { rows.new ≡ replicate (length rows.old) no_values }
+{
+    rows.fill(Row::new());
+}
