@@ -3,6 +3,7 @@
 use pct_command::{Status, command};
 use pct_io::{MemSink, MemSource, NoGate};
 use std::alloc::{AllocError, Global};
+use std::test::Fail;
 use std::thread::Threads;
 
 // What a call answered, what it wrote, and how many bytes it left unread.
@@ -51,6 +52,29 @@ pub(crate) fn call<R: Threads + Sync>(
         text: sink.written().to_vec(alloc)?,
         left: source.left().len(),
     })
+}
+
+// Fails unless the call answers this code, writes this text, and leaves this many bytes unread.
+pub(crate) fn expect<R: Threads + Sync>(
+    rt: &R,
+    alloc: Global,
+    words: &[&str],
+    input: &[u8],
+    outside: &Outside,
+    expected: (u8, &[u8], usize),
+) -> Result<(), Fail> {
+    let answer = call(rt, alloc, words, input, outside)?;
+    let (code, text, left) = expected;
+    if answer.status.code() != code {
+        return Err("another status".into());
+    }
+    if answer.text.as_slice() != text {
+        return Err("another text".into());
+    }
+    if answer.left != left {
+        return Err("another number of bytes left".into());
+    }
+    Ok(())
 }
 
 // The report of a run of the default numbers: its events, its verdict, and this many steps of the first thread.

@@ -1,13 +1,10 @@
-//! The tests of `command`. They stand in a crate of their own, since the tests of a crate prove it a second time.
+//! The tests of `command` that need more than a table: failing streams, long texts, and runs that the random stream decides. The
+//! tables of calls and their answers are the cases of pct_cases.
 #![tactic(auto)]
 
 #[cfg(test)]
 mod calls;
 #[cfg(test)]
-mod cancellation;
-#[cfg(test)]
 mod harness;
 #[cfg(test)]
-mod keys;
-#[cfg(test)]
-mod threads;
+mod random_runs;

@@ -11,7 +11,7 @@ use Rattle.pct_threads.proofs.TableLemmas.{length-on_slot, slot_at-on_slot, slot
 use Rattle.pct_engine_laws.specs.Seen.{SeenSlot}
 use Rattle.pct_engine_laws.proofs.ListFacts.{filter_changed, map-map}
 use Rattle.pct_engine_laws.proofs.ThreadChanges.{KeepsSlots, with_change}
-use Rattle.pct_engine.specs.Views.{threads_of}
+use Rattle.pct_transitions.specs.ThreadViews.{threads_of}
 
 -- ---- a change of one slot
 

@@ -24,10 +24,11 @@ use Rattle.pct_threads.specs.declared.record.Thread.{Thread as Kept}
 use Rattle.pct_threads.specs.Slots.{Held, Slot}
 use Rattle.pct_threads.specs.Tables.{held_at, thread_at, frames_at}
 use Rattle.pct_engine_laws.specs.SeenSteps.{others_in, target_in}
-use Rattle.pct_engine.specs.declared.machine.Machine.{Machine}
-use Rattle.pct_engine.specs.Positions.{next_at}
+use Rattle.pct_transitions.specs.Positions.{next_at}
+use Rattle.pct_transitions.specs.ThreadViews.{slot_view}
+use Rattle.pct_actions.specs.declared.machine.Machine.{Machine}
 use Rattle.pct_engine.specs.ReadyThreads.{is_ready}
-use Rattle.pct_engine.specs.Views.{slot_view, slots_view, machine_thread, process_view}
+use Rattle.pct_engine.specs.Views.{slots_view, machine_thread, process_view}
 use Rattle.pct_engine.proofs.JoinedThreads.{target_asked}
 use Rattle.pct_engine.proofs.RowAnswers.{target_on_rows}
 

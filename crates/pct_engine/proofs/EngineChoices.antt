@@ -17,7 +17,7 @@ use Rattle.pct_engine_laws.proofs.LongerRuns.{same_run, run_parts, run_more, run
 use Rattle.pct_engine_laws.proofs.ChosenSeen.{chosen_is_seen}
 use Rattle.pct_engine_laws.proofs.StepSeen.{successor_of}
 use Rattle.pct_engine_laws.proofs.VerdictSeen.{verdict_is_seen}
-use Rattle.pct_engine.specs.declared.machine.Machine.{Machine}
+use Rattle.pct_actions.specs.declared.machine.Machine.{Machine}
 use Rattle.pct_engine.specs.Views.{machine_view}
 use Rattle.pct_engine.specs.Steps.{legal_transition, ArePlacedIn, NumbersFitIn, IsSeenChoice}
 use Rattle.pct_engine.specs.EngineStates.{StandsFor, IsRunWith, IsChoice}
@@ -64,7 +64,7 @@ step_runs script config r e (Some s) made some = ap is_some (run_step-is script 
 -- the answer to a worker
 pub choice_after : (script : Script) (config : Config) (history : List Entry) (events : List Event) (m : Machine) (after : Run) (worker a b : ℕ) (answer : Option Entry) → StandsFor script config history events m → run script config history ≡ Some after
     → worker ≤ MAX_WORKER → IsSeenChoice script config (machine_view script m) (length history) worker a b answer
-    → (ArePlacedIn config.slots m → worker ≤ MAX_WORKER → IfSome answer (λ e. is_some (legal_transition script config (machine_view script m) e) ≡ true))
+    → (worker ≤ MAX_WORKER → IfSome answer (λ e. is_some (legal_transition script config (machine_view script m) e) ≡ true))
     → IsChoice (record { script = script; config = config; history = history }) after worker a b answer
 choice_after script config history events m after worker a b answer stands is small choice legal =
     let parts : Seen = machine_view script m in
@@ -72,8 +72,7 @@ choice_after script config history events m after worker a b answer stands is sm
     let verdict = verdict_after script config history events m after (length history) stands is in
     let within = run_parts script config history after is in
     let some : 0 < config.slots = some_slots config within.limits in
-    let placed = placed_in script config.slots m after.world view stands.rows_are in
-    let long : (m.has_ended ≡ false → length m.threads ≡ config.slots) = λ live. (placed live).all in
+    let long : (m.has_ended ≡ false → length m.threads ≡ config.slots) = λ live. (placed_in script config.slots m after.world view stands.rows_are live).all in
     record {
       scheduled = λ going. choice.chosen (verdict ∙ going) ∙ ap (λ (v : Seen). seen_chosen script config.slots v worker a b) view ∙ sym (chosen_is_seen script config after.world worker a b some);
       legal = λ going.
@@ -82,15 +81,15 @@ choice_after script config history events m after worker a b answer stands is sm
           (λ e taken.
           let made = run_by script config after.world e after (legal_transition script config parts e) (step_by_view script config after.world e parts (legal_transition script config parts e) some view refl) taken in
           ap is_some (run_more script config history e after is left) ∙ step_runs script config after e (step script config after.world e) refl made)
-          (legal placed small);
+          (legal small);
       closed = λ closed. choice.closed (λ going. closed (sym verdict ∙ going));
     }
 
 -- ---- what holds of the machine of a run
 
--- its threads are on as many slots as the configuration has, while the process has not ended
-pub slots_after : (script : Script) (config : Config) (history : List Entry) (events : List Event) (m : Machine) → StandsFor script config history events m → m.has_ended ≡ false → length m.threads ≡ config.slots
-slots_after script config history events m stands live = (placed_in script config.slots m stands.after.world stands.parts_are stands.rows_are live).all
+-- its threads are placed, while the process has not ended
+pub placed_after : (script : Script) (config : Config) (history : List Entry) (events : List Event) (m : Machine) → StandsFor script config history events m → ArePlacedIn config.slots m
+placed_after script config history events m stands = placed_in script config.slots m stands.after.world stands.parts_are stands.rows_are
 
 -- the numbers of new threads and keys fit 32 bits
 pub numbers_after : (script : Script) (config : Config) (history : List Entry) (events : List Event) (m : Machine) → StandsFor script config history events m → NumbersFitIn m

@@ -11,10 +11,10 @@ use Rattle.pct_model.specs.declared.event.What.{What}
 use Rattle.pct_model.specs.Step.{step}
 use Rattle.pct_model.specs.Run.{Run, event_of, run}
 use Rattle.pct_engine_laws.proofs.LongerRuns.{run_more, run_full, run_after, run_step-is}
-use Rattle.pct_engine.specs.declared.machine.Machine.{Machine}
-use Rattle.pct_engine.specs.Joiners.{HaveJoiners}
+use Rattle.pct_transitions.specs.Joiners.{HaveJoiners}
+use Rattle.pct_actions.specs.declared.machine.Machine.{Machine}
+use Rattle.pct_actions.specs.TableFits.{HasRows}
 use Rattle.pct_engine.specs.Steps.{IsStepOf}
-use Rattle.pct_engine.specs.Views.{HasRows}
 use Rattle.pct_engine.specs.EngineStates.{StandsFor}
 
 reverse-map : {A B : Type 0} (f : A → B) (xs : List A) → reverse (map f xs) ≡ map f (reverse xs)

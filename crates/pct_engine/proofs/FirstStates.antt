@@ -17,10 +17,12 @@ use Rattle.pct_keys.specs.Tables.{Table, new_table}
 use Rattle.pct_engine_laws.specs.Seen.{SeenSlot, Seen, seen}
 use Rattle.pct_engine_laws.proofs.LongerRuns.{run_none}
 use Rattle.pct_engine_laws.proofs.OpeningSeen.{first_on_slot, first_thread, first_slots, opening_is_seen}
-use Rattle.pct_engine.specs.declared.machine.Machine.{Machine}
-use Rattle.pct_engine.specs.Programs.{ProgramValue}
-use Rattle.pct_engine.specs.Views.{threads_of, slot_view, with_row, with_rows, HasRows, shared_view, first_process_view, machine_view}
-use Rattle.pct_engine.specs.Joiners.{HaveJoiners}
+use Rattle.pct_transitions.specs.Programs.{ProgramValue}
+use Rattle.pct_transitions.specs.ThreadViews.{threads_of, slot_view}
+use Rattle.pct_transitions.specs.Joiners.{HaveJoiners}
+use Rattle.pct_actions.specs.declared.machine.Machine.{Machine}
+use Rattle.pct_actions.specs.TableFits.{HasRows}
+use Rattle.pct_engine.specs.Views.{with_row, with_rows, shared_view, first_process_view, machine_view}
 use Rattle.pct_engine.specs.EngineStates.{StandsFor}
 
 map-replicate : {A B : Type 0} (f : A → B) (n : ℕ) (x : A) → map f (replicate n x) ≡ replicate n (f x)

@@ -19,9 +19,11 @@ use Rattle.pct_engine_laws.specs.KeyCounts.{KeysAtMost}
 use Rattle.pct_engine_laws.proofs.FewKeys.{few_keys_made}
 use Rattle.pct_engine_laws.proofs.FewThreads.{few_made}
 use Rattle.pct_engine_laws.proofs.RunNumbers.{run_limited}
-use Rattle.pct_engine.specs.declared.machine.Machine.{Machine}
+use Rattle.pct_transitions.specs.ThreadViews.{slot_view}
 use Rattle.pct_keys.specs.Tables.{row_at}
-use Rattle.pct_engine.specs.Views.{slot_view, with_row, slots_view, HasRows, process_view, unless_ended, machine_view}
+use Rattle.pct_actions.specs.declared.machine.Machine.{Machine}
+use Rattle.pct_actions.specs.TableFits.{HasRows}
+use Rattle.pct_engine.specs.Views.{with_row, slots_view, process_view, unless_ended, machine_view}
 use Rattle.pct_engine.specs.Steps.{NumbersFitIn}
 use Rattle.pct_engine.proofs.RowViews.{length-with_rows, get_or-with_rows}
 use Rattle.pct_engine.proofs.StepViews.{placed_in}

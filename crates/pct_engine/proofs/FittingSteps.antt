@@ -19,21 +19,22 @@ use Rattle.pct_threads.specs.Slots.{Held}
 use Rattle.pct_threads.specs.Tables.{held_at, is_occupied_at, on_held}
 use Rattle.pct_engine_laws.specs.Seen.{SeenSlot}
 use Rattle.pct_engine_laws.specs.SeenSteps.{answer_in, others_in, choices_in, transition_in}
-use Rattle.pct_engine.specs.declared.machine.Machine.{Machine}
-use Rattle.pct_engine.specs.declared.other_threads.Others.{Others as Answer}
-use Rattle.pct_engine.specs.declared.position.Position.{Position}
-use Rattle.pct_engine.specs.Answers.{IsAnswer, AreOnPlaces}
-use Rattle.pct_engine.specs.Positions.{IsPosition, next_at}
+use Rattle.pct_transitions.specs.declared.other_threads.Others.{Others as Answer}
+use Rattle.pct_transitions.specs.declared.position.Position.{Position}
+use Rattle.pct_transitions.specs.Answers.{IsAnswer, AreOnPlaces}
+use Rattle.pct_transitions.specs.Positions.{IsPosition, next_at}
+use Rattle.pct_transitions.specs.ThreadViews.{slot_view, ArePlaced}
 use Rattle.pct_model.specs.declared.other_threads.Query.{Query}
 use Rattle.pct_model.specs.NextStatement.{NextStatement}
-use Rattle.pct_engine.specs.Fitting.{NamesFit, NewFits, KeysFit}
-use Rattle.pct_engine.specs.Views.{slot_view, machine_thread, process_view, ArePlaced}
+use Rattle.pct_transitions.proofs.KeyChoices.{new_fits, left_fits}
+use Rattle.pct_actions.specs.declared.machine.Machine.{Machine}
+use Rattle.pct_actions.specs.TableFits.{NamesFit, NewFits, KeysFit}
 use Rattle.pct_keys.specs.Tables.{row_at}
-use Rattle.pct_engine.specs.MachineChanges.{held_moved}
-use Rattle.pct_engine.proofs.HeldChanges.{is_occupied_at-on_held}
+use Rattle.pct_actions.specs.MachineChanges.{held_moved}
+use Rattle.pct_actions.proofs.HeldChanges.{is_occupied_at-on_held}
+use Rattle.pct_actions.proofs.KeyTables.{kept_fit}
+use Rattle.pct_engine.specs.Views.{machine_thread, process_view}
 use Rattle.pct_engine.proofs.MachineViews.{id-moved}
-use Rattle.pct_engine.proofs.KeyChoices.{new_fits, left_fits}
-use Rattle.pct_engine.proofs.KeyTables.{kept_fit}
 use Rattle.pct_engine.proofs.NamedFits.{quiet_all_fit, plain_quiet, plain_keeps, written_plain, both_plain, ByName, taken_case}
 use Rattle.pct_engine.proofs.RowAnswers.{answer_on_rows}
 use Rattle.pct_engine.proofs.NewThreads.{offered_is_next, ids_asked, transition_new}

@@ -1,6 +1,6 @@
 -- The thread that an entry names: what a search in the slots finds is what is kept of it.
-use Rattle.std.proofs.Common.{◌≡◌, ℕ, ◌<◌, Bool, true, false, not, ◌&&◌, cond, List, map, length, Option, Some, None, refl, sym, ap, ◌∙◌, inl, inr}
-use Rattle.std.specs.Prelude.{nat_eq, nat_le, slice_get, is_some, is_none, option_map, option_and_then, find}
+use Rattle.std.proofs.Common.{◌≡◌, ℕ, ◌<◌, Bool, true, false, not, ◌&&◌, cond, List, map, length, Option, Some, None, refl, sym, ap, ◌∙◌, subst, inl, inr}
+use Rattle.std.specs.Prelude.{IfNone, nat_eq, nat_le, slice_get, is_some, is_none, option_map, option_and_then, find}
 use Rattle.std.specs.Option.{option_map_or}
 use Rattle.std.proofs.lemmas.Bool.{cases_lt, and_parts, and_cases, and_from, eq-eqb, eqb-true, eqb-false, ne_eqb, not-true, not-false, cond-true, cond-false}
 use Rattle.std.proofs.lemmas.List.{get_or-map, length-map}
@@ -15,9 +15,13 @@ use Rattle.pct_threads.specs.Tables.{slot_at, held_at}
 use Rattle.pct_threads.proofs.TableLemmas.{within-occupied}
 use Rattle.pct_engine_laws.specs.Seen.{SeenSlot, SeenProcess, is_live_seen}
 use Rattle.pct_engine_laws.specs.SeenSteps.{thread_on, thread_with, if_offered_in, seen_transition}
-use Rattle.pct_engine.specs.declared.machine.Machine.{Machine}
+use Rattle.pct_transitions.specs.ThreadViews.{thread_of, threads_of, slot_view, with_specific, ArePlaced}
 use Rattle.pct_keys.specs.Tables.{row_at}
-use Rattle.pct_engine.specs.Views.{thread_of, threads_of, slot_view, with_specific, with_row, slots_view, machine_thread, HasRows, process_view, unless_ended, machine_view}
+use Rattle.pct_actions.specs.declared.machine.Machine.{Machine}
+use Rattle.pct_actions.specs.TableFits.{HasRows}
+use Rattle.pct_actions.specs.MachineChanges.{slot_named}
+use Rattle.pct_actions.proofs.SearchedSlots.{not_on_slot}
+use Rattle.pct_engine.specs.Views.{with_row, slots_view, machine_thread, process_view, unless_ended, machine_view}
 use Rattle.pct_engine.specs.Steps.{legal_transition, may_step, ArePlacedIn}
 use Rattle.pct_engine.proofs.RowAnswers.{none_on_rows}
 use Rattle.pct_engine.proofs.RowViews.{slice_get-with_rows}
@@ -51,6 +55,11 @@ thread_with-none slots id slot threads on none =
           ∙ thread_on-none (held_at threads slot) id none
       | inr past ↦ ap (λ (s : Option Slot). option_and_then (thread_on id) (option_map slot_view s)) (slice_get_past threads slot past)
     ]
+
+-- none is kept of a thread that the search does not find
+pub none_kept : (id : ℕ) (threads : List Slot) (o : Option ℕ) → o ≡ slot_named id threads → IfNone o (thread_with (length threads) id (map slot_view threads) ≡ None)
+none_kept id threads None none = thread_with-none (length threads) id (slot_of (length threads) id) threads refl (not_on_slot id threads (sym none))
+none_kept id threads (Some slot) found = tt
 
 -- the thread on a slot of a machine is the one in what is kept of its process
 pub thread_with-machine : (slots id slot : ℕ) (m : Machine) (held : Held) → HasRows m → held_at m.threads slot ≡ Some held → held.id ≡ id → slot_of slots id ≡ slot → thread_with slots id (slots_view m) ≡ Some (machine_thread m slot held)
@@ -93,6 +102,10 @@ admits m e may =
     let b = and_parts (is_none m.stop && nat_le e.worker 16) (nat_eq e.pid 1) a.0 in
     let d = and_parts (is_none m.stop) (nat_le e.worker 16) b.0 in
     record { running = d.0; worker = d.1; first = eqb-true e.pid 1 b.1; live = not-true m.has_ended a.1 }
+
+-- threads that are placed on a number of slots are placed on those of their table
+pub placed_by_length : (slots : ℕ) (threads : List Slot) → ArePlaced slots threads → ArePlaced (length threads) threads
+placed_by_length slots threads placed = subst (λ (n : ℕ). ArePlaced n threads) (sym placed.all) placed
 
 -- a choice between none and none
 pub none_either : {T : Type 0} (b : Bool) (o : Option T) → o ≡ None → cond b o None ≡ None

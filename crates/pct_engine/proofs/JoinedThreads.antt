@@ -1,9 +1,9 @@
 -- The thread that another sees by its id. The one that another joins has ended and is not detached, so that its slot can be given
 -- back.
 use Rattle.std.proofs.Common.{◌≡◌, ◌≢◌, ℕ, Bool, true, false, not, ◌&&◌, List, map, Option, Some, None, refl, sym, ap, ◌∙◌, inl, inr}
-use Rattle.std.specs.Prelude.{is_some, position, option_map, IfSome}
+use Rattle.std.specs.Prelude.{is_some, option_map, IfSome}
 use Rattle.std.specs.Option.{option_map_or}
-use Rattle.std.proofs.lemmas.Bool.{cases_eq, and_from, eq-eqb, false≢true}
+use Rattle.std.proofs.lemmas.Bool.{cases_eq, and_from, false≢true}
 use Rattle.std.proofs.lemmas.Option.{none-some, same_Some}
 use Rattle.pct_model.specs.declared.state.Status.{Status}
 use Rattle.pct_model.specs.declared.state.Status.TheVariants as status
@@ -18,17 +18,15 @@ use Rattle.pct_threads.specs.Tables.{slot_at, held_at, is_reclaimable_at, on_hel
 use Rattle.pct_threads.proofs.TableLemmas.{within-occupied, slot_at-on_slot_other}
 use Rattle.pct_engine_laws.specs.Seen.{SeenSlot}
 use Rattle.pct_engine_laws.specs.SeenSteps.{thread_with, target_in, answer_in}
-use Rattle.pct_engine.specs.Answers.{any_on}
-use Rattle.pct_engine.specs.Fitting.{NameFits}
-use Rattle.pct_engine.specs.Views.{thread_of, slot_view, ArePlaced}
-use Rattle.pct_engine.proofs.HeldChanges.{held_at-on_held}
-use Rattle.pct_engine.proofs.SearchedSlots.{held_found, held_with}
-use Rattle.pct_engine.proofs.SlotAnswers.{any_found, target_by, is_joined}
+use Rattle.pct_transitions.specs.Answers.{any_on}
+use Rattle.pct_transitions.specs.ThreadViews.{thread_of, slot_view, ArePlaced}
+use Rattle.pct_transitions.proofs.SlotAnswers.{any_found, target_by, is_joined}
+use Rattle.pct_transitions.proofs.ThreadJoiners.{joining_is}
+use Rattle.pct_actions.specs.TableFits.{NameFits}
+use Rattle.pct_actions.specs.MachineChanges.{slot_named}
+use Rattle.pct_actions.proofs.HeldChanges.{held_at-on_held}
+use Rattle.pct_actions.proofs.SearchedSlots.{held_found, held_with}
 use Rattle.pct_engine.proofs.FoundThreads.{thread_with-here, thread_with-none}
-
--- a thread in pthread_join for an id joins it
-pub joining_is : (id : ℕ) (s : Status) → s ≡ status.Joining id → is_joining id s ≡ true
-joining_is id s is = ap (is_joining id) is ∙ eq-eqb id id refl
 
 -- what a thread in pthread_join asks
 pub target_asked : (slots tid id : ℕ) (rows : List SeenSlot) (shared : SharedState) (next : NextStatement) (s : Status) → s ≡ status.Joining id → (answer_in slots tid rows (query_at shared next s)).target ≡ target_in slots id rows
@@ -101,7 +99,7 @@ module _ (slots slot id v : ℕ) (threads : List Slot) (placed : ArePlaced slots
             ready t (target_ended k t before named) (placed.holds k t before)
       ]
 
-  joined_fits : (f : Held → Held) → ((b : Held) → (f b).id ≡ b.id) → (o : Option ℕ) → position (has_id id) (on_held slot f threads) ≡ o → IfSome o (λ k. is_reclaimable_at (on_held slot f threads) k ≡ true)
+  joined_fits : (f : Held → Held) → ((b : Held) → (f b).id ≡ b.id) → (o : Option ℕ) → slot_named id (on_held slot f threads) ≡ o → IfSome o (λ k. is_reclaimable_at (on_held slot f threads) k ≡ true)
   joined_fits f same_id None found = tt
   joined_fits f same_id (Some k) found =
       let at = held_found id k (on_held slot f threads) found in
@@ -109,4 +107,4 @@ module _ (slots slot id v : ℕ) (threads : List Slot) (placed : ArePlaced slots
 
   -- the thread that it joins fits, after a change of the thread that joins it
   pub join_fits : (f : Held → Held) → ((b : Held) → (f b).id ≡ b.id) → NameFits slot (action.EndJoin id) (on_held slot f threads)
-  join_fits f same_id = joined_fits f same_id (position (has_id id) (on_held slot f threads)) refl
+  join_fits f same_id = joined_fits f same_id (slot_named id (on_held slot f threads)) refl

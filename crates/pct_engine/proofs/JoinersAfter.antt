@@ -28,22 +28,24 @@ use Rattle.pct_threads.specs.Slots.{Held, Slot, unused, freed, new_held, with_fr
 use Rattle.pct_threads.specs.Tables.{held_at, id_at, next_id_at, on_held, with_created}
 use Rattle.pct_threads.proofs.TableLemmas.{within-occupied}
 use Rattle.pct_engine_laws.specs.SeenSteps.{choices_in}
-use Rattle.pct_engine.specs.declared.machine.Machine.{Machine}
-use Rattle.pct_engine.specs.Fitting.{NewFits}
-use Rattle.pct_engine.specs.Joiners.{HaveJoiners}
-use Rattle.pct_engine.specs.MachineChanges.{held_at_pc, held_after, held_moved, on_named, named_on, settled, with_new, machine_moved}
-use Rattle.pct_engine.specs.Steps.{legal_transition, ArePlacedIn, IsFound}
+use Rattle.pct_transitions.specs.Joiners.{HaveJoiners}
+use Rattle.pct_transitions.specs.ThreadViews.{slot_view, ArePlaced}
+use Rattle.pct_actions.specs.declared.machine.Machine.{Machine}
+use Rattle.pct_actions.specs.TableFits.{NewFits, HasRows}
+use Rattle.pct_actions.specs.MachineChanges.{held_at_pc, held_after, held_moved, on_named, named_on, settled, with_new, machine_moved}
 use Rattle.pct_keys.specs.Tables.{row_at}
-use Rattle.pct_engine.specs.Views.{slot_view, machine_thread, HasRows, process_view, machine_view, ArePlaced}
-use Rattle.pct_engine.proofs.FoundThreads.{admits, legal_transition-found}
-use Rattle.pct_engine.proofs.HeldChanges.{acted_threads, on_held-nothing, held_at-on_held}
+use Rattle.pct_actions.proofs.HeldChanges.{acted_threads, on_held-nothing, held_at-on_held}
+use Rattle.pct_actions.proofs.FollowingTables.{after_names, inside_names, follows_moved}
+use Rattle.pct_actions.proofs.FollowingTables as tables
+use Rattle.pct_actions.proofs.SearchedSlots.{AreOnTheirSlots}
+use Rattle.pct_engine.specs.Steps.{legal_transition, ArePlacedIn, IsFound}
+use Rattle.pct_engine.specs.Views.{machine_thread, process_view, machine_view}
+use Rattle.pct_engine.proofs.FoundThreads.{admits, placed_by_length, legal_transition-found}
 use Rattle.pct_engine.proofs.JoinedThreads.{seen_is, seen_held, seen_unjoined, target_ended}
 use Rattle.pct_engine.proofs.JoinersKept.{IsAlike, own_kept, own_unjoined, end_kept, cancel_kept, begin_kept, request_kept, detach_kept, settled_kept, created_kept, new_kept, more_at}
 use Rattle.pct_engine.proofs.MachineViews.{table_moved}
 use Rattle.pct_engine.proofs.FittingSteps.{taken, by_case}
 use Rattle.pct_engine.proofs.NamedFits.{IsNotJoining, IsQuiet, AreQuiet, quiet_names, plain_quiet, written_plain, both_plain, ByName}
-use Rattle.pct_engine.proofs.OpenTables.{after_names, inside_names, follows_moved}
-use Rattle.pct_engine.proofs.OpenTables as tables
 
 -- ---- the thread that makes a transition
 
@@ -99,6 +101,9 @@ module _ (slots slot : ℕ) (threads : List Slot) (h : Held) (placed : ArePlaced
   abbrev Keeps : Transition → Type 0
   Keeps o = HaveJoiners (after_names slot o threads)
 
+  place : AreOnTheirSlots threads
+  place = (placed_by_length slots threads placed).place
+
   quiet_kept : (o : Transition) → IsNotJoining h.thread.status → AreQuiet o.actions → Keeps o
   quiet_kept o not quiet =
       subst HaveJoiners (sym (quiet_names slot o.actions (on_held slot (held_moved o) threads) quiet))
@@ -113,7 +118,7 @@ module _ (slots slot : ℕ) (threads : List Slot) (h : Held) (placed : ArePlaced
   begins_kept id k g there named other joinable unjoined running =
       let moved = held_moved (begins_join id) in
       let own : id_at (on_held slot moved threads) slot ≡ h.id = ap (λ (o : Option Held). option_map_or (λ x. x.id) o 0) (held_at-on_held slot moved threads ∙ ap (option_map moved) here) in
-      begin_kept slot threads h here was slots placed.place id k g there named other joinable unjoined running (id_at (on_held slot moved threads) slot) own
+      begin_kept slot threads h here was place id k g there named other joinable unjoined running (id_at (on_held slot moved threads) slot) own
 
   ends_kept : (next id v : ℕ) (d : Dest) → h.thread.status ≡ status.Joining id → ((j : ℕ) (z : Held) → held_at threads j ≡ Some z → z.id ≡ id → is_ended_status z.thread.status ≡ true) → Keeps (ends_join next d id v)
   unfolding ends_join held_after held_at_pc named_on
@@ -121,13 +126,13 @@ module _ (slots slot : ℕ) (threads : List Slot) (h : Held) (placed : ArePlaced
       let o = ends_join next d id v in
       let acted : List Slot = on_held slot (held_moved o) threads in
       subst HaveJoiners (sym (quiet_names slot (written d v) (on_named id freed acted) (plain_quiet (written d v) (written_plain d v))))
-      (end_kept slot threads h here was slots placed.place id (held_moved o) (alike_moved o h) (quiet_all (written d v) (held_at_pc (Some next) h) (plain_quiet (written d v) (written_plain d v)) (λ n. refl)) is over)
+      (end_kept slot threads h here was place id (held_moved o) (alike_moved o h) (quiet_all (written d v) (held_at_pc (Some next) h) (plain_quiet (written d v) (written_plain d v)) (λ n. refl)) is over)
 
   canceled_kept : (id : ℕ) → h.thread.status ≡ status.Joining id → Keeps (acts_on_request (status.Joining id))
   unfolding acts_on_request held_after held_at_pc named_on
   canceled_kept id is =
       let o = acts_on_request (status.Joining id) in
-      cancel_kept slot threads h here was slots placed.place id (held_moved o) (alike_moved o h) (λ n. refl) is
+      cancel_kept slot threads h here was place id (held_moved o) (alike_moved o h) (λ n. refl) is
 
   requested_kept : (next id : ℕ) → IsNotJoining h.thread.status → Keeps (requests next id)
   unfolding requests held_after held_at_pc named_on

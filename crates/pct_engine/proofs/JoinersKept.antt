@@ -1,6 +1,6 @@
 -- Each change of a table of threads keeps the joiners of its threads.
 use Rattle.std.proofs.Common.{◌≡◌, ◌≢◌, ℕ, ◌<◌, Bool, true, false, ◌&&◌, cond, List, length, Option, Some, None, refl, sym, ap, ◌∙◌, subst, arith}
-use Rattle.std.specs.Prelude.{nat_eq, is_some, position, option_map, option_and_then}
+use Rattle.std.specs.Prelude.{is_some, option_map, option_and_then}
 use Rattle.std.specs.Option.{option_map_or}
 use Rattle.std.proofs.lemmas.Bool.{and_left, and_right, eq-eqb, eqb-true, cond-false, false≢true}
 use Rattle.std.proofs.lemmas.Option.{none-some, same_Some}
@@ -9,16 +9,16 @@ use Rattle.pct_model.specs.declared.state.Status.TheVariants as status
 use Rattle.pct_model.specs.declared.transition.NewThread.{NewThread}
 use Rattle.pct_model.specs.OtherThreads.{is_joining}
 use Rattle.pct_model.specs.ThreadSlots.{is_ended_status, slot_of}
-use Rattle.pct_threads.specs.Slots.{Held, Slot, has_id, with_joiner, after_detach, after_change, with_change, freed, new_held, created}
+use Rattle.pct_threads.specs.Slots.{Held, Slot, with_joiner, after_detach, after_change, with_change, freed, new_held, created}
 use Rattle.pct_threads.specs.Tables.{slot_at, held_at, next_id_at, on_slot, on_held, with_created}
 use Rattle.pct_threads.proofs.TableLemmas.{within-occupied, within-free, is_free_at-within, length-on_slot}
-use Rattle.pct_engine.specs.Fitting.{NewFits}
-use Rattle.pct_engine.specs.Joiners.{IsTarget, IsJoiner, IsJoined, HaveJoiners}
-use Rattle.pct_engine.specs.MachineChanges.{held_with_status, held_requested, on_named, unless_reclaimed, settled, with_new}
-use Rattle.pct_engine.proofs.JoinedThreads.{joining_is}
+use Rattle.pct_transitions.specs.Joiners.{IsTarget, IsJoiner, IsJoined, HaveJoiners}
+use Rattle.pct_transitions.proofs.ThreadJoiners.{joining_is}
+use Rattle.pct_actions.specs.TableFits.{NewFits}
+use Rattle.pct_actions.specs.MachineChanges.{held_with_status, held_requested, slot_named, on_named, unless_reclaimed, settled, with_new}
+use Rattle.pct_actions.proofs.FollowingTables.{changed_at, none_here}
+use Rattle.pct_actions.proofs.SearchedSlots.{AreOnTheirSlots, held_found, found_within, found_on}
 use Rattle.pct_engine.proofs.NamedFits.{IsNotJoining}
-use Rattle.pct_engine.proofs.OpenTables.{changed_at, none_here}
-use Rattle.pct_engine.proofs.SearchedSlots.{held_found, fails_everywhere, found_within}
 
 -- ---- statuses
 
@@ -97,16 +97,6 @@ module _ (old new : List Slot) (b y : Held) (was : IsJoined old b) (same_id : y.
     some = still_some;
   }
 
--- ---- the thread with an id, in a table with one thread at most for each
-
-found_placed : (slots id k : ℕ) (threads : List Slot) (g : Held) → ((j : ℕ) (x : Held) → held_at threads j ≡ Some x → slot_of slots x.id ≡ j) → held_at threads k ≡ Some g → g.id ≡ id → position (has_id id) threads ≡ Some k
-found_placed slots id k threads g place there named = either (position (has_id id) threads) refl where
-  either : (o : Option ℕ) → position (has_id id) threads ≡ o → o ≡ Some k
-  either None none = absurd (false≢true (sym (fails_everywhere id threads none k) ∙ ap (λ (o : Option Held). option_map_or (λ held. nat_eq held.id id) o false) there ∙ eq-eqb g.id id named))
-  either (Some i) found =
-      let at = held_found id i threads found in
-      ap (λ (n : ℕ). Some n) (sym (place i at.0 at.1) ∙ ap (slot_of slots) (at.2 ∙ sym named) ∙ place k g there)
-
 -- ---- changes of the thread on a slot
 
 -- a change keeps what other threads know of a thread
@@ -138,11 +128,13 @@ module _ (slot : ℕ) (threads : List Slot) (h : Held) (here : held_at threads s
         let e : h ≡ z = only j z same at in
         record { now = f h; found = found; same_id = alike.same_id ∙ ap (λ (x : Held). x.id) e; same_detached = alike.same_detached ∙ ap (λ (x : Held). x.detached) e; same_joiner = alike.same_joiner ∙ ap (λ (x : Held). x.joiner) e }
 
-    own_placed : (slots : ℕ) → ((j : ℕ) (x : Held) → held_at threads j ≡ Some x → slot_of slots x.id ≡ j) → (j : ℕ) (x : Held) → held_at acted j ≡ Some x → slot_of slots x.id ≡ j
-    own_placed slots place j x =
-        own_at f j (λ o. o ≡ Some x → slot_of slots x.id ≡ j)
-        (λ same at. ap (slot_of slots) (sym (ap (λ (y : Held). y.id) (same_Some (f h) x at)) ∙ alike.same_id) ∙ place slot h here ∙ sym same)
+    own_placed : AreOnTheirSlots threads → AreOnTheirSlots acted
+    own_placed place j x at =
+        ap (λ (n : ℕ). slot_of n x.id) (length-on_slot slot (with_change f) threads)
+        ∙ own_at f j (λ o. o ≡ Some x → slot_of (length threads) x.id ≡ j)
+        (λ same at. ap (slot_of (length threads)) (sym (ap (λ (y : Held). y.id) (same_Some (f h) x at)) ∙ alike.same_id) ∙ place slot h here ∙ sym same)
         (λ other. place j x)
+        at
 
     -- a change of a thread that is not in pthread_join, before or after it
     pub own_kept : IsNotJoining h.thread.status → IsNotJoining (f h).thread.status → HaveJoiners acted
@@ -175,7 +167,7 @@ module _ (slot : ℕ) (threads : List Slot) (h : Held) (here : held_at threads s
 
   -- ---- a join ends, or is canceled
 
-  module _ (slots : ℕ) (place : (j : ℕ) (x : Held) → held_at threads j ≡ Some x → slot_of slots x.id ≡ j) (id : ℕ) (f : Held → Held) (alike : IsAlike h (f h)) (not : IsNotJoining (f h).thread.status) (is : h.thread.status ≡ status.Joining id) where
+  module _ (place : AreOnTheirSlots threads) (id : ℕ) (f : Held → Held) (alike : IsAlike h (f h)) (not : IsNotJoining (f h).thread.status) (is : h.thread.status ≡ status.Joining id) where
     abbrev its_target : IsTarget threads id h
     its_target = (was slot h here).joins id is
 
@@ -207,7 +199,7 @@ module _ (slot : ℕ) (threads : List Slot) (h : Held) (here : held_at threads s
           record { now = s.0; found = now ∙ s.1; same_id = s.2 ∙ ap (λ (x : Held). x.id) e; same_status = s.3 ∙ ap (λ (x : Held). x.thread.status) e })
           (λ apart same now.
           let joined : id ≡ b.id = same_target id b.id (sym is ∙ ap (λ (x : Held). x.thread.status) (only i z same found) ∙ joins) in
-          absurd (differs (sym (place j b at) ∙ ap (slot_of slots) (sym joined ∙ sym its_target.named) ∙ place its_target.slot its_target.target its_target.here)))
+          absurd (differs (sym (place j b at) ∙ ap (slot_of (length threads)) (sym joined ∙ sym its_target.named) ∙ place its_target.slot its_target.target its_target.here)))
           (λ apart other now. joiner_as_it_was left i z (now ∙ found))
           refl
 
@@ -216,7 +208,7 @@ module _ (slot : ℕ) (threads : List Slot) (h : Held) (here : held_at threads s
           left_at i (λ p. held_at left i ≡ p → StaysTarget left i z)
           (λ same now.
           let both : h.id ≡ b.id = sym its_target.joined ∙ ap (λ (x : Held). x.joiner) (on_target i z same found) ∙ joined in
-          absurd (differs (sym (place j b at) ∙ ap (slot_of slots) (sym both) ∙ place slot h here)))
+          absurd (differs (sym (place j b at) ∙ ap (slot_of (length threads)) (sym both) ∙ place slot h here)))
           (λ apart same now. own_target f alike i z same found left now)
           (λ apart other now. target_as_it_was left i z (now ∙ found))
           refl
@@ -230,7 +222,7 @@ module _ (slot : ℕ) (threads : List Slot) (h : Held) (here : held_at threads s
 
       named_kept : ((y : Held) → o ≡ Some y → IsJoined left y) → HaveJoiners (on_named id change (acted f alike))
       named_kept target =
-          subst HaveJoiners (sym (ap (λ (p : Option ℕ). option_map_or (λ k. on_slot k change (acted f alike)) p (acted f alike)) (found_placed slots id its_target.slot (acted f alike) its_target.target (own_placed f alike slots place) still_target its_target.named))) (left_kept target)
+          subst HaveJoiners (sym (ap (λ (p : Option ℕ). option_map_or (λ k. on_slot k change (acted f alike)) p (acted f alike)) (found_on id its_target.slot (acted f alike) its_target.target (own_placed f alike place) still_target its_target.named))) (left_kept target)
 
     -- the thread goes on, and its target, which has ended, gives back its slot
     pub end_kept : ((j : ℕ) (z : Held) → held_at threads j ≡ Some z → z.id ≡ id → is_ended_status z.thread.status ≡ true) → HaveJoiners (on_named id freed (acted f alike))
@@ -258,7 +250,7 @@ module _ (slot : ℕ) (threads : List Slot) (h : Held) (here : held_at threads s
 
   -- ---- a join begins
 
-  module _ (slots : ℕ) (place : (j : ℕ) (x : Held) → held_at threads j ≡ Some x → slot_of slots x.id ≡ j) (id k : ℕ) (g : Held) (there : held_at threads k ≡ Some g) (named : g.id ≡ id) (other : id ≢ h.id) (joinable : g.detached ≡ false)
+  module _ (place : AreOnTheirSlots threads) (id k : ℕ) (g : Held) (there : held_at threads k ≡ Some g) (named : g.id ≡ id) (other : id ≢ h.id) (joinable : g.detached ≡ false)
       (unjoined : (j : ℕ) (z : Held) → held_at threads j ≡ Some z → z.thread.status ≢ status.Joining id) (running : IsNotJoining h.thread.status) where
     -- the thread, suspended
     abbrev suspended : Held → Held
@@ -333,7 +325,7 @@ module _ (slot : ℕ) (threads : List Slot) (h : Held) (here : held_at threads s
     begin_kept own is =
         subst HaveJoiners
         (sym (
-        ap (λ (o : Option ℕ). option_map_or (λ i. on_slot i (with_change (with_joiner own)) waiting) o waiting) (found_placed slots id k waiting g (own_placed suspended same_place slots place) still_there named)
+        ap (λ (o : Option ℕ). option_map_or (λ i. on_slot i (with_change (with_joiner own)) waiting) o waiting) (found_on id k waiting g (own_placed suspended same_place place) still_there named)
         ∙ ap (λ (n : ℕ). on_slot k (with_change (with_joiner n)) waiting) is))
         joined_kept
 
@@ -357,7 +349,7 @@ requested_from None y is = absurd (none-some y is)
 requested_from (Some z) y is = (z, refl, same_Some (held_requested z) y is)
 
 module _ (id : ℕ) (threads : List Slot) (was : HaveJoiners threads) where
-  module _ (k : ℕ) (found : position (has_id id) threads ≡ Some k) where
+  module _ (k : ℕ) (found : slot_named id threads ≡ Some k) where
     abbrev with_request : List Slot
     with_request = on_slot k (with_change held_requested) threads
 
@@ -392,13 +384,13 @@ module _ (id : ℕ) (threads : List Slot) (was : HaveJoiners threads) where
         request_still j z.0 y z.1 (subst (IsSame z.0) z.2 (requested_same z.0)))
         (λ differs at. request_still j y y at (record { same_id = refl; same_detached = refl; same_joiner = refl; same_status = refl }))
 
-  request_kept_by : (o : Option ℕ) → position (has_id id) threads ≡ o → HaveJoiners (option_map_or (λ k. on_slot k (with_change held_requested) threads) o threads)
+  request_kept_by : (o : Option ℕ) → slot_named id threads ≡ o → HaveJoiners (option_map_or (λ k. on_slot k (with_change held_requested) threads) o threads)
   request_kept_by None none = was
   request_kept_by (Some k) found = requested_kept k found
 
   -- a request for the thread with an id
   pub request_kept : HaveJoiners (on_named id (with_change held_requested) threads)
-  request_kept = request_kept_by (position (has_id id) threads) refl
+  request_kept = request_kept_by (slot_named id threads) refl
 
 -- ---- a detach
 
@@ -414,7 +406,7 @@ module _ (id : ℕ) (threads : List Slot) (was : HaveJoiners threads) (unjoined 
   detached_joins : (z : Held) (wanted : ℕ) → z.thread.status ≡ status.Joining wanted → after_detach z ≡ Some (record z { detached = true })
   detached_joins z wanted joins = cond-false (is_ended_status z.thread.status) None (Some (record z { detached = true })) (ap is_ended_status joins)
 
-  module _ (k : ℕ) (found : position (has_id id) threads ≡ Some k) where
+  module _ (k : ℕ) (found : slot_named id threads ≡ Some k) where
     abbrev with_detach : List Slot
     with_detach = on_slot k (after_change after_detach) threads
 
@@ -448,13 +440,13 @@ module _ (id : ℕ) (threads : List Slot) (was : HaveJoiners threads) (unjoined 
         subst (IsJoined with_detach) g.2 (still threads with_detach g.0 (record g.0 { detached = true }) (was j g.0 g.1) refl refl refl (λ wanted joins i z there is joiner_is joinable. detached_target j g.0 g.1 wanted joins i z there is) (detached_joiner g.0.id)))
         (λ differs at. still threads with_detach y y (was j y at) refl refl refl (λ wanted joins i z there is joiner_is joinable. detached_target j y at wanted joins i z there is) (detached_joiner y.id))
 
-  detach_kept_by : (o : Option ℕ) → position (has_id id) threads ≡ o → HaveJoiners (option_map_or (λ k. on_slot k (after_change after_detach) threads) o threads)
+  detach_kept_by : (o : Option ℕ) → slot_named id threads ≡ o → HaveJoiners (option_map_or (λ k. on_slot k (after_change after_detach) threads) o threads)
   detach_kept_by None none = was
   detach_kept_by (Some k) found = detached_kept k found
 
   -- a thread that no other joins is detached
   pub detach_kept : HaveJoiners (on_named id (after_change after_detach) threads)
-  detach_kept = detach_kept_by (position (has_id id) threads) refl
+  detach_kept = detach_kept_by (slot_named id threads) refl
 
 -- ---- a thread gives back its slot
 

@@ -16,8 +16,9 @@ use Rattle.pct_model.specs.World.{Thread}
 use Rattle.pct_threads.specs.Slots.{Held}
 use Rattle.pct_threads.specs.Tables.{held_at}
 use Rattle.pct_engine_laws.specs.SeenSteps.{transition_in, if_offered_in}
-use Rattle.pct_engine.specs.declared.machine.Machine.{Machine}
-use Rattle.pct_engine.specs.Views.{machine_thread, HasRows, process_view, machine_view}
+use Rattle.pct_actions.specs.declared.machine.Machine.{Machine}
+use Rattle.pct_actions.specs.TableFits.{HasRows}
+use Rattle.pct_engine.specs.Views.{machine_thread, process_view, machine_view}
 use Rattle.pct_engine.specs.ReadyThreads.{choices_of, candidate_of}
 use Rattle.pct_engine.specs.Steps.{legal_transition, may_step}
 use Rattle.pct_engine.proofs.FoundThreads.{thread_with-machine, legal_transition-admitted}

@@ -1,18 +1,6 @@
-pub mod Bodies
-pub mod Fits
-pub mod ListedChoices
-pub mod KeyChoices
-pub mod CancelRows
-pub mod SlotAnswers
-mod HeldChanges
-mod FrameChanges
-mod RoomAfter
-mod RestItems
-mod SearchedSlots
 mod ChangedTables
 mod RowViews
 mod RowAnswers
-mod KeyTables
 mod NamedThreads
 mod OpenTables
 mod MachineViews

@@ -25,16 +25,18 @@ use Rattle.pct_engine_laws.specs.Seen as seen
 use Rattle.pct_engine_laws.proofs.ListFacts.{map-map}
 use Rattle.pct_engine_laws.proofs.ThreadChanges.{on_thread, transition_keeps_id, all_named_keep}
 use Rattle.pct_engine_laws.proofs.ThreadChanges as laws
-use Rattle.pct_engine.specs.declared.machine.Machine.{Machine}
-use Rattle.pct_engine.specs.Fitting.{NamesFit, IsNext, NewFits, KeysFit}
-use Rattle.pct_engine.specs.Views.{thread_of, threads_of, slot_view, with_specific, with_row, with_rows, slots_view, HasRows, shared_view, first_process_view, process_view, unless_ended, machine_view, ArePlaced}
-use Rattle.pct_engine.specs.MachineChanges.{held_at_pc, held_after, held_moved, globals_after, exit_value_after, has_ended_after, named_on, unless_reclaimed, settled, with_new, keys_after, with_new_row, machine_after, machine_acted, machine_moved}
-use Rattle.pct_engine.proofs.HeldChanges.{acted_threads}
+use Rattle.pct_transitions.specs.ThreadViews.{thread_of, threads_of, slot_view, with_specific, ArePlaced}
+use Rattle.pct_actions.specs.declared.machine.Machine.{Machine}
+use Rattle.pct_actions.specs.TableFits.{NamesFit, IsNext, NewFits, KeysFit, HasRows}
+use Rattle.pct_actions.specs.MachineChanges.{held_at_pc, held_after, held_moved, globals_after, exit_value_after, has_ended_after, named_on, unless_reclaimed, settled, with_new, keys_after, with_new_row, machine_after, machine_acted, machine_moved}
+use Rattle.pct_actions.proofs.HeldChanges.{acted_threads}
+use Rattle.pct_actions.proofs.KeyTables.{own_row, named_row, length_all, rows_all, acted_keys, length-with_new_row}
+use Rattle.pct_actions.proofs.FollowingTables.{Follows, changed_at, follows_named, after_names, follows_moved, none_here, new_kept}
+use Rattle.pct_engine.specs.Views.{with_row, with_rows, slots_view, shared_view, first_process_view, process_view, unless_ended, machine_view}
 use Rattle.pct_engine.proofs.ChangedTables.{changed_slots, open_view, change_after}
 use Rattle.pct_engine.proofs.RowViews.{length-with_rows, get_or-with_rows, slice_get-with_rows, set-with_rows, holding_with}
-use Rattle.pct_engine.proofs.KeyTables.{own_row, named_row, length_all, rows_all, acted_keys, length-with_new_row}
 use Rattle.pct_engine.proofs.NamedThreads.{named_view}
-use Rattle.pct_engine.proofs.OpenTables.{Follows, IsOpen, changed_at, follows_named, open_named, open_all, after_names, follows_moved, none_here, new_kept}
+use Rattle.pct_engine.proofs.OpenTables.{IsOpen, open_named, open_all}
 
 -- ---- the thread
 
@@ -175,6 +177,7 @@ module _ (slots slot tid : ℕ) (o : Transition) (threads : List Slot) (h : Held
   own_open : IsOpen slots slot (on_held slot (held_moved o) threads)
   own_open =
       record {
+        all = length-on_slot slot (with_change (held_moved o)) threads ∙ placed.all;
         place = λ j x. changed_at slot (with_change (held_moved o)) threads inside j (λ s. s.here ≡ Some x → slot_of slots x.id ≡ j)
             (λ same at. let b = own_from (held_at threads j) x at in ap (slot_of slots) b.2 ∙ placed.place j b.0 b.1)
             (λ differs. placed.place j x);
@@ -215,7 +218,7 @@ all_named_view slots slot (a ∷ actions) rows threads fit was fits =
     let next_fit : length (map (named_row a) rows) ≡ length next = length-map rows (named_row a) ∙ fit ∙ sym (follows_named slot a threads).same_length in
     ap (λ (rs : List KeyValues). with_rows rs (map open_view (for_each (named_on slot) actions next))) (sym (map-map (for_each named_row actions) (named_row a) rows))
     ∙ all_named_view slots slot actions (map (named_row a) rows) next next_fit (open_named slots slot a threads was) fits.1
-    ∙ ap (map (laws.with_change (for_each named_after actions))) (named_view rows slots slot a threads fit was.place fits.0)
+    ∙ ap (map (laws.with_change (for_each named_after actions))) (named_view rows slot a threads fit (λ j h here. ap (λ (n : ℕ). slot_of n h.id) was.all ∙ was.place j h here) fits.0)
     ∙ change_after (named_after a) (for_each named_after actions) (all_named_keep actions) (with_rows rows (map open_view threads))
 
 -- ---- a thread that has ended and is detached

@@ -48,8 +48,8 @@ use Rattle.pct_threads.specs.Slots.{Slot}
 use Rattle.pct_engine_laws.specs.Seen.{SeenSlot}
 use Rattle.pct_engine_laws.specs.SeenSteps.{target_in, answer_in}
 use Rattle.pct_engine_laws.proofs.OfferedChoices.{offered_has, each_choice}
-use Rattle.pct_engine.specs.Fitting.{NameFits, NamesFit, KeepsKeys, AllKeepKeys}
-use Rattle.pct_engine.specs.MachineChanges.{named_on}
+use Rattle.pct_actions.specs.TableFits.{NameFits, NamesFit, KeepsKeys, AllKeepKeys}
+use Rattle.pct_actions.specs.MachineChanges.{named_on}
 
 -- ---- actions that name no thread
 

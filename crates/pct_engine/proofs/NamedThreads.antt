@@ -1,6 +1,6 @@
 -- The threads that a transition names: what is kept of them, with their rows, changes as the threads of the state.
 use Rattle.std.proofs.Common.{◌≡◌, ℕ, ◌<◌, Bool, true, false, not, ◌&&◌, cond, List, [], ◌∷◌, map, filter, length, Option, Some, None, refl, sym, ap, ◌∙◌, subst, ne_eqb, eq-eqb}
-use Rattle.std.specs.Prelude.{nat_eq, position, option_map, option_and_then, IfSome}
+use Rattle.std.specs.Prelude.{nat_eq, option_map, option_and_then, IfSome}
 use Rattle.std.proofs.lemmas.Bool.{and_parts, and_right, not-true}
 use Rattle.std.proofs.lemmas.List.{get_or-map, length-map}
 use Rattle.std.specs.Option.{option_map_or}
@@ -10,21 +10,18 @@ use Rattle.pct_model.specs.World.{Thread}
 use Rattle.pct_model.specs.Keys.{KeyValues}
 use Rattle.pct_model.specs.ThreadSlots.{is_ended_status, holds_slot, slot_of, is_live_thread}
 use Rattle.pct_model.specs.Actions.{named_after}
-use Rattle.pct_threads.specs.Slots.{Held, Slot, unused, has_id, is_reclaimable, with_joiner, after_detach, after_change, with_change, freed}
+use Rattle.pct_threads.specs.Slots.{Held, Slot, unused, is_reclaimable, with_joiner, after_detach, after_change, with_change, freed}
 use Rattle.pct_threads.specs.Tables.{slot_at, held_at, id_at, is_reclaimable_at, on_slot}
 use Rattle.pct_engine_laws.proofs.ThreadChanges.{KeepsSlots, named_keeps}
 use Rattle.pct_engine_laws.proofs.ThreadChanges as laws
-use Rattle.pct_engine.specs.Fitting.{IfNamed, NameFits}
-use Rattle.pct_engine.specs.Views.{thread_of, threads_of, with_specific, with_row, with_rows}
-use Rattle.pct_engine.specs.MachineChanges.{held_requested, on_named, named_on}
-use Rattle.pct_engine.proofs.SearchedSlots.{held_found, fails_everywhere}
+use Rattle.pct_transitions.specs.ThreadViews.{thread_of, threads_of, with_specific}
+use Rattle.pct_actions.specs.TableFits.{IfNamed, NameFits}
+use Rattle.pct_actions.specs.MachineChanges.{held_requested, slot_named, on_named, named_on}
+use Rattle.pct_actions.proofs.SearchedSlots.{AreOnTheirSlots, held_found, none_named}
+use Rattle.pct_actions.proofs.KeyTables.{named_row}
+use Rattle.pct_engine.specs.Views.{with_row, with_rows}
 use Rattle.pct_engine.proofs.RowViews.{Commutes, changed_rows, same_with_rows}
-use Rattle.pct_engine.proofs.KeyTables.{named_row}
 use Rattle.pct_engine.proofs.ChangedTables.{changed_slots, same_slots, open_view, changed_view, change_of_open}
-
--- each thread on a slot of the table has an id of the slot
-abbrev pub AreOnTheirSlots : ℕ → List Slot → Type 0
-AreOnTheirSlots slots threads = (slot : ℕ) (held : Held) → held_at threads slot ≡ Some held → slot_of slots held.id ≡ slot
 
 -- ---- a slot whose thread is not named
 
@@ -37,23 +34,19 @@ unnamed id f s stays other i = record { made = s.made; here = unnamed_here id f 
 
 -- ---- the thread with an id
 
--- no slot has a thread with the id, where the search finds none
-test_held : (id : ℕ) (o : Option Held) (h : Held) → option_map_or (λ held. nat_eq held.id id) o false ≡ false → o ≡ Some h → nat_eq h.id id ≡ false
-test_held id o h fails here = sym (ap (λ (x : Option Held). option_map_or (λ held. nat_eq held.id id) x false) here) ∙ fails
-
-module _ (slots id : ℕ) (f : Thread → Thread) (change : Slot → Slot) (threads : List Slot)
-    (placed : AreOnTheirSlots slots threads) (stays : (t : Thread) → nat_eq t.id id ≡ false → f t ≡ t)
-    (changes : (k : ℕ) (h : Held) → position (has_id id) threads ≡ Some k → held_at threads k ≡ Some h → nat_eq h.id id ≡ true → open_view (change (slot_at threads k)) ≡ changed_view f (slot_at threads k)) where
-  found_view : (o : Option ℕ) → position (has_id id) threads ≡ o → map open_view (option_map_or (λ target. on_slot target change threads) o threads) ≡ map (changed_view f) threads
-  found_view None none = same_slots open_view (changed_view f) threads (λ j. unnamed id f (slot_at threads j) stays (λ h here. test_held id (held_at threads j) h (fails_everywhere id threads none j) here))
+module _ (id : ℕ) (f : Thread → Thread) (change : Slot → Slot) (threads : List Slot)
+    (placed : AreOnTheirSlots threads) (stays : (t : Thread) → nat_eq t.id id ≡ false → f t ≡ t)
+    (changes : (k : ℕ) (h : Held) → slot_named id threads ≡ Some k → held_at threads k ≡ Some h → nat_eq h.id id ≡ true → open_view (change (slot_at threads k)) ≡ changed_view f (slot_at threads k)) where
+  found_view : (o : Option ℕ) → slot_named id threads ≡ o → map open_view (option_map_or (λ target. on_slot target change threads) o threads) ≡ map (changed_view f) threads
+  found_view None none = same_slots open_view (changed_view f) threads (λ j. unnamed id f (slot_at threads j) stays (λ h here. ne_eqb h.id id (none_named id threads placed none j h here)))
   found_view (Some k) found =
       let at = held_found id k threads found in
       changed_slots open_view (changed_view f) k change threads
       (λ inside. changes k at.0 found at.1 (eq-eqb at.0.id id at.2))
-      (λ j differs. unnamed id f (slot_at threads j) stays (λ h here. ne_eqb h.id id (λ same. differs (sym (placed j h here) ∙ ap (slot_of slots) (same ∙ sym at.2) ∙ placed k at.0 at.1))))
+      (λ j differs. unnamed id f (slot_at threads j) stays (λ h here. ne_eqb h.id id (λ same. differs (sym (placed j h here) ∙ ap (slot_of (length threads)) (same ∙ sym at.2) ∙ placed k at.0 at.1))))
 
   pub on_named_view : map open_view (on_named id change threads) ≡ map (changed_view f) threads
-  on_named_view = found_view (position (has_id id) threads) refl
+  on_named_view = found_view (slot_named id threads) refl
 
 -- ---- each action
 
@@ -173,7 +166,7 @@ join_view id s h here named ready i =
 
 -- ---- an action
 
-reclaimable_found : (id k : ℕ) (threads : List Slot) (h : Held) → IfNamed id threads (λ target. is_reclaimable_at threads target ≡ true) → position (has_id id) threads ≡ Some k → held_at threads k ≡ Some h → is_reclaimable h ≡ true
+reclaimable_found : (id k : ℕ) (threads : List Slot) (h : Held) → IfNamed id threads (λ target. is_reclaimable_at threads target ≡ true) → slot_named id threads ≡ Some k → held_at threads k ≡ Some h → is_reclaimable h ≡ true
 reclaimable_found id k threads h fits found here =
     let ready : is_reclaimable_at threads k ≡ true = subst (λ (o : Option ℕ). IfSome o (λ target. is_reclaimable_at threads target ≡ true)) found fits in
     sym (ap (λ (o : Option Held). option_map_or is_reclaimable o false) here) ∙ ready
@@ -189,7 +182,7 @@ data_here row f same (t ∷ ts) =
     either true rest = ap (λ (x : Thread). x ∷ map (with_specific row) (filter holds_slot ts)) (sym (same row t)) ∙ ap (λ (xs : List Thread). with_specific row (f t) ∷ xs) rest
     either false rest = rest
 
-module _ (rows : List KeyValues) (slots slot : ℕ) (threads : List Slot) (fit : length rows ≡ length threads) (placed : AreOnTheirSlots slots threads) where
+module _ (rows : List KeyValues) (slot : ℕ) (threads : List Slot) (fit : length rows ≡ length threads) (placed : AreOnTheirSlots threads) where
   -- what is kept of the slots, with these rows, after a change of one
   abbrev Named : Action → Type 0
   Named a = with_rows rows (map open_view (named_on slot a threads)) ≡ with_rows rows (map (changed_view (named_after a)) threads)
@@ -208,19 +201,19 @@ module _ (rows : List KeyValues) (slots slot : ℕ) (threads : List Slot) (fit :
   named_first : (a : Action) → NameFits slot a threads → Named a
   unfolding named_on named_after
   named_first (action.BeginJoin id) fits =
-      ap (with_rows rows) (on_named_view slots id (λ t. t) (with_change (with_joiner (id_at threads slot))) threads placed (λ t other. refl)
+      ap (with_rows rows) (on_named_view id (λ t. t) (with_change (with_joiner (id_at threads slot))) threads placed (λ t other. refl)
       (λ k h found here named i. record { made = (slot_at threads k).made; here = joiner_here (id_at threads slot) (held_at threads k) i }))
   named_first (action.EndJoin id) fits =
-      ap (with_rows rows) (on_named_view slots id (named_after (action.EndJoin id)) freed threads placed (join_stays id)
+      ap (with_rows rows) (on_named_view id (named_after (action.EndJoin id)) freed threads placed (join_stays id)
       (λ k h found here named. join_view id (slot_at threads k) h here named (reclaimable_found id k threads h fits found here)))
   named_first (action.CancelJoin id) fits =
-      ap (with_rows rows) (on_named_view slots id (λ t. t) (with_change (with_joiner 0)) threads placed (λ t other. refl)
+      ap (with_rows rows) (on_named_view id (λ t. t) (with_change (with_joiner 0)) threads placed (λ t other. refl)
       (λ k h found here named i. record { made = (slot_at threads k).made; here = joiner_here 0 (held_at threads k) i }))
   named_first (action.Request id) fits =
-      ap (with_rows rows) (on_named_view slots id (named_after (action.Request id)) (with_change held_requested) threads placed (request_stays id)
+      ap (with_rows rows) (on_named_view id (named_after (action.Request id)) (with_change held_requested) threads placed (request_stays id)
       (λ k h found here named. request_view id (slot_at threads k) h here named))
   named_first (action.Detach id) fits =
-      ap (with_rows rows) (on_named_view slots id (named_after (action.Detach id)) (after_change after_detach) threads placed (detach_stays id)
+      ap (with_rows rows) (on_named_view id (named_after (action.Detach id)) (after_change after_detach) threads placed (detach_stays id)
       (λ k h found here named. detach_view id (slot_at threads k) h here named))
   named_first (action.DeleteKey k) fits = deleted_first k
   named_first _ fits = ap (with_rows rows) (same_slots open_view (changed_view (λ t. t)) threads (λ j i. record { made = (slot_at threads j).made; here = same_here (held_at threads j) i }))
@@ -241,9 +234,9 @@ named_commutes (action.DeleteKey k) own t = refl
 named_commutes _ own t = refl
 
 -- what is kept of a table, with its rows, after an action that may name a thread, or a key
-pub named_view : (rows : List KeyValues) (slots slot : ℕ) (a : Action) (threads : List Slot) → length rows ≡ length threads → AreOnTheirSlots slots threads → NameFits slot a threads
+pub named_view : (rows : List KeyValues) (slot : ℕ) (a : Action) (threads : List Slot) → length rows ≡ length threads → AreOnTheirSlots threads → NameFits slot a threads
     → with_rows (map (named_row a) rows) (map open_view (named_on slot a threads)) ≡ map (laws.with_change (named_after a)) (with_rows rows (map open_view threads))
-named_view rows slots slot a threads fit placed fits =
-    named_first (map (named_row a) rows) slots slot threads (length-map rows (named_row a) ∙ fit) placed a fits
+named_view rows slot a threads fit placed fits =
+    named_first (map (named_row a) rows) slot threads (length-map rows (named_row a) ∙ fit) placed a fits
     ∙ ap (with_rows (map (named_row a) rows)) (sym (change_of_open (named_after a) (named_keeps a) threads))
     ∙ changed_rows (named_after a) (named_row a) (named_commutes a) rows (map open_view threads) (fit ∙ sym (length-map threads open_view))

@@ -22,8 +22,8 @@ use Rattle.pct_threads.proofs.TableLemmas.{is_free_at-within}
 use Rattle.pct_engine_laws.specs.Seen.{SeenSlot}
 use Rattle.pct_engine_laws.specs.SeenSteps.{is_empty, new_ids_from, answer_in}
 use Rattle.pct_engine_laws.proofs.OfferedChoices.{Creates, transition_makes}
-use Rattle.pct_engine.specs.Fitting.{IsNext, NewFits}
-use Rattle.pct_engine.specs.Views.{threads_of, slot_view}
+use Rattle.pct_transitions.specs.ThreadViews.{threads_of, slot_view}
+use Rattle.pct_actions.specs.TableFits.{IsNext, NewFits}
 use Rattle.pct_engine.proofs.NamedFits.{each_among}
 
 -- ---- the ids that are offered

@@ -17,7 +17,7 @@ use Rattle.pct_model.specs.World.{Thread}
 use Rattle.pct_model.specs.ChoiceTable.{is_enabled}
 use Rattle.pct_model.specs.Chosen.{Candidate, item_at, entry_for}
 use Rattle.pct_engine_laws.specs.SeenSteps.{threads_on, ready_in, candidate_in, seen_candidates, seen_chosen, has_ready_in, seen_verdict, seen_verdict_by}
-use Rattle.pct_engine.specs.declared.machine.Machine.{Machine}
+use Rattle.pct_actions.specs.declared.machine.Machine.{Machine}
 use Rattle.pct_engine.specs.Views.{slots_view, process_view, unless_ended, machine_view}
 use Rattle.pct_engine.specs.ReadyThreads.{choices_of, is_ready, ready_threads, candidate_of}
 

@@ -17,9 +17,11 @@ use Rattle.pct_threads.specs.Tables.{slot_at, held_at, is_occupied_at}
 use Rattle.pct_keys.specs.Tables.{row_at}
 use Rattle.pct_engine_laws.specs.Seen.{SeenSlot}
 use Rattle.pct_engine_laws.specs.SeenSteps.{threads_on}
-use Rattle.pct_engine.specs.declared.machine.Machine.{Machine}
+use Rattle.pct_transitions.specs.ThreadViews.{thread_of, threads_of, slot_view, with_specific}
+use Rattle.pct_actions.specs.declared.machine.Machine.{Machine}
+use Rattle.pct_actions.specs.TableFits.{HasRows}
 use Rattle.pct_engine.specs.ReadyThreads.{thread_in, is_ready, is_ready_on, ready_threads}
-use Rattle.pct_engine.specs.Views.{thread_of, threads_of, slot_view, with_specific, with_row, slots_view, machine_thread, HasRows}
+use Rattle.pct_engine.specs.Views.{with_row, slots_view, machine_thread}
 use Rattle.pct_engine.proofs.RowViews.{length-with_rows, get_or-with_rows}
 
 -- ---- a scan for the slots that pass a test

@@ -14,8 +14,9 @@ use Rattle.pct_model.specs.World.{Thread}
 use Rattle.pct_engine_laws.specs.Seen.{SeenSlot}
 use Rattle.pct_engine_laws.specs.SeenSteps.{threads_on, thread_on, thread_with, target_in, is_empty, new_ids_from, answer_in}
 use Rattle.pct_engine_laws.proofs.ListFacts.{all_none}
-use Rattle.pct_engine.specs.Views.{with_specific, with_rows}
-use Rattle.pct_engine.proofs.SlotAnswers.{target_by}
+use Rattle.pct_transitions.specs.ThreadViews.{with_specific}
+use Rattle.pct_transitions.proofs.SlotAnswers.{target_by}
+use Rattle.pct_engine.specs.Views.{with_rows}
 
 -- ---- tests of threads
 

@@ -7,7 +7,8 @@ use Rattle.pct_model.specs.World.{Thread}
 use Rattle.pct_model.specs.ThreadSlots.{holds_slot}
 use Rattle.pct_engine_laws.specs.Seen.{SeenSlot}
 use Rattle.pct_engine_laws.proofs.ThreadChanges.{with_change}
-use Rattle.pct_engine.specs.Views.{with_specific, with_row, with_rows}
+use Rattle.pct_transitions.specs.ThreadViews.{with_specific}
+use Rattle.pct_engine.specs.Views.{with_row, with_rows}
 
 -- ---- by index
 

@@ -18,9 +18,11 @@ use Rattle.pct_engine_laws.specs.SeenSteps.{seen_transition}
 use Rattle.pct_engine_laws.proofs.AfterSeen.{after_is_seen}
 use Rattle.pct_engine_laws.proofs.PlacedThreads.{HoldsSlot, IsPlaced, processes_are_placed}
 use Rattle.pct_engine_laws.proofs.StepSeen.{successor_of, may_step, step_is_seen}
-use Rattle.pct_engine.specs.declared.machine.Machine.{Machine}
-use Rattle.pct_engine.specs.Views.{threads_of, slot_view, with_specific, with_row, machine_thread, HasRows, process_view, unless_ended, machine_view}
-use Rattle.pct_engine.specs.MachineChanges.{machine_moved}
+use Rattle.pct_transitions.specs.ThreadViews.{threads_of, slot_view, with_specific}
+use Rattle.pct_actions.specs.declared.machine.Machine.{Machine}
+use Rattle.pct_actions.specs.TableFits.{HasRows}
+use Rattle.pct_actions.specs.MachineChanges.{machine_moved}
+use Rattle.pct_engine.specs.Views.{with_row, machine_thread, process_view, unless_ended, machine_view}
 use Rattle.pct_engine.specs.Steps.{legal_transition, ArePlacedIn, IsFound, IsStepOf}
 use Rattle.pct_engine.proofs.FoundThreads.{admits}
 use Rattle.pct_engine.proofs.MachineViews.{machine_view-moved}

@@ -10,12 +10,12 @@ use Rattle.pct_set.proofs.SlotLemmas.{has_where}
 use Rattle.pct_threads.specs.Slots.{Held, Slot, created}
 use Rattle.pct_threads.specs.Tables.{held_at, is_occupied_at, next_id_at}
 use Rattle.pct_threads.proofs.TableLemmas.{length-on_slot, slot_at-on_slot_other, within-occupied}
-use Rattle.pct_engine.specs.declared.machine.Machine.{Machine}
+use Rattle.pct_actions.specs.declared.machine.Machine.{Machine}
 use Rattle.pct_model.specs.Actions.{for_each}
-use Rattle.pct_engine.specs.MachineChanges.{named_on, with_new, settled, machine_moved}
+use Rattle.pct_actions.specs.MachineChanges.{named_on, with_new, settled, machine_moved}
+use Rattle.pct_actions.proofs.HeldChanges.{acted_threads}
+use Rattle.pct_actions.proofs.FollowingTables.{Follows, after_names, follows_moved}
 use Rattle.pct_engine.specs.UsedSlots.{Covers, IsCreatedOn, HeldOrCreated}
-use Rattle.pct_engine.proofs.HeldChanges.{acted_threads}
-use Rattle.pct_engine.proofs.OpenTables.{Follows, after_names, follows_moved}
 
 -- ---- a set with one slot more
 

@@ -11,9 +11,10 @@ use Rattle.pct_model.specs.Laws.{Laws}
 use Rattle.pct_model.specs.Run.{Run, run, verdict_of}
 use Rattle.pct_engine_laws.specs.Seen.{seen}
 use Rattle.pct_engine_laws.specs.RunLaws.{IsLegalWhileOpen}
-use Rattle.pct_engine.specs.declared.machine.Machine.{Machine}
-use Rattle.pct_engine.specs.Views.{machine_view, HasRows}
-use Rattle.pct_engine.specs.Joiners.{HaveJoiners}
+use Rattle.pct_transitions.specs.Joiners.{HaveJoiners}
+use Rattle.pct_actions.specs.declared.machine.Machine.{Machine}
+use Rattle.pct_actions.specs.TableFits.{HasRows}
+use Rattle.pct_engine.specs.Views.{machine_view}
 
 -- the value of an engine: a script, a configuration, and the entries of the run so far
 pub record EngineValue : Type 0 where

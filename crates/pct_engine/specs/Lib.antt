@@ -1,12 +1,5 @@
-pub mod Programs
-pub mod Positions
-pub mod Fitting
 pub mod Views
-pub mod Joiners
-pub mod Listed
-pub mod Answers
 pub mod ReadyThreads
 pub mod UsedSlots
-pub mod MachineChanges
 pub mod Steps
 pub mod EngineStates

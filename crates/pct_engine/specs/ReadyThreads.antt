@@ -7,7 +7,7 @@ use Rattle.pct_model.specs.Chosen.{Candidate}
 use Rattle.pct_model.specs.World.{Thread}
 use Rattle.pct_threads.specs.Tables.{held_at}
 use Rattle.pct_engine_laws.specs.SeenSteps.{threads_on, choices_in, is_ready_in, candidate_in}
-use Rattle.pct_engine.specs.declared.machine.Machine.{Machine}
+use Rattle.pct_actions.specs.declared.machine.Machine.{Machine}
 use Rattle.pct_engine.specs.Views.{slots_view, machine_thread, process_view}
 
 -- the thread on a slot, if there is one

@@ -13,11 +13,13 @@ use Rattle.pct_threads.specs.Slots.{Held}
 use Rattle.pct_threads.specs.Tables.{held_at, on_held}
 use Rattle.pct_engine_laws.specs.Seen.{Seen, seen}
 use Rattle.pct_engine_laws.specs.SeenSteps.{seen_transition, seen_chosen, seen_verdict}
-use Rattle.pct_engine.specs.declared.machine.Machine.{Machine}
-use Rattle.pct_engine.specs.Answers.{NumbersFit}
-use Rattle.pct_engine.specs.Fitting.{AllFit, KeysFit, NamesFit, NewFits}
-use Rattle.pct_engine.specs.Views.{machine_view, ArePlaced}
-use Rattle.pct_engine.specs.MachineChanges.{held_moved}
+use Rattle.pct_transitions.specs.Answers.{NumbersFit}
+use Rattle.pct_transitions.specs.ThreadViews.{ArePlaced}
+use Rattle.pct_engine_laws.specs.Fitting.{AllFit}
+use Rattle.pct_actions.specs.declared.machine.Machine.{Machine}
+use Rattle.pct_actions.specs.TableFits.{KeysFit, NamesFit, NewFits}
+use Rattle.pct_actions.specs.MachineChanges.{held_moved}
+use Rattle.pct_engine.specs.Views.{machine_view}
 
 -- ---- legal entries
 

@@ -4,24 +4,23 @@ ghost use Rattle.std.specs.Prelude.{◌≡◌, ◌↔◌, ◌*◌, ◌≤◌, tr
 ghost use Rattle.pct_model.specs.World.{opening};
 ghost use Rattle.pct_model.specs.Run.{is_config, run};
 ghost use Rattle.pct_engine_laws.specs.Seen.{seen};
-ghost use Rattle.pct_engine.specs.Views.{machine_view, HasRows};
-ghost use Rattle.pct_engine.specs.Joiners.{HaveJoiners};
+ghost use Rattle.pct_transitions.specs.Joiners.{HaveJoiners};
+ghost use Rattle.pct_actions.specs.TableFits.{HasRows};
+ghost use Rattle.pct_engine.specs.Views.{machine_view};
 ghost use Rattle.pct_engine.specs.EngineStates.{StandsFor, HasRoom};
 ghost use Rattle.pct_engine.specs.UsedSlots.{Covers};
 
-use crate::globals::Globals;
-use crate::machine::Machine;
-use crate::program::Program;
 use crate::scheduler::{chosen, verdict_after};
 use crate::steps::step;
 use crate::trace::{record_entry, record_events};
-use crate::transitions::no_change;
 use crate::used_slots::{add_created, occupied_slots};
+use pct_actions::{Globals, Machine};
 use pct_io::NoMemory;
 use pct_keys::Keys;
 use pct_model::{Config, Entry, Event, Script, Verdict, main_of};
 use pct_set::SlotSet;
 use pct_threads::Threads;
+use pct_transitions::{Program, no_change};
 use std::alloc::Global;
 use std::marker::Model;
 

@@ -1,28 +1,33 @@
 //! The threads that are ready, the entry that two numbers choose, and the verdict.
 
-ghost use Rattle.std.specs.Prelude.{◌≡◌, ◌<◌, ◌≤◌, is_some, length, Some, true, false, IfSome, option_and_then, slice_get};
+ghost use Rattle.std.specs.Prelude.{◌≡◌, ◌<◌, ◌≤◌, All, is_some, length, Some, true, false, IfSome, option_and_then, slice_get};
 ghost use Rattle.pct_model.specs.declared.limits.TheConstants.{MAX_WORKER};
+ghost use Rattle.pct_model.specs.declared.script.Script.{Script};
 ghost use Rattle.pct_model.specs.Chosen.{item_at, entry_for};
+ghost use Rattle.pct_model.specs.World.{Thread};
 ghost use Rattle.pct_set.specs.Slots.{slots_where};
 ghost use Rattle.pct_threads.specs.Slots.{Held};
 ghost use Rattle.pct_threads.specs.Tables.{held_at, is_occupied_at};
-ghost use Rattle.pct_engine_laws.specs.SeenSteps.{seen_chosen, seen_verdict};
-ghost use Rattle.pct_engine.specs.Listed.{listed, AreWithin};
-ghost use Rattle.pct_engine.specs.Views.{machine_thread, machine_view, HasRows};
-ghost use Rattle.pct_engine.specs.Answers.{NumbersFit};
+ghost use Rattle.pct_engine_laws.specs.SeenSteps.{others_in, seen_chosen, seen_verdict};
+ghost use Rattle.pct_transitions.specs.Listed.{listed, AreWithin};
+ghost use Rattle.pct_transitions.specs.Positions.{IsPosition};
+ghost use Rattle.pct_transitions.specs.Joiners.{HaveJoiners};
+ghost use Rattle.pct_transitions.specs.ThreadViews.{ArePlaced};
+ghost use Rattle.pct_transitions.specs.Answers.{IsAnswer, NumbersFit};
+ghost use Rattle.pct_actions.specs.TableFits.{HasRows};
+ghost use Rattle.pct_engine.specs.Views.{machine_thread, process_view, machine_view};
 ghost use Rattle.pct_engine.specs.ReadyThreads.{thread_in, choices_of, is_ready, is_ready_on, ready_threads, candidate_of};
 ghost use Rattle.pct_engine.specs.UsedSlots.{Covers};
 ghost use Rattle.pct_engine.specs.Steps.{legal_transition, ArePlacedIn, NumbersFitIn, IsSeenChoice};
 
-use crate::cancel_calls::may_pass;
-use crate::choice_table::{Choices, choices_at};
-use crate::current::next_of;
-use crate::machine::Machine;
-use crate::other_threads::{has_ended, others_of};
-use crate::position::position_of;
-use crate::program::Program;
+use crate::found_threads::has_ended;
+use pct_actions::Machine;
 use pct_model::{Entry, Status, Verdict};
 use pct_set::SlotSet;
+use pct_transitions::{
+    Choices, Others, Position, Program, answer_to, choices_at, may_pass, next_of, position_of,
+    query_at,
+};
 
 /// The verdict of a run of this many entries.
 pub(crate) fn verdict_after(
@@ -63,11 +68,12 @@ pub(crate) fn chosen(
 ) -> Option<Entry>
     requires used { Covers used machine.now.threads }
     requires count { count ≤ program.now.config.budget }
-    requires slots { machine.now.has_ended ≡ false → length machine.now.threads ≡ program.now.config.slots }
+    requires placed { ArePlacedIn program.now.config.slots machine.now }
     requires rows { HasRows machine.now }
     requires numbers { NumbersFitIn machine.now }
+    requires joiners { HaveJoiners machine.now.threads }
     ensures choice { IsSeenChoice program.now.script program.now.config (machine_view program.now.script machine.now) count worker a b result }
-    ensures legal { ArePlacedIn program.now.config.slots machine.now → worker ≤ MAX_WORKER
+    ensures legal { worker ≤ MAX_WORKER
         → IfSome result (λ e. is_some (legal_transition program.now.script program.now.config (machine_view program.now.script machine.now) e) ≡ true) }
 {
     if count < program.config.budget as usize {
@@ -87,11 +93,12 @@ fn chosen_in(
     b: u32,
 ) -> Option<Entry>
     requires used { Covers used machine.now.threads }
-    requires slots { machine.now.has_ended ≡ false → length machine.now.threads ≡ program.now.config.slots }
+    requires placed { ArePlacedIn program.now.config.slots machine.now }
     requires rows { HasRows machine.now }
     requires numbers { NumbersFitIn machine.now }
+    requires joiners { HaveJoiners machine.now.threads }
     ensures value { result ≡ seen_chosen program.now.script program.now.config.slots (machine_view program.now.script machine.now) worker a b }
-    ensures legal { ArePlacedIn program.now.config.slots machine.now → worker ≤ MAX_WORKER
+    ensures legal { worker ≤ MAX_WORKER
         → IfSome result (λ e. is_some (legal_transition program.now.script program.now.config (machine_view program.now.script machine.now) e) ≡ true) }
 {
     if machine.stop.is_some() {
@@ -124,8 +131,10 @@ fn chosen_slot(program: &Program, machine: &Machine, used: SlotSet, a: u32) -> O
 // The entry of a worker for the thread on a slot, by a number that chooses one of its choices.
 fn entry_on(program: &Program, machine: &Machine, slot: u32, worker: u32, b: u32) -> Option<Entry>
     requires occupied { is_occupied_at machine.now.threads slot ≡ true }
+    requires placed { ArePlaced (length machine.now.threads) machine.now.threads }
     requires rows { HasRows machine.now }
     requires numbers { NumbersFit machine.now.threads machine.now.keys }
+    requires joiners { HaveJoiners machine.now.threads }
     ensures { (held : Held) → held_at machine.now.threads slot ≡ Some held → result ≡ entry_for worker b (candidate_of program.now.script machine.now (machine_thread machine.now slot held)) }
 {
     let choices = choices_on(program, machine, slot);
@@ -174,8 +183,8 @@ fn is_ready(program: &Program, machine: &Machine, slot: u32) -> bool
     machine.threads.is_occupied(slot) && has_choice(program, machine, slot)
 }
 
-// The thread on a slot has a choice: it has a next statement; what it waits for at a cancellation point may occur at any time, or
-// the thread that it joins has ended, or it may act upon a request there; or it is ending or exits its process.
+// The thread on a slot has a choice: it has a next statement; it is suspended, and may act upon a request, or what it waits for
+// may occur at any time or has occurred; or it is ending or exits its process.
 fn has_choice(program: &Program, machine: &Machine, slot: u32) -> bool
     requires { is_occupied_at machine.now.threads slot ≡ true }
     ensures { (held : Held) → held_at machine.now.threads slot ≡ Some held → result ≡ is_ready program.now.script machine.now (machine_thread machine.now slot held) }
@@ -195,10 +204,24 @@ fn has_choice(program: &Program, machine: &Machine, slot: u32) -> bool
 // The choices of the thread on a slot.
 fn choices_on(program: &Program, machine: &Machine, slot: u32) -> Choices
     requires occupied { is_occupied_at machine.now.threads slot ≡ true }
+    requires placed { ArePlaced (length machine.now.threads) machine.now.threads }
     requires rows { HasRows machine.now }
+    requires joiners { HaveJoiners machine.now.threads }
     ensures value { (held : Held) → held_at machine.now.threads slot ≡ Some held → listed machine.now.threads machine.now.keys result ≡ choices_of program.now.script machine.now (machine_thread machine.now slot held) }
     ensures within { AreWithin (length machine.now.threads) result }
 {
     let position = position_of(program, &machine.threads, &machine.keys, slot);
     choices_at(&others_of(machine, &position), &position)
+}
+
+// What the next step of a thread of a machine in this position depends on, of the other threads.
+#[inline(always)]
+fn others_of(machine: &Machine, position: &Position) -> Others
+    requires placed { ArePlaced (length machine.now.threads) machine.now.threads }
+    requires joiners { HaveJoiners machine.now.threads }
+    ensures value { (script : Script) (t : Thread) → IsPosition script position.now t → IsAnswer machine.now.threads result (others_in script (length machine.now.threads) (process_view script machine.now) t) }
+    ensures within { All (λ s. s < length machine.now.threads) result.free }
+{
+    let query = query_at(machine.globals.as_slice(), position);
+    answer_to(&machine.threads, position.id, query)
 }

@@ -3,19 +3,16 @@
 ghost use Rattle.std.specs.Prelude.{◌≡◌, ◌<◌, Some, None, true, IfSome, if◌then◌else◌, option_map};
 ghost use Rattle.pct_model.specs.World.{World};
 ghost use Rattle.pct_engine_laws.specs.Seen.{seen};
-ghost use Rattle.pct_engine.specs.Views.{machine_view, HasRows};
-ghost use Rattle.pct_engine.specs.Joiners.{HaveJoiners};
+ghost use Rattle.pct_transitions.specs.Joiners.{HaveJoiners};
+ghost use Rattle.pct_actions.specs.TableFits.{HasRows};
+ghost use Rattle.pct_engine.specs.Views.{machine_view};
 ghost use Rattle.pct_engine.specs.UsedSlots.{HeldOrCreated};
 ghost use Rattle.pct_engine.specs.Steps.{legal_transition, may_step, ArePlacedIn, NumbersFitIn, IsFound, StepsBy};
 
-use crate::actions::change;
-use crate::choice_table::choices_at;
-use crate::machine::Machine;
-use crate::other_threads::{answer_to, query_at, slot_with};
-use crate::position::position_of;
-use crate::program::Program;
-use crate::transition_table::transition_by;
+use crate::found_threads::slot_with;
+use pct_actions::{Machine, change};
 use pct_model::{Entry, MAX_WORKER, Transition};
+use pct_transitions::{Program, answer_to, choices_at, position_of, query_at, transition_by};
 
 /// Makes the step of an entry, and writes the transition that it takes to `transition`. The result is false exactly if the
 /// entry is not legal, and then the machine is as it was. The state may be any to which the machine corresponds.
@@ -54,6 +51,7 @@ fn transition_of(
     requires placed { ArePlacedIn program.now.config.slots machine.now }
     requires rows { HasRows machine.now }
     requires numbers { NumbersFitIn machine.now }
+    requires joiners { HaveJoiners machine.now.threads }
     ensures found { IfSome result (λ slot. IsFound machine.now entry slot transition.new) }
     ensures value { legal_transition program.now.script program.now.config (machine_view program.now.script machine.now) entry ≡ option_map (λ slot. transition.new) result }
 {

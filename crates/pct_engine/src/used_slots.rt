@@ -5,7 +5,6 @@ ghost use Rattle.std.specs.Prelude.{◌≡◌, ◌<◌, ℕ, true, length};
 ghost use Rattle.pct_set.specs.Slots.{has_slot};
 ghost use Rattle.pct_engine.specs.UsedSlots.{Covers, IsCreatedOn};
 
-use crate::other_threads::slot_of;
 use pct_model::NewThread;
 use pct_set::SlotSet;
 use pct_threads::Threads;
@@ -29,6 +28,6 @@ pub(crate) fn add_created(used: &mut SlotSet, threads: &Threads, created: Option
     ensures added { (slot : ℕ) → slot < length threads.now → IsCreatedOn (length threads.now) slot created → has_slot used.new slot ≡ true }
 {
     if let Some(new) = created {
-        used.insert(slot_of(threads, new.id));
+        used.insert(threads.slot_of(new.id));
     }
 }

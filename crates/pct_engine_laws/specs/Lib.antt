@@ -5,3 +5,4 @@ pub mod RunLaws
 pub mod ThreadCounts
 pub mod KeyCounts
 pub mod RunNumbers
+pub mod Fitting

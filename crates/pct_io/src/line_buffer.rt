@@ -10,8 +10,8 @@ pub(crate) const CAPACITY: usize = 128;
 // The largest number of decimal digits of a 64-bit number.
 const MOST_DIGITS: usize = 20;
 
-/// Writes the text so that it ends at `end`, and returns where it starts. It is `None` exactly if the text
-/// does not fit before `end`.
+/// Writes the text so that it ends at `end`, and returns where it starts. It is `None` exactly if the text does not fit
+/// before `end`.
 #[inline(always)]
 pub(crate) fn prepend(text: &[u8], buffer: &mut [u8], end: usize) -> Option<usize>
     requires { end ≤ length buffer.old }

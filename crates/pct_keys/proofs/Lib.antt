@@ -1,2 +1,3 @@
+mod NoValues
 mod Scan
 mod SoundTables

@@ -82,7 +82,7 @@ unmarked_null [] place null here = none-some true here
 unmarked_null (v ∷ values) zero null here = absurd (cc (ap (λ n. not (nat_eq n 0)) null))
 unmarked_null (v ∷ values) (suc place) null here = unmarked_null values place null here
 
-IsClear-no_values : (place : ℕ) → IsClear no_values place
+pub IsClear-no_values : (place : ℕ) → IsClear no_values place
 IsClear-no_values place = (at_copies (λ v. v ≡ 0) MAX_KEYS place 0 0 refl refl, λ here. absurd (cc (copy MAX_KEYS place false true here)))
 
 IsClear-without_value : (row : KeyValues) (place other : ℕ) → IsClear row other → IsClear (without_value place row) other

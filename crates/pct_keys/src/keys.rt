@@ -3,7 +3,7 @@
 ghost use Rattle.std.specs.Prelude.{◌≡◌, is_some};
 ghost use Rattle.pct_model.specs.Keys.{if_number};
 
-use crate::place::{Key, PLACES, Place, no_keys};
+use crate::place::{Key, PLACES, Place, key_place, no_keys};
 use crate::row::{Row, clear_place, clear_rows};
 use pct_io::NoMemory;
 use pct_model::MAX_KEYS;
@@ -31,7 +31,7 @@ impl Model for Keys {
 }
 
 impl Keys {
-    ghost use Rattle.std.specs.Prelude.{◌≡◌, ◌<◌, ◌+◌, ◌^◌, ℕ, true, length, Some, None, IfOk, IfSome, IfNone, is_some, option_and_then, option_map, slice_get};
+    ghost use Rattle.std.specs.Prelude.{◌≡◌, ◌<◌, ◌+◌, ◌^◌, ℕ, true, false, length, Some, None, IfOk, IfSome, IfNone, is_some, option_and_then, option_map, slice_get};
     ghost use Rattle.std.specs.Option.{option_map_or};
     ghost use Rattle.pct_model.specs.declared.limits.TheConstants.{MAX_KEYS};
     ghost use Rattle.pct_model.specs.Keys.{no_values, key_place, key_at, next_key, key_with, free_places, value_at, with_value, without_value, is_due, due_places, with_pass, is_left, left_places};
@@ -63,7 +63,7 @@ impl Keys {
         // This holds of every table.
         ensures sound { IsSound self.now }
     {
-        let place = key.saturating_sub(1) % MAX_KEYS;
+        let place = key_place(key);
         if has_number(self.key_at(place), key) {
             Some(place)
         } else {
@@ -196,6 +196,9 @@ impl Keys {
         requires { slot < length self.now.rows }
         ensures { result ≡ length (due_places self.now.places (row_at self.now slot)) }
     {
+        if !self.was_set(slot) {
+            return 0;
+        }
         let mut count = 0;
         for place in 0..MAX_KEYS {
             count += u32::from(self.is_due(slot, place));
@@ -231,6 +234,9 @@ impl Keys {
         requires { slot < length self.now.rows }
         ensures { result ≡ length (left_places self.now.places (row_at self.now slot)) }
     {
+        if !self.was_set(slot) {
+            return 0;
+        }
         let mut count = 0;
         for place in 0..MAX_KEYS {
             count += u32::from(self.is_left(slot, place));
@@ -246,6 +252,9 @@ impl Keys {
         ensures within { IfSome result (λ place. place < MAX_KEYS) }
         ensures left { IfSome result (λ place. is_left self.now.places (row_at self.now slot) place ≡ true) }
     {
+        if !self.was_set(slot) {
+            return None;
+        }
         let mut rest = n;
         for place in 0..MAX_KEYS {
             if self.is_left(slot, place) {
@@ -308,6 +317,14 @@ impl Keys {
         ensures sound { IsSound self.now }
     {
         self.places[place as usize].key()
+    }
+
+    // Whether the thread on the slot set a value. If it did not, it has no value, and no place is in its pass.
+    fn was_set(&self, slot: u32) -> bool
+        requires { slot < length self.now.rows }
+        ensures { result ≡ false → row_at self.now slot ≡ no_values }
+    {
+        self.rows[slot as usize].was_set()
     }
 
     // Whether the key on the place is due for the thread on the slot.

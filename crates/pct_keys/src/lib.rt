@@ -7,3 +7,4 @@ mod place;
 mod row;
 
 pub use keys::Keys;
+pub use place::key_place;

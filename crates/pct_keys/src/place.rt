@@ -1,7 +1,8 @@
 //! A place for a key.
 
 ghost use Rattle.std.specs.Prelude.{◌≡◌, ◌+◌, ◌^◌, ◌<◌, Some, None};
-ghost use Rattle.pct_model.specs.Keys.{no_keys};
+ghost use Rattle.pct_model.specs.declared.limits.TheConstants.{MAX_KEYS};
+ghost use Rattle.pct_model.specs.Keys.{key_place, no_keys};
 
 use pct_model::MAX_KEYS;
 use std::marker::Model;
@@ -101,4 +102,12 @@ pub(crate) fn no_keys() -> [Place; PLACES]
     ensures { result ≡ no_keys }
 {
     [Place { made: 0, key: None }; PLACES]
+}
+
+/// The place of a key, by its number: the number less 1, modulo `MAX_KEYS`.
+pub fn key_place(key: u32) -> u32
+    ensures value { result ≡ key_place key }
+    ensures within { result < MAX_KEYS }
+{
+    key.saturating_sub(1) % MAX_KEYS
 }

@@ -1,6 +1,6 @@
 //! The thread-specific data of the thread on one slot.
 
-ghost use Rattle.std.specs.Prelude.{◌≡◌, ◌<◌, length, map, replicate, slice_get, Some};
+ghost use Rattle.std.specs.Prelude.{◌≡◌, ◌<◌, false, length, map, replicate, slice_get, Some};
 ghost use Rattle.pct_model.specs.declared.limits.TheConstants.{MAX_KEYS};
 ghost use Rattle.pct_model.specs.Keys.{no_values, value_at, with_value, without_value, with_pass};
 
@@ -8,20 +8,23 @@ use crate::place::PLACES;
 use std::marker::Model;
 
 /// The thread-specific data of a thread, by place.
-#[derive(Clone, Copy, Debug)]
+#[derive(Debug, Drop)]
 pub(crate) struct Row {
     values: [u32; PLACES],
     in_pass: [bool; PLACES],
+    // Whether a value was set since the thread was new. Most threads set none, and their places are not searched.
+    was_set: bool,
 }
 
 impl Model for Row {
-    ghost use Rattle.pct_model.specs.Keys.{KeyValues};
+    ghost use Rattle.std.specs.Prelude.{◌≡◌, false};
+    ghost use Rattle.pct_model.specs.Keys.{KeyValues, no_values};
 
     ghost Value = { KeyValues };
 
     ghost view = { λ r. record { values = r.values; in_pass = r.in_pass } };
 
-    ghost inverse = { λ r. record { values = r.values; in_pass = r.in_pass } };
+    ghost invariant = { λ r. r.was_set ≡ false → record { values = r.values; in_pass = r.in_pass } ≡ no_values };
 }
 
 impl Row {
@@ -32,7 +35,15 @@ impl Row {
         Row {
             values: [0; PLACES],
             in_pass: [false; PLACES],
+            was_set: false,
         }
+    }
+
+    /// Whether a value was set since the thread was new.
+    pub(crate) fn was_set(&self) -> bool
+        ensures { result ≡ false → self.now ≡ no_values }
+    {
+        self.was_set
     }
 
     /// The value of the key on the place.
@@ -57,6 +68,7 @@ impl Row {
         ensures { self.new ≡ with_value place value self.old }
     {
         self.values[place as usize] = value;
+        self.was_set = true;
     }
 
     /// Makes the value of the key on the place 0, and takes the place out of the pass.
@@ -72,13 +84,18 @@ impl Row {
     pub(crate) fn clear_all(&mut self)
         ensures { self.new ≡ no_values }
     {
-        *self = Row::new();
+        if self.was_set {
+            *self = Row::new();
+        }
     }
 
     /// Begins a pass, which takes the places that have a value.
     pub(crate) fn begin_pass(&mut self)
         ensures { self.new ≡ with_pass self.old }
     {
+        if !self.was_set {
+            return;
+        }
         for place in 0..PLACES {
             self.in_pass[place] = self.values[place] != 0;
         }
@@ -91,6 +108,7 @@ impl Row {
         Row {
             values: self.values,
             in_pass: [false; PLACES],
+            was_set: self.was_set,
         }
     }
 }
@@ -109,5 +127,7 @@ pub(crate) fn clear_place(rows: &mut [Row], place: u32)
 pub(crate) fn clear_rows(rows: &mut [Row])
     ensures { rows.new ≡ replicate (length rows.old) no_values }
 {
-    rows.fill(Row::new());
+    for row in rows.iter_mut() {
+        row.clear_all();
+    }
 }

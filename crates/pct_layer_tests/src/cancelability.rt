@@ -2,12 +2,12 @@
 //! the rules of cancelability (XSH 2.9.5).
 
 use pct_cancel::{Cancel, point_of, write_point};
-use pct_io::{Failed, MemSink};
+use pct_io::MemSink;
 use pct_model::Mode::{Asynchronous, Deferred};
 use pct_model::PointKind::{Optional, Required};
 use pct_model::PointWait::{Inside, Never, NoWait, Outside};
 use pct_model::State::{Disable, Enable};
-use pct_model::{Point, PointKind, PointWait};
+use pct_model::{Mode, Point, PointKind, PointWait, State};
 use std::test::Fail;
 
 // The points, in the order of their indexes.
@@ -73,110 +73,95 @@ static ROWS: [(&[u8], PointKind, PointWait); 58] = [
 ];
 
 #[test]
-fn each_name_has_its_row(rt: HostRuntime) -> Result<(), Fail> {
+fn each_name_has_its_row(rt: HostRuntime) {
     for row_number in 0..58 {
         let (name, kind, wait) = ROWS[row_number];
         let index = row_number as u32;
-        assert_eq!(rt; point_of(name), Some(Point { index, kind, wait }));
+        assert!(rt; point_of(name) == Some(Point { index, kind, wait }));
     }
-    Ok(())
 }
+
+static OTHER_NAMES: [&[u8]; 9] = [
+    b"",
+    b"accep",
+    b"accept4",
+    b"Accept",
+    b" accept",
+    b"accept ",
+    b"fcntl",
+    b"emit",
+    b"pthread_mutex_lock",
+];
 
 #[test]
-fn other_names_are_no_points(rt: HostRuntime) -> Result<(), Fail> {
-    let names: [&[u8]; 9] = [
-        b"",
-        b"accep",
-        b"accept4",
-        b"Accept",
-        b" accept",
-        b"accept ",
-        b"fcntl",
-        b"emit",
-        b"pthread_mutex_lock",
-    ];
-    for name in names {
-        assert_eq!(rt; point_of(name), None);
+fn other_names_are_no_points(rt: HostRuntime) {
+    for name in &OTHER_NAMES {
+        assert!(rt; point_of(name).is_none());
     }
-    Ok(())
 }
 
+// The sink takes three bytes a call, and no call, the first or the second one fails. Each name has more than three bytes.
 #[test]
 fn writes_names_alone(rt: HostRuntime) -> Result<(), Fail> {
     for row_number in 0..58 {
         let name = ROWS[row_number].0;
-        let mut sink = MemSink::new(rt.alloc(), 100, 7, &[])?;
-        write_point(row_number as u32, &mut sink)?;
-        assert_eq!(rt; sink.written(), name);
-        // The sink takes three bytes a call, and the first or the second call fails. Each name has more than three bytes.
-        for (fails, kept) in [(1, 0), (2, 3)] {
+        for fails in 0..3 {
             let mut sink = MemSink::new(rt.alloc(), 100, 3, &[fails])?;
-            assert_eq!(rt; write_point(row_number as u32, &mut sink), Err(Failed));
-            assert_eq!(rt; sink.written().len(), kept);
+            let is_written = write_point(row_number as u32, &mut sink).is_ok();
+            assert!(rt; is_written == (fails == 0));
+            let kept = match fails {
+                0 => name.len(),
+                1 => 0,
+                _ => 3,
+            };
+            assert!(rt; sink.written().len() == kept);
             assert!(rt; name.starts_with(sink.written()));
         }
     }
     Ok(())
 }
 
+// The state, the type, whether a request is pending; whether to act at a point, and at any time.
+static DELIVERIES: [(State, Mode, bool, bool, bool); 8] = [
+    (Enable, Deferred, false, false, false),
+    (Enable, Deferred, true, true, false),
+    (Enable, Asynchronous, false, false, true),
+    (Enable, Asynchronous, true, true, true),
+    (Disable, Deferred, false, false, false),
+    (Disable, Deferred, true, false, false),
+    (Disable, Asynchronous, false, false, false),
+    (Disable, Asynchronous, true, false, false),
+];
+
+// Whether these are the parts of the cancelability.
+fn is(cancel: Cancel, state: State, mode: Mode, pending: bool) -> bool {
+    cancel
+        == Cancel {
+            state,
+            mode,
+            pending,
+        }
+}
+
 #[test]
-fn state_and_type_say_when_to_act(rt: HostRuntime) -> Result<(), Fail> {
-    // state, type, pending; at a point, at any time
-    let rows = [
-        (Enable, Deferred, false, false, false),
-        (Enable, Deferred, true, true, false),
-        (Enable, Asynchronous, false, false, true),
-        (Enable, Asynchronous, true, true, true),
-        (Disable, Deferred, false, false, false),
-        (Disable, Deferred, true, false, false),
-        (Disable, Asynchronous, false, false, false),
-        (Disable, Asynchronous, true, false, false),
-    ];
-    for (state, mode, pending, at_a_point, at_any_time) in rows {
+fn state_and_type_say_when_to_act(rt: HostRuntime) {
+    for row_number in 0..8 {
+        let (state, mode, pending, at_a_point, at_any_time) = DELIVERIES[row_number];
         let mut cancel = Cancel::new();
-        assert_eq!(rt;
-            cancel,
-            Cancel {
-                state: Enable,
-                mode: Deferred,
-                pending: false
-            }
-        );
-        assert_eq!(rt; cancel.set_state(state), Enable);
-        assert_eq!(rt; cancel.set_mode(mode), Deferred);
+        assert!(rt; is(cancel, Enable, Deferred, false));
+        assert!(rt; cancel.set_state(state) == Enable);
+        assert!(rt; cancel.set_mode(mode) == Deferred);
         if pending {
             cancel.request();
         }
-        assert_eq!(rt;
-            cancel,
-            Cancel {
-                state,
-                mode,
-                pending
-            }
-        );
-        assert_eq!(rt; cancel.deliverable(), at_a_point);
-        assert_eq!(rt; cancel.async_on(), at_any_time);
+        assert!(rt; is(cancel, state, mode, pending));
+        assert!(rt; cancel.deliverable() == at_a_point);
+        assert!(rt; cancel.async_on() == at_any_time);
         cancel.begin_end();
-        assert_eq!(rt;
-            cancel,
-            Cancel {
-                state: Disable,
-                mode: Deferred,
-                pending
-            }
-        );
-        assert_eq!(rt; cancel.set_state(Enable), Disable);
-        assert_eq!(rt; cancel.set_mode(Asynchronous), Deferred);
+        assert!(rt; is(cancel, Disable, Deferred, pending));
+        assert!(rt; cancel.set_state(Enable) == Disable);
+        assert!(rt; cancel.set_mode(Asynchronous) == Deferred);
         cancel.request();
-        assert_eq!(rt;
-            cancel,
-            Cancel {
-                state: Enable,
-                mode: Asynchronous,
-                pending: true
-            }
-        );
+        assert!(rt; is(cancel, Enable, Asynchronous, true));
     }
-    Ok(())
 }

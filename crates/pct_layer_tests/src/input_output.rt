@@ -1,39 +1,34 @@
 //! Whole reads and writes, buffered output, lines, and the sources and sinks over memory and over std's streams.
 
 use pct_io::{
-    BufferedSink, Failed, Field, Gate, MemSink, MemSource, NoGate, ReadEnd, StdSink, StdSource,
+    BufferedSink, Field, Gate, MemSink, MemSource, NoGate, ReadEnd, StdSink, StdSource,
     prepend_line, read_all, write_all, write_buffered, write_line, write_parts,
 };
 use std::io;
 use std::io::{Read, Write};
 use std::test::Fail;
 
+// The bytes per call, the failing call, the limit, and whether all bytes are read, or what ends the read before.
+static READS: [(u32, u64, u32, Result<bool, ReadEnd>); 8] = [
+    (1, 0, 5, Ok(true)),
+    (2, 0, 6, Ok(true)),
+    (9, 0, 5, Ok(true)),
+    (2, 0, 4, Err(ReadEnd::TooLong)),
+    (9, 0, 4, Err(ReadEnd::TooLong)),
+    (2, 1, 9, Err(ReadEnd::Failed)),
+    (2, 4, 9, Err(ReadEnd::Failed)),
+    (2, 5, 9, Ok(true)),
+];
+
 #[test]
 fn reads_all_up_to_the_limit(rt: HostRuntime) -> Result<(), Fail> {
-    let alloc = rt.alloc();
-    // The bytes per call, the failing call, the limit, and the number of bytes returned.
-    for (chunk, fails, limit, want) in [
-        (1, 0, 5, Ok(5)),
-        (2, 0, 6, Ok(5)),
-        (9, 0, 5, Ok(5)),
-        (2, 0, 4, Err(ReadEnd::TooLong)),
-        (9, 0, 4, Err(ReadEnd::TooLong)),
-        (2, 1, 9, Err(ReadEnd::Failed)),
-        (2, 4, 9, Err(ReadEnd::Failed)),
-        (2, 5, 9, Ok(5)),
-    ] {
+    for row_number in 0..8 {
+        let (chunk, fails, limit, want) = READS[row_number];
         assert!(rt; chunk > 0);
-        let mut source = MemSource::new(alloc, b"bytes", chunk, &[fails])?;
-        let read = read_all(alloc, &mut source, limit);
-        if let Ok(all) = &read {
-            assert_eq!(rt; all.as_slice(), b"bytes".as_slice());
-        }
-        let count = read.map(|all| all.len());
-        assert_eq!(rt;
-            count,
-            want,
-            "{chunk} bytes a call, call {fails} fails, limit {limit}"
-        );
+        let mut source = MemSource::new(rt.alloc(), b"bytes", chunk, &[fails])?;
+        let read = read_all(rt.alloc(), &mut source, limit);
+        let is_whole = read.map(|all| all.as_slice() == b"bytes".as_slice());
+        assert!(rt; is_whole == want, "row {row_number}");
     }
     Ok(())
 }
@@ -42,43 +37,31 @@ fn reads_all_up_to_the_limit(rt: HostRuntime) -> Result<(), Fail> {
 fn a_failed_read_takes_no_byte(rt: HostRuntime) -> Result<(), Fail> {
     let alloc = rt.alloc();
     let mut source = MemSource::new(alloc, b"bytes", 2, &[2])?;
-    assert_eq!(rt;
-        read_all(alloc, &mut source, 9).err(),
-        Some(ReadEnd::Failed)
-    );
-    assert_eq!(rt; source.left(), b"tes".as_slice());
-    assert_eq!(rt;
-        read_all(alloc, &mut source, 9)?.as_slice(),
-        b"tes".as_slice()
-    );
-    assert_eq!(rt; source.left(), b"".as_slice());
+    assert!(rt; matches!(read_all(alloc, &mut source, 9), Err(ReadEnd::Failed)));
+    assert!(rt; source.left() == b"tes".as_slice());
+    assert!(rt; read_all(alloc, &mut source, 9)?.as_slice() == b"tes".as_slice());
+    assert!(rt; source.left().is_empty());
     Ok(())
 }
 
+// The room, the bytes per call, the failing call, whether all is written, and the number of bytes written.
+static WRITES: [(u32, u32, u64, bool, usize); 5] = [
+    (5, 1, 0, true, 5),
+    (9, 4, 3, true, 5),
+    (9, 1, 2, false, 1),
+    (9, 9, 1, false, 0),
+    (3, 2, 0, false, 3),
+];
+
 #[test]
 fn writes_until_a_call_fails(rt: HostRuntime) -> Result<(), Fail> {
-    let alloc = rt.alloc();
-    // The room, the bytes per call, the failing call, the result, and the number of bytes written.
-    for (room, chunk, fails, want, length) in [
-        (5, 1, 0, Ok(()), 5),
-        (9, 4, 3, Ok(()), 5),
-        (9, 1, 2, Err(Failed), 1),
-        (9, 9, 1, Err(Failed), 0),
-        (3, 2, 0, Err(Failed), 3),
-    ] {
+    for row_number in 0..5 {
+        let (room, chunk, fails, is_whole, length) = WRITES[row_number];
         assert!(rt; chunk > 0);
-        let mut sink = MemSink::new(alloc, room, chunk, &[fails])?;
+        let mut sink = MemSink::new(rt.alloc(), room, chunk, &[fails])?;
         let answer = write_all(&mut sink, b"bytes");
-        assert_eq!(rt;
-            answer,
-            want,
-            "room {room}, {chunk} bytes a call, call {fails} fails"
-        );
-        assert_eq!(rt;
-            sink.written().len(),
-            length,
-            "room {room}, {chunk} bytes a call, call {fails} fails"
-        );
+        assert!(rt; answer.is_ok() == is_whole, "row {row_number}");
+        assert!(rt; sink.written().len() == length, "row {row_number}");
         assert!(rt; b"bytes".starts_with(sink.written()));
     }
     Ok(())
@@ -88,7 +71,7 @@ fn writes_until_a_call_fails(rt: HostRuntime) -> Result<(), Fail> {
 fn an_empty_piece_needs_no_call(rt: HostRuntime) -> Result<(), Fail> {
     let mut sink = MemSink::new(rt.alloc(), 9, 9, &[1])?;
     write_all(&mut sink, b"")?;
-    assert_eq!(rt; write_all(&mut sink, b"bytes"), Err(Failed));
+    assert!(rt; write_all(&mut sink, b"bytes").is_err());
     Ok(())
 }
 
@@ -96,31 +79,33 @@ fn an_empty_piece_needs_no_call(rt: HostRuntime) -> Result<(), Fail> {
 fn parts_follow_one_another(rt: HostRuntime) -> Result<(), Fail> {
     let mut sink = MemSink::new(rt.alloc(), 99, 3, &[])?;
     write_parts(&mut sink, &[b"emit ", b"", b"7", b"\n"])?;
-    assert_eq!(rt; sink.written(), b"emit 7\n".as_slice());
+    assert!(rt; sink.written() == b"emit 7\n".as_slice());
     Ok(())
 }
 
+// The fields of a line, and its bytes.
+static LINES: [(&[Field], &[u8]); 7] = [
+    (&[], b"\n"),
+    (&[Field::Text(b"")], b"\n"),
+    (&[Field::Text(b""), Field::Text(b"")], b" \n"),
+    (&[Field::Text(b"end"), Field::Number(0)], b"end 0\n"),
+    (&[Field::Number(4_294_967_295)], b"4294967295\n"),
+    (
+        &[Field::Text(b"end"), Field::Count(usize::MAX)],
+        b"end 18446744073709551615\n",
+    ),
+    (
+        &[Field::Dotted(4_294_967_295, 10), Field::Text(b"exit")],
+        b"4294967295.10 exit\n",
+    ),
+];
+
 #[test]
 fn a_line_is_its_fields(rt: HostRuntime) -> Result<(), Fail> {
-    let rows: [(&[Field], &[u8]); 7] = [
-        (&[], b"\n"),
-        (&[Field::Text(b"")], b"\n"),
-        (&[Field::Text(b""), Field::Text(b"")], b" \n"),
-        (&[Field::Text(b"end"), Field::Number(0)], b"end 0\n"),
-        (&[Field::Number(4_294_967_295)], b"4294967295\n"),
-        (
-            &[Field::Text(b"end"), Field::Count(usize::MAX)],
-            b"end 18446744073709551615\n",
-        ),
-        (
-            &[Field::Dotted(4_294_967_295, 10), Field::Text(b"exit")],
-            b"4294967295.10 exit\n",
-        ),
-    ];
-    for (fields, line) in rows {
+    for (fields, line) in &LINES {
         let mut sink = MemSink::new(rt.alloc(), 99, 99, &[])?;
         write_line(&mut sink, fields)?;
-        assert_eq!(rt; sink.written(), line);
+        assert!(rt; sink.written() == *line);
     }
     Ok(())
 }
@@ -139,27 +124,22 @@ fn a_line_ends_at_the_given_index(rt: HostRuntime) -> Result<(), Fail> {
 
 #[test]
 fn lines_have_any_length(rt: HostRuntime) -> Result<(), Fail> {
-    let alloc = rt.alloc();
     let text = [b'a'; 150];
     for length in 0..=150 {
         let name = &text[..length];
-        // Room for the whole line, and for the line without its LF.
-        for room in [length as u32 + 16, length as u32 + 15] {
-            let mut sink = MemSink::new(alloc, room, 7, &[])?;
-            let mut same = MemSink::new(alloc, room, 7, &[])?;
-            assert_eq!(rt;
-                write_line(
-                    &mut sink,
-                    &[
-                        Field::Dotted(1, 2),
-                        Field::Text(name),
-                        Field::Number(1_000_000_000)
-                    ],
-                ),
-                write_parts(&mut same, &[b"1.2 ", name, b" 1000000000", b"\n"]),
-                "{length} bytes"
-            );
-            assert_eq!(rt; sink.written(), same.written());
+        let fields = [
+            Field::Dotted(1, 2),
+            Field::Text(name),
+            Field::Number(1_000_000_000),
+        ];
+        // Room for the line without its LF, and for the whole line.
+        for room in length as u32 + 15..length as u32 + 17 {
+            let mut sink = MemSink::new(rt.alloc(), room, 7, &[])?;
+            let mut same = MemSink::new(rt.alloc(), room, 7, &[])?;
+            let answer = write_line(&mut sink, &fields);
+            let expected = write_parts(&mut same, &[b"1.2 ", name, b" 1000000000", b"\n"]);
+            assert!(rt; answer == expected, "{length} bytes");
+            assert!(rt; sink.written() == same.written());
         }
     }
     Ok(())
@@ -170,10 +150,10 @@ fn unsent_bytes_stay_buffered(rt: HostRuntime) -> Result<(), Fail> {
     let mut sink = MemSink::new(rt.alloc(), 99, 4, &[2])?;
     let mut out = BufferedSink::new(&mut sink);
     write_all(&mut out, b"gathered")?;
-    assert_eq!(rt; out.flush(), Err(Failed));
+    assert!(rt; out.flush().is_err());
     write_all(&mut out, b" text")?;
-    assert_eq!(rt; out.flush(), Ok(()));
-    assert_eq!(rt; sink.written(), b"gathered text".as_slice());
+    out.flush()?;
+    assert!(rt; sink.written() == b"gathered text".as_slice());
     Ok(())
 }
 
@@ -182,8 +162,8 @@ fn dropping_a_buffered_sink_discards_its_buffer(rt: HostRuntime) -> Result<(), F
     let mut sink = MemSink::new(rt.alloc(), 99, 4, &[2])?;
     let mut out = BufferedSink::new(&mut sink);
     write_all(&mut out, b"gathered")?;
-    assert_eq!(rt; out.flush(), Err(Failed));
-    assert_eq!(rt; sink.written(), b"gath".as_slice());
+    assert!(rt; out.flush().is_err());
+    assert!(rt; sink.written() == b"gath".as_slice());
     Ok(())
 }
 
@@ -193,38 +173,29 @@ fn long_texts_pass_through(rt: HostRuntime) -> Result<(), Fail> {
     let text = vec![in alloc; 7; 20_000]?;
     let mut sink = MemSink::new(alloc, 1_000_000, 1000, &[])?;
     write_buffered(&mut sink, &text)?;
-    assert_eq!(rt; sink.written(), text.as_slice());
+    assert!(rt; sink.written() == text.as_slice());
     let mut out = BufferedSink::new(&mut sink);
-    for piece in [b"abc".as_slice(), &text, b"def"] {
-        write_all(&mut out, piece)?;
-    }
+    write_parts(&mut out, &[b"abc", &text, b"def"])?;
     out.flush()?;
-    assert_eq!(rt; sink.written().len(), 40_006);
+    assert!(rt; sink.written().len() == 40_006);
     Ok(())
 }
 
 #[test]
 fn std_reader_is_a_source(rt: HostRuntime) -> Result<(), Fail> {
-    let alloc = rt.alloc();
     let mut source = StdSource::new(b"bytes".as_slice());
-    assert_eq!(rt;
-        read_all(alloc, &mut source, 5)?.as_slice(),
-        b"bytes".as_slice()
-    );
+    assert!(rt; read_all(rt.alloc(), &mut source, 5)?.as_slice() == b"bytes".as_slice());
     Ok(())
 }
 
+// The second write takes nothing of the d.
 #[test]
 fn std_writer_is_a_sink(rt: HostRuntime) -> Result<(), Fail> {
     let mut room = [0; 3];
     let mut sink = StdSink::new(room.as_mut_slice());
     write_all(&mut sink, b"ab")?;
-    assert_eq!(rt;
-        write_all(&mut sink, b"cd"),
-        Err(Failed),
-        "it takes nothing of the d"
-    );
-    assert_eq!(rt; room, *b"abc");
+    assert!(rt; write_all(&mut sink, b"cd").is_err());
+    assert!(rt; room == *b"abc");
     Ok(())
 }
 
@@ -253,20 +224,18 @@ impl Read for FailingReader {
 
 #[test]
 fn each_error_of_a_reader_is_returned(rt: HostRuntime) -> Result<(), Fail> {
-    let alloc = rt.alloc();
-    // The failing call, and the bytes that are left after it. The fourth call reaches the end of the input.
-    for (fails, rest) in [(1, b"abc".as_slice()), (2, b"bc"), (3, b"c"), (4, b"")] {
+    let bytes = b"abc".as_slice();
+    // The fourth call reaches the end of the input.
+    for fails in 1..5u32 {
         let mut source = StdSource::new(FailingReader {
-            bytes: b"abc",
+            bytes,
             calls: 0,
             fails,
         });
-        assert_eq!(rt;
-            read_all(alloc, &mut source, 9).err(),
-            Some(ReadEnd::Failed),
-            "call {fails} fails"
-        );
-        assert_eq!(rt; read_all(alloc, &mut source, 9)?.as_slice(), rest);
+        let read = read_all(rt.alloc(), &mut source, 9);
+        assert!(rt; matches!(read, Err(ReadEnd::Failed)), "call {fails} fails");
+        let rest = read_all(rt.alloc(), &mut source, 9)?;
+        assert!(rt; rest.as_slice() == &bytes[fails as usize - 1..]);
     }
     Ok(())
 }
@@ -298,31 +267,32 @@ impl Write for FailingWriter {
     }
 }
 
+// The failing write, the failing flush, and whether all of three bytes are written.
+static FAILING_WRITES: [(u32, u32, bool); 7] = [
+    (0, 0, true),
+    (1, 0, false),
+    (3, 0, false),
+    (4, 0, true),
+    (0, 1, false),
+    (0, 3, false),
+    (0, 4, true),
+];
+
 #[test]
-fn each_write_is_flushed_once_and_each_error_returned(rt: HostRuntime) -> Result<(), Fail> {
-    // The failing write, the failing flush, and the result of writing three bytes.
-    for (write_fails, flush_fails, want) in [
-        (0, 0, Ok(())),
-        (1, 0, Err(Failed)),
-        (3, 0, Err(Failed)),
-        (4, 0, Ok(())),
-        (0, 1, Err(Failed)),
-        (0, 3, Err(Failed)),
-        (0, 4, Ok(())),
-    ] {
+fn each_write_is_flushed_once_and_each_error_returned(rt: HostRuntime) {
+    for row_number in 0..7 {
+        let (write_fails, flush_fails, is_whole) = FAILING_WRITES[row_number];
         let mut sink = StdSink::new(FailingWriter {
             writes: 0,
             flushes: 0,
             write_fails,
             flush_fails,
         });
-        assert_eq!(rt;
-            write_all(&mut sink, b"abc"),
-            want,
-            "write {write_fails} fails, flush {flush_fails} fails"
+        assert!(rt;
+            write_all(&mut sink, b"abc").is_ok() == is_whole,
+            "row {row_number}"
         );
     }
-    Ok(())
 }
 
 #[test]

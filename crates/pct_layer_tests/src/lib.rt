@@ -11,6 +11,8 @@ mod input_output;
 #[cfg(test)]
 mod jump_tables;
 #[cfg(test)]
+mod key_tables;
+#[cfg(test)]
 mod slot_sets;
 #[cfg(test)]
 mod thread_tables;

@@ -4,7 +4,7 @@ use crate::state::FrameKind;
 
 /// A frame: the function's index, the program counter (the index in its body of the statement to execute next), the
 /// locals, of which those that the function does not declare are 0, and why the function was called.
-#[derive(Clone, Copy, Debug, Default, PartialEq, Eq)]
+#[derive(Clone, Copy, Debug, Default)]
 pub struct Frame {
     pub func: u32,
     pub pc: u32,

@@ -10,7 +10,7 @@ use std::marker::Model;
 pub const MAX_NAME: usize = 31;
 
 /// A name of 1 to 31 bytes. In a contract it is the list of its bytes.
-#[derive(Debug, Drop)]
+#[derive(Drop)]
 pub struct Name {
     bytes: ArrayVec<u8, MAX_NAME>,
 }

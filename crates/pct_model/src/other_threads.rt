@@ -1,7 +1,7 @@
 //! What the next step of a thread depends on, of the other threads of its process.
 
 /// A question about the other threads: the next step of a thread depends on the answer, and on nothing else of them.
-#[derive(Clone, Copy, Debug, PartialEq, Eq)]
+#[derive(Clone, Copy)]
 pub enum Query {
     Nothing,
     /// The thread with this id, which the thread names or joins.
@@ -13,7 +13,7 @@ pub enum Query {
 }
 
 /// A thread, as one that names or joins it sees it.
-#[derive(Clone, Copy, Debug, PartialEq, Eq)]
+#[derive(Clone, Copy, Debug)]
 pub struct Target {
     pub detached: bool,
     /// A thread is suspended in pthread_join for it.

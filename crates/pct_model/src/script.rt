@@ -9,14 +9,14 @@ use crate::name::Name;
 use crate::sequence::{Funcs, Names, SemDecls, Stmts};
 
 /// A semaphore and its initial count.
-#[derive(Debug, Drop)]
+#[derive(Drop)]
 pub struct SemDecl {
     pub name: Name,
     pub count: u32,
 }
 
 /// A function. Its first local is its parameter; its last statement is the closing `End`.
-#[derive(Debug, Drop)]
+#[derive(Drop)]
 pub struct Func {
     pub name: Name,
     pub locals: Names,
@@ -24,7 +24,7 @@ pub struct Func {
 }
 
 /// A well-formed script: the type guarantees that it passes all checks.
-#[derive(Debug, Drop)]
+#[derive(Drop)]
 pub struct Script {
     pub globals: Names,
     pub mutexes: Names,

@@ -62,7 +62,7 @@ pub enum Status {
 }
 
 /// The values of a fork in progress, while one of its fork handlers runs.
-#[derive(Clone, Copy, Debug, PartialEq, Eq)]
+#[derive(Clone, Copy, Debug)]
 pub struct ForkAt {
     pub phase: Phase,
     pub next: u32,

@@ -21,7 +21,7 @@ pub enum Dest {
 
 /// A statement. Functions, mutexes, condition variables and semaphores are given by their indexes in the script, and
 /// cancellation points by their indexes in the table of points.
-#[derive(Clone, Copy, Debug, PartialEq, Eq)]
+#[derive(Clone, Copy)]
 pub enum Stmt {
     Emit(Operand),
     Set(Dest, Operand),

@@ -7,7 +7,7 @@ use crate::up_to_three::UpToThree;
 
 /// An action: one of the changes that a transition of a thread makes, beside going on to a program counter and the creation of
 /// a thread.
-#[derive(Clone, Copy, Debug, PartialEq, Eq)]
+#[derive(Clone, Copy)]
 pub enum Action {
     /// The local with this index in the thread's top frame gets a value.
     SetLocal(u32, u32),
@@ -74,7 +74,7 @@ pub enum Action {
 }
 
 /// A new thread (pthread_create): its id, whether it is detached, its start routine and the argument.
-#[derive(Clone, Copy, Debug, PartialEq, Eq)]
+#[derive(Clone, Copy)]
 pub struct NewThread {
     pub id: u32,
     pub detached: bool,
@@ -84,7 +84,7 @@ pub struct NewThread {
 
 /// A transition: the program counter at which the thread goes on, if it does, and the thread that it creates, if it does; and
 /// then its actions and its events, in order.
-#[derive(Debug, Drop)]
+#[derive(Drop)]
 pub struct Transition {
     pub next: Option<u32>,
     pub created: Option<NewThread>,

@@ -5,7 +5,7 @@ ghost use Rattle.std.specs.Prelude.{◌≡◌, ◌≤◌, [], ◌∷◌, length,
 use std::marker::Model;
 
 // The items, in order.
-#[derive(Clone, Copy, Debug, Drop)]
+#[derive(Drop)]
 enum Items<T> {
     Zero,
     One(T),
@@ -14,7 +14,7 @@ enum Items<T> {
 }
 
 /// A list of at most three items. In a contract it is the list.
-#[derive(Debug, Drop)]
+#[derive(Drop)]
 pub struct UpToThree<T> {
     items: Items<T>,
 }

@@ -29,47 +29,6 @@ fn fault_after(alloc: Global, lines: usize, after: &[u8]) -> Result<Option<(u32,
 }
 
 #[test]
-fn passes_blanks_and_comments(rt: HostRuntime) -> Result<(), Fail> {
-    let texts: [&[u8]; 8] = [
-        b"fn main x\nend",
-        b"fn main x\nend\n",
-        b"\n\n\nfn main x\n\n\nend\n\n\n",
-        b" \t\r\nfn main x\n \t\r\nend\n \t\r",
-        b"\r\n \n\t\n\r\nfn main x\r\nend\r\n",
-        b"#\nfn main x\n#\nend\n#",
-        b"# nothing\n  # more\n\t#what\nfn main x\n# \x80\nend\n#\x00\n",
-        b"fn main x\n\r\n\tnop \r\n#\r\nnop\r\nend",
-    ];
-    for text in texts {
-        assert_eq!(rt; fault(rt.alloc(), text)?, None);
-    }
-    Ok(())
-}
-
-#[test]
-fn finds_the_first_that_is_misspelled(rt: HostRuntime) -> Result<(), Fail> {
-    let rows: [(&[u8], u32, ParseWhy); 13] = [
-        (b"what", 1, ParseWhy::UnknownWord),
-        (b"what\n", 1, ParseWhy::UnknownWord),
-        (b"what\nnop\n", 1, ParseWhy::UnknownWord),
-        (b"what\nnop \x80\n", 1, ParseWhy::UnknownWord),
-        (b"nop \x80\nwhat\n", 1, ParseWhy::NotAscii),
-        (b"nop\nwhat\n", 2, ParseWhy::UnknownWord),
-        (b"nop\n\nwhat\nnop\n", 3, ParseWhy::UnknownWord),
-        (b"\n \n\t#\n nop#\n", 4, ParseWhy::UnknownWord),
-        (b"# \x80\nnop \x7f\n", 2, ParseWhy::NotAscii),
-        (b"nop\n\x00", 2, ParseWhy::NotAscii),
-        (b"nop\r\n\rend\r\nwhat", 3, ParseWhy::UnknownWord),
-        (b"nop\nnop\nwhat", 3, ParseWhy::UnknownWord),
-        (b"\n\n\nwhat #", 4, ParseWhy::UnknownWord),
-    ];
-    for (text, line, why) in rows {
-        assert_eq!(rt; fault(rt.alloc(), text)?, Some((line, why)));
-    }
-    Ok(())
-}
-
-#[test]
 fn goes_through_many_lines(rt: HostRuntime) -> Result<(), Fail> {
     let mut text = vec![in rt.alloc(); b'\n'; 262_144]?;
     if let Some(last) = text.last_mut() {

@@ -28,66 +28,6 @@ fn entry(worker: u32, pid: u32, tid: u32, alt: Alt) -> Entry {
 }
 
 #[test]
-fn refuses_at_the_first_fault(rt: HostRuntime) -> Result<(), Fail> {
-    let rows: [(&[u8], u32, ScheduleWhy); 18] = [
-        (b"", 1, ScheduleWhy::BadHeader),
-        (b"report 1\nverdict open\n", 1, ScheduleWhy::BadHeader),
-        (b"schedule 1 100 3 64\n", 1, ScheduleWhy::BadHeader),
-        (b"\nschedule 2 100 4 64\nend 0\n", 2, ScheduleWhy::BadHeader),
-        (
-            b"schedule 1 200001 4 64\nend 0\n",
-            1,
-            ScheduleWhy::BadHeader,
-        ),
-        (b"schedule 1 100 4 64\nend 1\n", 2, ScheduleWhy::BadEnd),
-        (b"schedule 1 100 4 64\n1 1 1 go\n", 3, ScheduleWhy::BadEnd),
-        (b"schedule 1 100 4 64\nend 0 \n", 2, ScheduleWhy::BadEnd),
-        (b"schedule 1 100 4 64\nend 00\n", 2, ScheduleWhy::BadEnd),
-        (
-            b"schedule 1 1 4 64\n1 1 1 go\n1 1 1 go\nend 2\n",
-            3,
-            ScheduleWhy::TooMany,
-        ),
-        (
-            b"schedule 1 1 4 64\n1 1 1 go\n1 1 1\nend 2\n",
-            3,
-            ScheduleWhy::BadEntry,
-        ),
-        (b"schedule 1 100 4 64\nend\n", 2, ScheduleWhy::BadEntry),
-        (
-            b"schedule 1 100 4 64\n01 1 1 go\nend 1\n",
-            2,
-            ScheduleWhy::BadEntry,
-        ),
-        (
-            b"schedule 1 100 4 64\n17 1 1 go\nend 1\n",
-            2,
-            ScheduleWhy::BadEntry,
-        ),
-        (
-            b"schedule 1 100 4 64\n1 1 1 act\nend 1\n",
-            2,
-            ScheduleWhy::BadEntry,
-        ),
-        (
-            b"schedule 1 100 4 64\n1 1 1 new 4294967296\nend 1\n",
-            2,
-            ScheduleWhy::BadEntry,
-        ),
-        (b"schedule 1 100 4 64\nend 0\n\n", 3, ScheduleWhy::Trailing),
-        (
-            b"schedule 1 100 4 64\r\r\nend 0\n",
-            1,
-            ScheduleWhy::BadHeader,
-        ),
-    ];
-    for (text, line, why) in rows {
-        assert_eq!(rt; refusal(rt.alloc(), text)?, Some((line, why)));
-    }
-    Ok(())
-}
-
-#[test]
 fn reads_each_alternative(rt: HostRuntime) -> Result<(), Fail> {
     let (config, entries) = read_schedule(
         rt.alloc(),

@@ -37,6 +37,7 @@ impl Threads {
     ghost use Rattle.std.specs.Prelude.{◌≡◌, ◌<◌, ◌≤◌, ◌^◌, ◌-◌, true, length, map, position, replicate, reverse, slice_get, Some, IfOk, IfSome, option_map};
     ghost use Rattle.std.specs.Borrow.{sem};
     ghost use Rattle.pct_model.specs.declared.limits.TheConstants.{MAX_SLOTS};
+    ghost use Rattle.pct_model.specs.ThreadSlots.{slot_of};
     ghost use Rattle.pct_set.specs.Slots.{slots_where};
     ghost use Rattle.pct_threads.specs.declared.row.TheConstants.{MAX_DEPTH};
     ghost use Rattle.pct_threads.specs.FrameWords.{frame_word_of};
@@ -64,6 +65,15 @@ impl Threads {
         ensures few { result ≤ MAX_SLOTS }
     {
         self.rows.len() as u32
+    }
+
+    /// The slot of a thread id, whether or not a thread with the id holds it: the id less 1, modulo the number of slots.
+    pub fn slot_of(&self, id: u32) -> u32
+        ensures value { result ≡ slot_of (length self.now) id }
+        ensures within { result < length self.now }
+        ensures few { length self.now ≤ MAX_SLOTS }
+    {
+        id.saturating_sub(1) % self.slot_count()
     }
 
     /// Whether the slot is occupied.

@@ -1,7 +1,7 @@
 use Rattle.std.proofs.Common.{◌<◌, ◌≤◌, length, Some, None, refl, ap, subst, arith}
 use Rattle.std.specs.Prelude.{if◌then◌else◌}
 use Rattle.std.proofs.lemmas.Bool.{false≢true}
-use Rattle.pct_engine.specs.Programs.{ProgramValue}
+use Rattle.pct_transitions.specs.Programs.{ProgramValue}
 use Rattle.pct_engine.specs.Steps.{StepsBy}
 use Rattle.pct_engine.proofs.UsedSlots.{covers_after}
 use Rattle.pct_engine.proofs.StepViews.{placed_in}

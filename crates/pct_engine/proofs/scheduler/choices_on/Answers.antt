@@ -4,7 +4,7 @@ use Rattle.pct_model.specs.NextStatement.{next_of}
 use Rattle.pct_threads.proofs.TableLemmas.{within-occupied}
 use Rattle.pct_keys.specs.Tables.{Table}
 use Rattle.pct_engine_laws.specs.SeenSteps.{others_in}
-use Rattle.pct_engine.specs.Listed.{listed}
+use Rattle.pct_transitions.specs.Listed.{listed}
 use Rattle.pct_engine.specs.Views.{machine_thread, process_view}
 use Rattle.pct_engine.proofs.scheduler.choices_on.Goals as goal
 

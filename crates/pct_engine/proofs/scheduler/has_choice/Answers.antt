@@ -8,7 +8,7 @@ use Rattle.pct_model.specs.NextStatement.{NextStatement, next_of}
 use Rattle.pct_model.specs.OtherThreads.{target_is}
 use Rattle.pct_model.specs.ChoiceTable.{choices_at, is_enabled}
 use Rattle.pct_threads.specs.declared.record.Thread.{Thread as Kept}
-use Rattle.pct_engine.specs.Programs.{ProgramValue}
+use Rattle.pct_transitions.specs.Programs.{ProgramValue}
 use Rattle.pct_engine.specs.Views.{machine_thread}
 use Rattle.pct_engine.proofs.EnabledThreads.{running_enabled, point_enabled, joining_enabled, ending_enabled, exiting_enabled, none_enabled, others_held, ready_by, joined_seen, record_read, top_read}
 use Rattle.pct_engine.proofs.scheduler.has_choice.Goals as goal

@@ -1,8 +1,8 @@
 use Rattle.std.proofs.Common.{◌≡◌, true, false, cond, length, Some, None, refl, sym, ap, ◌∙◌, eq-eqb, ne_eqb}
 use Rattle.std.specs.Prelude.{nat_eq}
 use Rattle.pct_model.specs.declared.stop.Verdict.TheVariants as verdict
+use Rattle.pct_transitions.specs.Programs.{ProgramValue}
 use Rattle.pct_engine.specs.ReadyThreads.{ready_threads}
-use Rattle.pct_engine.specs.Programs.{ProgramValue}
 use Rattle.pct_engine.proofs.Readiness.{seen_verdict-by}
 use Rattle.pct_engine.proofs.scheduler.verdict_after.Goals as goal
 

@@ -1,8 +1,8 @@
 use Rattle.std.proofs.Common.{None, refl, sym, ap, subst}
+use Rattle.pct_actions.specs.TableFits.{HasRows}
 use Rattle.pct_engine.proofs.JoinersAfter.{joiners_made}
-use Rattle.pct_engine.proofs.StepViews.{step_by_view, step_made}
 use Rattle.pct_threads.proofs.TableLemmas.{within-occupied}
-use Rattle.pct_engine.specs.Views.{HasRows}
+use Rattle.pct_engine.proofs.StepViews.{step_by_view, step_made}
 use Rattle.pct_engine.proofs.MachineViews.{rows_moved}
 use Rattle.pct_engine.proofs.UsedSlots.{slots_moved}
 use Rattle.std.specs.Prelude.{is_some}

@@ -8,21 +8,24 @@ use Rattle.pct_threads.specs.Tables.{held_at, on_held}
 use Rattle.pct_threads.proofs.TableLemmas.{within-occupied}
 use Rattle.pct_engine_laws.specs.SeenSteps.{others_in, transition_in}
 use Rattle.pct_keys.specs.Tables.{Table}
-use Rattle.pct_engine.specs.Listed.{listed}
-use Rattle.pct_engine.specs.Fitting.{NamesFit, NewFits, KeysFit}
-use Rattle.pct_engine.specs.MachineChanges.{held_moved}
+use Rattle.pct_transitions.specs.Listed.{listed}
+use Rattle.pct_transitions.proofs.KeyChoices.{on_places}
+use Rattle.pct_actions.specs.TableFits.{NamesFit, NewFits, KeysFit}
+use Rattle.pct_actions.specs.MachineChanges.{held_moved}
+use Rattle.pct_actions.proofs.SearchedSlots.{held_with}
 use Rattle.pct_engine.specs.Views.{machine_thread, process_view}
-use Rattle.pct_engine.proofs.SearchedSlots.{held_with}
 use Rattle.pct_engine.proofs.FittingSteps.{answer_is, taken_names, taken_new, taken_keys}
-use Rattle.pct_engine.proofs.KeyChoices.{on_places}
-use Rattle.pct_engine.proofs.FoundThreads.{admits, legal_transition-unfound, legal_transition-found}
+use Rattle.pct_engine.proofs.FoundThreads.{admits, placed_by_length, legal_transition-unfound, legal_transition-found}
 use Rattle.pct_engine.proofs.steps.transition_of.Goals as goal
+
+pub answer_to-others-requires-clause-placed : goal.answer_to-others-requires-clause-placed
+answer_to-others-requires-clause-placed c =
+    placed_by_length c.args.program.now.config.slots c.args.machine.now.threads (c.requires.placed (admits c.args.machine.now c.args.entry (sym c.may_step.ensures ∙ c.if-not-may_step.false)).live)
 
 pub offers-requires : goal.offers-requires
 offers-requires c =
     let live = (admits c.args.machine.now c.args.entry (sym c.may_step.ensures ∙ c.if-not-may_step.false)).live in
-    let numbers = c.requires.numbers live in
-    record { within = c.choices_at.ensures.within (length c.args.machine.now.threads) c.answer_to-others.ensures.within (subst (λ (n : ℕ). n < length c.args.machine.now.threads) (sym c.position_of-position.ensures.slot) (within-occupied c.args.machine.now.threads c.in-Some.slot c.in-Some.ensures.occupied)); rows = c.requires.rows; ids = numbers.ids; keys = numbers.keys_fit }
+    record { within = c.choices_at.ensures.within (length c.args.machine.now.threads) c.answer_to-others.ensures.within (subst (λ (n : ℕ). n < length c.args.machine.now.threads) (sym c.position_of-position.ensures.slot) (within-occupied c.args.machine.now.threads c.in-Some.slot c.in-Some.ensures.occupied)); rows = c.requires.rows; numbers = c.requires.numbers live }
 
 pub returns-in_default-clause-value : goal.returns-in_default-clause-value
 returns-in_default-clause-value c =

@@ -2,7 +2,7 @@ use Rattle.std.proofs.Common.{List, ◌++◌, map, ap, sym, ◌∙◌}
 use Rattle.std.proofs.lemmas.List.{append-nil}
 use Rattle.pct_model.specs.declared.event.What.{What}
 use Rattle.pct_model.specs.Run.{event_of}
-use Rattle.pct_engine.proofs.RestItems.{drop_none}
+use Rattle.pct_actions.proofs.RestItems.{drop_none}
 use Rattle.pct_engine.proofs.trace.+record_events.Goals as goal
 
 pub returns-in_default-clause-last : goal.returns-in_default-clause-last

@@ -3,13 +3,13 @@ use Rattle.pct_model.specs.Run.{Run}
 use Rattle.pct_engine.specs.Views.{machine_view}
 use Rattle.pct_engine.specs.Steps.{IsSeenChoice}
 use Rattle.pct_engine.specs.EngineStates.{EngineValue, IsRunOf, IsChoice}
-use Rattle.pct_engine.proofs.EngineChoices.{choice_after, slots_after, numbers_after}
+use Rattle.pct_engine.proofs.EngineChoices.{choice_after, placed_after, numbers_after}
 use Rattle.pct_engine.proofs.engine.Engine.choose.Goals as goal
 
-pub chosen-requires-clause-slots : goal.chosen-requires-clause-slots
-chosen-requires-clause-slots c =
+pub chosen-requires-clause-placed : goal.chosen-requires-clause-placed
+chosen-requires-clause-placed c =
     let e = c.self.inside in
-    slots_after e.program.script e.program.config e.history.items e.events.items e.machine c.self.invariant.0
+    placed_after e.program.script e.program.config e.history.items e.events.items e.machine c.self.invariant.0
 
 pub chosen-requires-clause-numbers : goal.chosen-requires-clause-numbers
 chosen-requires-clause-numbers c =

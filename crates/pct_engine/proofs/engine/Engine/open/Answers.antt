@@ -1,5 +1,5 @@
 use Rattle.std.proofs.Common.{ap, arith}
-use Rattle.pct_engine.specs.Programs.{ProgramValue}
+use Rattle.pct_transitions.specs.Programs.{ProgramValue}
 use Rattle.pct_engine.proofs.FirstStates.{stands-first}
 use Rattle.pct_engine.proofs.engine.Engine.open.Goals as goal
 

@@ -3,13 +3,13 @@ use Rattle.pct_model.specs.Run.{Run, verdict_of}
 use Rattle.pct_engine_laws.specs.SeenSteps.{seen_verdict}
 use Rattle.pct_engine.specs.Views.{machine_view}
 use Rattle.pct_engine.specs.EngineStates.{EngineValue, IsRunOf}
-use Rattle.pct_engine.proofs.EngineChoices.{verdict_after, slots_after}
+use Rattle.pct_engine.proofs.EngineChoices.{verdict_after, placed_after}
 use Rattle.pct_engine.proofs.engine.Engine.verdict.Goals as goal
 
 pub verdict_after-requires : goal.verdict_after-requires
 verdict_after-requires c =
     let e = c.self.inside in
-    record { used = c.self.invariant.2; slots = slots_after e.program.script e.program.config e.history.items e.events.items e.machine c.self.invariant.0; rows = c.self.invariant.0.rows_are }
+    record { used = c.self.invariant.2; slots = λ live. (placed_after e.program.script e.program.config e.history.items e.events.items e.machine c.self.invariant.0 live).all; rows = c.self.invariant.0.rows_are }
 
 pub returns-clause-value : goal.returns-clause-value
 returns-clause-value c =

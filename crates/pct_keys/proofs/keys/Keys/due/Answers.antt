@@ -1,8 +1,12 @@
-use Rattle.std.proofs.Common.{ap, length, arith}
+use Rattle.std.proofs.Common.{sym, ap, length, arith}
 use Rattle.pct_model.specs.Keys.{is_due}
 use Rattle.pct_keys.specs.Tables.{row_at}
+use Rattle.pct_keys.proofs.NoValues.{due_places-none}
 use Rattle.pct_keys.proofs.Scan.{due-start, count-step, count-end}
 use Rattle.pct_keys.proofs.keys.Keys.due.Goals as goal
+
+pub returns-then-not-was_set : goal.returns-then-not-was_set
+returns-then-not-was_set c = sym (ap length (due_places-none c.args.self.now.places (row_at c.args.self.now c.args.slot) (c.was_set.ensures c.if-not-was_set.true)))
 
 pub loop-place-init : goal.loop-place-init
 loop-place-init c = record { few = omega arith; counted = omega (arith, ap length (due-start c.args.self.now.places (row_at c.args.self.now c.args.slot))) }

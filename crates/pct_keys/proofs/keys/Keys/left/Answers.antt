@@ -1,8 +1,12 @@
-use Rattle.std.proofs.Common.{ap, length, arith}
+use Rattle.std.proofs.Common.{sym, ap, length, arith}
 use Rattle.pct_model.specs.Keys.{is_left}
 use Rattle.pct_keys.specs.Tables.{row_at}
+use Rattle.pct_keys.proofs.NoValues.{left_places-none}
 use Rattle.pct_keys.proofs.Scan.{left-start, count-step, count-end}
 use Rattle.pct_keys.proofs.keys.Keys.left.Goals as goal
+
+pub returns-then-not-was_set : goal.returns-then-not-was_set
+returns-then-not-was_set c = sym (ap length (left_places-none c.args.self.now.places (row_at c.args.self.now c.args.slot) (c.was_set.ensures c.if-not-was_set.true)))
 
 pub loop-place-init : goal.loop-place-init
 loop-place-init c = record { few = omega arith; counted = omega (arith, ap length (left-start c.args.self.now.places (row_at c.args.self.now c.args.slot))) }

@@ -1,9 +1,14 @@
 use Rattle.std.proofs.Common.{sym, ap, ◌∙◌, slice_get, arith}
 use Rattle.pct_model.specs.Keys.{is_left}
 use Rattle.pct_keys.specs.Tables.{row_at}
+use Rattle.pct_keys.proofs.NoValues.{left_places-none}
 use Rattle.pct_keys.proofs.Scan.{left-start, nth-miss, nth-hit, nth-found, nth-end}
 use Rattle.pct_keys.proofs.keys.Keys.left_nth.Goals as goal
 use Rattle.pct_keys.proofs.keys.Keys.left_nth.Goals.{then-is_left+else-rest-eq0, else-is_left}
+
+pub returns-then-not-was_set-clause-value : goal.returns-then-not-was_set-clause-value
+returns-then-not-was_set-clause-value c =
+    sym (ap (λ places. slice_get places c.args.n) (left_places-none c.args.self.now.places (row_at c.args.self.now c.args.slot) (c.was_set.ensures c.if-not-was_set.true)))
 
 pub loop-place-init : goal.loop-place-init
 loop-place-init c = ap (λ places. slice_get places c.args.n) (left-start c.args.self.now.places (row_at c.args.self.now c.args.slot))

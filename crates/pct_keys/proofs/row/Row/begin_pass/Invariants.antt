@@ -1,9 +1,10 @@
-use Rattle.std.proofs.Common.{◌≡◌, ℕ, ◌<◌, false, not, length, get_or, nat_eq}
+use Rattle.std.proofs.Common.{◌≡◌, ℕ, ◌<◌, true, false, not, length, get_or, nat_eq}
 use Rattle.pct_model.specs.declared.limits.TheConstants.{MAX_KEYS}
 use Rattle.pct_keys.proofs.row.Row.begin_pass.Given as goal
 
 abbrev pub invariant-loop-place : goal.invariant-loop-place
 invariant-loop-place l = record {
+  was_set : l.self-inside.was_set ≡ true;
   same : l.self-inside.values ≡ l.fn.self.values;
   values : length l.self-inside.values ≡ MAX_KEYS;
   in_pass : length l.self-inside.in_pass ≡ MAX_KEYS;

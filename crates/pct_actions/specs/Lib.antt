@@ -1,0 +1,2 @@
+pub mod MachineChanges
+pub mod TableFits

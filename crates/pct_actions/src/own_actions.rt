@@ -1,0 +1,272 @@
+//! What a transition changes in the thread that makes it.
+
+ghost use Rattle.std.specs.Prelude.{◌≡◌, ◌<◌, ◌≤◌, ◌∷◌, [], ℕ, suc, List, length, Some, None, true};
+ghost use Rattle.pct_model.specs.declared.limits.TheConstants.{MAX_FRAMES, MAX_HANDLERS, MAX_PASSES};
+ghost use Rattle.pct_model.specs.declared.state.Status.TheVariants as status;
+ghost use Rattle.pct_model.specs.Actions.{set_local, at_pc, without_first};
+ghost use Rattle.pct_model.specs.World.{new_frame};
+ghost use Rattle.pct_threads.specs.FrameWords.{kind_number};
+ghost use Rattle.pct_threads.specs.Records.{ended_record};
+ghost use Rattle.pct_threads.specs.Slots.{Held, without_frame};
+ghost use Rattle.pct_threads.specs.Tables.{held_at, is_occupied_at, on_held};
+ghost use Rattle.pct_engine_laws.specs.Fitting.{Fits};
+ghost use Rattle.pct_actions.specs.MachineChanges.{held_after, held_at_pc, held_ending, held_exiting, held_with_status};
+
+use pct_cleanup::Handlers;
+use pct_model::{Action, FrameKind, Mode, Reason, State, Status};
+use pct_threads::Threads;
+
+/// The thread on a slot goes on at a program counter, if there is one.
+#[tactic(auto, unfolding(crate::specs::MachineChanges::held_at_pc))]
+pub(crate) fn go_on(threads: &mut Threads, slot: u32, next: Option<u32>)
+    requires { is_occupied_at threads.old slot ≡ true }
+    ensures { threads.new ≡ on_held slot (held_at_pc next) threads.old }
+{
+    match next {
+        None => {}
+        Some(pc) => run_at(threads, slot, pc),
+    }
+}
+
+/// Makes an action's change in the thread on a slot.
+#[tactic(auto, unfolding(crate::specs::MachineChanges::held_after))]
+pub(crate) fn act_alone(threads: &mut Threads, slot: u32, action: Action)
+    requires occupied { is_occupied_at threads.old slot ≡ true }
+    requires fits { (held : Held) → held_at threads.old slot ≡ Some held → Fits (length held.frames) (length held.thread.handlers) held.thread.pass action }
+    ensures { threads.new ≡ on_held slot (held_after action) threads.old }
+{
+    match action {
+        Action::SetLocal(i, value) => set_local(threads, slot, i, value),
+        Action::Call { func, arg, kind } => call(threads, slot, func, arg, kind),
+        Action::CallAlone { func, arg, kind } => call_alone(threads, slot, func, arg, kind),
+        Action::Leave(status) => leave(threads, slot, status),
+        Action::PushHandler(func, arg) => push_handler(threads, slot, func, arg),
+        Action::PopHandler => pop_handler(threads, slot),
+        Action::SetState(state) => set_state(threads, slot, state),
+        Action::SetMode(mode) => set_mode(threads, slot, mode),
+        Action::BeginPoint(index) => set_status(threads, slot, Status::AtPoint(index)),
+        Action::BeginJoin(id) => set_status(threads, slot, Status::Joining(id)),
+        Action::CancelJoin(_) => set_status(threads, slot, Status::Running),
+        Action::BeginPass => begin_pass(threads, slot),
+        Action::BeginEnd(why) => begin_end(threads, slot, why),
+        Action::EndThread(value) => end_thread(threads, slot, value),
+        Action::MarkEnded => mark_ended(threads, slot),
+        Action::BeginExit(_) => begin_exit(threads, slot),
+        Action::SetGlobal(_, _)
+        | Action::EndJoin(_)
+        | Action::Request(_)
+        | Action::Detach(_)
+        | Action::MakeKey(_, _)
+        | Action::DeleteKey(_)
+        | Action::SetSpecific(_, _)
+        | Action::TakeKey(_)
+        | Action::EndProcess(_)
+        | Action::Stop(_) => {}
+    }
+}
+
+// ---- each action
+
+// The thread runs at a program counter.
+#[tactic(auto, unfolding(crate::specs::MachineChanges::held_at_pc))]
+fn run_at(threads: &mut Threads, slot: u32, pc: u32)
+    requires { is_occupied_at threads.old slot ≡ true }
+    ensures { threads.new ≡ on_held slot (held_at_pc (Some pc)) threads.old }
+{
+    set_pc(threads, slot, pc);
+    set_status(threads, slot, Status::Running);
+}
+
+// A local of the newest frame gets a value.
+fn set_local(threads: &mut Threads, slot: u32, i: u32, value: u32)
+    requires { is_occupied_at threads.old slot ≡ true }
+    ensures { threads.new ≡ on_held slot (λ h. record h { frames = set_local i value h.frames }) threads.old }
+{
+    let Some(frame) = threads.top_frame(slot) else {
+        return;
+    };
+    if (i as usize) < frame.locals.len() {
+        let depth = threads.place(slot).depth;
+        // The words of a frame from 3 on are its locals.
+        threads.set_frame_word(slot, depth - 1, 3 + i, value);
+    }
+}
+
+// The thread calls a function, and runs in its frame.
+fn call(threads: &mut Threads, slot: u32, func: u32, arg: u32, kind: FrameKind)
+    requires occupied { is_occupied_at threads.old slot ≡ true }
+    requires room { (held : Held) → held_at threads.old slot ≡ Some held → length held.frames ≤ MAX_FRAMES }
+    ensures { threads.new ≡ on_held slot (λ h. held_with_status status.Running (record h { frames = new_frame func arg kind ∷ h.frames })) threads.old }
+{
+    threads.push_frame(slot, func, arg, kind_number(kind));
+    set_status(threads, slot, Status::Running);
+}
+
+// The thread calls a function, and runs in its frame, which is its only one.
+fn call_alone(threads: &mut Threads, slot: u32, func: u32, arg: u32, kind: FrameKind)
+    requires { is_occupied_at threads.old slot ≡ true }
+    ensures { threads.new ≡ on_held slot (λ h. held_with_status status.Running (record h { frames = new_frame func arg kind ∷ [] })) threads.old }
+{
+    threads.drop_frames(slot);
+    call(threads, slot, func, arg, kind);
+}
+
+// The thread leaves its newest frame, and gets a status.
+fn leave(threads: &mut Threads, slot: u32, status: Status)
+    requires { is_occupied_at threads.old slot ≡ true }
+    ensures { threads.new ≡ on_held slot (λ h. held_with_status status (record h { frames = without_first h.frames })) threads.old }
+{
+    leave_frame(threads, slot);
+    set_status(threads, slot, status);
+}
+
+// A cleanup handler is pushed.
+fn push_handler(threads: &mut Threads, slot: u32, func: u32, arg: u32)
+    requires occupied { is_occupied_at threads.old slot ≡ true }
+    requires room { (held : Held) → held_at threads.old slot ≡ Some held → length held.thread.handlers < MAX_HANDLERS }
+    ensures { threads.new ≡ on_held slot (λ h. record h { thread = record h.thread { handlers = (func, arg) ∷ h.thread.handlers } }) threads.old }
+{
+    let thread = threads.write(slot);
+    push_onto(&mut thread.handlers, func, arg);
+}
+
+// The newest cleanup handler is removed.
+fn pop_handler(threads: &mut Threads, slot: u32)
+    requires { is_occupied_at threads.old slot ≡ true }
+    ensures { threads.new ≡ on_held slot (λ h. record h { thread = record h.thread { handlers = without_first h.thread.handlers } }) threads.old }
+{
+    let thread = threads.write(slot);
+    pop_from(&mut thread.handlers);
+}
+
+// The thread has a cancelability state.
+fn set_state(threads: &mut Threads, slot: u32, state: State)
+    requires { is_occupied_at threads.old slot ≡ true }
+    ensures { threads.new ≡ on_held slot (λ h. record h { thread = record h.thread { cancel = record h.thread.cancel { state = state } } }) threads.old }
+{
+    threads.write(slot).cancel.state = state;
+}
+
+// The thread has a cancelability type.
+fn set_mode(threads: &mut Threads, slot: u32, mode: Mode)
+    requires { is_occupied_at threads.old slot ≡ true }
+    ensures { threads.new ≡ on_held slot (λ h. record h { thread = record h.thread { cancel = record h.thread.cancel { mode = mode } } }) threads.old }
+{
+    threads.write(slot).cancel.mode = mode;
+}
+
+// The number of the thread's pass over the destructors is one more.
+fn begin_pass(threads: &mut Threads, slot: u32)
+    requires occupied { is_occupied_at threads.old slot ≡ true }
+    requires room { (held : Held) → held_at threads.old slot ≡ Some held → held.thread.pass < MAX_PASSES }
+    ensures { threads.new ≡ on_held slot (λ h. record h { thread = record h.thread { pass = suc h.thread.pass } }) threads.old }
+{
+    threads.write(slot).pass += 1;
+}
+
+// The thread leaves all its frames, and begins to exit its process.
+fn begin_exit(threads: &mut Threads, slot: u32)
+    requires { is_occupied_at threads.old slot ≡ true }
+    ensures { threads.new ≡ on_held slot held_exiting threads.old }
+{
+    threads.drop_frames(slot);
+    let thread = threads.write(slot);
+    thread.cancel.begin_end();
+    thread.status = Status::Exiting;
+}
+
+// The thread leaves all its frames, and begins to end for a reason.
+fn begin_end(threads: &mut Threads, slot: u32, why: Reason)
+    requires { is_occupied_at threads.old slot ≡ true }
+    ensures { threads.new ≡ on_held slot (held_ending why) threads.old }
+{
+    threads.drop_frames(slot);
+    let thread = threads.write(slot);
+    thread.cancel.begin_end();
+    thread.status = Status::Ending;
+    thread.reason = why;
+}
+
+// The thread has ended with a value. It keeps its slot.
+fn end_thread(threads: &mut Threads, slot: u32, value: u32)
+    requires { is_occupied_at threads.old slot ≡ true }
+    ensures { threads.new ≡ on_held slot (λ h. record h { thread = ended_record value h.thread }) threads.old }
+{
+    let thread = threads.write(slot);
+    thread.status = Status::Ended(value);
+    thread.ended = true;
+}
+
+// The thread counts as ended.
+fn mark_ended(threads: &mut Threads, slot: u32)
+    requires { is_occupied_at threads.old slot ≡ true }
+    ensures { threads.new ≡ on_held slot (λ h. record h { thread = record h.thread { ended = true } }) threads.old }
+{
+    threads.write(slot).ended = true;
+}
+
+// ---- parts
+
+// The newest frame, if there is one, is at another program counter.
+fn set_pc(threads: &mut Threads, slot: u32, pc: u32)
+    requires { is_occupied_at threads.old slot ≡ true }
+    ensures { threads.new ≡ on_held slot (λ h. record h { frames = at_pc pc h.frames }) threads.old }
+{
+    let depth = threads.place(slot).depth;
+    if depth > 0 {
+        // Word 1 of a frame is its program counter.
+        threads.set_frame_word(slot, depth - 1, 1, pc);
+    }
+}
+
+// The newest frame, if there is one, is removed.
+fn leave_frame(threads: &mut Threads, slot: u32)
+    requires { is_occupied_at threads.old slot ≡ true }
+    ensures { threads.new ≡ on_held slot without_frame threads.old }
+{
+    if threads.place(slot).depth > 0 {
+        threads.pop_frame(slot);
+    }
+}
+
+// The thread has a status.
+fn set_status(threads: &mut Threads, slot: u32, status: Status)
+    requires { is_occupied_at threads.old slot ≡ true }
+    ensures { threads.new ≡ on_held slot (held_with_status status) threads.old }
+{
+    threads.write(slot).status = status;
+}
+
+// Pushes a handler onto handlers that have room.
+fn push_onto(handlers: &mut Handlers, func: u32, arg: u32)
+    requires { length handlers.old < MAX_HANDLERS }
+    ensures { handlers.new ≡ (func, arg) ∷ handlers.old }
+{
+    if handlers.push(func, arg).is_err() {
+        unreachable!()
+    }
+}
+
+// Removes the newest handler, if there is one.
+fn pop_from(handlers: &mut Handlers)
+    ensures { handlers.new ≡ without_first handlers.old }
+{
+    let _newest = handlers.pop();
+}
+
+// The number of a kind, as the table of threads has it.
+fn kind_number(kind: FrameKind) -> u32
+    ensures value { result ≡ kind_number kind }
+    ensures within { result < 8 }
+{
+    match kind {
+        FrameKind::Main => 0,
+        FrameKind::Start => 1,
+        FrameKind::Call => 2,
+        FrameKind::PopHandler => 3,
+        FrameKind::Handler => 4,
+        FrameKind::Destructor => 5,
+        FrameKind::ForkFn => 6,
+        FrameKind::ExitFn => 7,
+    }
+}

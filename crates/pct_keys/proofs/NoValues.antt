@@ -1,0 +1,64 @@
+-- The data of a thread without values: none of its places is due, or left in a pass.
+use Rattle.std.proofs.Common.{◌≡◌, refl, ap, ◌∙◌, ℕ, zero, suc, ◌+◌, Bool, true, false, not, ◌&&◌, cond, List, [], ◌∷◌, map, nat_eq, slice_get}
+use Rattle.std.specs.Prelude.{filter, is_some, replicate, slice_set}
+use Rattle.std.specs.Option.{option_map_or}
+use Rattle.std.specs.List.{range_with_len}
+use Rattle.pct_model.specs.declared.limits.TheConstants.{MAX_KEYS}
+use Rattle.pct_model.specs.Keys.{KeyPlace, KeyValues, no_values, key_at, without_value, is_due, due_places, with_pass, is_left, left_places}
+use Rattle.pct_keys.proofs.SoundTables.{IsClear-no_values}
+
+-- ---- lists
+
+set-replicate : {X : Type 0} (n i : ℕ) (x : X) → slice_set (replicate n x) i x ≡ replicate n x
+set-replicate zero i x = refl
+set-replicate (suc n) zero x = refl
+set-replicate (suc n) (suc i) x = ap (λ xs. x ∷ xs) (set-replicate n i x)
+
+map-replicate : {X Y : Type 0} (f : X → Y) (n : ℕ) (x : X) → map f (replicate n x) ≡ replicate n (f x)
+map-replicate f zero x = refl
+map-replicate f (suc n) x = ap (λ ys. f x ∷ ys) (map-replicate f n x)
+
+filter-fails : (test : ℕ → Bool) → ((i : ℕ) → test i ≡ false) → (first n : ℕ) → filter test (range_with_len first n) ≡ []
+filter-fails test fails first zero = refl
+filter-fails test fails first (suc n) =
+    let rest : List ℕ = filter test (range_with_len (first + 1) n) in
+    ap (λ passes. cond passes (first ∷ rest) rest) (fails first) ∙ filter-fails test fails (first + 1) n
+
+and-false : (b : Bool) → (b && false) ≡ false
+and-false true = refl
+and-false false = refl
+
+-- ---- changes
+
+-- taking a value away changes nothing
+pub without_value-none : (place : ℕ) → without_value place no_values ≡ no_values
+without_value-none place =
+    let of_values : List ℕ → KeyValues = λ values. record { values = values; in_pass = slice_set no_values.in_pass place false } in
+    let of_marks : List Bool → KeyValues = λ marks. record { values = no_values.values; in_pass = marks } in
+    ap of_values (set-replicate MAX_KEYS place 0) ∙ ap of_marks (set-replicate MAX_KEYS place false)
+
+-- a pass takes no place
+pub with_pass-none : with_pass no_values ≡ no_values
+with_pass-none =
+    let of_marks : List Bool → KeyValues = λ marks. record { values = no_values.values; in_pass = marks } in
+    ap of_marks (map-replicate (λ value. not (nat_eq value 0)) MAX_KEYS 0)
+
+-- ---- places
+
+is_due-none : (places : List KeyPlace) (place : ℕ) → is_due places no_values place ≡ false
+is_due-none places place =
+    let has_destructor : Bool = option_map_or (λ key. is_some key.destructor) (key_at places place) false in
+    ap (λ value. has_destructor && not (nat_eq value 0)) (IsClear-no_values place).0 ∙ and-false has_destructor
+
+is_left-none : (places : List KeyPlace) (place : ℕ) → is_left places no_values place ≡ false
+is_left-none places place =
+    let in_pass : Bool = option_map_or (λ in_pass. in_pass) (slice_get no_values.in_pass place) false in
+    ap (λ due. in_pass && due) (is_due-none places place) ∙ and-false in_pass
+
+pub due_places-none : (places : List KeyPlace) (own : KeyValues) → own ≡ no_values → due_places places own ≡ []
+unfolding due_places
+due_places-none places own none = ap (due_places places) none ∙ filter-fails (is_due places no_values) (is_due-none places) 0 MAX_KEYS
+
+pub left_places-none : (places : List KeyPlace) (own : KeyValues) → own ≡ no_values → left_places places own ≡ []
+unfolding left_places
+left_places-none places own none = ap (left_places places) none ∙ filter-fails (is_left places no_values) (is_left-none places) 0 MAX_KEYS

@@ -1,0 +1,7 @@
+pub mod Bodies
+pub mod Fits
+pub mod ListedChoices
+pub mod KeyChoices
+pub mod CancelRows
+pub mod SlotAnswers
+pub mod ThreadJoiners

@@ -1,0 +1,13 @@
+use Rattle.std.proofs.Common.{◌≡◌, ℕ, List, [], ◌∷◌, Some, sym, ap, ◌∙◌}
+use Rattle.std.specs.Prelude.{slice_get}
+use Rattle.pct_model.specs.declared.transition.Transition.{Transition}
+use Rattle.pct_model.specs.CleanupHandlers.{pops}
+use Rattle.pct_transitions.proofs.cleanup_handlers.pops.Goals as goal
+
+-- a pop depends on the newest handler alone
+pops_newest : (next v f a : ℕ) (o : Transition) (handlers : List (ℕ × ℕ)) → ((below : List (ℕ × ℕ)) → o ≡ pops next v ((f, a) ∷ below)) → Some (f, a) ≡ slice_get handlers 0 → o ≡ pops next v handlers
+pops_newest next v f a o [] is newest = absurd cc
+pops_newest next v f a o (h ∷ below) is newest = let same : (f, a) ≡ h = cc in is below ∙ ap (λ (h : ℕ × ℕ). pops next v (h ∷ below)) same
+
+pub returns-in-Some : goal.returns-in-Some
+returns-in-Some c = λ handlers newest. pops_newest c.args.next c.args.value c.in-Some.func c.in-Some.arg c.pops_newest.result handlers c.pops_newest.ensures (sym c.in-Some.is ∙ newest)

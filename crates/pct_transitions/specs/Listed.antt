@@ -1,0 +1,26 @@
+-- The choices of a thread, as a list.
+use Rattle.std.specs.Prelude.{ℕ, ◌<◌, List, [], ◌∷◌, All, map}
+use Rattle.pct_model.specs.declared.schedule.Alt.{Alt}
+use Rattle.pct_model.specs.declared.schedule.Alt.TheVariants as alt
+use Rattle.pct_model.specs.Keys.{new_keys, left_keys}
+use Rattle.pct_threads.specs.Slots.{Slot}
+use Rattle.pct_threads.specs.Tables.{next_id_at}
+use Rattle.pct_keys.specs.Tables.{Table, row_at}
+use Rattle.pct_transitions.specs.declared.choice_table.Choices.{Choices}
+use Rattle.pct_transitions.specs.declared.choice_table.Choices.TheVariants as choices
+
+-- the choices in a process with these threads and keys, in their order
+abbrev pub listed : List Slot → Table → Choices → List Alt
+listed threads keys choices.None = []
+listed threads keys choices.Go = alt.Go ∷ []
+listed threads keys choices.Act = alt.Act 0 ∷ []
+listed threads keys choices.GoOrAct = alt.Go ∷ alt.Act 0 ∷ []
+listed threads keys (choices.New free) = map (λ s. alt.New (next_id_at threads s)) free
+listed threads keys choices.NewKey = map (λ n. alt.New n) (new_keys keys.places)
+listed threads keys (choices.Dtor slot) = map (λ n. alt.Dtor n) (left_keys keys.places (row_at keys slot))
+
+-- a thread can be created on a slot below this number alone, and the thread that calls a destructor has such a slot
+abbrev pub AreWithin : ℕ → Choices → Type 0
+AreWithin slots (choices.New free) = All (λ s. s < slots) free
+AreWithin slots (choices.Dtor slot) = slot < slots
+AreWithin slots _ = Unit {0}

@@ -1,0 +1,46 @@
+-- What a step reads of a thread, and of the state that the threads of its process share.
+use denote.Ref.{Bor}
+use Rattle.std.specs.Prelude.{◌≡◌, ℕ, ◌<◌, List, [], length, reverse, Option, Some, None, IfSome}
+use Rattle.pct_model.specs.declared.script.Script.{Script}
+use Rattle.pct_model.specs.declared.statement.Stmt.{Stmt}
+use Rattle.pct_model.specs.declared.frame.Frame.{Frame}
+use Rattle.pct_model.specs.Keys.{KeyPlace}
+use Rattle.pct_model.specs.World.{Thread, SharedState, statement_at}
+use Rattle.pct_model.specs.NextStatement.{NextStatement, NoStatement, StatementIn, next_of}
+use Rattle.pct_keys.specs.Tables.{row_at}
+use Rattle.pct_transitions.specs.declared.position.Position.{Position}
+
+-- a frame and a statement as the next statement of a thread
+abbrev pub next_at : Option (Bor Frame × Bor Stmt) → NextStatement
+next_at None = NoStatement
+next_at (Some (frame, s)) = StatementIn frame.now s.now
+
+-- the statement is the one at the frame's pc
+abbrev pub IsDecoded : Script → Option (Bor Frame × Bor Stmt) → Type 0
+IsDecoded script next = IfSome next (λ n. statement_at script n.0.now ≡ Some n.1.now)
+
+-- this is the position of the thread
+pub record IsPosition (script : Script) (position : Position) (t : Thread) : Type 0 where
+  pub id_is : position.id ≡ t.id
+  pub next_is : next_at position.next ≡ next_of script t.frames
+  pub depth_is : position.depth ≡ length t.frames
+  pub handlers_are : position.thread.now.handlers ≡ t.handlers
+  pub status_is : position.thread.now.status ≡ t.status
+  pub reason_is : position.thread.now.reason ≡ t.reason
+  pub pass_is : position.thread.now.pass ≡ t.pass
+  pub state_is : position.thread.now.cancel.state ≡ t.state
+  pub mode_is : position.thread.now.cancel.mode ≡ t.mode
+  pub pending_is : position.thread.now.cancel.pending ≡ t.pending
+  pub frames_are : reverse position.frames.now ≡ t.frames
+  pub row_is : row_at position.keys.now position.slot ≡ t.specific
+
+-- the slot of the position has a row
+abbrev pub HasRow : Position → Type 0
+HasRow position = position.slot < length position.keys.now.rows
+
+-- these are the globals, the keys and the value of exit of the shared state, in which no exit function is registered
+pub record AreShared (globals : List ℕ) (keys : List KeyPlace) (exit_value : Option ℕ) (shared : SharedState) : Type 0 where
+  pub globals_are : globals ≡ shared.globals
+  pub keys_are : keys ≡ shared.keys
+  pub exit_value_is : exit_value ≡ shared.exit_value
+  pub no_exit_functions : shared.exit_functions ≡ []

@@ -1,0 +1,234 @@
+//! The transitions of pthread_cancel, pthread_setcancelstate, pthread_setcanceltype and pthread_testcancel, of the calls of
+//! cancellation points, and of a thread that acts upon a request. `next` is the program counter of the next statement.
+
+ghost use Rattle.std.specs.Prelude.{◌≡◌, [], ◌∷◌, Some};
+ghost use Rattle.pct_model.specs.declared.event.What.TheVariants.{Done};
+ghost use Rattle.pct_model.specs.World.{statement_at};
+ghost use Rattle.pct_model.specs.NextStatement.{StatementIn};
+ghost use Rattle.pct_model.specs.Transitions.{goes_on};
+ghost use Rattle.pct_model.specs.CancelCalls.{requests, state_number, mode_number, state_if, mode_if, sets_state, sets_mode, tests_cancel, point_kind, called_kind, calls_point, is_outside, may_pass, passes_point, acts_on_request};
+ghost use Rattle.pct_transitions.specs.Positions.{next_at, IsDecoded};
+
+use crate::current::next_pc;
+use crate::program::Program;
+use crate::transitions::{acts, goes_on, no_change, no_next, written_after};
+use pct_cancel::point_at;
+use pct_model::{
+    Action, Dest, Frame, Mode, PointKind, PointWait, Reason, State, Status, Stmt, Transition,
+    UpToThree, What,
+};
+
+// ---- pthread_cancel
+
+/// pthread_cancel: a request for the thread with this id.
+#[tactic(auto, unfolding(pct_model::specs::CancelCalls::requests))]
+pub(crate) fn requests(next: u32, id: u32) -> Transition
+    ensures { result ≡ requests next id }
+{
+    goes_on(
+        next,
+        UpToThree::one(Action::Request(id)),
+        UpToThree::one(What::Request(id)),
+    )
+}
+
+// ---- pthread_setcancelstate, pthread_setcanceltype
+
+/// pthread_setcancelstate, in a thread with this state: the previous state is the result.
+#[tactic(auto, unfolding(pct_model::specs::CancelCalls::sets_state))]
+pub(crate) fn sets_state(next: u32, enable: bool, old: Dest, state: State) -> Transition
+    ensures { result ≡ sets_state next enable old state }
+{
+    goes_on(
+        next,
+        written_after(Action::SetState(state_if(enable)), old, state_number(state)),
+        UpToThree::one(What::StateSet(enable)),
+    )
+}
+
+/// pthread_setcanceltype, in a thread with this type: the previous type is the result.
+#[tactic(auto, unfolding(pct_model::specs::CancelCalls::sets_mode))]
+pub(crate) fn sets_mode(next: u32, asynchronous: bool, old: Dest, mode: Mode) -> Transition
+    ensures { result ≡ sets_mode next asynchronous old mode }
+{
+    goes_on(
+        next,
+        written_after(
+            Action::SetMode(mode_if(asynchronous)),
+            old,
+            mode_number(mode),
+        ),
+        UpToThree::one(What::ModeSet(asynchronous)),
+    )
+}
+
+// The number of a state: PTHREAD_CANCEL_ENABLE is 0, and PTHREAD_CANCEL_DISABLE is 1.
+fn state_number(state: State) -> u32
+    ensures { result ≡ state_number state }
+{
+    match state {
+        State::Enable => 0,
+        State::Disable => 1,
+    }
+}
+
+// The number of a type: PTHREAD_CANCEL_DEFERRED is 0, and PTHREAD_CANCEL_ASYNCHRONOUS is 1.
+fn mode_number(mode: Mode) -> u32
+    ensures { result ≡ mode_number mode }
+{
+    match mode {
+        Mode::Deferred => 0,
+        Mode::Asynchronous => 1,
+    }
+}
+
+// Enabled, or disabled.
+fn state_if(enable: bool) -> State
+    ensures { result ≡ state_if enable }
+{
+    if enable {
+        State::Enable
+    } else {
+        State::Disable
+    }
+}
+
+// Asynchronous, or deferred.
+fn mode_if(asynchronous: bool) -> Mode
+    ensures { result ≡ mode_if asynchronous }
+{
+    if asynchronous {
+        Mode::Asynchronous
+    } else {
+        Mode::Deferred
+    }
+}
+
+// ---- cancellation points
+
+/// pthread_testcancel, where no request is acted upon: the thread goes on.
+#[tactic(auto, unfolding(pct_model::specs::CancelCalls::tests_cancel))]
+pub(crate) fn tests_cancel(next: u32) -> Transition
+    ensures { result ≡ tests_cancel next }
+{
+    // pthread_testcancel has this index in the table of cancellation points.
+    goes_on(next, UpToThree::none(), UpToThree::one(What::Done(23)))
+}
+
+/// A call of the cancellation point with this index: the thread is suspended at a required one, and goes on at an optional one.
+#[tactic(auto, unfolding(pct_model::specs::CancelCalls::calls_point))]
+#[inline(never)]
+pub(crate) fn calls_point(next: u32, index: u32, transition: &mut Transition)
+    ensures { transition.new ≡ calls_point next index (point_kind index) }
+{
+    match point_kind(index) {
+        None => *transition = no_change(),
+        Some(PointKind::Required) => {
+            *transition = acts(Action::BeginPoint(index), What::Called(index));
+        }
+        Some(PointKind::Optional) => *transition = passes(next, index),
+    }
+}
+
+/// The kind of the cancellation point that a statement calls, if it calls one.
+#[tactic(auto, unfolding(pct_model::specs::CancelCalls::called_kind))]
+pub(crate) fn called_kind(statement: &Stmt) -> Option<PointKind>
+    ensures { result ≡ called_kind statement.now }
+{
+    match statement {
+        // pthread_join and pthread_testcancel have these indexes in the table of cancellation points.
+        Stmt::Join { .. } => point_kind(22),
+        Stmt::TestCancel => point_kind(23),
+        Stmt::PointCall(index) => point_kind(*index),
+        _ => None,
+    }
+}
+
+// The kind of the cancellation point with this index, if there is one.
+#[tactic(auto, unfolding(pct_model::specs::CancelCalls::point_kind))]
+fn point_kind(index: u32) -> Option<PointKind>
+    ensures { result ≡ point_kind index }
+{
+    match point_at(index) {
+        None => None,
+        Some(point) => Some(point.kind),
+    }
+}
+
+/// Whether a thread that is suspended at the point with this index may go on: what it waits for may occur at any time.
+#[tactic(auto, unfolding(pct_model::specs::CancelCalls::may_pass))]
+pub fn may_pass(index: u32) -> bool
+    ensures { result ≡ may_pass index }
+{
+    match point_at(index) {
+        None => false,
+        Some(point) => is_outside(point.wait),
+    }
+}
+
+// Whether what a thread at a point waits for may occur at any time.
+fn is_outside(wait: PointWait) -> bool
+    ensures { result ≡ is_outside wait }
+{
+    matches!(wait, PointWait::Outside)
+}
+
+/// A thread that is suspended at the point with this index goes on.
+#[tactic(auto, unfolding(pct_model::specs::CancelCalls::passes_point))]
+#[inline(never)]
+pub(crate) fn passes_point(
+    program: &Program,
+    index: u32,
+    next: Option<(&Frame, &Stmt)>,
+    transition: &mut Transition,
+)
+    requires { IsDecoded program.now.script next }
+    ensures { transition.new ≡ passes_point index (next_at next.entry) }
+{
+    match next {
+        None => *transition = no_change(),
+        Some((frame, statement)) => *transition = passes_in(program, index, frame, statement),
+    }
+}
+
+// The same, at a statement of its top frame.
+#[tactic(auto, using(crate::proofs::Bodies::pc_within), unfolding(pct_model::specs::CancelCalls::passes_point))]
+fn passes_in(program: &Program, index: u32, frame: &Frame, statement: &Stmt) -> Transition
+    requires { statement_at program.now.script frame.now ≡ Some statement.now }
+    ensures { result ≡ passes_point index (StatementIn frame.now statement.now) }
+{
+    match statement {
+        Stmt::PointCall(_) => passes(next_pc(frame), index),
+        _ => no_change(),
+    }
+}
+
+// The thread goes on after the point with this index.
+fn passes(next: u32, index: u32) -> Transition
+    ensures { result ≡ goes_on next [] (Done index ∷ []) }
+{
+    goes_on(next, UpToThree::none(), UpToThree::one(What::Done(index)))
+}
+
+// ---- acting upon a request
+
+/// A thread with this status acts upon a request: it begins to end. One that is suspended in pthread_join leaves it, and its
+/// target stays joinable (XSH 2.9.5.3, pthread_join).
+#[tactic(auto, unfolding(pct_model::specs::CancelCalls::acts_on_request))]
+#[inline(never)]
+pub(crate) fn acts_on_request(status: Status, transition: &mut Transition)
+    ensures { transition.new ≡ acts_on_request status }
+{
+    let begin_end = Action::BeginEnd(Reason::Canceled);
+    match status {
+        Status::Running => *transition = acts(begin_end, What::EndingCanceled),
+        Status::AtPoint(_) => *transition = acts(begin_end, What::EndingCanceled),
+        Status::Joining(id) => {
+            *transition = no_next(
+                UpToThree::two(Action::CancelJoin(id), begin_end),
+                UpToThree::one(What::EndingCanceled),
+            );
+        }
+        _ => *transition = no_change(),
+    }
+}

@@ -1,0 +1,349 @@
+//! The choices of the scheduler for each thread.
+
+ghost use Rattle.std.specs.Prelude.{◌≡◌, ◌<◌, ◌++◌, ℕ, true, false, List, All, is_some, length, map, slice_get};
+ghost use Rattle.pct_model.specs.declared.script.Script.{Script};
+ghost use Rattle.pct_model.specs.declared.schedule.Alt.TheVariants as alt;
+ghost use Rattle.pct_model.specs.declared.state.Status.TheVariants as status;
+ghost use Rattle.pct_model.specs.World.{Thread};
+ghost use Rattle.pct_model.specs.NextStatement.{next_of};
+ghost use Rattle.pct_model.specs.OtherThreads.{Others as SeenOthers, target_is};
+ghost use Rattle.pct_model.specs.Cancelability.{is_deliverable, is_asynchronous};
+ghost use Rattle.pct_model.specs.Keys.{new_keys, left_keys};
+ghost use Rattle.pct_model.specs.ChoiceTable.{choices_at, statement_choices, running_choices, ending_choices, new_or_go, dtor_or_go, go_if, act_if, offers};
+ghost use Rattle.pct_keys.specs.Tables.{Table, row_at};
+ghost use Rattle.pct_threads.specs.Slots.{Slot};
+ghost use Rattle.pct_threads.specs.Tables.{next_id_at};
+ghost use Rattle.pct_transitions.specs.Answers.{IsAnswer, IdsFit, NextKeysFit, NumbersFit};
+ghost use Rattle.pct_transitions.specs.Listed.{listed, AreWithin};
+ghost use Rattle.pct_transitions.specs.declared.choice_table.Choices.TheVariants as choices;
+ghost use Rattle.pct_transitions.specs.Positions.{next_at, HasRow, IsPosition};
+
+use crate::cancel_calls::{called_kind, may_pass};
+use crate::other_threads::Others;
+use crate::position::Position;
+use crate::stop_table::is_built;
+use pct_keys::{Keys, key_place};
+use pct_model::{Alt, MAX_KEYS, PointKind, Status, Stmt, Target};
+use pct_set::SlotSet;
+use pct_threads::Threads;
+
+/// The choices of a thread, in their order. In a contract, `listed` is the list of them.
+#[derive(Clone, Copy, Debug)]
+pub enum Choices {
+    None,
+    /// `go`.
+    Go,
+    /// `act`, which names no other thread.
+    Act,
+    /// `go`, and then `act`.
+    GoOrAct,
+    /// `new`, with the id of the next thread on each of these slots.
+    New(SlotSet),
+    /// `new`, with the number of the next key on each place that has none.
+    NewKey,
+    /// `dtor`, with the number of each key that is left in the pass of the thread on this slot.
+    Dtor(u32),
+}
+
+impl Choices {
+    /// Whether this choice is among them, in a process with these threads and keys. The ids and the numbers of the next threads
+    /// and keys fit 32 bits.
+    #[inline(always)]
+    pub fn offers(&self, threads: &Threads, keys: &Keys, choice: Alt) -> bool
+        requires within { AreWithin (length threads.now) self.now }
+        requires rows { length keys.now.rows ≡ length threads.now }
+        requires numbers { NumbersFit threads.now keys.now }
+        ensures { result ≡ offers (listed threads.now keys.now self.now) choice }
+    {
+        match self {
+            Choices::None => false,
+            Choices::Go => matches!(choice, Alt::Go),
+            Choices::Act => matches!(choice, Alt::Act(0)),
+            Choices::GoOrAct => matches!(choice, Alt::Go | Alt::Act(0)),
+            Choices::New(free) => match choice {
+                Alt::New(id) => offers_id(threads, free, id),
+                _ => false,
+            },
+            Choices::NewKey => match choice {
+                Alt::New(key) => offers_new_key(keys, key),
+                _ => false,
+            },
+            Choices::Dtor(slot) => match choice {
+                Alt::Dtor(key) => offers_dtor(keys, *slot, key),
+                _ => false,
+            },
+        }
+    }
+
+    /// The number of choices, in a process with these keys.
+    pub fn count(&self, keys: &Keys) -> usize
+        requires { AreWithin (length keys.now.rows) self.now }
+        ensures { (threads : List Slot) → result ≡ length (listed threads keys.now self.now) }
+    {
+        match self {
+            Choices::None => 0,
+            Choices::Go => 1,
+            Choices::Act => 1,
+            Choices::GoOrAct => 2,
+            Choices::New(free) => free.len() as usize,
+            Choices::NewKey => (MAX_KEYS - keys.live()) as usize,
+            Choices::Dtor(slot) => keys.left(*slot) as usize,
+        }
+    }
+
+    /// The choice at an index, in a process with these threads and keys. `None` if there are not more choices than that. The ids
+    /// and the numbers of the next threads and keys fit 32 bits.
+    pub fn nth(&self, threads: &Threads, keys: &Keys, n: usize) -> Option<Alt>
+        requires within { AreWithin (length threads.now) self.now }
+        requires rows { length keys.now.rows ≡ length threads.now }
+        requires numbers { NumbersFit threads.now keys.now }
+        ensures { result ≡ slice_get (listed threads.now keys.now self.now) n }
+    {
+        match self {
+            Choices::None => None,
+            Choices::Go => { if n == 0 { Some(Alt::Go) } else { None } }
+            Choices::Act => { if n == 0 { Some(Alt::Act(0)) } else { None } }
+            Choices::GoOrAct => match n {
+                0 => Some(Alt::Go),
+                1 => Some(Alt::Act(0)),
+                _ => None,
+            },
+            Choices::New(free) => nth_new(threads, free, n),
+            Choices::NewKey => nth_new_key(keys, n),
+            Choices::Dtor(slot) => nth_dtor(keys, *slot, n),
+        }
+    }
+}
+
+// Whether an id is that of the next thread on one of these slots.
+fn offers_id(threads: &Threads, free: &SlotSet, id: u32) -> bool
+    requires within { All (λ s. s < length threads.now) free.now }
+    requires ids { IdsFit threads.now }
+    ensures { (keys : Table) → result ≡ offers (listed threads.now keys (choices.New free.now)) (alt.New id) }
+{
+    if id == 0 {
+        return false;
+    }
+    let slot = (id - 1) % threads.slot_count();
+    free.contains(slot) && threads.next_id(slot) == id
+}
+
+// The choice at an index, of those with the id of the next thread on one of these slots.
+fn nth_new(threads: &Threads, free: &SlotSet, n: usize) -> Option<Alt>
+    requires within { All (λ s. s < length threads.now) free.now }
+    requires ids { IdsFit threads.now }
+    ensures { (keys : Table) → result ≡ slice_get (listed threads.now keys (choices.New free.now)) n }
+{
+    if n >= free.len() as usize {
+        return None;
+    }
+    match free.nth(n as u32) {
+        None => None,
+        Some(slot) => Some(Alt::New(threads.next_id(slot))),
+    }
+}
+
+// Whether a number is that of the next key on a place that has none.
+fn offers_new_key(keys: &Keys, key: u32) -> bool
+    requires { NextKeysFit keys.now.places }
+    ensures { (threads : List Slot) → result ≡ offers (listed threads keys.now choices.NewKey) (alt.New key) }
+{
+    let place = key_place(key);
+    !keys.is_live(place) && keys.next_key(place) == key
+}
+
+// The choice at an index, of those with the number of the next key on a place that has none.
+fn nth_new_key(keys: &Keys, n: usize) -> Option<Alt>
+    requires { NextKeysFit keys.now.places }
+    ensures { (threads : List Slot) → result ≡ slice_get (listed threads keys.now choices.NewKey) n }
+{
+    if n >= MAX_KEYS as usize {
+        return None;
+    }
+    match keys.free_nth(n as u32) {
+        None => None,
+        Some(place) => Some(Alt::New(keys.next_key(place))),
+    }
+}
+
+// Whether a number is that of a key which is left in the pass of the thread on a slot.
+fn offers_dtor(keys: &Keys, slot: u32, key: u32) -> bool
+    requires { slot < length keys.now.rows }
+    ensures { (threads : List Slot) → result ≡ offers (listed threads keys.now (choices.Dtor slot)) (alt.Dtor key) }
+{
+    match keys.find(key) {
+        None => false,
+        Some(place) => keys.is_left(slot, place),
+    }
+}
+
+// The choice at an index, of those with the number of a key which is left in the pass of the thread on a slot.
+fn nth_dtor(keys: &Keys, slot: u32, n: usize) -> Option<Alt>
+    requires { slot < length keys.now.rows }
+    ensures { (threads : List Slot) → result ≡ slice_get (listed threads keys.now (choices.Dtor slot)) n }
+{
+    if n >= MAX_KEYS as usize {
+        return None;
+    }
+    match keys.left_nth(slot, n as u32) {
+        None => None,
+        Some(place) => Some(Alt::Dtor(keys.number(place))),
+    }
+}
+
+/// The choices of a thread in this position, with this answer to its query. A running thread with a next statement has `go`, or
+/// at pthread_create an id for a new thread, where a slot is free; where it may act upon a pending request it has `go` and
+/// `act`, and where it must, `act` alone. One that is suspended at a cancellation point has `go`, if what it waits for may occur
+/// at any time, and one that joins another, once that has ended; both have `act`, if a request is pending and cancelability is
+/// enabled. One that is ending has the keys that are left in its pass, after its cleanup handlers, and else `go`; one that exits its
+/// process has `go`. A thread that has ended has none.
+#[tactic(auto, unfolding(pct_model::specs::ChoiceTable::choices_at))]
+#[inline(always)]
+pub fn choices_at(others: &Others, position: &Position) -> Choices
+    requires { HasRow position.now }
+    ensures value { (script : Script) (t : Thread) (threads : List Slot) (seen : SeenOthers) → IsPosition script position.now t → IsAnswer threads others.now seen
+        → listed threads position.now.keys.now result ≡ choices_at position.now.keys.now.places t seen (next_of script t.frames) t.status }
+    ensures within { (slots : ℕ) → All (λ s. s < slots) others.now.free → position.now.slot < slots → AreWithin slots result }
+{
+    let cancel = &position.thread.cancel;
+    match position.thread.status {
+        Status::Running => at_next(others, position),
+        Status::AtPoint(index) => go_or_act(may_pass(index), cancel.deliverable()),
+        Status::Joining(_) => go_or_act(has_ended(others.target), cancel.deliverable()),
+        Status::Ending => ending_choices(position),
+        Status::Exiting => Choices::Go,
+        _ => Choices::None,
+    }
+}
+
+// The choices of a running thread: none without a next statement.
+#[tactic(auto, unfolding(pct_model::specs::ChoiceTable::choices_at))]
+fn at_next(others: &Others, position: &Position) -> Choices
+    ensures value { (script : Script) (t : Thread) (threads : List Slot) (seen : SeenOthers) → IsPosition script position.now t → IsAnswer threads others.now seen
+        → listed threads position.now.keys.now result ≡ choices_at position.now.keys.now.places t seen (next_at position.now.next) status.Running }
+    ensures within { (slots : ℕ) → All (λ s. s < slots) others.now.free → AreWithin slots result }
+{
+    match position.next {
+        None => Choices::None,
+        Some((_, statement)) => running_choices(others, position, statement),
+    }
+}
+
+// The choices of an ending thread: the keys that are left in its pass, after its cleanup handlers, and else `go`.
+#[tactic(auto, unfolding(pct_model::specs::ChoiceTable::ending_choices))]
+fn ending_choices(position: &Position) -> Choices
+    requires { HasRow position.now }
+    ensures value { (script : Script) (t : Thread) (threads : List Slot) (seen : SeenOthers) → IsPosition script position.now t
+        → listed threads position.now.keys.now result ≡ ending_choices position.now.keys.now.places t seen t.handlers }
+    ensures within { (slots : ℕ) → position.now.slot < slots → AreWithin slots result }
+{
+    if position.thread.handlers.len() == 0 {
+        dtor_or_go(position.keys, position.slot)
+    } else {
+        Choices::Go
+    }
+}
+
+// The choices of a running thread at a statement: what its cancelability decides comes first.
+fn running_choices(others: &Others, position: &Position, statement: &Stmt) -> Choices
+    ensures value { (script : Script) (t : Thread) (threads : List Slot) (seen : SeenOthers) → IsPosition script position.now t → IsAnswer threads others.now seen
+        → listed threads position.now.keys.now result ≡ running_choices position.now.keys.now.places t seen statement.now }
+    ensures within { (slots : ℕ) → All (λ s. s < slots) others.now.free → AreWithin slots result }
+{
+    let cancel = &position.thread.cancel;
+    if cancel.async_on() {
+        // A statement that is not implemented is a stop.
+        go_or_act(true, cancel.pending && is_built(statement))
+    } else if cancel.deliverable() {
+        requested_choices(others, position.keys, statement)
+    } else {
+        statement_choices(others, position.keys, statement)
+    }
+}
+
+// The choices of a running thread at a statement, where a request is pending that is acted upon at cancellation points: the
+// thread does so at a required one, and may do so at an optional one.
+fn requested_choices(others: &Others, keys: &Keys, statement: &Stmt) -> Choices
+    ensures value { (t : Thread) (threads : List Slot) (seen : SeenOthers) → is_asynchronous t.state t.mode ≡ false → is_deliverable t.state t.pending ≡ true → IsAnswer threads others.now seen
+        → listed threads keys.now result ≡ running_choices keys.now.places t seen statement.now }
+    ensures within { (slots : ℕ) → All (λ s. s < slots) others.now.free → AreWithin slots result }
+{
+    match called_kind(statement) {
+        Some(PointKind::Required) => Choices::Act,
+        Some(PointKind::Optional) => Choices::GoOrAct,
+        None => statement_choices(others, keys, statement),
+    }
+}
+
+// The choices of a running thread at a statement, whatever its cancelability.
+#[tactic(auto, unfolding(pct_model::specs::ChoiceTable::statement_choices))]
+fn statement_choices(others: &Others, keys: &Keys, statement: &Stmt) -> Choices
+    ensures value { (threads : List Slot) (seen : SeenOthers) → IsAnswer threads others.now seen → listed threads keys.now result ≡ statement_choices keys.now.places seen statement.now }
+    ensures within { (slots : ℕ) → All (λ s. s < slots) others.now.free → AreWithin slots result }
+{
+    match statement {
+        Stmt::Create { .. } => new_or_go(&others.free),
+        Stmt::KeyCreate { .. } => new_key_or_go(keys),
+        _ => Choices::Go,
+    }
+}
+
+// The next thread on one of these slots, or `go` if there is none.
+fn new_or_go(free: &SlotSet) -> Choices
+    ensures value { (threads : List Slot) (keys : Table) → listed threads keys result ≡ new_or_go (map (next_id_at threads) free.now) }
+    ensures within { (slots : ℕ) → All (λ s. s < slots) free.now → AreWithin slots result }
+{
+    if free.len() == 0 {
+        Choices::Go
+    } else {
+        Choices::New(*free)
+    }
+}
+
+// The next key on a place that has none, or `go` if each place has one.
+fn new_key_or_go(keys: &Keys) -> Choices
+    ensures value { (threads : List Slot) → listed threads keys.now result ≡ new_or_go (new_keys keys.now.places) }
+    ensures within { (slots : ℕ) → AreWithin slots result }
+{
+    if keys.free_nth(0).is_none() {
+        Choices::Go
+    } else {
+        Choices::NewKey
+    }
+}
+
+// The keys that are left in the pass of the thread on a slot, or `go` if there is none.
+fn dtor_or_go(keys: &Keys, slot: u32) -> Choices
+    requires { slot < length keys.now.rows }
+    ensures value { (threads : List Slot) → listed threads keys.now result ≡ dtor_or_go (left_keys keys.now.places (row_at keys.now slot)) }
+    ensures within { (slots : ℕ) → slot < slots → AreWithin slots result }
+{
+    if keys.left_nth(slot, 0).is_none() {
+        Choices::Go
+    } else {
+        Choices::Dtor(slot)
+    }
+}
+
+// `go`, if the first test holds, and then `act`, if the second one does.
+fn go_or_act(go: bool, act: bool) -> Choices
+    ensures value { (threads : List Slot) (keys : Table) → listed threads keys result ≡ go_if go ++ act_if act }
+    ensures within { (slots : ℕ) → AreWithin slots result }
+{
+    match (go, act) {
+        (true, true) => Choices::GoOrAct,
+        (true, false) => Choices::Go,
+        (false, true) => Choices::Act,
+        (false, false) => Choices::None,
+    }
+}
+
+// The thread that was named has ended.
+fn has_ended(target: Option<Target>) -> bool
+    ensures { result ≡ target_is (λ target. is_some target.value) target }
+{
+    match target {
+        None => false,
+        Some(target) => target.value.is_some(),
+    }
+}

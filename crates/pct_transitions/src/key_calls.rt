@@ -1,0 +1,118 @@
+//! The transitions of pthread_key_create, pthread_key_delete, pthread_setspecific and pthread_getspecific. `next` is the program
+//! counter of the next statement.
+
+ghost use Rattle.std.specs.Prelude.{◌≡◌, ◌∷◌, ◌++◌};
+ghost use Rattle.pct_model.specs.KeyCalls.{creates_key, fails_to_create_key, creates_key_by, deletes_key, sets_specific, gets_specific};
+ghost use Rattle.pct_model.specs.Transitions.{written};
+
+use crate::transitions::{goes_on, no_change, written, written_after};
+use pct_model::{Action, Alt, Caller, Dest, Transition, UpToThree, What};
+
+// ---- pthread_key_create
+
+/// pthread_key_create, by the choice of the scheduler: with a number, a key is made with it; with `go`, no place is free and no key
+/// is made.
+#[inline(never)]
+pub(crate) fn creates_key_by(
+    choice: Alt,
+    next: u32,
+    answer: Dest,
+    key: Dest,
+    dtor: Option<u32>,
+    transition: &mut Transition,
+)
+    ensures { transition.new ≡ creates_key_by choice next answer key dtor }
+{
+    match choice {
+        Alt::New(number) => *transition = creates_key(next, answer, key, dtor, number),
+        Alt::Go => *transition = fails_to_create_key(next, answer),
+        _ => *transition = no_change(),
+    }
+}
+
+// A key is made with a number: the result is 0.
+#[tactic(auto, unfolding(pct_model::specs::KeyCalls::creates_key))]
+fn creates_key(next: u32, answer: Dest, key: Dest, dtor: Option<u32>, number: u32) -> Transition
+    ensures { result ≡ creates_key next answer key dtor number }
+{
+    let make = Action::MakeKey(number, dtor);
+    goes_on(
+        next,
+        both_written_after(make, answer, 0, key, number),
+        UpToThree::one(What::KeyMade(number)),
+    )
+}
+
+// An action, and then those that write a value to each of two destinations.
+fn both_written_after(
+    action: Action,
+    first: Dest,
+    value: u32,
+    second: Dest,
+    other: u32,
+) -> UpToThree<Action>
+    ensures { result ≡ action ∷ (written first value ++ written second other) }
+{
+    match first {
+        Dest::Drop => written_after(action, second, other),
+        Dest::Local(i) => two_then_written(action, Action::SetLocal(i, value), second, other),
+        Dest::Global(i) => two_then_written(action, Action::SetGlobal(i, value), second, other),
+    }
+}
+
+// Two actions, and then those that write a value to a destination.
+fn two_then_written(first: Action, second: Action, dest: Dest, value: u32) -> UpToThree<Action>
+    ensures { result ≡ first ∷ second ∷ written dest value }
+{
+    match dest {
+        Dest::Drop => UpToThree::two(first, second),
+        Dest::Local(i) => UpToThree::three(first, second, Action::SetLocal(i, value)),
+        Dest::Global(i) => UpToThree::three(first, second, Action::SetGlobal(i, value)),
+    }
+}
+
+// No place is free: the result is EAGAIN, which is 1 in this host, and the key is not written.
+#[tactic(auto, unfolding(pct_model::specs::KeyCalls::fails_to_create_key))]
+fn fails_to_create_key(next: u32, answer: Dest) -> Transition
+    ensures { result ≡ fails_to_create_key next answer }
+{
+    let failed = What::Answer {
+        call: Caller::KeyCreate,
+        number: 1,
+    };
+    goes_on(next, written(answer, 1), UpToThree::one(failed))
+}
+
+// ---- pthread_key_delete, pthread_setspecific, pthread_getspecific
+
+/// pthread_key_delete of the key with this number.
+#[tactic(auto, unfolding(pct_model::specs::KeyCalls::deletes_key))]
+pub(crate) fn deletes_key(next: u32, key: u32) -> Transition
+    ensures { result ≡ deletes_key next key }
+{
+    goes_on(
+        next,
+        UpToThree::one(Action::DeleteKey(key)),
+        UpToThree::one(What::KeyGone(key)),
+    )
+}
+
+/// pthread_setspecific: the thread's value of the key with this number becomes `value`.
+#[tactic(auto, unfolding(pct_model::specs::KeyCalls::sets_specific))]
+pub(crate) fn sets_specific(next: u32, key: u32, value: u32) -> Transition
+    ensures { result ≡ sets_specific next key value }
+{
+    goes_on(
+        next,
+        UpToThree::one(Action::SetSpecific(key, value)),
+        UpToThree::none(),
+    )
+}
+
+/// pthread_getspecific, where the thread has this value of the key.
+#[tactic(auto, unfolding(pct_model::specs::KeyCalls::gets_specific))]
+pub(crate) fn gets_specific(next: u32, dest: Dest, value: u32) -> Transition
+    ensures { result ≡ gets_specific next dest value }
+{
+    goes_on(next, written(dest, value), UpToThree::none())
+}

@@ -1,0 +1,267 @@
+//! The stops: where POSIX leaves the behavior undefined, or this host's profile of POSIX excludes it.
+
+ghost use Rattle.std.specs.Prelude.{◌≡◌, ◌∷◌, [], List, length, not, reverse, nat_eq, nat_lt, is_none};
+ghost use Rattle.pct_model.specs.declared.stop.Why.TheVariants as why;
+ghost use Rattle.pct_model.specs.declared.frame.Frame.{Frame as FrameRecord};
+ghost use Rattle.pct_model.specs.declared.limits.TheConstants.{MAX_HANDLERS};
+ghost use Rattle.pct_model.specs.Jumps.{open_of};
+ghost use Rattle.pct_model.specs.World.{Thread, SharedState, body_of};
+ghost use Rattle.pct_model.specs.OtherThreads.{Others, target_is};
+ghost use Rattle.pct_model.specs.Keys.{key_with};
+ghost use Rattle.pct_model.specs.StopTable.{stop_at, stops_of, first_stop, is_stack_full, has_begun_to_end, exits_twice, is_handler_kind, is_in_handler, is_async_safe, is_built};
+ghost use Rattle.pct_transitions.specs.Positions.{AreShared, IsPosition};
+
+use crate::current::value_of;
+use crate::position::Position;
+use crate::program::Program;
+use pct_keys::Keys;
+use pct_model::{Frame, FrameKind, MAX_FRAMES, MAX_HANDLERS, Reason, Stmt, Target, Why};
+
+/// The stop of a running thread at this statement of its top frame, in a process with these globals and this value of exit, where the
+/// thread that it names, if it names one that holds its slot, is this target: whether the statement is implemented is tested first,
+/// and then the statement's own stops in their order. `None` if the statement does not stop.
+#[tactic(auto, unfolding(pct_model::specs::StopTable::stop_at))]
+pub(crate) fn stop_at(
+    program: &Program,
+    globals: &[u32],
+    exit_value: Option<u32>,
+    position: &Position,
+    target: Option<Target>,
+    frame: &Frame,
+    statement: &Stmt,
+) -> Option<Why>
+    ensures { (shared : SharedState) (t : Thread) (others : Others) → AreShared globals.now position.now.keys.now.places exit_value shared → IsPosition program.now.script position.now t → target ≡ others.target
+        → result ≡ stop_at (body_of program.now.script frame.now.func) shared t others frame.now statement.now }
+{
+    if !is_built(statement) {
+        Some(Why::Unbuilt)
+    } else if position.thread.cancel.async_on() && !is_async_safe(statement) {
+        Some(Why::AsyncCall)
+    } else {
+        own_stop(
+            program, globals, exit_value, position, target, frame, statement,
+        )
+    }
+}
+
+// The first of a statement's own stops that applies.
+#[tactic(auto, unfolding(pct_model::specs::StopTable::stops_of))]
+fn own_stop(
+    program: &Program,
+    globals: &[u32],
+    exit_value: Option<u32>,
+    position: &Position,
+    target: Option<Target>,
+    frame: &Frame,
+    statement: &Stmt,
+) -> Option<Why>
+    ensures { (shared : SharedState) (t : Thread) (others : Others) → AreShared globals.now position.now.keys.now.places exit_value shared → IsPosition program.now.script position.now t → target ≡ others.target
+        → result ≡ first_stop (stops_of (body_of program.now.script frame.now.func) shared t others frame.now statement.now) }
+{
+    match statement {
+        Stmt::Join { id, .. } => stop_of_join(target, position.id, value_of(globals, frame, *id)),
+        Stmt::Detach(_) => stop_of_detach(target),
+        Stmt::CancelThread(_) => first_stop(&[(target.is_none(), Why::ThreadId)]),
+        Stmt::SetState { enable, .. } => first_stop(&[(
+            *enable && is_in_handler(position.frames),
+            Why::EnableInHandler,
+        )]),
+        Stmt::KeyDelete(key) | Stmt::SetSpecific(key, _) | Stmt::GetSpecific(_, key) => {
+            stop_of_key(position.keys, value_of(globals, frame, *key))
+        }
+        Stmt::ThreadExit(_) => first_stop(&[(
+            has_begun_to_end(position.thread.reason),
+            Why::ExitInEnding,
+        )]),
+        Stmt::Return(_) => first_stop(&[(exits_twice(frame.kind, exit_value), Why::ExitTwice)]),
+        Stmt::End => first_stop(&[(
+            closes_function(program, frame) && exits_twice(frame.kind, exit_value),
+            Why::ExitTwice,
+        )]),
+        Stmt::Do(_, _) => first_stop(&[(is_stack_full(position.depth), Why::StackFull)]),
+        Stmt::Pop(operand) => first_stop(&[(
+            value_of(globals, frame, *operand) != 0 && is_stack_full(position.depth),
+            Why::StackFull,
+        )]),
+        Stmt::Push(_, _) => first_stop(&[(
+            is_cleanup_full(position.thread.handlers.len()),
+            Why::CleanupFull,
+        )]),
+        _ => None,
+    }
+}
+
+// The stop of pthread_join by the thread with the id `tid`, for the thread with an id.
+fn stop_of_join(target: Option<Target>, tid: u32, id: u32) -> Option<Why>
+    ensures { result ≡ first_stop ((is_none target, why.ThreadId) ∷ (nat_eq id tid, why.JoinSelf)
+        ∷ (target_is (λ t. t.detached) target, why.NotJoinable) ∷ (target_is (λ t. t.joining) target, why.JoinTwice) ∷ []) }
+{
+    first_stop(&[
+        (target.is_none(), Why::ThreadId),
+        (id == tid, Why::JoinSelf),
+        (is_detached(target), Why::NotJoinable),
+        (is_joined(target), Why::JoinTwice),
+    ])
+}
+
+// The stop of pthread_detach.
+fn stop_of_detach(target: Option<Target>) -> Option<Why>
+    ensures { result ≡ first_stop ((is_none target, why.ThreadId) ∷ (target_is (λ t. t.detached) target, why.NotJoinable) ∷ (target_is (λ t. t.joining) target, why.DetachJoined) ∷ []) }
+{
+    first_stop(&[
+        (target.is_none(), Why::ThreadId),
+        (is_detached(target), Why::NotJoinable),
+        (is_joined(target), Why::DetachJoined),
+    ])
+}
+
+// The stop of a call that names the key with a number: it was not made, or was deleted.
+fn stop_of_key(keys: &Keys, key: u32) -> Option<Why>
+    ensures { result ≡ first_stop ((is_none (key_with key keys.now.places), why.KeyId) ∷ []) }
+{
+    first_stop(&[(keys.find(key).is_none(), Why::KeyId)])
+}
+
+// The first stop whose guard holds.
+fn first_stop(guards: &[(bool, Why)]) -> Option<Why>
+    ensures { result ≡ first_stop guards.now }
+{
+    guards.iter().find(|guard| guard.0).map(|guard| guard.1)
+}
+
+// ---- conditions
+
+// The thread that was named is detached.
+fn is_detached(target: Option<Target>) -> bool
+    ensures { result ≡ target_is (λ t. t.detached) target }
+{
+    match target {
+        None => false,
+        Some(target) => target.detached,
+    }
+}
+
+// Another thread is suspended in pthread_join for the thread that was named.
+fn is_joined(target: Option<Target>) -> bool
+    ensures { result ≡ target_is (λ t. t.joining) target }
+{
+    match target {
+        None => false,
+        Some(target) => target.joining,
+    }
+}
+
+// Whether a call in a thread with this number of frames would need one frame more than the limit.
+fn is_stack_full(depth: u32) -> bool
+    ensures { (frames : List FrameRecord) → depth ≡ length frames → result ≡ is_stack_full frames }
+{
+    depth as usize >= MAX_FRAMES
+}
+
+// Whether a push in a thread with this number of cleanup handlers would need one handler more than the limit.
+fn is_cleanup_full(handlers: u32) -> bool
+    ensures { result ≡ not (nat_lt handlers MAX_HANDLERS) }
+{
+    handlers as usize >= MAX_HANDLERS
+}
+
+// Whether a thread with these frames, the oldest first, is in a cleanup handler or in a destructor.
+fn is_in_handler(frames: &[Frame]) -> bool
+    ensures { (newest_first : List FrameRecord) → reverse frames.now ≡ newest_first → result ≡ is_in_handler newest_first }
+{
+    frames.iter().any(|frame| is_handler_kind(frame.kind))
+}
+
+// Whether a frame of this kind is that of a cleanup handler or of a destructor.
+fn is_handler_kind(kind: FrameKind) -> bool
+    ensures { result ≡ is_handler_kind kind }
+{
+    matches!(
+        kind,
+        FrameKind::PopHandler | FrameKind::Handler | FrameKind::Destructor
+    )
+}
+
+// Whether the statement belongs to the script language, or is async-cancel-safe (XSH 2.9.5.4).
+fn is_async_safe(statement: &Stmt) -> bool
+    ensures { result ≡ is_async_safe statement.now }
+{
+    matches!(
+        statement,
+        Stmt::Emit(_)
+            | Stmt::Set(_, _)
+            | Stmt::Add(_, _)
+            | Stmt::Nop
+            | Stmt::If(_)
+            | Stmt::Else
+            | Stmt::While(_)
+            | Stmt::End
+            | Stmt::Do(_, _)
+            | Stmt::Return(_)
+            | Stmt::CancelThread(_)
+            | Stmt::SetState { .. }
+            | Stmt::SetMode { .. }
+    )
+}
+
+// Whether a thread has begun to end, by the reason for its end.
+fn has_begun_to_end(reason: Reason) -> bool
+    ensures { result ≡ has_begun_to_end reason }
+{
+    match reason {
+        Reason::None => false,
+        Reason::Exit(_) | Reason::Canceled => true,
+    }
+}
+
+// Whether a return from a frame of this kind exits the process, where exit has begun before.
+fn exits_twice(kind: FrameKind, exit_value: Option<u32>) -> bool
+    ensures { (shared : SharedState) → exit_value ≡ shared.exit_value → result ≡ exits_twice kind shared }
+{
+    match kind {
+        FrameKind::Main => exit_value.is_some(),
+        _ => false,
+    }
+}
+
+// Whether no block is closed at the frame's program counter, as at the `end` of the function.
+fn closes_function(program: &Program, frame: &Frame) -> bool
+    ensures { result ≡ is_none (open_of (body_of program.now.script frame.now.func) frame.now.pc) }
+{
+    program.jumps.open_of(frame.func, frame.pc).is_none()
+}
+
+/// Whether the statement is implemented.
+pub(crate) fn is_built(statement: &Stmt) -> bool
+    ensures { result ≡ is_built statement.now }
+{
+    matches!(
+        statement,
+        Stmt::Emit(_)
+            | Stmt::Set(_, _)
+            | Stmt::Add(_, _)
+            | Stmt::Nop
+            | Stmt::If(_)
+            | Stmt::Else
+            | Stmt::While(_)
+            | Stmt::End
+            | Stmt::Do(_, _)
+            | Stmt::Return(_)
+            | Stmt::Create { .. }
+            | Stmt::Join { .. }
+            | Stmt::Detach(_)
+            | Stmt::CancelThread(_)
+            | Stmt::SelfId(_)
+            | Stmt::ThreadExit(_)
+            | Stmt::TestCancel
+            | Stmt::SetState { .. }
+            | Stmt::SetMode { .. }
+            | Stmt::PointCall(_)
+            | Stmt::KeyCreate { .. }
+            | Stmt::KeyDelete(_)
+            | Stmt::SetSpecific(_, _)
+            | Stmt::GetSpecific(_, _)
+            | Stmt::Push(_, _)
+            | Stmt::Pop(_)
+    )
+}

@@ -1,0 +1,195 @@
+//! The transitions at the end of a thread (XSH 2.9.5.3, pthread_exit, pthread_create): it begins to end, its cleanup handlers
+//! run, then the destructors of its thread-specific data, and it ends.
+
+ghost use Rattle.std.specs.Prelude.{◌≡◌, [], ◌∷◌, ◌++◌, ℕ, Bool, List, option_and_then};
+ghost use Rattle.pct_model.specs.declared.event.What.TheVariants.{EndedWith, ExitBegun};
+ghost use Rattle.pct_model.specs.declared.script.Script.{Script};
+ghost use Rattle.pct_model.specs.declared.schedule.Alt.{Alt as Choice};
+ghost use Rattle.pct_model.specs.Keys.{KeyPlace, key_place, key_with, value_at};
+ghost use Rattle.pct_model.specs.World.{Thread};
+ghost use Rattle.pct_model.specs.ThreadEnds.{ends_by_exit, end_value, leftover, ends_thread, calls_destructor, begins_pass_or_ends, without_handlers, goes_on_ending};
+ghost use Rattle.pct_transitions.specs.Positions.{HasRow, IsPosition};
+
+use crate::position::Position;
+use crate::transitions::{acts, no_change, no_next};
+use pct_model::{Action, Alt, FrameKind, Reason, Transition, UpToThree, What};
+
+/// pthread_exit with a value, or a return from a start routine, which acts as pthread_exit (XSH pthread_create): the thread
+/// begins to end.
+#[tactic(auto, unfolding(pct_model::specs::ThreadEnds::ends_by_exit))]
+pub(crate) fn ends_by_exit(value: u32) -> Transition
+    ensures { result ≡ ends_by_exit value }
+{
+    acts(
+        Action::BeginEnd(Reason::Exit(value)),
+        What::EndingExit(value),
+    )
+}
+
+/// A thread in this position that is ending, and so has no frame, removes its newest cleanup handler and calls it. Without a handler
+/// it calls the destructor of the key that the choice names; by every other choice it begins the next pass over the destructors, if
+/// keys are due and the limit on passes allows it, and else it ends (XSH 2.9.5.3, pthread_key_create). The last thread of a process
+/// begins to exit it with 0.
+#[tactic(auto, unfolding(pct_model::specs::ThreadEnds::goes_on_ending))]
+#[inline(always)]
+pub(crate) fn goes_on_ending(
+    is_last: bool,
+    passes: u32,
+    position: &Position,
+    choice: Alt,
+    transition: &mut Transition,
+)
+    requires { HasRow position.now }
+    ensures { (script : Script) (t : Thread) → IsPosition script position.now t → transition.new ≡ goes_on_ending is_last passes position.now.keys.now.places t choice t.handlers }
+{
+    match position.thread.handlers.newest() {
+        None => without_handlers(is_last, passes, position, choice, transition),
+        Some((func, arg)) => *transition = runs_handler(func, arg),
+    }
+}
+
+// The thread removes its newest cleanup handler and calls it.
+#[tactic(auto, unfolding(pct_model::specs::ThreadEnds::goes_on_ending))]
+fn runs_handler(func: u32, arg: u32) -> Transition
+    ensures { (is_last : Bool) (passes : ℕ) (keys : List KeyPlace) (t : Thread) (choice : Choice) (below : List (ℕ × ℕ)) → result ≡ goes_on_ending is_last passes keys t choice ((func, arg) ∷ below) }
+{
+    let call = Action::CallAlone {
+        func,
+        arg,
+        kind: FrameKind::Handler,
+    };
+    no_next(
+        UpToThree::two(Action::PopHandler, call),
+        UpToThree::one(What::HandlerRun(func, arg)),
+    )
+}
+
+// The thread has no cleanup handler: it calls a destructor, or goes on to the next pass or its end.
+fn without_handlers(
+    is_last: bool,
+    passes: u32,
+    position: &Position,
+    choice: Alt,
+    transition: &mut Transition,
+)
+    requires { HasRow position.now }
+    ensures { (script : Script) (t : Thread) → IsPosition script position.now t → transition.new ≡ without_handlers is_last passes position.now.keys.now.places t choice }
+{
+    match choice {
+        Alt::Dtor(key) => calls_destructor(position, key, transition),
+        _ => {
+            let due = position.keys.due(position.slot);
+            let thread = position.thread;
+            *transition = begins_pass_or_ends(is_last, passes, thread.pass, due, thread.reason);
+        }
+    }
+}
+
+// The thread calls the destructor of the key with a number, with its value of the key.
+fn calls_destructor(position: &Position, key: u32, transition: &mut Transition)
+    requires { HasRow position.now }
+    ensures { (script : Script) (t : Thread) → IsPosition script position.now t
+        → transition.new ≡ calls_destructor t.pass key (value_at (key_place key) t.specific) (option_and_then (λ k. k.destructor) (key_with key position.now.keys.now.places)) }
+{
+    match position.keys.find(key) {
+        None => *transition = no_change(),
+        Some(place) => {
+            let value = position.keys.get(position.slot, place);
+            *transition = runs_destructor(
+                position.thread.pass,
+                key,
+                value,
+                position.keys.destructor(place),
+            );
+        }
+    }
+}
+
+// A destructor is called in a pass with the thread's value of the key, which is NULL then.
+#[tactic(auto, unfolding(pct_model::specs::ThreadEnds::calls_destructor))]
+fn runs_destructor(pass: u32, key: u32, value: u32, dtor: Option<u32>) -> Transition
+    ensures { result ≡ calls_destructor pass key value dtor }
+{
+    let Some(func) = dtor else {
+        return no_change();
+    };
+    let call = Action::CallAlone {
+        func,
+        arg: value,
+        kind: FrameKind::Destructor,
+    };
+    no_next(
+        UpToThree::two(Action::TakeKey(key), call),
+        UpToThree::one(What::DtorRun {
+            pass,
+            key,
+            f: func,
+            v: value,
+        }),
+    )
+}
+
+// The thread begins the next pass if keys are due and the limit on passes allows it, and else it ends.
+#[tactic(auto, unfolding(pct_model::specs::ThreadEnds::begins_pass_or_ends))]
+fn begins_pass_or_ends(is_last: bool, passes: u32, pass: u32, due: u32, why: Reason) -> Transition
+    ensures { result ≡ begins_pass_or_ends is_last passes pass due why }
+{
+    if due != 0 && pass < passes {
+        acts(Action::BeginPass, What::PassBegun(pass + 1))
+    } else {
+        ends_thread(is_last, due, end_value(why))
+    }
+}
+
+// The thread ends with a value, and a number of due keys left; the last thread of a process begins to exit it with 0, as if exit was
+// called (XSH pthread_exit).
+#[tactic(auto, unfolding(pct_model::specs::ThreadEnds::ends_thread))]
+fn ends_thread(is_last: bool, left: u32, value: u32) -> Transition
+    ensures { result ≡ ends_thread is_last left value }
+{
+    if is_last {
+        no_next(
+            UpToThree::two(Action::MarkEnded, Action::BeginExit(0)),
+            last_events(left, value),
+        )
+    } else {
+        no_next(
+            UpToThree::one(Action::EndThread(value)),
+            end_events(left, value),
+        )
+    }
+}
+
+// The events of the end of a thread.
+fn end_events(left: u32, value: u32) -> UpToThree<What>
+    ensures { result ≡ leftover left ++ EndedWith value ∷ [] }
+{
+    if left == 0 {
+        UpToThree::one(What::EndedWith(value))
+    } else {
+        UpToThree::two(What::Leftover(left), What::EndedWith(value))
+    }
+}
+
+// The same for the last thread of a process, which begins to exit it with 0.
+fn last_events(left: u32, value: u32) -> UpToThree<What>
+    ensures { result ≡ leftover left ++ EndedWith value ∷ ExitBegun 0 ∷ [] }
+{
+    let ended = What::EndedWith(value);
+    if left == 0 {
+        UpToThree::two(ended, What::ExitBegun(0))
+    } else {
+        UpToThree::three(What::Leftover(left), ended, What::ExitBegun(0))
+    }
+}
+
+// The exit value of a thread, by the reason for its end: PTHREAD_CANCELED is 4294967295 in this host.
+fn end_value(reason: Reason) -> u32
+    ensures { result ≡ end_value reason }
+{
+    match reason {
+        Reason::None => 0,
+        Reason::Exit(value) => value,
+        Reason::Canceled => 4294967295,
+    }
+}
