@@ -3,7 +3,7 @@
 
     bench/check.py [PROGRAM]
 
-PROGRAM is the built program, crates/pct_run/out/pct_run where none is named (./pct builds it).
+PROGRAM is the built program, crates/pct_run/out/pct_run where none is named (./pct build makes it).
 """
 from timing import measure
 

@@ -1,34 +1,65 @@
 #!/usr/bin/env python3
-"""Compares the outputs that README.md and docs/*.md print with what the program writes.
+"""Compares README.md and docs/*.md with what the program writes, and with the definitions.
 
     bench/check_docs.py [PROGRAM]
 
-PROGRAM is the built program, crates/pct_run/out/pct_run where none is named (./pct builds it).
+PROGRAM is the built program, crates/pct_run/out/pct_run where none is named (./pct build builds it).
 
-Two things of a page are checked:
+What is checked:
 
 - Commands. In a fenced block a line that begins with `$ ` is a command, and the lines after it, down to the next command
   or the end of the block, are its output. The command's standard output must be these bytes; standard error is not
-  compared. The commands of a page are run by sh, in order, in one temporary folder, which has a copy of examples/ and
-  the program as ./pct; `$?` is the status of the command before. A block marked ```text is not run, and neither is a
-  command that begins with `rt `.
+  compared, except where the command has 2>&1. The commands of a page are run by sh, in order, in one temporary folder,
+  which has a copy of examples/ and ./pct over the program; `$?` is the status of the command before. A block marked
+  ```text is not run, and neither is a command that begins with `rt `.
 - Refusals in the text. Lines in backticks, separated by commas, and then `: `, ` is ` or ` | ` and a refusal in backticks
   are an example: the lines are given to `check`, or after a small script and a line %% to `replay` if the refusal is
   one of a schedule or an entry. Other forms are passed over.
+- Reasons. docs/reasons.txt, from which ./pct explains a refusal, has each reason of SCRIPT.md and of FORMATS.md, with the
+  same usual cause and the same way to mend it.
+- What runs. The definition `is_built` says which statements run. SCRIPT.md lists these and no others under "What runs
+  today"; a section of it has the paragraph "Checked today, not run." if none of the statements in its tables runs, and
+  has it not if all of them run. A section "Not built yet" names the statements that do not run and no others. In
+  README.md a sentence with "Today it runs" speaks only of statements that run, and one with "only checked" or "not built"
+  of none: by the words of SPOKEN.
 
 The last line is `N passed, M failed`. The status is 1 if M is not 0 or N is 0.
 """
 import pathlib
 import re
-import shutil
 import subprocess
 import sys
 import tempfile
 
-ROOT = pathlib.Path(__file__).resolve().parent.parent
+import checkout
+from checkout import ROOT
+
+SPECS = ROOT / "crates/pct_model/specs"
 SECONDS = 60
 REFUSAL = re.compile(r"refused (script|schedule|entry)( [0-9]+)( [a-z_]+)?")
 REPLAYED = ["fn main x", "return 0", "end", "%%"]
+NOT_RUN = "Checked today, not run."
+# Words of README.md for statements.
+SPOKEN = {
+    "created": {"pthread_create"},
+    "joined": {"pthread_join"},
+    "detached": {"pthread_detach"},
+    "canceled": {"pthread_cancel"},
+    "variables": {"set", "add"},
+    "loops": {"while"},
+    "calls": {"do"},
+    "cleanup handlers": {"pthread_cleanup_push", "pthread_cleanup_pop"},
+    "cancellation points": {"pthread_testcancel", "POINT"},
+    "thread-specific data": {"pthread_key_create", "pthread_key_delete", "pthread_setspecific", "pthread_getspecific"},
+    "mutexes": {"pthread_mutex_lock", "pthread_mutex_unlock"},
+    "condition variables": {"pthread_cond_wait", "pthread_cond_signal", "pthread_cond_broadcast"},
+    "semaphores": {"sem_wait", "sem_post"},
+    "processes": {"fork", "waitpid", "exit", "_exit"},
+    "fork handlers": {"pthread_atfork"},
+}
+
+
+# ---- commands and refusals
 
 
 def run(folder, command, status=0, text=""):
@@ -77,12 +108,11 @@ def refusals(lines):
 
 
 def results(page, program):
-    """For each check of a page: the number of its line, what is run, what the page prints, and what the program writes."""
+    """For each command and refusal of a page: its line, what is run, what the page has, and what the program writes."""
     lines = page.read_text().splitlines()
     with tempfile.TemporaryDirectory() as name:
         folder = pathlib.Path(name)
-        shutil.copytree(ROOT / "examples", folder / "examples")
-        (folder / "pct").symlink_to(program)
+        checkout.make(folder, program)
         status = 0
         for number, command, output in commands(lines):
             status, written = run(folder, command, status)
@@ -94,19 +124,138 @@ def results(page, program):
             yield number, ", ".join(given), answer + "\n", written
 
 
-def main():
-    program = pathlib.Path(sys.argv[1] if len(sys.argv) > 1 else ROOT / "crates/pct_run/out/pct_run").resolve()
-    if not program.is_file():
-        sys.exit(f"there is no program {program}; ./pct builds it")
-    passed = failed = 0
+# ---- reasons
+
+
+def table_of_reasons():
+    """The sentences of docs/reasons.txt, by refusal."""
+    table = {}
+    for line in (ROOT / "docs/reasons.txt").read_text().splitlines():
+        if line.startswith(" "):
+            table[refusal].append(line.strip())
+        elif line and not line.startswith("#"):
+            refusal = line
+            table[refusal] = []
+    return {refusal: " ".join(words) for refusal, words in table.items()}
+
+
+def plain(text):
+    """The text of a page as docs/reasons.txt has it: without links, and with quotes in place of backticks."""
+    return re.sub(r"\[([^]]*)\]\([^)]*\)", r"\1", text).replace("`", "'")
+
+
+def page_of_reasons(page, kind):
+    """The sentences of a page, by refusal: each reason is a heading, and its cause and mend are items below it."""
+    table, refusal = {}, None
+    for line in page.read_text().splitlines():
+        heading = re.fullmatch(r"#+ (.*)", line)
+        item = re.fullmatch(r"- \*(Usual cause|Mend):\* (.*)", line)
+        if heading:
+            name = heading[1].strip("`")
+            refusal = name if name == "entry" else f"{kind} {name}"
+        elif item:
+            table.setdefault(refusal, []).append(f"{item[1]}: {plain(item[2])}")
+    return {refusal: " ".join(words) for refusal, words in table.items()}
+
+
+def reasons():
+    """For each reason: its name, the sentences of the page, and those of the table."""
+    table = table_of_reasons()
+    pages = {**page_of_reasons(ROOT / "docs/SCRIPT.md", "script"), **page_of_reasons(ROOT / "docs/FORMATS.md", "schedule")}
+    for refusal in sorted({*table, *pages}):
+        yield f"{refusal} in docs/reasons.txt", pages.get(refusal, "none"), table.get(refusal, "none")
+
+
+# ---- what runs
+
+
+def statements():
+    """The keywords of all statements, and of those that are built. POINT stands for the cancellation points."""
+    text = "\n".join(path.read_text() for path in sorted(SPECS.glob("*.antt")))
+    syntax = re.findall(r"^syntax_of \(?line_kind\.(\w+).*?(?:codes \"(\S+)\"|point_name)", text, re.M)
+    keywords = {kind: word or "POINT" for kind, word in syntax if kind != "Declares"}
+    keywords["PointCall"] = keywords.pop("Point")
+    built = re.findall(r"^is_built \(?statement\.(\w+).*= true$", text, re.M)
+    return set(keywords.values()), {keywords[kind] for kind in built}
+
+
+def codes(text):
+    """The first words of what is in backticks."""
+    return [code.split()[0] for code in re.findall(r"`([^`]+)`", text) if code.strip()]
+
+
+def sections(page):
+    """The sections of a page by their headings of the second level."""
+    for section in re.split(r"^## ", page.read_text(), flags=re.M)[1:]:
+        heading, _, text = section.partition("\n")
+        yield heading, text
+
+
+def names(words):
+    return ", ".join(sorted(words)) or "none"
+
+
+def what_runs():
+    """For each list of statements: where it is, the statements in it, and those that the definitions want there."""
+    known, built = statements()
+    script = ROOT / "docs/SCRIPT.md"
+    seen, own = set(), set()
+    for heading, text in sections(script):
+        rows = [line.split("|")[1] for line in text.splitlines() if line.startswith("| ")]
+        listed = {code for row in rows for code in codes(row) if code in known}
+        if "the name of a cancellation point" in text:
+            listed.add("POINT")
+        if heading == "The script's own statements":
+            own = listed
+        if not listed:
+            continue
+        seen |= listed
+        if NOT_RUN in text.splitlines():
+            yield f"docs/SCRIPT.md, {heading}: what does not run", names(listed), names(listed - built)
+        else:
+            yield f"docs/SCRIPT.md, {heading}: what runs", names(listed), names(listed & built)
+    yield "docs/SCRIPT.md: the statements in its tables", names(seen), names(known)
+    head = next(line for line in script.read_text().splitlines() if line.startswith("**What runs today.**"))
+    listed = {code for code in codes(head) if code in known}
+    listed |= own if "(#the-scripts-own-statements)" in head else set()
+    listed |= {"POINT"} if "(#cancellation-points)" in head else set()
+    yield "docs/SCRIPT.md: what runs today", names(listed), names(built)
+    for page in sorted((ROOT / "docs").glob("*.md")):
+        for heading, text in sections(page):
+            if heading == "Not built yet":
+                listed = {code for code in codes(text) if code in known}
+                yield f"docs/{page.name}: what is not built yet", names(listed), names(known - built)
+    for sentence in re.split(r"(?<=[.:])\**\s", (ROOT / "README.md").read_text()):
+        runs, runs_not = "Today it runs" in sentence, "only checked" in sentence or "not built" in sentence
+        if runs or runs_not:
+            spoken = {code for code in codes(sentence) if code in known}
+            spoken |= {word for phrase, meant in SPOKEN.items() if phrase in sentence for word in meant}
+            yield f"README.md, {sentence}", names(spoken), names(spoken & built if runs else spoken - built)
+
+
+# ---- all
+
+
+def checks(program):
+    """For each check: where it is, what the page has, and what it should have."""
+    yield from reasons()
+    yield from what_runs()
     for page in [ROOT / "README.md", *sorted((ROOT / "docs").glob("*.md"))]:
-        for number, command, expected, written in results(page, program):
-            if written == expected:
-                passed += 1
-                continue
-            failed += 1
-            print(f"{page.relative_to(ROOT)}:{number}: {command}")
-            print(f"--- the page\n{expected}--- the program\n{written}---")
+        for number, command, printed, written in results(page, program):
+            yield f"{page.relative_to(ROOT)}:{number}: {command}", printed, written
+
+
+def main():
+    program = pathlib.Path(sys.argv[1] if len(sys.argv) > 1 else ROOT / checkout.BUILT).resolve()
+    if not program.is_file():
+        sys.exit(f"there is no program {program}; ./pct build builds it")
+    passed = failed = 0
+    for where, has, wanted in checks(program):
+        if has == wanted:
+            passed += 1
+            continue
+        failed += 1
+        print(f"{where}\n--- the page has\n{has.rstrip()}\n--- it should have\n{wanted.rstrip()}\n---")
     print(f"{passed} passed, {failed} failed")
     sys.exit(1 if failed or not passed else 0)
 

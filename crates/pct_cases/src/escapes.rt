@@ -1,5 +1,7 @@
-//! Bytes that a line of a text cannot hold.
+//! What a line of an input or of an output stands for.
 
+use itoa::Buffer;
+use pct_text::split_number;
 use std::alloc::AllocError;
 
 // How much of an escape was read.
@@ -11,11 +13,30 @@ enum Escape {
     HighDigit(u8),
 }
 
-/// Adds the bytes that a line stands for to a text, and a line end, unless the line ends in a single `\`.
-pub(crate) fn add_unescaped(text: &mut Vec<u8>, line: &[u8]) -> Result<(), AllocError> {
+/// Adds the bytes that a line stands for to a text: those of its copies, if it begins with `\*` and their number.
+pub(crate) fn add_line(text: &mut Vec<u8>, line: &[u8]) -> Result<(), AllocError> {
+    let (count, copied) = copies_of(line);
+    for before in 0..count {
+        add_copy(text, copied, before + 1)?;
+    }
+    Ok(())
+}
+
+// How often the line is copied, and what is copied.
+fn copies_of(line: &[u8]) -> (u32, &[u8]) {
+    if let Some(after) = line.strip_prefix(b"\\*")
+        && let Some((count, copied)) = split_number(after)
+    {
+        return (count, copied);
+    }
+    (1, line)
+}
+
+// Adds a copy of a line with this number to a text, and a line end, unless the line ends in a single `\`.
+fn add_copy(text: &mut Vec<u8>, line: &[u8], number: u32) -> Result<(), AllocError> {
     let mut escape = Escape::Nothing;
     for byte in line {
-        escape = add_byte(text, escape, *byte)?;
+        escape = add_byte(text, escape, *byte, number)?;
     }
     if !matches!(escape, Escape::Backslash) {
         text.push(b'\n')?;
@@ -23,8 +44,14 @@ pub(crate) fn add_unescaped(text: &mut Vec<u8>, line: &[u8]) -> Result<(), Alloc
     Ok(())
 }
 
-// Adds the byte that one more byte of a line completes, if it does, and returns how much of an escape was read.
-fn add_byte(text: &mut Vec<u8>, escape: Escape, byte: u8) -> Result<Escape, AllocError> {
+// Adds the byte that one more byte of a line completes, if it does, and returns how much of an escape was read. `\#` is the
+// number of the copy.
+fn add_byte(
+    text: &mut Vec<u8>,
+    escape: Escape,
+    byte: u8,
+    number: u32,
+) -> Result<Escape, AllocError> {
     match escape {
         Escape::Nothing => {
             if byte == b'\\' {
@@ -36,7 +63,11 @@ fn add_byte(text: &mut Vec<u8>, escape: Escape, byte: u8) -> Result<Escape, Allo
             if byte == b'x' {
                 return Ok(Escape::Hex);
             }
-            text.push(named(byte))?;
+            if byte == b'#' {
+                text.extend_from_slice(Buffer::new().format(number).as_bytes())?;
+            } else {
+                text.push(named(byte))?;
+            }
         }
         Escape::Hex => return Ok(Escape::HighDigit(digit(byte))),
         Escape::HighDigit(high) => text.push((high << 4) | digit(byte))?,

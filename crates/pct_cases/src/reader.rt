@@ -1,7 +1,7 @@
 //! The cases of a text.
 
 use crate::case::{Case, Failure};
-use crate::escapes::add_unescaped;
+use crate::escapes::add_line;
 use pct_io::Sink;
 use std::alloc::{AllocError, Global};
 use std::thread::Threads;
@@ -69,8 +69,7 @@ fn take_line(alloc: Global, case: &mut Case, part: Part, line: &[u8]) -> Result<
         Part::Input | Part::Inputs => take_input(alloc, case, part, line),
         Part::Output => {
             if !line.is_empty() && !line.starts_with(b"#") {
-                case.output.extend_from_slice(line)?;
-                case.output.push(b'\n')?;
+                add_line(&mut case.output, line)?;
             }
             Ok(Part::Output)
         }
@@ -107,7 +106,7 @@ fn take_input(alloc: Global, case: &mut Case, part: Part, line: &[u8]) -> Result
         case.inputs.push(Vec::new(alloc))?;
     }
     if let Some(input) = case.inputs.last_mut() {
-        add_unescaped(input, line)?;
+        add_line(input, line)?;
     }
     Ok(part)
 }

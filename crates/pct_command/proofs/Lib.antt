@@ -5,3 +5,4 @@ pub mod Outcomes
 pub mod CompleteOutcomes
 pub mod OneOutcome
 mod NonEmptyTexts
+pub mod OneAnswer

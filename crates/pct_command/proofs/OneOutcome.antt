@@ -51,39 +51,39 @@ run_is_legal script config after entries ran = legal_run script config (record {
 -- ---- the code and the text, by the order of the checks
 
 -- of words without an input
-abbrev by_words : Bool → ℕ × List ℕ
+abbrev pub by_words : Bool → ℕ × List ℕ
 by_words true = (0, points_text)
 by_words false = (5, line_text refused_words)
 
 -- before the script is known
-abbrev by_checks : Bool → Bool → Bool → Option Fault → Option (ℕ × List ℕ)
+abbrev pub by_checks : Bool → Bool → Bool → Option Fault → Option (ℕ × List ℕ)
 by_checks false points too_long fault = Some (by_words points)
 by_checks true points true fault = Some (8, line_text refused_input)
 by_checks true points false fault = option_map (λ f. (6, line_text (refused_script f.0 f.1))) fault
 
-abbrev decided_of : List (List ℕ) → List ℕ → Option (ℕ × List ℕ)
+abbrev pub decided_of : List (List ℕ) → List ℕ → Option (ℕ × List ℕ)
 decided_of words input = by_checks (needs_input words) (is_asked keyword.Points words) (nat_lt 16777216 (length input)) (first_fault (script_part words input))
 
 -- of a run
-abbrev by_run : Script → Config → List Entry → Option Run → Option (List ℕ) → Option (ℕ × List ℕ)
+abbrev pub by_run : Script → Config → List Entry → Option Run → Option (List ℕ) → Option (ℕ × List ℕ)
 by_run script config entries after None = None
 by_run script config entries None (Some text) = None
 by_run script config entries (Some after) (Some text) = Some (code_of_verdict (verdict_of script config after.world (length entries)), text)
 
-abbrev run_of : Script → Config → List Entry → Option (ℕ × List ℕ)
+abbrev pub run_of : Script → Config → List Entry → Option (ℕ × List ℕ)
 run_of script config entries = by_run script config entries (run script config entries) (report script config entries)
 
 -- of a schedule
-abbrev by_illegal : Option ℕ → Option (ℕ × List ℕ) → Option (ℕ × List ℕ)
+abbrev pub by_illegal : Option ℕ → Option (ℕ × List ℕ) → Option (ℕ × List ℕ)
 by_illegal (Some entry_number) ran = Some (7, line_text (refused_entry entry_number))
 by_illegal None ran = ran
 
-abbrev by_schedule : Script → Schedule → Option (ℕ × List ℕ)
+abbrev pub by_schedule : Script → Schedule → Option (ℕ × List ℕ)
 by_schedule script (Err fault) = Some (7, line_text (refused_schedule fault.0 fault.1))
 by_schedule script (Ok given) = by_illegal (first_illegal script given.0 given.1) (run_of script given.0 given.1)
 
 -- of a script, by the job that the words name
-abbrev by_job : Option Job → List ℕ → List Entry → Script → Option (ℕ × List ℕ)
+abbrev pub by_job : Option Job → List ℕ → List Entry → Script → Option (ℕ × List ℕ)
 by_job (Some (job.Run options)) input schedule script = run_of script default_config schedule
 by_job (Some job.Replay) input schedule script = by_schedule script (sched_of (schedule_part input))
 by_job (Some job.Check) input schedule script = Some (0, canon script)
@@ -91,7 +91,7 @@ by_job (Some job.Points) input schedule script = None
 by_job None input schedule script = None
 
 -- the code and the text are these
-data Found (words : List (List ℕ)) (input : List ℕ) (schedule : List Entry) (code : ℕ) (text : List ℕ) : Type 0 where
+pub data Found (words : List (List ℕ)) (input : List ℕ) (schedule : List Entry) (code : ℕ) (text : List ℕ) : Type 0 where
   Decided : decided_of words input ≡ Some (code, text) → Found words input schedule code text
   Spelled : decided_of words input ≡ None → (script : Script) → Spells (script_part words input) script → by_job (job_asked words) input schedule script ≡ Some (code, text) → Found words input schedule code text
 
@@ -131,7 +131,7 @@ ran script config entries after code text is_run text_is code_is =
     ∙ ap (λ (o : Option (List ℕ)). by_run script config entries (Some after) o) text_is
     ∙ these _ code text text code_is refl
 
-found : (words : List (List ℕ)) (input : List ℕ) (schedule : List Entry) (code : ℕ) (text : List ℕ) → Outcome words input schedule code text → Found words input schedule code text
+pub found : (words : List (List ℕ)) (input : List ℕ) (schedule : List Entry) (code : ℕ) (text : List ℕ) → Outcome words input schedule code text → Found words input schedule code text
 found words input schedule code text (outcome.WordsRefused o) =
     let neither = or_parts (needs_input words) (is_asked keyword.Points words) o.refused in
     Decided (without_input words input false neither.0 neither.1 ∙ these 5 code _ text o.code_is o.text_is)

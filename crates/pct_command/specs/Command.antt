@@ -55,9 +55,9 @@ IsReplayed words input code text =
     → sched_of (schedule_part again) ≡ sched_of text → length again ≤ 16777216
     → Outcome (keyword_text keyword.Replay ∷ []) again [] code text
 
--- the text is the report of a run of the script of the input. Its events keep the laws of how threads end (XSH 2.9.5.3,
--- pthread_exit): no cleanup handler is removed twice, the newest is removed first, and a thread that has ended has none left. The
--- state after it keeps the invariant.
+-- the text is the report of a run of the script of the input. Its events keep the laws of how threads end: that of cleanup handlers
+-- and destructors (XSH 2.9.5.3, pthread_exit, pthread_key_create), and that of joins, requests and detaches (XSH 2.9.2, pthread_join,
+-- pthread_cancel, pthread_detach). The state after it keeps the invariant.
 pub record IsLawful (words : List (List ℕ)) (input : List ℕ) (text : List ℕ) : Type 0 where
   pub script : Script
   pub spelled : Spells (script_part words input) script
@@ -171,3 +171,9 @@ abbrev pub OutcomesAreOne : Type 0
 OutcomesAreOne =
     (words : List (List ℕ)) (input : List ℕ) (schedule : List Entry) (code other_code : ℕ) (text other_text : List ℕ)
     → Outcome words input schedule code text → Outcome words input schedule other_code other_text → (code ≡ other_code) × (text ≡ other_text)
+
+-- words and an input have at most one answer, whatever schedule it was found under
+abbrev pub AnswersAreOne : Type 0
+AnswersAreOne =
+    (words : List (List ℕ)) (input : List ℕ) (code other_code : ℕ) (text other_text : List ℕ)
+    → IsAnswer words input code text → IsAnswer words input other_code other_text → (code ≡ other_code) × (text ≡ other_text)

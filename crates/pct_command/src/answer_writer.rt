@@ -11,8 +11,8 @@ use crate::answer::{Answer, Refusal};
 use pct_cancel::write_points;
 use pct_io::{BufferedSink, Failed, Field, Sink, write_line};
 use pct_model::Keyword;
+use pct_printer::print;
 use pct_report::write_report;
-use pct_script::print;
 
 /// Writes an answer: the line of a refusal, the report of a run, the canonical text of a script, or the table of cancellation
 /// points.

@@ -14,6 +14,6 @@ mod status;
 mod words;
 
 pub use dispatch::command;
-pub use law::outcomes_are_one;
+pub use law::{answers_are_one, outcomes_are_one};
 pub use status::Status;
 pub use words::{Job, RunOptions, Usage, read_words};

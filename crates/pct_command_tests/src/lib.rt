@@ -1,10 +1,5 @@
-//! The tests of `command` that need more than a table: failing streams, long texts, and runs that the random stream decides. The
-//! tables of calls and their answers are the cases of pct_cases.
+//! The tests of `command` that cannot be cases of pct_cases: reads and writes that fail, and words that no line has.
 #![tactic(auto)]
 
 #[cfg(test)]
-mod calls;
-#[cfg(test)]
-mod harness;
-#[cfg(test)]
-mod random_runs;
+mod failing_streams;

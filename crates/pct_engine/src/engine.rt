@@ -88,8 +88,8 @@ impl Engine {
         ensures legal { IsOk result ↔ IsRunWith self.old entry }
         ensures cause { (after : Run) → IsRunOf self.old after → IsOk result ↔ IsAllowed self.old after entry }
         ensures same { OnErr result (self.new ≡ self.old) }
-        // Of every legal schedule: no cleanup handler is removed twice, the newest is removed first, a thread that has ended has
-        // none left, and the state keeps the invariant.
+        // Of every legal schedule: the events keep the law of cleanup handlers and destructors and that of joins, requests and
+        // detaches, and the state keeps the invariant.
         ensures laws { (after : Run) → IsRunOf self.new after → KeepsLaws self.new after }
     {
         step_with(

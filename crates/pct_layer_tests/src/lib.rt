@@ -1,18 +1,9 @@
-//! The tests of the crates that an engine is made of, and of input and output, through their public calls. They stand in a crate of
-//! their own, since the tests of a crate prove it a second time.
+//! The tests of the crates below pct_command that no clause and no case of pct_cases can stand for: what streams of std answer, and
+//! the calls that the engine does not make yet. They stand in a crate of their own, since the tests of a crate prove it a second
+//! time.
 #![tactic(auto)]
 
 #[cfg(test)]
-mod cancelability;
+mod replicas;
 #[cfg(test)]
-mod cleanup_handlers;
-#[cfg(test)]
-mod input_output;
-#[cfg(test)]
-mod jump_tables;
-#[cfg(test)]
-mod key_tables;
-#[cfg(test)]
-mod slot_sets;
-#[cfg(test)]
-mod thread_tables;
+mod std_streams;

@@ -86,7 +86,8 @@ shared_after (action.DeleteKey k) s = record s { keys = without_key (key_place k
 shared_after (action.BeginExit v) s = record s { exit_value = Some v }
 shared_after _ s = s
 
--- the process after an action: EndProcess ends it, and one without a parent is reaped as it ends (XSH _exit)
+-- the process after an action: EndProcess ends it with a status; one without a parent is reaped as it ends, which is this host's
+-- choice
 unfoldable pub process_after : Action → Process → Process
 process_after (action.EndProcess n) p = record p { ended = Some n; reaped = nat_eq p.parent 0 }
 process_after _ p = p
@@ -98,8 +99,8 @@ process_after _ p = p
 abbrev pub has_ended : Process → Bool
 has_ended p = p.reaped || is_some p.ended
 
--- another process after an action of a thread of process pid: the children of a process that ends lose their parent (XSH
--- _exit). In this host no process inherits them, so an ended child is reaped then.
+-- another process after an action of a thread of process pid: the children of a process that ends get another parent (XSH _exit).
+-- This host's choice: they have none from then on, since no process inherits them, and a child that has ended is reaped then
 unfoldable pub other_process_after : ℕ → Action → Process → Process
 other_process_after pid (action.EndProcess n) p = if nat_eq p.parent pid then if has_ended p then record p { reaped = true } else record p { parent = 0 } else p
 other_process_after pid _ p = p

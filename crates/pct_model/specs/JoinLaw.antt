@@ -1,6 +1,7 @@
--- The law of joins: a join waits for the end of its thread and gets its value, a thread is joined once and only while it is joinable,
--- and no request, detach or join names a thread that is not known or whose lifetime is over (XSH 2.9.2, pthread_join,
--- pthread_detach, pthread_cancel). It speaks of the events of a run alone, listed newest first as in its trace.
+-- The law of joins: a join returns in a thread that was suspended in pthread_join, with the value of a thread that has ended, is not
+-- detached and was not joined before; and no request and no detach names a thread that is not known, or that has both ended and been
+-- joined or detached (XSH 2.9.2, pthread_join, pthread_detach, pthread_cancel). It asks nothing of the call of pthread_join itself. It
+-- speaks of the events of a run alone, listed newest first as in its trace.
 use Rattle.std.specs.Prelude.{◌≡◌, ℕ, true, false, List, [], ◌∷◌, Some}
 use Rattle.pct_model.specs.declared.event.Event.{Event}
 use Rattle.pct_model.specs.declared.event.What.{What}

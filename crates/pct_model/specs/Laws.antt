@@ -4,11 +4,12 @@ use Rattle.pct_model.specs.declared.event.Event.{Event}
 use Rattle.pct_model.specs.JoinLaw.{JoinLaw}
 use Rattle.pct_model.specs.Once.{Once}
 
--- the laws of the events of a run, newest first, with the greatest number of passes over destructors and the number of slots
+-- the laws of the events of a run, newest first, with the greatest number of passes over destructors and the number of slots. No law
+-- reads the number of slots yet.
 pub record Laws (events : List Event) (passes slots : ℕ) : Type 0 where
-  -- no cleanup handler is removed twice, the newest is removed first, a thread that has ended has none left, and after its handlers
-  -- no key's destructor is called twice in a pass
+  -- no cleanup handler is removed twice, the newest is removed first, a thread ends once, with none left, and after its handlers no
+  -- key has two events of its destructor in a pass
   pub once : Once passes events
-  -- each join gets the value of a thread that has ended, no thread is joined twice or while it is detached, and no request or detach
-  -- names a thread outside the lifetime of its id
+  -- each join that returns gets the value of a thread that has ended, no thread is joined twice or while it is detached, and no
+  -- request or detach names a thread outside the lifetime of its id
   pub joins : JoinLaw events

@@ -1,11 +1,10 @@
 -- The outcome of the program: the exit status, given by its code, and the bytes written, for given arguments and input.
-use Rattle.std.specs.Prelude.{◌≡◌, ℕ, ◌<◌, ◌≤◌, Bool, true, false, ◌||◌, if◌then◌else◌, List, [], ◌∷◌, length, take, drop, replicate, Some, Ok, Err, bytes_eq, decimal}
+use Rattle.std.specs.Prelude.{◌≡◌, ℕ, ◌<◌, ◌≤◌, Bool, true, false, ◌||◌, if◌then◌else◌, List, [], ◌∷◌, length, take, drop, Some, Ok, Err, bytes_eq, decimal}
 use Rattle.pct_model.specs.declared.refusal.ParseWhy.{ParseWhy}
 use Rattle.pct_model.specs.declared.refusal.ParseWhy.TheVariants as fault
 use Rattle.pct_model.specs.declared.refusal.ScheduleWhy.{ScheduleWhy}
 use Rattle.pct_model.specs.declared.refusal.ScheduleWhy.TheVariants as schedule_fault
 use Rattle.pct_model.specs.declared.script.Script.{Script}
-use Rattle.pct_model.specs.declared.schedule.Alt.TheVariants.{Go}
 use Rattle.pct_model.specs.declared.schedule.Config.{Config}
 use Rattle.pct_model.specs.declared.schedule.Entry.{Entry}
 use Rattle.pct_model.specs.declared.stop.Verdict.{Verdict}
@@ -49,14 +48,6 @@ schedule_part input = drop (replay_parts input).1 input
 -- the configuration of `run`
 abbrev pub default_config : Config
 default_config = record { budget = 10000; passes = 4; slots = 64 }
-
--- an entry of thread 1 of process 1 with the choice `go`, made by worker 1
-abbrev pub first_goes : Entry
-first_goes = record { worker = 1; pid = 1; tid = 1; alt = Go }
-
--- every entry of the schedule is this one
-abbrev pub FirstGoesAlone : List Entry → Type 0
-FirstGoesAlone schedule = schedule ≡ replicate (length schedule) first_goes
 
 -- ---- refusals
 

@@ -1,4 +1,5 @@
--- The stops: where POSIX leaves the behavior undefined, or this host's profile of POSIX excludes it. A stop ends the run.
+-- The stops: where POSIX leaves the behavior undefined, or this host treats it alike, leaves it out, limits it, or has not built it
+-- yet. A stop ends the run.
 use Rattle.std.specs.Prelude.{Bool, true, false, not, ◌&&◌, List, [], ◌∷◌, length, Option, is_none, is_some, nat_eq, nat_lt, option_map, find}
 use Rattle.std.specs.List.{list_any}
 use Rattle.pct_model.specs.declared.statement.Stmt.{Stmt}

@@ -1,4 +1,4 @@
--- The words of each stop: whether POSIX leaves the behavior undefined or this host excludes it, and its name.
+-- The words of each stop: its class, `undefined` or `profile`, and its name.
 use Rattle.std.specs.Prelude.{ℕ, List, [], ◌∷◌}
 use Rattle.pct_model.specs.declared.stop.Why.{Why}
 use Rattle.pct_model.specs.declared.stop.Why.TheVariants as why
@@ -6,7 +6,9 @@ use Rattle.pct_model.specs.declared.keyword.Keyword.{Keyword}
 use Rattle.pct_model.specs.declared.keyword.Keyword.TheVariants as keyword
 use Rattle.pct_model.specs.Keywords.{keyword_text}
 
--- POSIX leaves the behavior undefined, or this host's profile of POSIX excludes it
+-- `undefined`: POSIX leaves the behavior undefined, or this host treats it alike by its choice (each DetachJoined, an ExitInEnding in
+-- what a cancellation request called, an EnableInHandler in a handler that a pop called). `profile`: this host leaves the behavior
+-- out, limits it, or has not built it yet
 abbrev pub class_of_stop : Why → Keyword
 class_of_stop why.Unbuilt = keyword.Profile
 class_of_stop why.ForkChildCall = keyword.Profile

@@ -3,7 +3,7 @@
 use crate::stop::Why;
 
 /// A call whose failure is an event, with the error number.
-#[derive(Clone, Copy, Debug, PartialEq, Eq)]
+#[derive(Clone, Copy)]
 pub enum Caller {
     Create,
     KeyCreate,
@@ -15,7 +15,7 @@ pub enum Caller {
 
 /// What happened. Functions, mutexes, condition variables and semaphores are given by their indexes in the script, and
 /// cancellation points by their indexes in the table of points.
-#[derive(Clone, Copy, Debug, PartialEq, Eq)]
+#[derive(Clone, Copy)]
 pub enum What {
     Emit(u32),
     Created { id: u32, detached: bool },
@@ -59,7 +59,7 @@ pub enum What {
 }
 
 /// An event of a thread of a process.
-#[derive(Clone, Copy, Debug, PartialEq, Eq)]
+#[derive(Clone, Copy)]
 pub struct Event {
     pub pid: u32,
     pub tid: u32,

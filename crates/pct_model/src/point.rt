@@ -4,14 +4,14 @@ ghost use Rattle.std.specs.Prelude.{◌≡◌};
 ghost use Rattle.pct_model.specs.Points.{kind_text, wait_text};
 
 /// Whether a function shall be a cancellation point (required), or may be one (optional).
-#[derive(Clone, Copy, Debug, PartialEq, Eq)]
+#[derive(Clone, Copy)]
 pub enum PointKind {
     Required,
     Optional,
 }
 
 /// What a thread suspended at the point waits for.
-#[derive(Clone, Copy, Debug, PartialEq, Eq)]
+#[derive(Clone, Copy)]
 pub enum PointWait {
     /// Nothing: a thread is never suspended there.
     NoWait,
@@ -24,7 +24,7 @@ pub enum PointWait {
 }
 
 /// A cancellation point: its index in the table of points, its kind, and its wait.
-#[derive(Clone, Copy, Debug, PartialEq, Eq)]
+#[derive(Clone, Copy)]
 pub struct Point {
     pub index: u32,
     pub kind: PointKind,

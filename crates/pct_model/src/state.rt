@@ -15,7 +15,7 @@ pub enum Mode {
 }
 
 /// The phase of a fork: which fork handlers it runs (XSH pthread_atfork).
-#[derive(Clone, Copy, Debug, PartialEq, Eq)]
+#[derive(Clone, Copy, Debug)]
 pub enum Phase {
     Prepare,
     Parent,
@@ -23,7 +23,7 @@ pub enum Phase {
 }
 
 /// Why a thread left a condition wait.
-#[derive(Clone, Copy, Debug, PartialEq, Eq)]
+#[derive(Clone, Copy, Debug)]
 pub enum Cause {
     Signalled,
     Broadcast,
@@ -31,7 +31,7 @@ pub enum Cause {
 }
 
 /// Why a thread began to end; `None` for a thread that did not.
-#[derive(Clone, Copy, Debug, PartialEq, Eq)]
+#[derive(Clone, Copy, Debug)]
 pub enum Reason {
     None,
     Exit(u32),
@@ -39,7 +39,7 @@ pub enum Reason {
 }
 
 /// The status of a thread.
-#[derive(Clone, Copy, Debug, PartialEq, Eq)]
+#[derive(Clone, Copy, Debug)]
 pub enum Status {
     Running,
     /// Suspended at the cancellation point with this index.
@@ -71,7 +71,7 @@ pub struct ForkAt {
 }
 
 /// Why a function was called.
-#[derive(Clone, Copy, Debug, Default, PartialEq, Eq)]
+#[derive(Clone, Copy, Debug, Default)]
 pub enum FrameKind {
     /// It is `main`, in the initial thread.
     Main,

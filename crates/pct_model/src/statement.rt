@@ -1,7 +1,7 @@
 //! The statements of a script: those of the script language, and calls of POSIX functions.
 
 /// An operand: a value that a statement reads.
-#[derive(Clone, Copy, Debug, PartialEq, Eq)]
+#[derive(Clone, Copy)]
 pub enum Operand {
     Num(u32),
     /// A local of the function, by index.
@@ -11,7 +11,7 @@ pub enum Operand {
 }
 
 /// A destination: where a statement writes a value.
-#[derive(Clone, Copy, Debug, PartialEq, Eq)]
+#[derive(Clone, Copy)]
 pub enum Dest {
     /// The value is dropped.
     Drop,

@@ -5,7 +5,8 @@ ghost use Rattle.pct_model.specs.StopTexts.{class_of_stop, name_of_stop};
 
 use crate::keyword::Keyword;
 
-/// Why a run was stopped: POSIX leaves the behavior undefined, or this host's profile of POSIX excludes it.
+/// Why a run was stopped: POSIX leaves the behavior undefined, or this host treats it alike, leaves it out, limits it, or has
+/// not built it yet.
 #[derive(Clone, Copy, Debug, PartialEq, Eq)]
 pub enum Why {
     /// The statement is not implemented yet.
@@ -29,7 +30,8 @@ pub enum Why {
 }
 
 impl Why {
-    /// `undefined` if POSIX leaves the behavior undefined, `profile` if this host excludes it.
+    /// `undefined` if POSIX leaves the behavior undefined, or this host treats it alike by its choice; `profile` if this host
+    /// leaves it out, limits it, or has not built it yet.
     pub fn class(self) -> Keyword
         ensures { result ≡ class_of_stop self }
     {

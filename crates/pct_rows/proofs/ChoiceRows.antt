@@ -1,6 +1,5 @@
--- The choices of the scheduler, and the order in which two numbers choose among them.
-use Rattle.std.proofs.Common.{◌≡◌, ℕ, true, false, List, [], ◌∷◌, map, Some, None, refl}
-use Rattle.std.specs.Prelude.{IsTrue, IsFalse}
+-- The order of the scheduler's candidates, how two numbers choose among them, and the choices of a thread that creates a thread or a key.
+use Rattle.std.proofs.Common.{◌≡◌, ℕ, true, false, List, [], ◌∷◌, ◌++◌, map, replicate, Some, None, refl}
 use Rattle.pct_model.specs.declared.schedule.Alt.{Alt}
 use Rattle.pct_model.specs.declared.schedule.Alt.TheVariants as alt
 use Rattle.pct_model.specs.declared.schedule.Config.{Config}
@@ -8,13 +7,18 @@ use Rattle.pct_model.specs.declared.schedule.Entry.{Entry}
 use Rattle.pct_model.specs.declared.state.FrameKind.TheVariants as kind
 use Rattle.pct_model.specs.declared.state.Status.{Status}
 use Rattle.pct_model.specs.declared.state.Status.TheVariants as status
+use Rattle.pct_model.specs.declared.statement.Dest.TheVariants as destination
+use Rattle.pct_model.specs.declared.statement.Operand.TheVariants as operand
+use Rattle.pct_model.specs.declared.statement.Stmt.TheVariants as statement
 use Rattle.pct_model.specs.declared.stop.Why.TheVariants as why
+use Rattle.pct_model.specs.Keys.{KeyPlace, no_keys}
 use Rattle.pct_model.specs.World.{Thread, Process, World, first_process, new_frame, new_thread}
 use Rattle.pct_model.specs.ThreadSlots.{slot_of}
-use Rattle.pct_model.specs.ChoiceTable.{offers, same_choice}
+use Rattle.pct_model.specs.OtherThreads.{no_answer}
+use Rattle.pct_model.specs.ChoiceTable.{running_choices}
 use Rattle.pct_model.specs.Chosen.{by_slot, Candidate, candidates, chosen}
 use Rattle.pct_rows.proofs.OnLiterals.{runs_on_literals}
-use Rattle.pct_rows.proofs.Rows.{smallest}
+use Rattle.pct_rows.proofs.ExampleScripts.{smallest}
 
 -- four thread slots
 abbrev config : Config
@@ -74,12 +78,21 @@ nobody_ready : (chosen smallest config (record { processes = process 1 (in_statu
 unfolding runs_on_literals
 nobody_ready = (refl, refl, refl)
 
--- ---- membership
+-- ---- creations
 
--- two choices are equal if their kinds and numbers are
-equal_choices : (IsTrue (same_choice alt.Go alt.Go)) × (IsTrue (same_choice (alt.Act 0) (alt.Act 0))) × (IsFalse (same_choice (alt.Act 0) (alt.Act 1))) × (IsFalse (same_choice (alt.New 1) (alt.Pick 1))) × (IsTrue (same_choice (alt.Pick 1) (alt.Pick 1))) × (IsFalse (same_choice (alt.Dtor 1) (alt.New 1))) × (IsFalse (same_choice alt.Go (alt.Dtor 0)))
-equal_choices = (refl, refl, refl, refl, refl, refl, refl)
+-- a new thread gets one of the ids of the free slots, by rising slot; without one the call fails
+new_thread_ids : map (λ ids. running_choices no_keys (ready 1) (record no_answer { new_ids = ids }) (statement.Create destination.Drop destination.Drop 0 (operand.Num 0) false)) ((5 ∷ 2 ∷ []) ∷ [] ∷ []) ≡ (alt.New 5 ∷ alt.New 2 ∷ []) ∷ (alt.Go ∷ []) ∷ []
+unfolding runs_on_literals
+new_thread_ids = refl
 
--- a choice is offered if it is in the list
-offered_choices : (IsTrue (offers (alt.Go ∷ alt.Act 3 ∷ []) (alt.Act 3))) × (IsFalse (offers (alt.Go ∷ alt.Act 3 ∷ []) (alt.Act 4))) × (IsFalse (offers [] alt.Go))
-offered_choices = (refl, refl, refl)
+-- a place with a key; and all places but the last
+abbrev place_with : ℕ → KeyPlace
+place_with number = record { made = 1; key = Some (record { number = number; destructor = None }) }
+
+abbrev all_but_the_last : List KeyPlace
+all_but_the_last = replicate 127 (place_with 1) ++ record { made = 2; key = None } ∷ []
+
+-- a new key is on the last place, with its third number; with no place left the call fails
+creates_the_last_key : (running_choices all_but_the_last (ready 1) no_answer (statement.KeyCreate destination.Drop destination.Drop None) ≡ alt.New 384 ∷ []) × (running_choices (replicate 128 (place_with 1)) (ready 1) no_answer (statement.KeyCreate destination.Drop destination.Drop None) ≡ alt.Go ∷ [])
+unfolding runs_on_literals
+creates_the_last_key = (refl, refl)

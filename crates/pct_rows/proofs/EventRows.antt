@@ -1,5 +1,6 @@
--- The text of each event, in a script with two functions, two mutexes, two condition variables and two semaphores.
-use Rattle.std.proofs.Common.{◌≡◌, ℕ, true, false, List, [], ◌∷◌, refl}
+-- The texts of the events and the stops that no run has while mutexes, condition variables, semaphores and processes are not
+-- implemented, in a script with two functions, two mutexes, two condition variables and two semaphores.
+use Rattle.std.proofs.Common.{◌≡◌, ℕ, List, [], ◌∷◌, refl}
 use Rattle.std.specs.Prelude.{IsTrue, codes, flat_map}
 use Rattle.std.specs.Fmt.{digits}
 use Rattle.pct_model.specs.declared.script.Script.{Script}
@@ -10,7 +11,6 @@ use Rattle.pct_model.specs.declared.event.What.TheVariants as what
 use Rattle.pct_model.specs.declared.stop.Why.TheVariants as why
 use Rattle.pct_model.specs.Keywords.{keyword_text, line_text}
 use Rattle.pct_model.specs.Names.{name_at}
-use Rattle.pct_model.specs.Points.{points, point_name}
 use Rattle.pct_model.specs.LineKinds.{syntax_of}
 use Rattle.pct_model.specs.Contents.{Contents}
 use Rattle.pct_model.specs.Static.{is_static}
@@ -40,42 +40,22 @@ script = record { globals = contents.globals; mutexes = contents.mutexes; conds 
 abbrev lines : List What → List ℕ
 lines events = flat_map (λ w. line_text (event_line script (record { pid = 2; tid = 34; what = w }))) events
 
--- the script's own statements, and cleanup handlers
-script_events : lines (what.Emit 4294967295 ∷ what.Pushed 0 7 ∷ what.Popped 0 7 true ∷ what.Popped 1 0 false ∷ what.HandlerRun 0 9 ∷ []) ≡ codes "2.34 emit 4294967295\n2.34 push f 7\n2.34 pop f 7 run\n2.34 pop main 0 drop\n2.34 handler f 9\n"
-unfolding digits keyword_text name_at event_words thread_text event_line
-script_events = refl
-
--- threads
-thread_events : lines (what.Created 3 false ∷ what.Created 4 true ∷ what.Joined 3 5 ∷ what.Detached 3 ∷ what.EndingExit 6 ∷ what.EndedWith 6 ∷ []) ≡ codes "2.34 create 3 joinable\n2.34 create 4 detached\n2.34 joined 3 5\n2.34 detach 3\n2.34 ending exit 6\n2.34 ended 6\n"
-unfolding digits keyword_text name_at event_words thread_text event_line
-thread_events = refl
-
--- cancellation
-cancel_events : lines (what.Request 3 ∷ what.StateSet true ∷ what.StateSet false ∷ what.ModeSet true ∷ what.ModeSet false ∷ what.Called 22 ∷ what.Done 25 ∷ what.EndingCanceled ∷ what.EndingInWait 1 0 ∷ []) ≡ codes "2.34 request 3\n2.34 state enable\n2.34 state disable\n2.34 type asynchronous\n2.34 type deferred\n2.34 call pthread_join\n2.34 done read\n2.34 ending canceled\n2.34 ending canceled d l\n"
-unfolding digits keyword_text name_at points point_name event_words thread_text event_line
-cancel_events = refl
-
--- thread-specific data
-key_events : lines (what.KeyMade 1 ∷ what.KeyGone 2 ∷ what.PassBegun 1 ∷ what.DtorRun 1 129 0 8 ∷ what.Leftover 3 ∷ []) ≡ codes "2.34 key 1\n2.34 key_delete 2\n2.34 pass 1\n2.34 dtor 1 129 f 8\n2.34 leftover 3\n"
-unfolding digits keyword_text name_at event_words thread_text event_line
-key_events = refl
-
--- mutexes, condition variables and semaphores
-wait_events : lines (what.Acquired 1 ∷ what.Released 0 ∷ what.Signalled 0 0 ∷ what.BroadcastTo 1 2 ∷ what.WaitCanceled 0 ∷ what.HandedOn 0 3 ∷ what.Taken 0 ∷ what.Posted 1 ∷ []) ≡ codes "2.34 acquire m\n2.34 release l\n2.34 signal c 0\n2.34 broadcast d 2\n2.34 cancel_wait c\n2.34 handon c 3\n2.34 take s\n2.34 post t\n"
+-- mutexes, condition variables and semaphores; a wait for a condition variable names it and the mutex
+wait_events : lines (what.Acquired 1 ∷ what.Released 0 ∷ what.Signalled 0 0 ∷ what.BroadcastTo 1 2 ∷ what.WaitCanceled 0 ∷ what.HandedOn 0 3 ∷ what.EndingInWait 1 0 ∷ what.Taken 0 ∷ what.Posted 1 ∷ []) ≡ codes "2.34 acquire m\n2.34 release l\n2.34 signal c 0\n2.34 broadcast d 2\n2.34 cancel_wait c\n2.34 handon c 3\n2.34 ending canceled d l\n2.34 take s\n2.34 post t\n"
 unfolding digits keyword_text name_at event_words thread_text event_line
 wait_events = refl
 
 -- processes
-process_events : lines (what.Forked 3 ∷ what.PrepareRun 0 ∷ what.ParentRun 0 ∷ what.ChildRun 1 ∷ what.ExitBegun 258 ∷ what.ExitRun 0 ∷ what.ProcessEnded 2 ∷ what.Reaped 3 255 ∷ []) ≡ codes "2.34 fork 3\n2.34 prepare f\n2.34 parent f\n2.34 child main\n2.34 exit 258\n2.34 at_exit f\n2.34 process_end 2\n2.34 reap 3 255\n"
+process_events : lines (what.Forked 3 ∷ what.PrepareRun 0 ∷ what.ParentRun 0 ∷ what.ChildRun 1 ∷ what.ExitRun 0 ∷ what.Reaped 3 255 ∷ []) ≡ codes "2.34 fork 3\n2.34 prepare f\n2.34 parent f\n2.34 child main\n2.34 at_exit f\n2.34 reap 3 255\n"
 unfolding digits keyword_text name_at event_words thread_text event_line
 process_events = refl
 
 -- error numbers
-answer_events : lines (what.Answer caller.Create 1 ∷ what.Answer caller.KeyCreate 1 ∷ what.Answer caller.AtFork 2 ∷ what.Answer caller.Fork 1 ∷ what.Answer caller.WaitPid 3 ∷ what.Answer caller.AtExit 2 ∷ []) ≡ codes "2.34 answer pthread_create 1\n2.34 answer pthread_key_create 1\n2.34 answer pthread_atfork 2\n2.34 answer fork 1\n2.34 answer waitpid 3\n2.34 answer atexit 2\n"
+answer_events : lines (what.Answer caller.AtFork 2 ∷ what.Answer caller.Fork 1 ∷ what.Answer caller.WaitPid 3 ∷ what.Answer caller.AtExit 2 ∷ []) ≡ codes "2.34 answer pthread_atfork 2\n2.34 answer fork 1\n2.34 answer waitpid 3\n2.34 answer atexit 2\n"
 unfolding digits keyword_text syntax_of event_words thread_text event_line
 answer_events = refl
 
 -- stops
-stop_events : lines (what.Stopped why.Unbuilt ∷ what.Stopped why.ExitTwice ∷ []) ≡ codes "2.34 profile unbuilt\n2.34 undefined exit_twice\n"
+stop_events : lines (what.Stopped why.ForkChildCall ∷ what.Stopped why.NotOwner ∷ what.Stopped why.CondTwoMutexes ∷ what.Stopped why.ExitTwice ∷ what.Stopped why.ForkInEnding ∷ []) ≡ codes "2.34 profile fork_child_call\n2.34 undefined not_owner\n2.34 undefined cond_two_mutexes\n2.34 undefined exit_twice\n2.34 profile fork_in_ending\n"
 unfolding digits keyword_text stop_words event_words thread_text event_line
 stop_events = refl

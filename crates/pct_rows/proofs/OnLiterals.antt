@@ -1,6 +1,5 @@
 -- What a row names on its `unfolding` line to compute with the definitions of the specification.
 use Rattle.std.specs.Prelude.{⊤}
-use Rattle.std.specs.Fmt.{digits}
 use Rattle.pct_model.specs.Keywords.{keyword_text}
 use Rattle.pct_model.specs.Names.{is_name, all_different, name_at, main_of}
 use Rattle.pct_model.specs.Points.{points, point_of, point_name}
@@ -9,7 +8,6 @@ use Rattle.pct_model.specs.Statements.{encode}
 use Rattle.pct_model.specs.Nesting.{outside, inside, change_at, open_after, are_nested}
 use Rattle.pct_model.specs.Checks.{none_wrong}
 use Rattle.pct_model.specs.Static.{has_word, have_words, has_first_word, has_line, has_lines, has_text, keeps_limits, has_each_name_once, names_plain, is_static}
-use Rattle.pct_model.specs.Canon.{argument_text, argument_texts, statement_words, function_lines, script_lines}
 use Rattle.pct_model.specs.Jumps.{close_of, open_of}
 use Rattle.pct_model.specs.Keys.{key_with, free_places, due_places, left_places}
 use Rattle.pct_model.specs.World.{statement_at, value_of, opening}
@@ -34,11 +32,6 @@ use Rattle.pct_model.specs.Chosen.{candidates, chosen}
 unfoldable pub checks_on_literals : ⊤
 unfolding keyword_text is_name all_different name_at points point_of point_name declaration_syntax syntax_of point_statement encode outside inside change_at open_after are_nested none_wrong has_word have_words has_first_word has_line has_lines has_text keeps_limits has_each_name_once names_plain is_static
 checks_on_literals = tt
-
--- to print a script
-unfoldable pub texts_on_literals : ⊤
-unfolding digits name_at points point_name declaration_syntax syntax_of encode argument_text argument_texts statement_words function_lines script_lines
-texts_on_literals = tt
 
 -- to compute steps, runs and verdicts, and the choices of the scheduler
 unfoldable pub runs_on_literals : ⊤

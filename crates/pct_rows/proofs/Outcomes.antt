@@ -21,10 +21,10 @@ use Rattle.pct_model.specs.Sections.{parsed_lines, split_sections, Line, declari
 use Rattle.pct_model.specs.Spells.{declarations, contents_of, AreContents, SpellsContents}
 use Rattle.pct_model.specs.World.{opening}
 use Rattle.pct_model.specs.Run.{Run, run, verdict_of}
-use Rattle.pct_model.specs.Outcome.{is_asked, code_of_verdict, default_config, first_goes, Runs}
-use Rattle.pct_rows.specs.Examples.{smallest_text, smallest_report, cleanup_text, cleanup_report}
+use Rattle.pct_model.specs.Outcome.{is_asked, code_of_verdict, default_config, Runs}
+use Rattle.pct_rows.specs.Examples.{smallest_text, smallest_report, cleanup_text, cleanup_report, first_goes}
 use Rattle.pct_rows.proofs.OnLiterals.{runs_on_literals}
-use Rattle.pct_rows.proofs.Rows.{smallest, smallest_reported, cleanup, cleanup_reported}
+use Rattle.pct_rows.proofs.ExampleScripts.{smallest, smallest_reported, cleanup, cleanup_reported}
 
 -- a parsed line with its number
 abbrev line : ℕ → LineKind → List Token → Line

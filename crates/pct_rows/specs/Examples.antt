@@ -1,5 +1,11 @@
 -- Two example scripts, as texts, and the reports of their runs.
 use Rattle.std.specs.Prelude.{ℕ, List, codes}
+use Rattle.pct_model.specs.declared.schedule.Alt.TheVariants.{Go}
+use Rattle.pct_model.specs.declared.schedule.Entry.{Entry}
+
+-- an entry of thread 1 of process 1 with the choice `go`, made by worker 1
+abbrev pub first_goes : Entry
+first_goes = record { worker = 1; pid = 1; tid = 1; alt = Go }
 
 -- `main` returns at once
 abbrev pub smallest_text : List ℕ

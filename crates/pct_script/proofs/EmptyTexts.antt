@@ -1,5 +1,5 @@
 -- The fault of a text without a line that spells something, and what the first three checks say of spelling.
-use Rattle.std.proofs.Common.{◌≡◌, ◌≢◌, ℕ, List, [], ◌∷◌, Option, Some, None, Result, Ok, Err, refl, ap, ◌∙◌, filter_map}
+use Rattle.std.proofs.Common.{◌≡◌, ℕ, List, [], ◌∷◌, Option, Some, None, Result, Ok, Err, refl, ap, ◌∙◌, filter_map}
 use Rattle.std.specs.Prelude.{IfErr}
 use Rattle.std.specs.Option.{option_or}
 use Rattle.pct_model.specs.declared.refusal.ParseWhy.TheVariants.{NoMain}

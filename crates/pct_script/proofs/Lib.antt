@@ -3,8 +3,6 @@ pub mod Keywords
 pub mod AllowedLines
 pub mod Fitting
 pub mod SpelledLines
-pub mod Printed
-pub mod Writings
 pub mod PushCounts
 pub mod SectionSteps
 pub mod FunctionSteps

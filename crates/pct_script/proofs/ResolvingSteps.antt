@@ -1,5 +1,5 @@
 -- Resolving the statements of a function and the functions of a script, one by one.
-use Rattle.std.proofs.Common.{◌≡◌, ℕ, Bool, true, false, cond, List, [], ◌∷◌, ◌++◌, Option, Some, None, filter, find, map, refl, sym, ap, ◌∙◌, option_map, append-nil, is_none}
+use Rattle.std.proofs.Common.{◌≡◌, ℕ, Bool, true, cond, List, [], ◌∷◌, ◌++◌, Option, Some, None, filter, find, map, refl, sym, ap, ◌∙◌, option_map, append-nil, is_none}
 use Rattle.std.specs.Option.{option_or}
 use Rattle.std.specs.List.{list_all}
 use Rattle.std.proofs.lemmas.Bool.{and_parts}

@@ -1,9 +1,8 @@
 -- Resolving the tokens of a statement, token by token.
-use Rattle.std.proofs.Common.{◌≡◌, ◌⊎◌, inl, inr, ℕ, suc, ◌-◌, ◌<◌, ◌≤◌, Bool, true, false, not, List, [], ◌∷◌, ◌++◌, Option, Some, None, length, drop, min, replicate, refl, sym, ap, ◌∙◌, arith, get_or, option_map, append_assoc, append-nil}
+use Rattle.std.proofs.Common.{◌≡◌, ℕ, suc, ◌-◌, ◌<◌, ◌≤◌, Bool, true, false, not, List, [], ◌∷◌, ◌++◌, Option, Some, None, length, drop, min, replicate, refl, sym, ap, ◌∙◌, arith, option_map, append_assoc, append-nil}
 use Rattle.std.specs.Prelude.{slice_get}
-use Rattle.std.proofs.Math.Seq.{drop-cons}
-use Rattle.std.proofs.lemmas.List.{drop_all, length-append, length-replicate}
-use Rattle.std.proofs.lemmas.Option.{slice_get_within, get_or_from_slice_get, slice_get_cases}
+use Rattle.std.proofs.lemmas.List.{length-append, length-replicate}
+use Rattle.std.proofs.lemmas.Option.{slice_get_within}
 use Rattle.pct_model.specs.declared.line_kind.LineKind.{LineKind}
 use Rattle.pct_model.specs.declared.line_kind.LineKind.TheVariants as line_kind
 use Rattle.pct_model.specs.declared.line_kind.SymbolKind.{SymbolKind}
@@ -17,6 +16,7 @@ use Rattle.pct_model.specs.Lines.{◌>>=◌}
 use Rattle.pct_model.specs.Contents.{resolve, resolve_all}
 use Rattle.pct_model.specs.LineKinds.{syntax_of, declaration_syntax}
 use Rattle.pct_model.specs.Sections.{is_declaration, is_statement, role_in, argument_kinds_in}
+use Rattle.pct_script.proofs.FaultyWords.{argument_kind_first, past_kinds}
 
 -- what was resolved, and then what is left to resolve
 abbrev pub onto : {A : Type 0} → List A → Option (List A) → Option (List A)
@@ -28,15 +28,6 @@ regroup prefix a None = refl
 regroup prefix a (Some others) = ap (λ xs. Some xs) (sym (append_assoc prefix (a ∷ []) others))
 
 -- ---- argument kinds
-
-argument_kind_first : (argument_kinds : List ArgumentKind) (at : ℕ) (p : ArgumentKind) → slice_get argument_kinds at ≡ Some p → drop at argument_kinds ≡ p ∷ drop (suc at) argument_kinds
-argument_kind_first argument_kinds at p here =
-    drop-cons argument_kinds at p (slice_get_within argument_kinds at p here) ∙ ap (λ q. q ∷ drop (suc at) argument_kinds) (get_or_from_slice_get argument_kinds at p p here)
-
-past : (argument_kinds : List ArgumentKind) (at : ℕ) → slice_get argument_kinds at ≡ None
-    → ((p : ArgumentKind) × (at < length argument_kinds) × (slice_get argument_kinds at ≡ Some p) × (get_or argument_kinds at p ≡ p)) ⊎ ((length argument_kinds ≤ at) × (slice_get argument_kinds at ≡ None)) → drop at argument_kinds ≡ []
-past argument_kinds at none (inl h) = absurd (cc)
-past argument_kinds at none (inr h) = drop_all at argument_kinds h.0
 
 few_detached : (n : ℕ) (p : ArgumentKind) → length (replicate (min 1 (n - 4)) p) ≤ 1
 few_detached n p = omega (arith, length-replicate (min 1 (n - 4)) p)
@@ -120,7 +111,7 @@ module _ (names : SymbolKind → List (List ℕ)) (locals : List (List ℕ)) (ar
       → replaced_from prefix rest ≡ all → all ≡ None
   word_without_kind prefix w words rest all none first so_far =
       sym so_far ∙ ap (λ ws. onto prefix (resolve_all names locals (drop (length prefix) argument_kinds) ws)) first
-      ∙ ap (λ ps. onto prefix (resolve_all names locals ps (w ∷ words))) (past argument_kinds (length prefix) none (slice_get_cases argument_kinds (length prefix)).1)
+      ∙ ap (λ ps. onto prefix (resolve_all names locals ps (w ∷ words))) (past_kinds argument_kinds (length prefix) none)
       ∙ ap (onto prefix) (no_argument_kinds names locals w words)
 
   -- after the last token

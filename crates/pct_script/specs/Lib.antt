@@ -2,7 +2,6 @@ pub mod Fault
 pub mod Fitting
 pub mod PlainArguments
 pub mod SpelledLines
-pub mod Printing
 pub mod DeclaredNames
 pub mod PushCounts
 pub mod SectionSteps

@@ -1,17 +1,15 @@
-//! Scripts and their texts: `parse` returns the script that a text spells or the first fault of the text, and `print` writes
-//! the canonical text of a script. `Jumps` is the jump table of a script.
+//! Scripts and their texts: `parse` returns the script that a text spells or the first fault of the text. `Jumps` is the jump
+//! table of a script.
 //!
 //! A text passes the modules in this order: scan, spelling, line and arguments, nesting, limits, sections, duplicates,
-//! symbols and resolve, push_returns, plain_functions, checks. A script that is printed passes encode, argument_text, printer.
+//! symbols and resolve, push_returns, plain_functions, checks.
 #![tactic(auto)]
 
 mod argument_kind;
-mod argument_text;
 mod arguments;
 mod checks;
 mod decode;
 mod duplicates;
-mod encode;
 mod fault;
 mod identifier;
 mod limits;
@@ -19,7 +17,6 @@ mod line;
 mod nesting;
 mod parser;
 mod plain_functions;
-mod printer;
 mod push_returns;
 mod resolve;
 mod scan;
@@ -32,4 +29,3 @@ pub use parser::parse;
 pub use pct_grammar::texts_spell_scripts;
 pub use pct_jumps::Jumps;
 pub use pct_model::ParseWhy;
-pub use printer::print;

@@ -1,0 +1,525 @@
+#!/usr/bin/env python3
+"""Makes mistakes with ./pct, and compares what it says with what the pages promise.
+
+    bench/check_mistakes.py [PROGRAM] [--with-rt]
+
+PROGRAM is the built program, crates/pct_run/out/pct_run where none is named (./pct build builds it).
+
+A case is a command of a shell, the files that it reads, the standard output and the status that it has to have, and
+what standard error has to say: all by the rules of docs/SCRIPT.md and docs/FORMATS.md, and the words of
+docs/reasons.txt. Each command is run in a temporary folder of its own that has the real ./pct, docs/reasons.txt and
+examples/. In the cases of SCRIPTS, SCHEDULES and CALLS the program is where ./pct build leaves it.
+
+In those of UNPROVED it is not, and in the PATH there is a stand-in for the kit's rt. `rt try` of it runs the program,
+and says what rt says then; `rt run` of it leaves the program where ./pct looks for it. As rt takes an input that pauses
+to have ended, it refuses one that is not a file. It notes its words in the file rt.words, and fails if there is a file
+rt.fails.
+
+With --with-rt the real `rt try` compiles and runs the program once, in a copy of crates/.
+
+The last line is `N passed, M failed`. The status is 1 if M is not 0 or N is 0.
+"""
+import dataclasses
+import os
+import pathlib
+import shutil
+import subprocess
+import sys
+import tempfile
+
+import checkout
+from checkout import BUILT, ROOT
+
+SECONDS = 120
+# What ./pct calls; the PATH of the cases has these commands, without the kit's rt.
+TOOLS = "sh awk cat chmod cp cut date dirname find head mkdir mktemp od printf readlink rm sed sleep test touch".split()
+RT = """#!/bin/sh
+echo "$*" >> "$TOP/rt.words"
+if [ -e "$TOP/rt.fails" ]; then echo half; echo 'run=none proved=no' >&2; exit 2; fi
+case $1 in
+    run) mkdir -p out; cp "$PROGRAM" out/pct_run ;;
+    try)
+        while [ "$1" != -- ]; do shift; done
+        shift
+        case $1 in
+            run | replay | check) [ -f /dev/stdin ] || { echo 'run=none proved=no' >&2; exit 2; } ;;
+        esac
+        "$PROGRAM" "$@"
+        status=$?
+        echo "checked: ended status=$status" >&2
+        echo "run=ended status=$status runners=1 proved=no" >&2
+        exit "$status"
+        ;;
+esac
+"""
+USAGE = "usage: pct run [FILE]"
+SMALLEST = "fn main x\nreturn 0\nend\n"
+FAULTY = "fn main x\nemit\nend\n"
+# The report of the script SMALLEST: main returns, and the process ends.
+REPORT = """report 1
+1.1 exit 0
+1.1 process_end 0
+verdict complete
+schedule 1 10000 4 64
+1 1 1 go
+1 1 1 go
+end 2
+"""
+WORKER = "fn w x\nend\nfn main x\npthread_create - - w 1\nend\n"
+HEADER = "%%\nschedule 1 100 4 64\n"
+FROM_UNPROVED = ["the answer comes from an unproved build", "'./pct build' proves and builds it"]
+
+
+@dataclasses.dataclass
+class Case:
+    """A mistake. `says` is what standard error has, in this order, and no other line that begins with `pct: `."""
+
+    name: str
+    command: str
+    status: int
+    stdout: str
+    says: list = dataclasses.field(default_factory=list)
+    files: dict = dataclasses.field(default_factory=dict)
+
+
+def script(name, why, line, text, *says):
+    """A script that is refused. `says` is the line, and words of the cause and of the mend."""
+    answer = f"refused script {line} {why}\n"
+    return Case(name, "./pct check a.pct", 6, answer, [f"a.pct:{line}: {why}\n", *says], {"a.pct": text})
+
+
+def schedule(name, why, line, text, *says):
+    """A schedule after SMALLEST that is refused, at a line of the file: its line %% is line 4."""
+    answer = f"refused schedule {line - 4} {why}\n"
+    files = {"a.replay": SMALLEST + text}
+    return Case(name, "./pct replay a.replay", 7, answer, [f"a.replay:{line}: {why}\n", *says], files)
+
+
+SCRIPTS = [
+    script(
+        "a typographic dash", "not_ascii", 2, "fn main x\n    emit \u20131\nend\n", "    emit \\xE2\\x80\\x931\n",
+        "typographic dash", "Mend: type the character again",
+    ),
+    script(
+        "a byte order mark", "not_ascii", 1, "\ufefffn main x\nend\n", "\\xEF\\xBB\\xBFfn main x\n",
+        "At line 1, a byte order mark", "Save the file without",
+    ),
+    script(
+        "control characters", "not_ascii", 2, "fn main x\nemit \x00\x01\x7f\nend\n", "    emit \\x00\\x01\\x7F\n",
+        "Usual cause:", "Mend:",
+    ),
+    script(
+        "a word that is none", "unknown_word", 2, "fn main x\nprint x\nend\n", "    print x\n",
+        "Usual cause: C syntax", "Mend: compare the line",
+    ),
+    script(
+        "a call as in C", "unknown_word", 2, "fn main x\n\tpthread_exit(0)\nend\n", "     pthread_exit(0)\n",
+        "such as 'pthread_exit(0)'", "Mend:",
+    ),
+    script(
+        "a comment after a statement", "word_count", 2, "fn main x\nemit 1 # one\nend\n", "    emit 1 # one\n",
+        "a comment after a statement", "put the comment on its own line",
+    ),
+    script(
+        "a hexadecimal number", "bad_number", 2, "fn main x\nemit 0x10\nend\n", "    emit 0x10\n",
+        "a hexadecimal number", "in decimal digits only",
+    ),
+    script(
+        "a negative number", "bad_name", 2, "fn main x\nemit -1\nend\n", "    emit -1\n", "a negative number",
+        "add 2^32 - N",
+    ),
+    script(
+        "a missing end before a function", "misplaced", 4, "fn f x\nif x\nend\nfn main x\nend\n", "    fn main x\n",
+        "a missing 'end'", "count its 'if', 'while' and 'fn'",
+    ),
+    script(
+        "an end too many", "stray_end", 3, "fn main x\nend\nend\n", "    end\n", "one 'end' too many",
+        "has one 'end'",
+    ),
+    script(
+        "a pop in another block", "pop_unmatched", 4,
+        "fn main x\npthread_cleanup_push main 1\nif x\npthread_cleanup_pop 1\nend\npthread_cleanup_pop 0\nend\n",
+        "    pthread_cleanup_pop 1\n", "a pop inside an 'if'", "in the block of its push",
+    ),
+    script(
+        "a push without its pop", "unclosed", 3, "fn main x\npthread_cleanup_push main 1\nend\n", "    end\n",
+        "a push without its pop", "add the pop",
+    ),
+    script(
+        "a missing end in the last function", "unclosed", 1, "fn main x\nif x\nend\n", "    fn main x\n",
+        "a missing 'end' in the last function", "or the 'end' that is missing",
+    ),
+    script(
+        "nine locals", "too_many", 1, "fn main a b c d e f g h i\nend\n", "    fn main a b c d e f g h i\n",
+        "more locals than", "use globals",
+    ),
+    script(
+        "the parameter among the locals", "name_twice", 1, "fn main x x\nend\n", "    fn main x x\n",
+        "the parameter listed again", "rename one of them",
+    ),
+    script(
+        "a local that is not declared", "unknown_name", 2, "fn main x\nset v 1\nend\n", "    set v 1\n",
+        "'set v 1' does not declare 'v'", "add the local to the line 'fn'",
+    ),
+    script(
+        "a return between push and pop", "return_in_push", 3,
+        "fn main x\npthread_cleanup_push main 1\nreturn 0\npthread_cleanup_pop 0\nend\n", "    return 0\n",
+        "leaving a function early", "set a variable in place of the 'return'",
+    ),
+    script(
+        "a nop in an exit function", "not_plain", 5, "fn bye x\nnop\nend\nfn main x\natexit - bye\nend\n",
+        "    atexit - bye\n", "a 'nop'", "or register another one",
+    ),
+    script("an empty file", "no_main", 1, "", "    (the end of the text)\n", "an empty input", "add 'fn main x'"),
+    script("Main for main", "no_main", 1, "fn Main x\nend\n", "    fn Main x\n", "'Main' or another name", "Mend:"),
+    script(
+        "a fault in a file with CR LF", "unknown_word", 2, "fn main x\nprint x\r\nend\n", "    print x\n",
+        "Usual cause:", "Mend:",
+    ),
+    script(
+        "a long line", "unknown_word", 1, "a" * 300 + "\n", "    " + "a" * 200 + " ...\n", "Usual cause:", "Mend:",
+    ),
+]
+
+SCHEDULES = [
+    schedule(
+        "no schedule", "bad_header", 5, "%%\n", "    (the end of the text)\n",
+        "no line after '%%' begins with 'schedule '", "write 'schedule 1 BUDGET PASSES SLOTS'",
+    ),
+    schedule(
+        "three passes", "bad_header", 6, "%%\nreport 1\nschedule 1 100 3 64\nend 0\n", "    schedule 1 100 3 64\n",
+        "such as 3 for PASSES", "PASSES 4 to 16",
+    ),
+    schedule(
+        "a comment in a schedule", "bad_entry", 6, HEADER + "# the first\nend 0\n", "    # the first\n", "a comment",
+        "an entry is 'W P T CHOICE'",
+    ),
+    schedule(
+        "a blank at the end of an entry", "bad_entry", 6, HEADER + "1 1 1 go \nend 1\n", "    1 1 1 go\\x20\n",
+        "a space at the end of a line", "one space between words",
+    ),
+    schedule(
+        "an empty line in a schedule", "bad_entry", 7, HEADER + "1 1 1 go\n\nend 1\n", "    (an empty line)\n",
+        "an empty line", "Mend:",
+    ),
+    schedule(
+        "an entry without its worker", "bad_entry", 6, HEADER + "1 1 go\nend 1\n", "    1 1 go\n", "such as '1 1 go'",
+        "Mend:",
+    ),
+    schedule(
+        "more entries than the budget", "too_many", 7, "%%\nschedule 1 1 4 64\n1 1 1 go\n1 1 1 go\nend 2\n",
+        "    1 1 1 go\n", "a BUDGET below the number of entries", "make the BUDGET",
+    ),
+    schedule(
+        "the wrong number of entries", "bad_end", 7, HEADER + "1 1 1 go\nend 2\n", "    end 2\n",
+        "is still the old one", "let the last line be 'end N'",
+    ),
+    schedule(
+        "a schedule without its end", "bad_end", 7, HEADER + "1 1 1 go\n", "    (the end of the text)\n",
+        "the end of the schedule", "Mend:",
+    ),
+    schedule(
+        "an empty line after a schedule", "trailing", 7, HEADER + "end 0\n\n", "    (an empty line)\n",
+        "an empty line at the end", "remove all that comes after",
+    ),
+    Case(
+        "an entry of a thread that does not exist", "./pct replay a.replay", 7, "refused entry 2\n",
+        ["a.replay:7: entry 2 is not legal\n", "    1 1 2 go\n", "does not exist yet", "end the schedule before"],
+        {"a.replay": SMALLEST + HEADER + "1 1 1 go\n1 1 2 go\nend 2\n"},
+    ),
+    Case(
+        "go where a thread is created", "./pct replay a.replay", 7, "refused entry 1\n",
+        ["a.replay:8: entry 1 is not legal\n", "    1 1 1 go\n", "'new N' where it creates a thread", "MACHINE.md"],
+        {"a.replay": WORKER + HEADER + "1 1 1 go\nend 1\n"},
+    ),
+    # WORKER has five lines, and %% is line 6. REPORT has five lines before its first entry.
+    Case(
+        "a report of another script", "./pct replay a.replay", 7, "refused entry 1\n",
+        ["a.replay:12: entry 1 is not legal\n", "    1 1 1 go\n", "the script was changed and the schedule was not"],
+        {"a.replay": WORKER + "%%\r\n" + REPORT},
+    ),
+    Case(
+        "replay of a script", "./pct replay a.pct", 7, "refused schedule 1 bad_header\n",
+        ["pct: a.pct has no line %%, so all of it is the script", "'./pct run a.pct' runs a script\n"],
+        {"a.pct": SMALLEST},
+    ),
+    Case(
+        "a script without a last line end before %%", "./pct replay a.replay", 6, "refused script 3 unknown_word\n",
+        ["a.replay:3: unknown_word\n", "    end%%\n", "has no LF before '%%'", "pct: a.replay has no line %%"],
+        {"a.replay": SMALLEST[:-1] + HEADER + "end 0\n"},
+    ),
+    Case(
+        "an input of replay without a script", "./pct replay a.replay", 6, "refused script 1 no_main\n",
+        ["a.replay:1: no_main\n", "    %%\n", "an empty input"], {"a.replay": HEADER + "end 0\n"},
+    ),
+    Case(
+        "run of an input of replay", "./pct run a.replay", 6, "refused script 4 unknown_word\n",
+        ["pct: line 4 of a.replay is %%, so this is an input of replay: './pct replay a.replay'\n"],
+        {"a.replay": SMALLEST + HEADER + "end 0\n"},
+    ),
+    Case(
+        "check of an input of replay, with a fault before", "./pct check a.replay", 6,
+        "refused script 1 word_count\n",
+        ["a.replay:1: word_count\n", "    fn main\n", "'fn main' without a parameter", "pct: line 4 of a.replay is %%"],
+        {"a.replay": SMALLEST.replace(" x", "") + HEADER + "end 0\n"},
+    ),
+]
+
+CALLS = [
+    Case(
+        "a file that is not there", "./pct run nowhere.pct", 66, "",
+        ["pct: nowhere.pct is no file that can be read\n"],
+    ),
+    Case(
+        "a folder in place of a file", "./pct run examples", 66, "", ["pct: examples is no file that can be read\n"],
+    ),
+    Case("an empty word in place of a file", "./pct run ''", 66, "", ["is no file that can be read\n"]),
+    Case(
+        "a name with a space", "./pct check 'a b.pct'", 6, "refused script 2 word_count\n",
+        ["a b.pct:2: word_count\n", "    emit\n"], {"a b.pct": FAULTY},
+    ),
+    Case("a name with a dash, as an option", "./pct run -a.pct", 5, "refused words\n", [USAGE], {"-a.pct": SMALLEST}),
+    Case("a name with a dash, as a file", "./pct run ./-a.pct", 0, REPORT, [], {"-a.pct": SMALLEST}),
+    Case("a file with CR LF", "./pct run a.pct", 0, REPORT, [], {"a.pct": SMALLEST.replace("\n", "\r\n")}),
+    Case(
+        "a pipe as a file", "cat a.pct | ./pct check /dev/stdin", 6, "refused script 2 word_count\n",
+        ["/dev/stdin:2: word_count\n", "    emit\n", "Usual cause:"], {"a.pct": FAULTY},
+    ),
+    Case(
+        "no file, a script with a fault", "./pct check < a.pct", 6, "refused script 2 word_count\n", [],
+        {"a.pct": FAULTY},
+    ),
+    Case(
+        "no file, a schedule with a fault", "./pct replay < a.replay", 7, "refused schedule 1 bad_header\n", [],
+        {"a.replay": SMALLEST},
+    ),
+    Case(
+        "an input that is too long", "./pct run a.pct", 8, "refused input too_long\n",
+        ["pct: the input has more than 16,777,216 bytes"], {"a.pct": "\n" * 16_777_217},
+    ),
+    Case("a folder as standard input", "./pct run < .", 9, "", ["pct: the input could not be read"]),
+    Case(
+        "a full disk", "./pct run a.pct > /dev/full", 10, "", ["pct: the answer could not be written"],
+        {"a.pct": SMALLEST},
+    ),
+    Case("a closed standard input", "./pct run <&-", 9, "", ["pct: the input could not be read"]),
+    Case(
+        "a closed standard output", "./pct run a.pct >&-", 10, "", ["pct: the answer could not be written"],
+        {"a.pct": SMALLEST},
+    ),
+    Case(
+        "a full disk, at a refusal", "./pct run a.pct > /dev/full", 10, "", ["pct: the answer could not be written"],
+        {"a.pct": ""},
+    ),
+    Case("an unknown command", "./pct walk < a.pct", 5, "refused words\n", [USAGE, "pct build"], {"a.pct": SMALLEST}),
+    Case("an unknown command with a file", "./pct walk a.pct", 5, "refused words\n", [USAGE], {"a.pct": SMALLEST}),
+    Case("no words", "./pct", 5, "refused words\n", [USAGE]),
+    Case("a call for help", "./pct --help", 5, "refused words\n", [USAGE]),
+    Case("two files", "./pct run a.pct b.pct", 5, "refused words\n", [USAGE], {"a.pct": SMALLEST, "b.pct": SMALLEST}),
+    Case("points with a file", "./pct points a.pct", 5, "refused words\n", [USAGE], {"a.pct": SMALLEST}),
+    Case("a command in upper case", "./pct RUN a.pct", 5, "refused words\n", [USAGE], {"a.pct": SMALLEST}),
+    Case("build with a word more", "./pct build now", 5, "refused words\n", [USAGE]),
+    Case(
+        "build of a program that is up to date", "./pct build", 0, "",
+        ["pct: the program is up to date:", "crates/pct_run/out/pct_run\n"],
+    ),
+]
+
+# A program that answers wrongly, and two of the files that it is made from, which are older.
+OLD = """
+mkdir -p crates/a crates/pct_run/out
+printf '#!/bin/sh\\necho old\\n' > crates/pct_run/out/pct_run
+chmod +x crates/pct_run/out/pct_run
+touch -t 200001010000 crates/a/lib.rt crates.txt
+touch -t 200001020000 crates/pct_run/out/pct_run
+"""
+OUTDATED = OLD + "touch crates/a/lib.rt; "
+
+UNPROVED = [
+    Case(
+        "no program", "./pct run < a.pct && cat rt.words", 0, REPORT + "try --seconds 600 -- run\n",
+        ["pct: the program is not built, so", *FROM_UNPROVED], {"a.pct": SMALLEST},
+    ),
+    Case(
+        "no program, and a file", "./pct run a.pct && cat rt.words", 0, REPORT + "try --seconds 600 -- run\n",
+        FROM_UNPROVED, {"a.pct": SMALLEST},
+    ),
+    Case(
+        "no program, and a refusal", "./pct check a.pct", 6, "refused script 2 word_count\n",
+        [*FROM_UNPROVED, "a.pct:2: word_count\n", "    emit\n", "Mend:"], {"a.pct": FAULTY},
+    ),
+    Case(
+        "no program, and an input that pauses", "{ head -n 1 a.pct; sleep 0.1; sed 1d a.pct; } | ./pct run", 0,
+        REPORT, FROM_UNPROVED, {"a.pct": SMALLEST},
+    ),
+    Case(
+        "no program, and an unknown command", "./pct walk; echo $?; cat rt.words", 0,
+        "refused words\n5\ntry --seconds 600 -- walk\n", [*FROM_UNPROVED, USAGE],
+    ),
+    Case(
+        "no program, points reads nothing", "{ ./pct points | head -n 1; cat; } < a.pct", 0,
+        "accept required outside\n" + SMALLEST, FROM_UNPROVED, {"a.pct": SMALLEST},
+    ),
+    Case(
+        "no program, and a full disk", "./pct run a.pct > /dev/full", 10, "",
+        [*FROM_UNPROVED, "pct: the answer could not be written"], {"a.pct": SMALLEST},
+    ),
+    Case(
+        "no program, and a folder as standard input", "./pct run < .", 9, "",
+        [*FROM_UNPROVED, "pct: the input could not be read"],
+    ),
+    Case(
+        "no program, and a closed standard input", "./pct run <&-", 9, "",
+        [*FROM_UNPROVED, "pct: the input could not be read"],
+    ),
+    Case(
+        "no program, and a closed standard output", "./pct run a.pct >&-", 10, "",
+        [*FROM_UNPROVED, "pct: the answer could not be written"], {"a.pct": SMALLEST},
+    ),
+    Case(
+        "no program, and an input that is too long", "./pct run a.pct", 8, "refused input too_long\n",
+        [*FROM_UNPROVED, "pct: the input has more than"], {"a.pct": "\n" * 16_777_217},
+    ),
+    Case(
+        "no program, and a pipe that is too long", "cat a.pct | ./pct run", 8, "refused input too_long\n",
+        [*FROM_UNPROVED, "pct: the input has more than"], {"a.pct": "\n" * 16_777_217},
+    ),
+    Case(
+        "no program, and a file that is not there", "./pct run nowhere.pct", 66, "",
+        ["pct: nowhere.pct is no file that can be read\n"],
+    ),
+    Case(
+        "no program, and rt fails", "touch rt.fails; ./pct run a.pct", 126, "",
+        [*FROM_UNPROVED, "pct: the unproved build gave no answer; /", "/log says why\n"], {"a.pct": SMALLEST},
+    ),
+    Case(
+        "no program and no rt", "rm rt/rt; ./pct run a.pct", 126, "",
+        ["pct: the program is not built, and there is no rt in the PATH"], {"a.pct": SMALLEST},
+    ),
+    Case(
+        "no program and no rt, build", "rm rt/rt; ./pct build", 126, "",
+        ["pct: the program is not built, and there is no rt in the PATH"],
+    ),
+    Case(
+        "an outdated program", OUTDATED + "./pct run a.pct", 0, REPORT,
+        ["pct: the built program is older than its sources, so", *FROM_UNPROVED], {"a.pct": SMALLEST},
+    ),
+    Case(
+        "a program that is older than crates.txt", OLD + "touch crates.txt; ./pct run a.pct", 0, REPORT,
+        ["pct: the built program is older than its sources, so", *FROM_UNPROVED], {"a.pct": SMALLEST},
+    ),
+    Case("a program that is not outdated", OLD + "./pct run a.pct", 0, "old\n", [], {"a.pct": SMALLEST}),
+    Case(
+        "an outdated program and no rt", OUTDATED + "rm rt/rt; ./pct run a.pct", 126, "",
+        ["pct: the built program is older than its sources, and there is no rt in the PATH"], {"a.pct": SMALLEST},
+    ),
+    Case(
+        "build, and then a run", "./pct build && ./pct run a.pct && cat rt.words", 0, REPORT + "run\n",
+        ["pct: proving and building", "pct: proved and built in", "crates/pct_run/out/pct_run\n"],
+        {"a.pct": SMALLEST},
+    ),
+    Case(
+        "build of an outdated program", OUTDATED + "./pct build && ./pct run a.pct", 0, REPORT,
+        ["pct: proving and building", "pct: proved and built in"], {"a.pct": SMALLEST},
+    ),
+    Case(
+        "build, and rt fails", "touch rt.fails; ./pct build", 126, "",
+        ["pct: proving and building", "pct: the program was not built; crates/pct_run/out/pct_run.log says why"],
+    ),
+]
+
+# Main joins the worker, and the worker joins main.
+WITH_RT = Case(
+    "the real rt try", "./pct run examples/deadlock.pct > report; echo $?; grep verdict report", 0,
+    "1\nverdict deadlock\n", FROM_UNPROVED,
+)
+
+
+def tools(folder):
+    """A folder of links to the commands in TOOLS, so that the PATH has no rt."""
+    folder.mkdir()
+    for name in TOOLS:
+        (folder / name).symlink_to(shutil.which(name))
+    return str(folder)
+
+
+def wrongs(case, folder, path, program):
+    """What is wrong at a case, which is run in a folder."""
+    for name, text in case.files.items():
+        (folder / name).write_bytes(text.encode())
+    (folder / "tmp").mkdir()
+    ran = subprocess.run(
+        ["sh", "-c", case.command],
+        cwd=folder,
+        env={"PATH": path, "TMPDIR": str(folder / "tmp"), "PROGRAM": str(program), "TOP": str(folder)},
+        stdin=subprocess.DEVNULL,
+        capture_output=True,
+        timeout=SECONDS,
+    )
+    stdout, stderr = ran.stdout.decode(errors="replace"), ran.stderr.decode(errors="replace")
+    wrong = []
+    if ran.returncode != case.status:
+        wrong.append(f"the status is {ran.returncode} and not {case.status}")
+    if stdout != case.stdout:
+        wrong.append(f"standard output is {stdout[:500]!r} and not {case.stdout!r}")
+    at = 0
+    for words in case.says:
+        found = stderr.find(words, at)
+        if found < 0:
+            wrong.append(f"standard error does not say {words!r}")
+        at = max(at, found)
+    for line in stderr.splitlines():
+        if line.startswith("pct: ") and not any(words.strip() in line for words in case.says):
+            wrong.append(f"standard error says {line!r}")
+    if stderr and not case.says:
+        wrong.append("standard error is not empty")
+    if case.status != 126 and os.listdir(folder / "tmp"):
+        wrong.append("a temporary folder is left")
+    return [*wrong, f"standard error is {stderr!r}"] if wrong else []
+
+
+def cases(program):
+    """Each case, with a folder for it, ready, and its PATH."""
+    with tempfile.TemporaryDirectory() as name:
+        top = pathlib.Path(name)
+        path = tools(top / "tools")
+        for number, case in enumerate([*SCRIPTS, *SCHEDULES, *CALLS, *UNPROVED]):
+            folder = top / str(number)
+            folder.mkdir()
+            checkout.make(folder, program)
+            if case in UNPROVED:
+                (folder / BUILT).unlink()
+                (folder / "rt").mkdir()
+                (folder / "rt/rt").write_text(RT)
+                (folder / "rt/rt").chmod(0o755)
+                yield case, folder, f"{folder}/rt:{path}"
+            else:
+                yield case, folder, path
+            shutil.rmtree(folder)
+        if "--with-rt" in sys.argv:
+            folder = top / "with-rt"
+            folder.mkdir()
+            checkout.make(folder, program)
+            shutil.rmtree(folder / "crates")
+            shutil.copytree(ROOT / "crates", folder / "crates", ignore=shutil.ignore_patterns("out"))
+            yield WITH_RT, folder, os.environ["PATH"]
+
+
+def main():
+    words = [word for word in sys.argv[1:] if word != "--with-rt"]
+    program = pathlib.Path(words[0] if words else ROOT / BUILT).resolve()
+    if not program.is_file():
+        sys.exit(f"there is no program {program}; ./pct build builds it")
+    passed = failed = 0
+    for case, folder, path in cases(program):
+        wrong = wrongs(case, folder, path, program)
+        if wrong:
+            failed += 1
+            print(f"{case.name}: {case.command}", *wrong, sep="\n    ")
+        else:
+            passed += 1
+    print(f"{passed} passed, {failed} failed")
+    sys.exit(1 if failed or not passed else 0)
+
+
+main()

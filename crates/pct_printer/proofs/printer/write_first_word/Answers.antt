@@ -1,0 +1,9 @@
+use Rattle.std.proofs.Common.{ap, sym}
+use Rattle.pct_model.specs.declared.line_kind.LineKind.{LineKind}
+use Rattle.pct_model.specs.LineKinds.{syntax_of}
+use Rattle.pct_printer.proofs.Writings.{Writes-as}
+use Rattle.pct_printer.proofs.printer.write_first_word.Goals as goal
+
+pub returns-in-Point : goal.returns-in-Point
+unfolding syntax_of
+returns-in-Point g c = Writes-as (sym (ap (λ (f : LineKind). (syntax_of f).keyword) c.in-Point.is)) c.write_name_of_point.ensures

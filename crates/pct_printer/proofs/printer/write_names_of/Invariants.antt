@@ -1,0 +1,11 @@
+use Rattle.std.proofs.Common.{Result, drop}
+use Rattle.pct_io.specs.declared.failed.Failed.{Failed}
+use Rattle.pct_io.specs.Writes.{Writes}
+use Rattle.pct_printer.specs.Printing.{names_text}
+use Rattle.pct_printer.proofs.printer.write_names_of.Given as goal
+
+-- a write of the rest completes the whole write
+abbrev pub invariant-loop-name : goal.invariant-loop-name
+invariant-loop-name g l = (new : g.row.K.Denot) (r : Result (Unit {0}) Failed)
+    → Writes g.K.Sink.written g.K.Sink.errors g.K.Sink.inners l.sink new (names_text l.kind (drop l.name-index l.names)) r
+    → Writes g.K.Sink.written g.K.Sink.errors g.K.Sink.inners l.initial.sink new (names_text l.kind l.names) r

@@ -1,5 +1,0 @@
-use Rattle.pct_io.proofs.WritesInTurn.{Writes-then}
-use Rattle.pct_script.proofs.printer.write_declarations.Goals as goal
-
-pub returns : goal.returns
-returns g c = rw (← c.as_slice.ensures) (Writes-then _ c.in_ok-write_names.ensures c.write_sems.ensures)
