@@ -9,8 +9,8 @@ use Rattle.pct_model.specs.declared.transition.NewThread.{NewThread}
 use Rattle.pct_model.specs.declared.transition.Transition.{Transition}
 use Rattle.pct_model.specs.ThreadSlots.{slot_of}
 use Rattle.pct_model.specs.Actions.{for_each}
-use Rattle.pct_threads.specs.Slots.{Held, Slot, with_joiner, after_detach, after_change, with_change, freed}
-use Rattle.pct_threads.specs.Tables.{slot_at, held_at, is_free_at, id_at, next_id_at, on_slot, on_held}
+use Rattle.pct_threads.specs.Slots.{Held, Slot, after_detach, after_change, with_change, freed}
+use Rattle.pct_threads.specs.Tables.{slot_at, held_at, is_free_at, next_id_at, on_slot, on_held}
 use Rattle.pct_threads.proofs.TableLemmas.{within-free, is_free_at-within, length-on_slot, slot_at-on_slot, slot_at-on_slot_other}
 use Rattle.pct_actions.specs.TableFits.{IsNext, NewFits}
 use Rattle.pct_actions.specs.MachineChanges.{held_moved, held_requested, slot_named, on_named, named_on, unless_reclaimed, settled}
@@ -76,19 +76,17 @@ module _ (id : ℕ) (change : Slot → Slot) (threads : List Slot) where
   named_follows : CreatesNone change → Follows threads (on_named id change threads)
   named_follows none = named_follows_by (slot_named id threads) refl none
 
-pub follows_named : (slot : ℕ) (a : Action) (threads : List Slot) → Follows threads (named_on slot a threads)
+pub follows_named : (a : Action) (threads : List Slot) → Follows threads (named_on a threads)
 unfolding named_on
-follows_named slot (action.BeginJoin id) threads = named_follows id (with_change (with_joiner (id_at threads slot))) threads (with_change_none (with_joiner (id_at threads slot)))
-follows_named slot (action.EndJoin id) threads = named_follows id freed threads freed_none
-follows_named slot (action.CancelJoin id) threads = named_follows id (with_change (with_joiner 0)) threads (with_change_none (with_joiner 0))
-follows_named slot (action.Request id) threads = named_follows id (with_change held_requested) threads (with_change_none held_requested)
-follows_named slot (action.Detach id) threads = named_follows id (after_change after_detach) threads (after_change_none after_detach)
-follows_named slot _ threads = follows_same threads
+follows_named (action.EndJoin id) threads = named_follows id freed threads freed_none
+follows_named (action.Request id) threads = named_follows id (with_change held_requested) threads (with_change_none held_requested)
+follows_named (action.Detach id) threads = named_follows id (after_change after_detach) threads (after_change_none after_detach)
+follows_named _ threads = follows_same threads
 
 -- all actions
-pub follows_all : (slot : ℕ) (actions : List Action) (threads : List Slot) → Follows threads (for_each (named_on slot) actions threads)
-follows_all slot [] threads = follows_same threads
-follows_all slot (a ∷ actions) threads = follows_then threads (named_on slot a threads) (for_each (named_on slot) actions (named_on slot a threads)) (follows_named slot a threads) (follows_all slot actions (named_on slot a threads))
+pub follows_all : (actions : List Action) (threads : List Slot) → Follows threads (for_each named_on actions threads)
+follows_all [] threads = follows_same threads
+follows_all (a ∷ actions) threads = follows_then threads (named_on a threads) (for_each named_on actions (named_on a threads)) (follows_named a threads) (follows_all actions (named_on a threads))
 
 -- the thread on a slot gives it back
 pub follows_settled : (slot : ℕ) (threads : List Slot) → slot < length threads → Follows threads (settled slot threads)
@@ -100,12 +98,12 @@ follows_held slot f threads inside = follows_change slot (with_change f) threads
 
 -- the table after the transition of the thread on a slot and its changes in named threads
 abbrev pub after_names : ℕ → Transition → List Slot → List Slot
-after_names slot o threads = for_each (named_on slot) o.actions (on_held slot (held_moved o) threads)
+after_names slot o threads = for_each named_on o.actions (on_held slot (held_moved o) threads)
 
 pub follows_names : (slot : ℕ) (o : Transition) (threads : List Slot) → slot < length threads → Follows threads (after_names slot o threads)
 follows_names slot o threads inside =
     let moved : List Slot = on_held slot (held_moved o) threads in
-    follows_then threads moved (after_names slot o threads) (follows_held slot (held_moved o) threads inside) (follows_all slot o.actions moved)
+    follows_then threads moved (after_names slot o threads) (follows_held slot (held_moved o) threads inside) (follows_all o.actions moved)
 
 -- the slot of the thread is still one of the table's
 pub inside_names : (slot : ℕ) (o : Transition) (threads : List Slot) → slot < length threads → slot < length (after_names slot o threads)

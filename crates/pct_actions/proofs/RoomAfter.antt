@@ -3,9 +3,11 @@ use Rattle.std.proofs.Common.{◌≡◌, ℕ, suc, ◌-◌, List, [], ◌∷◌,
 use Rattle.std.specs.Prelude.{option_map}
 use Rattle.std.proofs.lemmas.Option.{none-some, same_Some}
 use Rattle.pct_model.specs.declared.frame.Frame.{Frame}
+use Rattle.pct_model.specs.declared.statement.Dest.{Dest}
+use Rattle.pct_model.specs.declared.statement.Dest.TheVariants as destination
 use Rattle.pct_model.specs.declared.transition.Action.{Action}
 use Rattle.pct_model.specs.declared.transition.Action.TheVariants as action
-use Rattle.pct_model.specs.Actions.{at_pc, set_local, without_first}
+use Rattle.pct_model.specs.Actions.{at_pc, set_local, frames_written, without_first}
 use Rattle.pct_threads.specs.Slots.{Held, Slot, without_frames}
 use Rattle.pct_threads.specs.Tables.{held_at, on_held}
 use Rattle.pct_engine_laws.specs.Fitting.{AllFit, depth_after, handlers_after, pass_after}
@@ -20,71 +22,27 @@ length-set_local : (i v : ℕ) (frames : List Frame) → length (set_local i v f
 length-set_local i v [] = refl
 length-set_local i v (frame ∷ below) = refl
 
+length-frames_written : (d : Dest) (v : ℕ) (frames : List Frame) → length (frames_written d v frames) ≡ length frames
+length-frames_written (destination.Local i) v frames = length-set_local i v frames
+length-frames_written _ v frames = refl
+
 length-without_first : {T : Type 0} (xs : List T) → length (without_first xs) ≡ length xs - 1
 length-without_first [] = refl
 length-without_first (x ∷ xs) = sym (sub-one (suc (length xs)))
 
 depth-after : (a : Action) (h : Held) → length (held_after a h).frames ≡ depth_after a (length h.frames)
 unfolding held_after
-depth-after (action.SetLocal i v) h = length-set_local i v h.frames
-depth-after (action.SetGlobal i v) h = refl
-depth-after (action.Call f a k) h = refl
-depth-after (action.CallAlone f a k) h = refl
+depth-after (action.Write d v) h = length-frames_written d v h.frames
 depth-after (action.Leave s) h = length-without_first h.frames
-depth-after (action.PushHandler f a) h = refl
-depth-after action.PopHandler h = refl
-depth-after (action.SetState state) h = refl
-depth-after (action.SetMode mode) h = refl
-depth-after (action.BeginPoint index) h = refl
-depth-after (action.BeginJoin id) h = refl
-depth-after (action.EndJoin id) h = refl
-depth-after (action.CancelJoin id) h = refl
-depth-after (action.Request id) h = refl
-depth-after (action.Detach id) h = refl
-depth-after (action.MakeKey k destructor) h = refl
-depth-after (action.DeleteKey k) h = refl
-depth-after (action.SetSpecific k v) h = refl
-depth-after action.BeginPass h = refl
-depth-after (action.TakeKey k) h = refl
-depth-after (action.BeginEnd why) h = refl
-depth-after (action.EndThread v) h = refl
-depth-after action.MarkEnded h = refl
-depth-after (action.BeginExit v) h = refl
-depth-after (action.EndProcess n) h = refl
-depth-after (action.Stop why) h = refl
+depth-after _ h = refl
 
 handlers-after : (a : Action) (h : Held) → length (held_after a h).thread.handlers ≡ handlers_after a (length h.thread.handlers)
 unfolding held_after
-handlers-after (action.SetLocal i v) h = refl
-handlers-after (action.SetGlobal i v) h = refl
-handlers-after (action.Call f a k) h = refl
-handlers-after (action.CallAlone f a k) h = refl
-handlers-after (action.Leave s) h = refl
-handlers-after (action.PushHandler f a) h = refl
 handlers-after action.PopHandler h = length-without_first h.thread.handlers
-handlers-after (action.SetState state) h = refl
-handlers-after (action.SetMode mode) h = refl
-handlers-after (action.BeginPoint index) h = refl
-handlers-after (action.BeginJoin id) h = refl
-handlers-after (action.EndJoin id) h = refl
-handlers-after (action.CancelJoin id) h = refl
-handlers-after (action.Request id) h = refl
-handlers-after (action.Detach id) h = refl
-handlers-after (action.MakeKey k destructor) h = refl
-handlers-after (action.DeleteKey k) h = refl
-handlers-after (action.SetSpecific k v) h = refl
-handlers-after action.BeginPass h = refl
-handlers-after (action.TakeKey k) h = refl
-handlers-after (action.BeginEnd why) h = refl
-handlers-after (action.EndThread v) h = refl
-handlers-after action.MarkEnded h = refl
-handlers-after (action.BeginExit v) h = refl
-handlers-after (action.EndProcess n) h = refl
-handlers-after (action.Stop why) h = refl
+handlers-after _ h = refl
 
 pass-after : (a : Action) (h : Held) → (held_after a h).thread.pass ≡ pass_after a h.thread.pass
 unfolding held_after
-pass-after (action.SetLocal i v) h = refl
 pass-after action.BeginPass h = refl
 pass-after _ h = refl
 

@@ -1,6 +1,6 @@
 -- What a transition changes in a machine: in the thread that makes it, in what its threads share, in their thread-specific data, in a
 -- thread that it names, and by the thread that it creates.
-use Rattle.std.specs.Prelude.{ℕ, suc, Bool, true, ◌&&◌, if◌then◌else◌, List, [], ◌∷◌, length, map, Option, Some, None, slice_set}
+use Rattle.std.specs.Prelude.{ℕ, suc, Bool, true, ◌&&◌, if◌then◌else◌, List, [], ◌∷◌, length, map, Option, Some, None}
 use Rattle.std.specs.Option.{option_map_or}
 use Rattle.pct_model.specs.declared.state.Reason.{Reason}
 use Rattle.pct_model.specs.declared.state.Status.{Status}
@@ -12,11 +12,11 @@ use Rattle.pct_model.specs.declared.transition.Transition.{Transition}
 use Rattle.pct_model.specs.Cancelability.{ending_state, ending_mode}
 use Rattle.pct_model.specs.Keys.{no_values, key_place, with_key, without_key, with_value, without_value, with_pass}
 use Rattle.pct_model.specs.World.{new_frame}
-use Rattle.pct_model.specs.Actions.{at_pc, set_local, without_first, stop_after, for_each}
+use Rattle.pct_model.specs.Actions.{at_pc, frames_written, globals_written, without_first, stop_after, for_each}
 use Rattle.pct_model.specs.ThreadSlots.{is_ended_status, slot_of}
 use Rattle.pct_threads.specs.Records.{ended_record}
-use Rattle.pct_threads.specs.Slots.{Held, Slot, has_id, with_joiner, after_detach, after_change, with_change, freed}
-use Rattle.pct_threads.specs.Tables.{slot_at, id_at, on_slot, on_held, with_created}
+use Rattle.pct_threads.specs.Slots.{Held, Slot, has_id, after_detach, after_change, with_change, freed}
+use Rattle.pct_threads.specs.Tables.{slot_at, on_slot, on_held, with_created}
 use Rattle.pct_keys.specs.Tables.{Table, on_row}
 use Rattle.pct_actions.specs.declared.machine.Machine.{Machine}
 
@@ -41,7 +41,7 @@ held_at_pc (Some pc) h = held_with_status Running (record h { frames = at_pc pc 
 
 -- after an action
 unfoldable pub held_after : Action → Held → Held
-held_after (action.SetLocal i v) h = record h { frames = set_local i v h.frames }
+held_after (action.Write d v) h = record h { frames = frames_written d v h.frames }
 held_after (action.Call f a kind) h = held_with_status Running (record h { frames = new_frame f a kind ∷ h.frames })
 held_after (action.CallAlone f a kind) h = held_with_status Running (record h { frames = new_frame f a kind ∷ [] })
 held_after (action.Leave s) h = held_with_status s (record h { frames = without_first h.frames })
@@ -77,14 +77,12 @@ on_named id change threads = option_map_or (λ target. on_slot target change thr
 abbrev pub held_requested : Held → Held
 held_requested h = if h.thread.ended then h else record h { thread = record h.thread { cancel = record h.thread.cancel { pending = true } } }
 
--- the table after an action of the thread on a slot, which may name a thread
-unfoldable pub named_on : ℕ → Action → List Slot → List Slot
-named_on slot (action.BeginJoin id) threads = on_named id (with_change (with_joiner (id_at threads slot))) threads
-named_on slot (action.EndJoin id) threads = on_named id freed threads
-named_on slot (action.CancelJoin id) threads = on_named id (with_change (with_joiner 0)) threads
-named_on slot (action.Request id) threads = on_named id (with_change held_requested) threads
-named_on slot (action.Detach id) threads = on_named id (after_change after_detach) threads
-named_on slot _ threads = threads
+-- the table after an action, which may name a thread
+unfoldable pub named_on : Action → List Slot → List Slot
+named_on (action.EndJoin id) threads = on_named id freed threads
+named_on (action.Request id) threads = on_named id (with_change held_requested) threads
+named_on (action.Detach id) threads = on_named id (after_change after_detach) threads
+named_on _ threads = threads
 
 -- ---- the end, and a new thread
 
@@ -105,7 +103,7 @@ with_new (Some new) threads = with_created (slot_of (length threads) new.id) new
 
 -- the globals after an action
 unfoldable pub globals_after : Action → List ℕ → List ℕ
-globals_after (action.SetGlobal i v) globals = slice_set globals i v
+globals_after (action.Write d v) globals = globals_written d v globals
 globals_after _ globals = globals
 
 -- the value with which exit began, after an action
@@ -156,4 +154,4 @@ machine_with_new created m = record m { threads = with_new created m.threads; ke
 
 -- a machine after a transition of the thread on a slot
 abbrev pub machine_moved : ℕ → Transition → Machine → Machine
-machine_moved slot o m = machine_with_new o.created (on_threads (λ threads. settled slot (for_each (named_on slot) o.actions threads)) (machine_acted slot o m))
+machine_moved slot o m = machine_with_new o.created (on_threads (λ threads. settled slot (for_each named_on o.actions threads)) (machine_acted slot o m))

@@ -7,7 +7,7 @@ use Rattle.pct_model.specs.declared.transition.NewThread.{NewThread}
 use Rattle.pct_model.specs.Keys.{key_place, key_at, key_with, next_key, is_left}
 use Rattle.pct_model.specs.ThreadSlots.{slot_of}
 use Rattle.pct_threads.specs.Slots.{Slot}
-use Rattle.pct_threads.specs.Tables.{is_occupied_at, is_free_at, is_reclaimable_at, next_id_at}
+use Rattle.pct_threads.specs.Tables.{is_free_at, is_reclaimable_at, next_id_at}
 use Rattle.pct_keys.specs.Tables.{Table, row_at}
 use Rattle.pct_actions.specs.declared.machine.Machine.{Machine}
 use Rattle.pct_actions.specs.MachineChanges.{slot_named, named_on}
@@ -48,17 +48,15 @@ KeysFit slot (a ∷ actions) keys = KeyFits slot a keys × AllKeepKeys actions
 abbrev pub IfNamed : ℕ → List Slot → (ℕ → Type 0) → Type 0
 IfNamed id threads test = IfSome (slot_named id threads) test
 
--- an action of the thread on a slot fits the table: a thread that joins another holds its slot, and one that was joined has ended
--- and is not detached
-abbrev pub NameFits : ℕ → Action → List Slot → Type 0
-NameFits slot (action.BeginJoin id) threads = is_occupied_at threads slot ≡ true
-NameFits slot (action.EndJoin id) threads = IfNamed id threads (λ target. is_reclaimable_at threads target ≡ true)
-NameFits slot _ threads = Unit {0}
+-- an action fits the table: a thread that was joined has ended and is not detached
+abbrev pub NameFits : Action → List Slot → Type 0
+NameFits (action.EndJoin id) threads = IfNamed id threads (λ target. is_reclaimable_at threads target ≡ true)
+NameFits _ threads = Unit {0}
 
 -- each of the actions does, after those before it
-abbrev pub NamesFit : ℕ → List Action → List Slot → Type 0
-NamesFit slot [] threads = Unit {0}
-NamesFit slot (a ∷ actions) threads = NameFits slot a threads × NamesFit slot actions (named_on slot a threads)
+abbrev pub NamesFit : List Action → List Slot → Type 0
+NamesFit [] threads = Unit {0}
+NamesFit (a ∷ actions) threads = NameFits a threads × NamesFit actions (named_on a threads)
 
 -- a new thread fits the table: it gets the next id on its slot, which is free
 pub record IsNext (new : NewThread) (threads : List Slot) : Type 0 where

@@ -9,6 +9,7 @@ ghost use Rattle.pct_engine_laws.specs.Fitting.{Fits, AllFit};
 ghost use Rattle.pct_actions.specs.TableFits.{NamesFit, NewFits, KeyFits, KeysFit, HasRows};
 ghost use Rattle.pct_actions.specs.MachineChanges.{held_after, held_moved, machine_after, machine_acted, machine_moved};
 
+use crate::globals::write_global;
 use crate::key_actions::act_on_keys;
 use crate::machine::Machine;
 use crate::named_threads::{create, name_all, settle};
@@ -22,12 +23,12 @@ pub fn change(machine: &mut Machine, slot: u32, transition: &Transition)
     requires rows { HasRows machine.old }
     requires fits { (held : Held) → held_at machine.old.threads slot ≡ Some held → AllFit (length held.frames) (length held.thread.handlers) held.thread.pass transition.now.actions }
     requires keys { KeysFit slot transition.now.actions machine.old.keys }
-    requires names { NamesFit slot transition.now.actions (on_held slot (held_moved transition.now) machine.old.threads) }
+    requires names { NamesFit transition.now.actions (on_held slot (held_moved transition.now) machine.old.threads) }
     requires created { NewFits transition.now.created machine.old.threads }
     ensures { machine.new ≡ machine_moved slot transition.now machine.old }
 {
     act_own(machine, slot, transition);
-    name_all(&mut machine.threads, slot, &transition.actions, 0);
+    name_all(&mut machine.threads, &transition.actions, 0);
     settle(&mut machine.threads, slot);
     create(machine, transition.created);
 }
@@ -77,31 +78,10 @@ fn act_shared(machine: &mut Machine, action: Action)
     ensures { machine.new ≡ record (machine_after 0 action machine.old) { threads = machine.old.threads; keys = machine.old.keys } }
 {
     match action {
-        Action::SetGlobal(i, value) => machine.globals.set(i, value),
+        Action::Write(dest, value) => write_global(&mut machine.globals, dest, value),
         Action::BeginExit(value) => machine.exit_value = Some(value),
         Action::EndProcess(_) => machine.has_ended = true,
         Action::Stop(why) => machine.stop = Some(why),
-        Action::SetLocal(_, _)
-        | Action::Call { .. }
-        | Action::CallAlone { .. }
-        | Action::Leave(_)
-        | Action::PushHandler(_, _)
-        | Action::PopHandler
-        | Action::SetState(_)
-        | Action::SetMode(_)
-        | Action::BeginPoint(_)
-        | Action::BeginJoin(_)
-        | Action::EndJoin(_)
-        | Action::CancelJoin(_)
-        | Action::Request(_)
-        | Action::Detach(_)
-        | Action::MakeKey(_, _)
-        | Action::DeleteKey(_)
-        | Action::SetSpecific(_, _)
-        | Action::BeginPass
-        | Action::TakeKey(_)
-        | Action::BeginEnd(_)
-        | Action::EndThread(_)
-        | Action::MarkEnded => {}
+        _ => {}
     }
 }

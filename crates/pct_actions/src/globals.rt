@@ -1,6 +1,10 @@
 //! The globals of a process.
 
+ghost use Rattle.std.specs.Prelude.{◌≡◌};
+ghost use Rattle.pct_model.specs.Actions.{globals_written};
+
 use pct_io::NoMemory;
+use pct_model::Dest;
 use std::alloc::Global;
 use std::marker::Model;
 
@@ -45,5 +49,15 @@ impl Globals {
         if i < self.values.len() {
             self.values[i] = value;
         }
+    }
+}
+
+/// Writes a value to a destination, if it is a global.
+pub(crate) fn write_global(globals: &mut Globals, dest: Dest, value: u32)
+    ensures { globals.new ≡ globals_written dest value globals.old }
+{
+    match dest {
+        Dest::Global(i) => globals.set(i, value),
+        Dest::Local(_) | Dest::Drop => {}
     }
 }

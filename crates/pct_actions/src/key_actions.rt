@@ -26,26 +26,6 @@ pub(crate) fn act_on_keys(keys: &mut Keys, slot: u32, action: Action)
         Action::TakeKey(key) => {
             let _taken = keys.pass_take(slot, key_place(key));
         }
-        Action::SetLocal(_, _)
-        | Action::SetGlobal(_, _)
-        | Action::Call { .. }
-        | Action::CallAlone { .. }
-        | Action::Leave(_)
-        | Action::PushHandler(_, _)
-        | Action::PopHandler
-        | Action::SetState(_)
-        | Action::SetMode(_)
-        | Action::BeginPoint(_)
-        | Action::BeginJoin(_)
-        | Action::EndJoin(_)
-        | Action::CancelJoin(_)
-        | Action::Request(_)
-        | Action::Detach(_)
-        | Action::BeginEnd(_)
-        | Action::EndThread(_)
-        | Action::MarkEnded
-        | Action::BeginExit(_)
-        | Action::EndProcess(_)
-        | Action::Stop(_) => {}
+        _ => {}
     }
 }

@@ -3,8 +3,8 @@
 
 ghost use Rattle.std.specs.Prelude.{◌≡◌, ◌<◌, drop, length, true};
 ghost use Rattle.pct_model.specs.Actions.{for_each};
-ghost use Rattle.pct_threads.specs.Slots.{with_joiner, after_detach, after_change, with_change, freed};
-ghost use Rattle.pct_threads.specs.Tables.{id_at, is_occupied_at, is_reclaimable_at, on_held};
+ghost use Rattle.pct_threads.specs.Slots.{after_detach, after_change, with_change, freed};
+ghost use Rattle.pct_threads.specs.Tables.{is_occupied_at, is_reclaimable_at, on_held};
 ghost use Rattle.pct_actions.specs.TableFits.{IfNamed, NameFits, NamesFit, NewFits, HasRows};
 ghost use Rattle.pct_actions.specs.MachineChanges.{held_requested, named_on, on_named, settled, machine_with_new};
 
@@ -13,14 +13,14 @@ use crate::named_slots::slot_named;
 use pct_model::{Action, NewThread, Status, UpToThree};
 use pct_threads::Threads;
 
-/// Makes the changes of the actions of the thread on a slot, from an index on, in the threads that they name, in order.
-pub(crate) fn name_all(threads: &mut Threads, slot: u32, actions: &UpToThree<Action>, from: usize)
-    requires { NamesFit slot (drop from actions.now) threads.old }
-    ensures { threads.new ≡ for_each (named_on slot) (drop from actions.now) threads.old }
+/// Makes the changes of actions, from an index on, in the threads that they name, in order.
+pub(crate) fn name_all(threads: &mut Threads, actions: &UpToThree<Action>, from: usize)
+    requires { NamesFit (drop from actions.now) threads.old }
+    ensures { threads.new ≡ for_each named_on (drop from actions.now) threads.old }
 {
     if let Some(action) = actions.get(from) {
-        name(threads, slot, action);
-        name_all(threads, slot, actions, from + 1);
+        name(threads, action);
+        name_all(threads, actions, from + 1);
     }
 }
 
@@ -51,49 +51,17 @@ pub(crate) fn create(machine: &mut Machine, created: Option<NewThread>)
 
 // ---- each action
 
-// Makes the change of an action of the thread on a slot in the thread that it names, if it names one.
+// Makes the change of an action in the thread that it names, if it names one. Whom a thread joins is known by its status.
 #[tactic(auto, unfolding(crate::specs::MachineChanges::named_on))]
-fn name(threads: &mut Threads, slot: u32, action: Action)
-    requires { NameFits slot action threads.old }
-    ensures { threads.new ≡ named_on slot action threads.old }
+fn name(threads: &mut Threads, action: Action)
+    requires { NameFits action threads.old }
+    ensures { threads.new ≡ named_on action threads.old }
 {
     match action {
-        Action::BeginJoin(id) => begin_join(threads, slot, id),
         Action::EndJoin(id) => end_join(threads, id),
-        Action::CancelJoin(id) => cancel_join(threads, id),
         Action::Request(id) => request(threads, id),
         Action::Detach(id) => detach(threads, id),
-        Action::SetLocal(_, _)
-        | Action::SetGlobal(_, _)
-        | Action::Call { .. }
-        | Action::CallAlone { .. }
-        | Action::Leave(_)
-        | Action::PushHandler(_, _)
-        | Action::PopHandler
-        | Action::SetState(_)
-        | Action::SetMode(_)
-        | Action::BeginPoint(_)
-        | Action::MakeKey(_, _)
-        | Action::DeleteKey(_)
-        | Action::SetSpecific(_, _)
-        | Action::BeginPass
-        | Action::TakeKey(_)
-        | Action::BeginEnd(_)
-        | Action::EndThread(_)
-        | Action::MarkEnded
-        | Action::BeginExit(_)
-        | Action::EndProcess(_)
-        | Action::Stop(_) => {}
-    }
-}
-
-// The thread on a slot joins the thread with an id.
-fn begin_join(threads: &mut Threads, slot: u32, id: u32)
-    requires { is_occupied_at threads.old slot ≡ true }
-    ensures { threads.new ≡ on_named id (with_change (with_joiner (id_at threads.old slot))) threads.old }
-{
-    if let Some(target) = slot_named(threads, id) {
-        threads.join_begin(slot, target);
+        _ => {}
     }
 }
 
@@ -104,15 +72,6 @@ fn end_join(threads: &mut Threads, id: u32)
 {
     if let Some(target) = slot_named(threads, id) {
         threads.reclaim(target);
-    }
-}
-
-// No thread joins the thread with an id from now on.
-fn cancel_join(threads: &mut Threads, id: u32)
-    ensures { threads.new ≡ on_named id (with_change (with_joiner 0)) threads.old }
-{
-    if let Some(target) = slot_named(threads, id) {
-        threads.join_cancel(target);
     }
 }
 

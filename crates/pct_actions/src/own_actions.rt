@@ -3,7 +3,7 @@
 ghost use Rattle.std.specs.Prelude.{◌≡◌, ◌<◌, ◌≤◌, ◌∷◌, [], ℕ, suc, List, length, Some, None, true};
 ghost use Rattle.pct_model.specs.declared.limits.TheConstants.{MAX_FRAMES, MAX_HANDLERS, MAX_PASSES};
 ghost use Rattle.pct_model.specs.declared.state.Status.TheVariants as status;
-ghost use Rattle.pct_model.specs.Actions.{set_local, at_pc, without_first};
+ghost use Rattle.pct_model.specs.Actions.{set_local, frames_written, at_pc, without_first};
 ghost use Rattle.pct_model.specs.World.{new_frame};
 ghost use Rattle.pct_threads.specs.FrameWords.{kind_number};
 ghost use Rattle.pct_threads.specs.Records.{ended_record};
@@ -13,7 +13,7 @@ ghost use Rattle.pct_engine_laws.specs.Fitting.{Fits};
 ghost use Rattle.pct_actions.specs.MachineChanges.{held_after, held_at_pc, held_ending, held_exiting, held_with_status};
 
 use pct_cleanup::Handlers;
-use pct_model::{Action, FrameKind, Mode, Reason, State, Status};
+use pct_model::{Action, Dest, FrameKind, Mode, Reason, State, Status};
 use pct_threads::Threads;
 
 /// The thread on a slot goes on at a program counter, if there is one.
@@ -36,7 +36,7 @@ pub(crate) fn act_alone(threads: &mut Threads, slot: u32, action: Action)
     ensures { threads.new ≡ on_held slot (held_after action) threads.old }
 {
     match action {
-        Action::SetLocal(i, value) => set_local(threads, slot, i, value),
+        Action::Write(dest, value) => write_local(threads, slot, dest, value),
         Action::Call { func, arg, kind } => call(threads, slot, func, arg, kind),
         Action::CallAlone { func, arg, kind } => call_alone(threads, slot, func, arg, kind),
         Action::Leave(status) => leave(threads, slot, status),
@@ -52,16 +52,7 @@ pub(crate) fn act_alone(threads: &mut Threads, slot: u32, action: Action)
         Action::EndThread(value) => end_thread(threads, slot, value),
         Action::MarkEnded => mark_ended(threads, slot),
         Action::BeginExit(_) => begin_exit(threads, slot),
-        Action::SetGlobal(_, _)
-        | Action::EndJoin(_)
-        | Action::Request(_)
-        | Action::Detach(_)
-        | Action::MakeKey(_, _)
-        | Action::DeleteKey(_)
-        | Action::SetSpecific(_, _)
-        | Action::TakeKey(_)
-        | Action::EndProcess(_)
-        | Action::Stop(_) => {}
+        _ => {}
     }
 }
 
@@ -75,6 +66,17 @@ fn run_at(threads: &mut Threads, slot: u32, pc: u32)
 {
     set_pc(threads, slot, pc);
     set_status(threads, slot, Status::Running);
+}
+
+// A value is written to a destination, if it is a local of the newest frame.
+fn write_local(threads: &mut Threads, slot: u32, dest: Dest, value: u32)
+    requires { is_occupied_at threads.old slot ≡ true }
+    ensures { threads.new ≡ on_held slot (λ h. record h { frames = frames_written dest value h.frames }) threads.old }
+{
+    match dest {
+        Dest::Local(i) => set_local(threads, slot, i, value),
+        Dest::Global(_) | Dest::Drop => {}
+    }
 }
 
 // A local of the newest frame gets a value.

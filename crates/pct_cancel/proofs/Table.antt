@@ -1,18 +1,19 @@
 -- The table in the code is equal to the table in the definitions.
-use Rattle.std.proofs.Common.{◌≡◌, ℕ, ◌+◌, ◌≤◌, Bool, not, List, [], ◌∷◌, length, map, cond, Option, Some, None, refl, sym, ap, ◌∙◌, position, nat_lt, option_map}
+use Rattle.std.proofs.Common.{◌≡◌, ℕ, ◌+◌, ◌≤◌, ◌<◌, Bool, not, List, [], ◌∷◌, length, map, get_or, cond, Option, Some, None, refl, sym, ap, ◌∙◌, arith, position, nat_lt, option_map}
 use Rattle.std.specs.Prelude.{bytes_eq, slice_get, option_and_then}
+use Rattle.std.specs.Borrow.{Bor}
 use Rattle.std.specs.Option.{option_map_or}
 use Rattle.std.specs.List.{flat_map, position_or_len}
 use Rattle.std.proofs.lemmas.List.{length-map}
 use Rattle.std.proofs.lemmas.List.Folds.{flat_map-map}
-use Rattle.std.proofs.lemmas.Option.{slice_get-map, slice_get_past}
+use Rattle.std.proofs.lemmas.List.Quantifiers.{position-Some}
+use Rattle.std.proofs.lemmas.Option.{slice_get-get_or, slice_get-map, slice_get_past}
 use Rattle.pct_model.specs.declared.point.PointKind.{PointKind}
+use Rattle.pct_model.specs.declared.point.PointKind.TheVariants.{Optional}
 use Rattle.pct_model.specs.declared.point.PointWait.{PointWait}
+use Rattle.pct_model.specs.declared.point.PointWait.TheVariants.{NoWait}
 use Rattle.pct_model.specs.Keywords.{line_text}
 use Rattle.pct_model.specs.Points.{Row, points, point_at, point_of, point_name, row_words, points_text}
-use Rattle.pct_cancel.specs.declared.call.Call.{Call}
-use Rattle.pct_cancel.specs.declared.point.TheConstants.{POINTS}
-use Rattle.pct_cancel.specs.Calls.{call_name}
 use Rattle.pct_cancel.specs.Rows.{as_row}
 
 -- ---- positions in a list that was mapped
@@ -32,48 +33,62 @@ position-map p f xs = ap (λ n. index_in n (length (map f xs))) (position_or_len
 
 -- ---- the table
 
--- the rows of both tables, in the same order
-rows_are : points ≡ map as_row POINTS
-unfolding points call_name
-rows_are = refl
+pub count_is : length points ≡ 58
+unfolding points
+count_is = refl
 
-row_is : (index : ℕ) (r : Call × PointKind × PointWait) → slice_get POINTS index ≡ Some r → slice_get points index ≡ Some (as_row r)
-row_is index r at = ap (λ rows. slice_get rows index) rows_are ∙ slice_get-map as_row POINTS index ∙ ap (option_map as_row) at
+abbrev CodeRow : Type 0
+CodeRow = Bor (List ℕ) × PointKind × PointWait
 
-index_is : (name : List ℕ) → position (λ row. bytes_eq row.name name) points ≡ position (λ r. bytes_eq (call_name r.0) name) POINTS
-index_is name = ap (λ rows. position (λ row. bytes_eq row.name name) rows) rows_are ∙ position-map (λ row. bytes_eq row.name name) as_row POINTS
+-- the rows of the code
+module _ (rows : List CodeRow) (same : map as_row rows ≡ points) where
+  pub rows_count : length rows ≡ 58
+  rows_count = sym (length-map rows as_row) ∙ ap length same ∙ count_is
 
--- a name in the code's table
-pub found : (name : List ℕ) (index : ℕ) (r : Call × PointKind × PointWait) → Some index ≡ position (λ r. bytes_eq (call_name r.0) name) POINTS → slice_get POINTS index ≡ Some r
-    → Some (record { index = index; kind = r.1; wait = r.2 }) ≡ point_of name
-unfolding point_of
-found name index r here at = sym (ap (option_and_then point_at) (index_is name ∙ sym here) ∙ ap (option_map (λ row. record { index = index; kind = row.kind; wait = row.wait })) (row_is index r at))
+  pub row_in : (index : ℕ) (d : CodeRow) → index < 58 → slice_get points index ≡ Some (as_row (get_or rows index d))
+  row_in index d within =
+      ap (λ rs. slice_get rs index) (sym same) ∙ slice_get-map as_row rows index
+      ∙ ap (option_map as_row) (slice_get-get_or rows index d (omega (arith, rows_count)))
 
--- a name that is not in it
-pub not_found : (name : List ℕ) → None ≡ position (λ r. bytes_eq (call_name r.0) name) POINTS → None ≡ point_of name
-unfolding point_of
-not_found name nowhere = sym (ap (option_and_then point_at) (index_is name ∙ sym nowhere))
+  index_is : (name : List ℕ) → position (λ row. bytes_eq row.name name) points ≡ position (λ r. bytes_eq r.0.now name) rows
+  index_is name = ap (λ rs. position (λ row. bytes_eq row.name name) rs) (sym same) ∙ position-map (λ row. bytes_eq row.name name) as_row rows
 
--- the name in one of its rows
-pub name_in_row : (index : ℕ) (r : Call × PointKind × PointWait) → slice_get POINTS index ≡ Some r → call_name r.0 ≡ point_name index
+  -- a name in the code's table
+  pub found : (name : List ℕ) (index : ℕ) (row : Row) → Some index ≡ position (λ r. bytes_eq r.0.now name) rows → slice_get points index ≡ Some row
+      → Some (record { index = index; kind = row.kind; wait = row.wait }) ≡ point_of name
+  unfolding point_of
+  found name index row here at = sym (ap (option_and_then point_at) (index_is name ∙ sym here) ∙ ap (option_map (λ r. record { index = index; kind = r.kind; wait = r.wait })) at)
+
+  pub found_within : (name : List ℕ) (index : ℕ) → Some index ≡ position (λ r. bytes_eq r.0.now name) rows → index < 58
+  found_within name index here =
+      let blank : Row = record { name = []; kind = Optional; wait = NoWait } in
+      omega (arith, count_is, (position-Some (λ row. bytes_eq row.name name) points index blank (index_is name ∙ sym here)).0)
+
+  -- a name that is not in it
+  pub not_found : (name : List ℕ) → None ≡ position (λ r. bytes_eq r.0.now name) rows → None ≡ point_of name
+  unfolding point_of
+  not_found name nowhere = sym (ap (option_and_then point_at) (index_is name ∙ sym nowhere))
+
+  -- the text of the code's table
+  pub text_is : flat_map (λ row. line_text (row_words (as_row row))) rows ≡ points_text
+  unfolding points_text
+  text_is = sym (ap (flat_map (λ (row : Row). line_text (row_words row))) (sym same) ∙ flat_map-map (λ (row : Row). line_text (row_words row)) as_row rows)
+
+-- the name in a row
+pub name_in_row : (index : ℕ) (row : Row) → slice_get points index ≡ Some row → row.name ≡ point_name index
 unfolding point_name
-name_in_row index r at = sym (ap (λ row. option_map_or (λ row. row.name) row []) (row_is index r at))
+name_in_row index row at = sym (ap (λ o. option_map_or (λ r. r.name) o []) at)
 
--- the point in one of its rows
-pub point_in_row : (index : ℕ) (r : Call × PointKind × PointWait) → slice_get POINTS index ≡ Some r → Some (record { index = index; kind = r.1; wait = r.2 }) ≡ point_at index
-point_in_row index r at = sym (ap (option_map (λ row. record { index = index; kind = row.kind; wait = row.wait })) (row_is index r at))
+-- the point in a row
+pub point_in_row : (index : ℕ) (row : Row) → slice_get points index ≡ Some row → Some (record { index = index; kind = row.kind; wait = row.wait }) ≡ point_at index
+point_in_row index row at = sym (ap (option_map (λ r. record { index = index; kind = r.kind; wait = r.wait })) at)
 
 -- an index that is not in the table has no point
 pub no_point_past : (index : ℕ) → 58 ≤ index → None ≡ point_at index
 unfolding points
-no_point_past index past = sym (ap (option_map (λ row. record { index = index; kind = row.kind; wait = row.wait })) (slice_get_past points index past))
+no_point_past index past = sym (ap (option_map (λ r. record { index = index; kind = r.kind; wait = r.wait })) (slice_get_past points index past))
 
 -- an index that is not in the table
 pub past_the_table : (index : ℕ) → 58 ≤ index → [] ≡ point_name index
 unfolding points point_name
-past_the_table index past = sym (ap (λ row. option_map_or (λ r. r.name) row []) (slice_get_past points index past))
-
--- the text of the code's table
-pub text_is : flat_map (λ row. line_text (row_words (as_row row))) POINTS ≡ points_text
-unfolding points_text
-text_is = sym (ap (flat_map (λ (row : Row). line_text (row_words row))) rows_are ∙ flat_map-map (λ (row : Row). line_text (row_words row)) as_row POINTS)
+past_the_table index past = sym (ap (λ o. option_map_or (λ r. r.name) o []) (slice_get_past points index past))

@@ -1,7 +1,6 @@
 //! Cancelability (XSH 2.9.5): the cancelability of a thread, and the table of cancellation points.
 #![tactic(auto)]
 
-mod call;
 mod cancel;
 mod point;
 

@@ -3,6 +3,7 @@ use Rattle.std.specs.Prelude.{◌≡◌, ℕ, ◌≤◌, List, [], length, drop,
 use Rattle.std.specs.Option.{option_map_or}
 use Rattle.std.specs.Io.KnownBytes.{Consumes}
 use Rattle.pct_io.specs.ErrorCounts.{Rose}
+use Rattle.pct_model.specs.declared.limits.TheConstants.{MAX_INPUT}
 use Rattle.pct_model.specs.declared.script.Script.{Script}
 use Rattle.pct_model.specs.declared.stop.Verdict.{Verdict}
 use Rattle.pct_model.specs.declared.stop.Verdict.TheVariants as verdict
@@ -83,7 +84,7 @@ text_of_answer answer.Points = points_text
 
 -- an input within the limit, whose script's part spells this script
 pub record HasScript (words : List (List ℕ)) (input : List ℕ) (script : Script) : Type 0 where
-  pub fits : length input ≤ 16777216
+  pub fits : length input ≤ MAX_INPUT
   pub spelled : Spells (script_part words input) script
 
 -- and whose text after that is this schedule

@@ -3,6 +3,7 @@ use Rattle.std.specs.Prelude.{◌≡◌, ◌≢◌, ◌⊎◌, ℕ, ◌<◌, ◌
 use Rattle.std.specs.Io.KnownBytes.{Appends, Consumes, IsAtEnd, Keeps}
 use Rattle.pct_io.specs.ErrorCounts.{Rose}
 use Rattle.pct_io.specs.Sinks.{AppendsPrefix}
+use Rattle.pct_model.specs.declared.limits.TheConstants.{MAX_INPUT}
 use Rattle.pct_model.specs.declared.script.Script.{Script}
 use Rattle.pct_model.specs.declared.schedule.Config.{Config}
 use Rattle.pct_model.specs.declared.schedule.Entry.{Entry}
@@ -52,7 +53,7 @@ abbrev pub IsReplayed : List (List ℕ) → List ℕ → ℕ → List ℕ → Ty
 IsReplayed words input code text =
     (script : Script) (again : List ℕ)
     → Spells (script_part words input) script → Spells (script_part (keyword_text keyword.Replay ∷ []) again) script
-    → sched_of (schedule_part again) ≡ sched_of text → length again ≤ 16777216
+    → sched_of (schedule_part again) ≡ sched_of text → length again ≤ MAX_INPUT
     → Outcome (keyword_text keyword.Replay ∷ []) again [] code text
 
 -- the text is the report of a run of the script of the input. Its events keep the laws of how threads end: that of cleanup handlers
@@ -153,7 +154,7 @@ pub record HasLegalSchedule (script : Script) (input : List ℕ) : Type 0 where
 
 -- an input that is not refused
 pub record IsValid (words : List (List ℕ)) (input : List ℕ) : Type 0 where
-  pub fits : length input ≤ 16777216
+  pub fits : length input ≤ MAX_INPUT
   pub script : Script
   pub spelled : Spells (script_part words input) script
   pub schedule : is_asked keyword.Replay words ≡ true → HasLegalSchedule script input

@@ -1,6 +1,7 @@
 //! The answer to a text.
 
 ghost use Rattle.std.specs.Prelude.{◌≡◌, ◌≤◌, ◌<◌, ℕ, List, length, IsErr};
+ghost use Rattle.pct_model.specs.declared.limits.TheConstants.{MAX_INPUT};
 ghost use Rattle.pct_command.specs.Answer.{Answered, HasParts};
 ghost use Rattle.pct_command.specs.Words.{Asks, HasInput, parts_of_job};
 
@@ -16,7 +17,7 @@ use std::alloc::Global;
 
 /// The answer of a job to a text. `NoMemory` comes only with a text that is not empty.
 pub(crate) fn answer_of(alloc: Global, job: Job, text: &[u8]) -> Result<Answer, NoMemory>
-    requires fits { length text.now ≤ 16777216 }
+    requires fits { length text.now ≤ MAX_INPUT }
     requires input { HasInput job }
     ensures answer { (words : List (List ℕ)) → Asks words job → Answered words text.now result }
     ensures memory { IsErr result → 0 < length text.now }
@@ -49,7 +50,7 @@ fn answer_script(
     script: Script,
     schedule: &[u8],
 ) -> Result<Answer, NoMemory>
-    requires fits { length schedule.now ≤ 16777216 }
+    requires fits { length schedule.now ≤ MAX_INPUT }
     requires input { HasInput job }
     ensures { (words : List (List ℕ)) (input : List ℕ) → Asks words job → HasParts words job input script schedule.now → Answered words input result }
 {

@@ -1,6 +1,7 @@
 //! The command `replay`: runs a script under the schedule that follows it.
 
 ghost use Rattle.std.specs.Prelude.{◌≡◌, ◌≤◌, ℕ, List, length, true, Ok as IsRead, IsTrue};
+ghost use Rattle.pct_model.specs.declared.limits.TheConstants.{MAX_INPUT};
 ghost use Rattle.pct_model.specs.Schedule.{sched_of};
 ghost use Rattle.pct_model.specs.Run.{is_config};
 ghost use Rattle.pct_model.specs.Outcome.{is_asked, schedule_part};
@@ -19,7 +20,7 @@ pub(crate) fn replay_script(
     script: Script,
     schedule: &[u8],
 ) -> Result<Answer, NoMemory>
-    requires { length schedule.now ≤ 16777216 }
+    requires { length schedule.now ≤ MAX_INPUT }
     ensures { (words : List (List ℕ)) (input : List ℕ) → is_asked keyword.Replay words ≡ true → HasScript words input script → schedule.now ≡ schedule_part input → Answered words input result }
 {
     match read_schedule(alloc, schedule) {

@@ -1,8 +1,9 @@
 -- What every run keeps of each thread: the rule of the thread, and so the sentences of Kept.antt.
-use Rattle.std.proofs.Common.{◌≡◌, ℕ, Bool, true, false, not, ◌&&◌, cond, List, Option, Some, None, refl, sym, ap, ◌∙◌, subst}
-use Rattle.std.specs.Prelude.{option_and_then}
+use Rattle.std.proofs.Common.{◌≡◌, ℕ, Bool, true, false, not, ◌&&◌, cond, List, [], ◌∷◌, ◌++◌, map, reverse, Option, Some, option_and_then, refl, sym, ap, ◌∙◌, subst, eq-eqb}
 use Rattle.std.proofs.lemmas.Bool.{false≢true}
+use Rattle.pct_model.specs.declared.event.Event.{Event}
 use Rattle.pct_model.specs.declared.event.What.{What}
+use Rattle.pct_model.specs.declared.schedule.Alt.{Alt}
 use Rattle.pct_model.specs.declared.schedule.Config.{Config}
 use Rattle.pct_model.specs.declared.schedule.Entry.{Entry}
 use Rattle.pct_model.specs.declared.script.Script.{Script}
@@ -13,92 +14,112 @@ use Rattle.pct_model.specs.declared.state.Status.TheVariants as status
 use Rattle.pct_model.specs.declared.transition.Action.{Action}
 use Rattle.pct_model.specs.declared.transition.Action.TheVariants as action
 use Rattle.pct_model.specs.Actions.{named_after}
+use Rattle.pct_model.specs.ChoiceTable.{choices_of, offers}
 use Rattle.pct_model.specs.Kept.{is_exiting, ThreadKept, KeysKept}
 use Rattle.pct_model.specs.Keys.{key_place}
 use Rattle.pct_model.specs.Names.{main_of, names_of}
-use Rattle.pct_model.specs.OwnEvents.{own_events, made_process, thread_with, made_thread, OfMade, OfThread}
-use Rattle.pct_model.specs.Run.{Run, run}
+use Rattle.pct_model.specs.Once.{MayCome, Once}
+use Rattle.pct_model.specs.Run.{Run, event_of, run}
 use Rattle.pct_model.specs.ThreadSlots.{is_ended_status, is_live_thread}
 use Rattle.pct_model.specs.ThreadSummary.{ThreadSummary, summary_of}
-use Rattle.pct_model.specs.World.{Thread, Process}
-use Rattle.pct_ending_laws.proofs.StaticPushes.{PushesMatch, push_matches}
+use Rattle.pct_model.specs.TransitionTable.{transition_by}
+use Rattle.pct_model.specs.World.{Thread, Process, made_process, thread_with}
+use Rattle.pct_ending_laws.proofs.StaticPushes.{push_matches}
 use Rattle.pct_ending_laws.proofs.LastThreads.{last_exits}
-use Rattle.pct_ending_laws.proofs.lift.RunsSoFar.{AfterEveryRun}
-use Rattle.pct_ending_laws.proofs.lift.EveryThread.{IsThreadRule, OfEveryThread, every_thread}
+use Rattle.pct_ending_laws.proofs.lift.TakenSteps.{IsTaken, with_step, AfterEveryRun, every_run}
+use Rattle.pct_ending_laws.proofs.lift.ThreadsAfter.{Moves, mover_found, mover_here}
+use Rattle.pct_ending_laws.proofs.lift.EveryProcess.{process_taken, moves_in}
+use Rattle.pct_ending_laws.proofs.lift.ReportedBy.{Reading, reported_by, own_after, of_thread, after_all, read_step}
+use Rattle.pct_ending_laws.proofs.lift.EveryThread.{OfThread, OfEveryThread, IsThreadRule, every_thread}
 use Rattle.pct_ending_laws.proofs.keys.KeysOfProcesses.{KeysFit, keys_of_run}
-use Rattle.pct_ending_laws.proofs.thread.OwnSummary.{summary, AreLawful}
+use Rattle.pct_ending_laws.proofs.thread.SummaryReading.{summary, summary_reading, AllMayCome}
 use Rattle.pct_ending_laws.proofs.thread.Passes.{leaves_pass}
-use Rattle.pct_ending_laws.proofs.thread.ThreadRule.{Fits, Rule}
-use Rattle.pct_ending_laws.proofs.thread.NamedFunctions.{NamesFunctions, names_functions}
+use Rattle.pct_ending_laws.proofs.thread.ThreadRule.{Fits, Keeps}
+use Rattle.pct_ending_laws.proofs.thread.NamedFunctions.{names_functions}
 use Rattle.pct_ending_laws.proofs.thread.Statements.{new_fits}
 use Rattle.pct_ending_laws.proofs.thread.Transitions.{transition_keeps}
 use Rattle.pct_ending_laws.proofs.thread.KeptThreads.{kept_thread}
-use Rattle.pct_ending_laws.proofs.thread.OnceByThreads.{EachLawful, same_summary}
+
+-- ---- the rule of one thread
 
 module _ (script : Script) (passes : ℕ) where
-  -- ---- the rule of one thread
-
   -- a thread that another one names
-  named_if : (named : Bool) (changed t : Thread) (events : List What) → Rule script passes changed events → Rule script passes t events → Rule script passes (cond named changed t) events
-  named_if true changed t events changed_fits fits = changed_fits
-  named_if false changed t events changed_fits fits = fits
+  named_if : (named : Bool) (changed t : Thread) (s : ThreadSummary) → Fits script passes changed s → Fits script passes t s → Fits script passes (cond named changed t) s
+  named_if true changed t s changed_fits fits = changed_fits
+  named_if false changed t s changed_fits fits = fits
 
-  named_fits : (a : Action) (t : Thread) (events : List What) → Rule script passes t events → Rule script passes (named_after a t) events
+  named_fits : (a : Action) (t : Thread) (s : ThreadSummary) → Fits script passes t s → Fits script passes (named_after a t) s
   unfolding named_after
-  named_fits (action.EndJoin id) t events fits = named_if (is_live_thread id t) (record t { joined = true }) t events fits fits
-  named_fits (action.Request id) t events fits = named_if (is_live_thread id t && not t.ended) (record t { pending = true }) t events fits fits
-  named_fits (action.Detach id) t events fits = named_if (is_live_thread id t) (record t { detached = true }) t events fits fits
-  named_fits (action.DeleteKey k) t events fits = (
-    record {
-      agrees = fits.0.agrees;
-      placed = fits.0.placed;
-      by_status = fits.0.by_status;
-      in_passes = leaves_pass passes t.pass t.specific.in_pass (summary events).passes (summary events).destroyed fits.0.in_passes (key_place k);
-    },
-    fits.1,
-  )
-  named_fits _ t events fits = fits
+  named_fits (action.EndJoin id) t s fits = named_if (is_live_thread id t) (record t { joined = true }) t s fits fits
+  named_fits (action.Request id) t s fits = named_if (is_live_thread id t && not t.ended) (record t { pending = true }) t s fits fits
+  named_fits (action.Detach id) t s fits = named_if (is_live_thread id t) (record t { detached = true }) t s fits fits
+  named_fits (action.DeleteKey k) t s fits = record {
+    agrees = fits.agrees;
+    placed = fits.placed;
+    by_status = fits.by_status;
+    in_passes = leaves_pass passes t.pass t.specific.in_pass s.passes s.destroyed fits.in_passes (key_place k);
+  }
+  named_fits _ t s fits = fits
 
-  -- a thread that exits its process does not have the status of its end
-  exiting_alive : (s : Status) (frames : List Frame) → is_exiting s frames ≡ true → is_ended_status s ≡ false
-  exiting_alive (status.Ended v) frames exits = absurd (false≢true exits)
-  exiting_alive _ frames exits = refl
+-- a thread that exits its process does not have the status of its end
+exiting_alive : (s : Status) (frames : List Frame) → is_exiting s frames ≡ true → is_ended_status s ≡ false
+exiting_alive (status.Ended v) frames exits = absurd (false≢true exits)
+exiting_alive _ frames exits = refl
 
-  lawful_by : (t : Thread) (events : List What) (gone : Bool) → t.gone ≡ gone → OfMade (Rule script passes) t events → AreLawful passes events
-  lawful_by t events false is of = (of.here is).1
-  lawful_by t events true is of = subst (AreLawful passes) (sym (of.gone is)) tt
+-- ---- the law of cleanup handlers and destructors
 
-  lawful_of : (found : Option Thread) (events : List What) → OfThread (Rule script passes) found events → AreLawful passes events
-  lawful_of None events none = subst (AreLawful passes) (sym none) tt
-  lawful_of (Some t) events of = lawful_by t events t.gone refl of
+module _ (passes : ℕ) (e : Entry) (earlier : List Event) where
+  -- the summary of the thread of an entry after events of the entry
+  later_summary : (added : List What) → summary_of e.pid e.tid (map (event_of e) added ++ earlier) ≡ after_all summary added (reported_by (of_thread summary e.tid) e.pid earlier)
+  later_summary added =
+      let f : Reading ThreadSummary = of_thread summary e.tid in
+      summary_reading e.tid e.pid (map (event_of e) added ++ earlier) ∙ own_after f e earlier added ∙ read_step summary e e.tid true (eq-eqb e.tid e.tid refl) added (reported_by f e.pid earlier)
+
+  -- the law after events that may come
+  once_later : (added : List What) → AllMayCome passes added (reported_by (of_thread summary e.tid) e.pid earlier) → Once passes earlier → Once passes (map (event_of e) added ++ earlier)
+  once_later [] may once = once
+  once_later (w ∷ added) may once = (subst (MayCome passes w) (sym (later_summary added)) may.0, once_later added may.1 once)
 
 module _ (script : Script) (config : Config) where
   abbrev passes : ℕ
   passes = config.passes
 
+  keeps : (p : Process) (t : Thread) (s : ThreadSummary) (choice : Alt) → KeysFit script p → offers (choices_of script config p t) choice ≡ true → Fits script passes t s → Keeps script passes t s (transition_by script config p t choice)
+  keeps p t s choice keys = transition_keeps script (push_matches script) (names_functions script) config p t s choice keys.keys
+
   -- each thread keeps the rule, in a process whose keys are kept
-  thread_rule : IsThreadRule script config (KeysFit script) (Rule script passes)
-  thread_rule =
-      let matches : PushesMatch script = push_matches script in
-      let names : NamesFunctions script = names_functions script in
-      record {
-        initial = new_fits script passes matches names 1 (main_of (names_of script.funcs)) 0 false kind.Main names.main (refl, refl);
-        created = λ p t events choice new keys offered fits is. (transition_keeps script matches names config p t events choice keys.keys offered fits).created new is;
-        named = named_fits script passes;
-        kept = λ p t events choice keys offered fits. (transition_keeps script matches names config p t events choice keys.keys offered fits).own;
-      }
+  thread_rule : IsThreadRule summary (Fits script passes) script config (KeysFit script)
+  thread_rule = record {
+    initial = new_fits script passes (push_matches script) 1 (main_of (names_of script.funcs)) 0 false kind.Main (names_functions script).main (refl, refl);
+    created = λ p t s choice new keys offered fits is. (keeps p t s choice keys offered fits).created new is;
+    named = named_fits script passes;
+    kept = λ p t s choice keys offered fits. (keeps p t s choice keys offered fits).own.0;
+  }
 
   -- ---- runs
 
   -- after every run, the rule holds of every thread
-  pub rule_kept : AfterEveryRun script config (OfEveryThread (Rule script passes))
-  rule_kept = every_thread script config (KeysFit script) (Rule script passes) thread_rule (keys_of_run script config)
+  pub threads_fit : AfterEveryRun script config (OfEveryThread summary (Fits script passes))
+  threads_fit = every_thread summary (Fits script passes) script config (KeysFit script) thread_rule (keys_of_run script config)
+
+  -- a thread of a process that was made and is not gone
+  fits_of : (r : Run) → OfEveryThread summary (Fits script passes) r → (pid tid : ℕ) (p : Process) (t : Thread) → made_process pid r.world ≡ Some p → thread_with tid p ≡ Some t → t.gone ≡ false → Fits script passes t (reported_by (of_thread summary tid) pid r.events)
+  fits_of r fit pid tid p t made found here =
+      let s : ThreadSummary = reported_by (of_thread summary tid) pid r.events in
+      (subst (λ (o : Option Thread). OfThread summary (Fits script passes) o s) (ap (option_and_then (thread_with tid)) made ∙ found) (fit pid tid)).here here
+
+  once_kept : (before : List Entry) (r : Run) → run script config before ≡ Some r → (e : Entry) (p : Process) (t : Thread) → IsTaken script config r.world e p t → Once passes r.events → Once passes (with_step e (transition_by script config p t e.alt) r).events
+  once_kept before r is e p t taken once =
+      let known : KeysFit script p × Moves script config p e t = moves_in script config (KeysFit script) (keys_of_run script config) before r is e p t taken in
+      let found : thread_with e.tid p ≡ Some t = mover_found script config p e t known.1 in
+      let fits : Fits script passes t (reported_by (of_thread summary e.tid) e.pid r.events) = fits_of r (threads_fit before r is) e.pid e.tid p t (process_taken script config before r is e p t taken) found (mover_here script config p e t known.1) in
+      once_later passes e r.events (reverse (transition_by script config p t e.alt).events) (keeps p t (reported_by (of_thread summary e.tid) e.pid r.events) e.alt known.0 taken.offered fits).own.1 once
+
+  -- the law of cleanup handlers and destructors
+  pub once_of_run : AfterEveryRun script config (λ r. Once passes r.events)
+  once_of_run = every_run script config (λ r. Once passes r.events) once_kept (λ some. tt)
 
   module _ (entries : List Entry) (r : Run) (is : run script config entries ≡ Some r) where
-    -- the own events of each thread are lawful
-    pub each_lawful : EachLawful passes r.events
-    each_lawful pid tid = lawful_of script passes (made_thread pid tid r.world) (own_events pid tid r.events) (rule_kept entries r is pid tid)
-
     -- the keys of a process
     pub keys_kept : (pid : ℕ) (p : Process) → made_process pid r.world ≡ Some p → KeysKept script p.shared.keys
     keys_kept pid p made = (keys_of_run script config entries r is pid p made).keys
@@ -106,9 +127,7 @@ module _ (script : Script) (config : Config) where
     -- a thread of a process that was made and is not gone
     pub threads_kept : (pid tid : ℕ) (p : Process) (t : Thread) → made_process pid r.world ≡ Some p → thread_with tid p ≡ Some t → t.gone ≡ false → ThreadKept script p.shared.keys t (summary_of pid tid r.events)
     threads_kept pid tid p t made found here =
-        let events : List What = own_events pid tid r.events in
-        let of : OfMade (Rule script passes) t events = subst (λ (o : Option Thread). OfThread (Rule script passes) o events) (ap (option_and_then (thread_with tid)) made ∙ found) (rule_kept entries r is pid tid) in
-        let fits : Fits script passes t (summary_of pid tid r.events) = subst (λ (s : ThreadSummary). Fits script passes t s) (sym (same_summary passes r.events each_lawful pid tid)) (of.here here).0 in
+        let fits : Fits script passes t (summary_of pid tid r.events) = subst (Fits script passes t) (sym (summary_reading tid pid r.events)) (fits_of r (threads_fit entries r is) pid tid p t made found here) in
         let keys : KeysFit script p = keys_of_run script config entries r is pid p made in
         kept_thread script passes p.shared.keys t (summary_of pid tid r.events) keys.keys (keys.empty tid t found) fits
 
@@ -116,4 +135,4 @@ module _ (script : Script) (config : Config) where
     pub last_kept : (pid : ℕ) (p : Process) → made_process pid r.world ≡ Some p → (tid : ℕ) (t : Thread) → thread_with tid p ≡ Some t → t.gone ≡ false → t.ended ≡ true → (summary_of pid tid r.events).exiting ≡ true → (id : ℕ) (other : Thread) → thread_with id p ≡ Some other → other.gone ≡ false → other.ended ≡ true
     last_kept pid p made tid t found here ended exits =
         let kept : ThreadKept script p.shared.keys t (summary_of pid tid r.events) = threads_kept pid tid p t made found here in
-        last_exits script config rule_kept entries r is pid p made tid t found (here, ended, exiting_alive script passes t.status t.frames (sym kept.exiting ∙ exits))
+        last_exits script config threads_fit entries r is pid p made tid t found (here, ended, exiting_alive t.status t.frames (sym kept.exiting ∙ exits))

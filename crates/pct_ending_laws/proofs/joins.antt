@@ -1,4 +1,4 @@
--- Which threads join which, over every run: the law of joins, and the clauses of the invariant on joined, detached and joining
+-- Which threads join which, over every run: the law of joins, and the clauses of the invariant on known, joined, detached and joining
 -- threads.
 pub mod JoinTransitions
 pub mod NamedThreads

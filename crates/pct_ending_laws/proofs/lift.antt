@@ -1,16 +1,14 @@
--- What every step keeps of one thread and its own events holds of every thread after every run.
+-- What every step keeps of a process or a thread, beside what the events report of it, holds of each after every run.
 pub mod KeyedLists
 pub mod TakenSteps
-pub mod RunsSoFar
-pub mod Choices
 pub mod OfferedNumbers
-pub mod EndingTransitions
 pub mod CreatedThreads
 pub mod ChangedThreads
 pub mod ThreadIds
 pub mod MadeThreads
-pub mod LaterEvents
-pub mod MadeNumbers
-pub mod EveryThread
-pub mod MadeKnown
+pub mod ProcessIds
+pub mod ReportedBy
+pub mod ThreadsAfter
 pub mod EveryProcess
+pub mod EveryThread
+pub mod MadeNumbers

@@ -1,5 +1,5 @@
--- What one thread keeps, beside its own events: by each transition, and in the sentences of Kept.antt.
-pub mod OwnSummary
+-- What one thread keeps, beside what the events report of it: by each transition, and in the sentences of Kept.antt.
+pub mod SummaryReading
 pub mod Passes
 pub mod ThreadRule
 pub mod NamedFunctions
@@ -10,5 +10,4 @@ pub mod Statements
 pub mod ActingOnRequests
 pub mod Transitions
 pub mod KeptThreads
-pub mod OnceByThreads
 pub mod EndingSteps

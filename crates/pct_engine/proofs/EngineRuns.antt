@@ -11,7 +11,6 @@ use Rattle.pct_model.specs.declared.event.What.{What}
 use Rattle.pct_model.specs.Step.{step}
 use Rattle.pct_model.specs.Run.{Run, event_of, run}
 use Rattle.pct_engine_laws.proofs.LongerRuns.{run_more, run_full, run_after, run_step-is}
-use Rattle.pct_transitions.specs.Joiners.{HaveJoiners}
 use Rattle.pct_actions.specs.declared.machine.Machine.{Machine}
 use Rattle.pct_actions.specs.TableFits.{HasRows}
 use Rattle.pct_engine.specs.Steps.{IsStepOf}
@@ -26,9 +25,9 @@ reverse-map f (x ∷ xs) =
     ∙ ap (map f) (sym (reverse-append (x ∷ []) xs))
 
 -- an engine after a step that it recorded
-pub stands-more : (script : Script) (config : Config) (history : List Entry) (events : List Event) (m new : Machine) (e : Entry) (whats : List What) → length history < config.budget → (stands : StandsFor script config history events m) → IsStepOf script config stands.after.world new e whats → HasRows new → HaveJoiners new.threads
+pub stands-more : (script : Script) (config : Config) (history : List Entry) (events : List Event) (m new : Machine) (e : Entry) (whats : List What) → length history < config.budget → (stands : StandsFor script config history events m) → IsStepOf script config stands.after.world new e whats → HasRows new
     → StandsFor script config (history ++ e ∷ []) (events ++ map (event_of e) whats) new
-stands-more script config history events m new e whats left stands made rows joiners =
+stands-more script config history events m new e whats left stands made rows =
     let r = stands.after in
     let s = made.successor in
     record {
@@ -40,7 +39,6 @@ stands-more script config history events m new e whats left stands made rows joi
           ∙ ap (λ (es : List Event). map (event_of e) (reverse s.events) ++ es) stands.events_are;
       parts_are = made.view_is;
       rows_are = rows;
-      joiners_are = joiners;
     }
 
 -- the history with an entry that makes a step is a run

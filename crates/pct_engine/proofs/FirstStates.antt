@@ -19,7 +19,6 @@ use Rattle.pct_engine_laws.proofs.LongerRuns.{run_none}
 use Rattle.pct_engine_laws.proofs.OpeningSeen.{first_on_slot, first_thread, first_slots, opening_is_seen}
 use Rattle.pct_transitions.specs.Programs.{ProgramValue}
 use Rattle.pct_transitions.specs.ThreadViews.{threads_of, slot_view}
-use Rattle.pct_transitions.specs.Joiners.{HaveJoiners}
 use Rattle.pct_actions.specs.declared.machine.Machine.{Machine}
 use Rattle.pct_actions.specs.TableFits.{HasRows}
 use Rattle.pct_engine.specs.Views.{with_row, with_rows, shared_view, first_process_view, machine_view}
@@ -101,20 +100,19 @@ rows-first n func threads globals keys made none =
     ∙ sym (length-on_slot 0 (with_change (with_frame_word 0 2 0)) (with_created 0 func 0 false (replicate n unused)))
     ∙ sym (ap length made)
 
-first_stands : (script : Script) (config : Config) (m : Machine) → is_config config ≡ true → machine_view script m ≡ seen config.slots (opening script) → HasRows m → HaveJoiners m.threads → StandsFor script config [] [] m
-first_stands script config m limits view rows joiners = record {
+first_stands : (script : Script) (config : Config) (m : Machine) → is_config config ≡ true → machine_view script m ≡ seen config.slots (opening script) → HasRows m → StandsFor script config [] [] m
+first_stands script config m limits view rows = record {
   after = record { world = opening script; events = [] };
   is_run = run_none script config limits;
   events_are = refl;
   parts_are = view;
   rows_are = rows;
-  joiners_are = joiners;
 }
 
 -- an engine without entries
-pub stands-first : (script : Script) (config : Config) (program : ProgramValue) (history : List Entry) (events : List Event) (m : Machine) → is_config config ≡ true → program ≡ record { script = script; config = config } → history ≡ [] → events ≡ [] → machine_view script m ≡ seen config.slots (opening script) → HasRows m → HaveJoiners m.threads
+pub stands-first : (script : Script) (config : Config) (program : ProgramValue) (history : List Entry) (events : List Event) (m : Machine) → is_config config ≡ true → program ≡ record { script = script; config = config } → history ≡ [] → events ≡ [] → machine_view script m ≡ seen config.slots (opening script) → HasRows m
     → StandsFor program.script program.config history events m
-stands-first script config program history events m limits is none quiet view rows joiners =
+stands-first script config program history events m limits is none quiet view rows =
     subst (λ (p : ProgramValue). StandsFor p.script p.config history events m) (sym is)
     (subst (λ (es : List Entry). StandsFor script config es events m) (sym none)
-    (subst (λ (es : List Event). StandsFor script config [] es m) (sym quiet) (first_stands script config m limits view rows joiners)))
+    (subst (λ (es : List Event). StandsFor script config [] es m) (sym quiet) (first_stands script config m limits view rows)))

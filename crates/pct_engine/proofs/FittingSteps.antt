@@ -1,22 +1,22 @@
 -- Each transition that an entry takes fits the table of threads.
-use Rattle.std.proofs.Common.{◌≡◌, ℕ, true, subst, List, ◌++◌, length, map, Some, sym, ap, ◌∙◌}
-use Rattle.std.specs.Prelude.{is_some, nat_eq}
+use Rattle.std.proofs.Common.{◌≡◌, ℕ, suc, true, false, subst, List, [], ◌∷◌, length, map, Option, Some, None, refl, sym, ap, ◌∙◌}
+use Rattle.std.specs.Prelude.{is_some, is_none, nat_eq}
 use Rattle.std.specs.List.{list_any}
+use Rattle.std.proofs.lemmas.Bool.{true≢false}
+use Rattle.pct_model.specs.declared.event.What.TheVariants.{Joined}
 use Rattle.pct_model.specs.declared.script.Script.{Script}
 use Rattle.pct_model.specs.declared.schedule.Alt.{Alt}
+use Rattle.pct_model.specs.declared.state.Status.{Status}
+use Rattle.pct_model.specs.declared.transition.Action.TheVariants.{EndJoin, Write}
 use Rattle.pct_model.specs.declared.transition.Transition.{Transition}
-use Rattle.pct_model.specs.KeyCalls.{creates_key, deletes_key, sets_specific}
+use Rattle.pct_model.specs.Keys.{Key}
 use Rattle.pct_model.specs.World.{Thread, SharedState}
 use Rattle.pct_model.specs.NextStatement.{next_of, body_at}
 use Rattle.pct_model.specs.OtherThreads.{query_at, Others}
-use Rattle.pct_model.specs.ChoiceTable.{choices_at, offers}
-use Rattle.pct_model.specs.TransitionTable.{transition_at, acts_or}
-use Rattle.pct_model.specs.ThreadEnds.{calls_destructor}
-use Rattle.pct_model.specs.CancelCalls.{requests, acts_on_request}
-use Rattle.pct_model.specs.Transitions.{written}
-use Rattle.pct_model.specs.ThreadCalls.{begins_join, ends_join, detaches}
+use Rattle.pct_model.specs.ChoiceTable.{offers}
+use Rattle.pct_model.specs.Transitions.{goes_on}
 use Rattle.pct_threads.specs.Slots.{Held}
-use Rattle.pct_threads.specs.Tables.{held_at, is_occupied_at, on_held}
+use Rattle.pct_threads.specs.Tables.{held_at, on_held}
 use Rattle.pct_engine_laws.specs.Seen.{SeenSlot}
 use Rattle.pct_engine_laws.specs.SeenSteps.{answer_in, others_in, choices_in, transition_in}
 use Rattle.pct_transitions.specs.declared.other_threads.Others.{Others as Answer}
@@ -31,11 +31,10 @@ use Rattle.pct_actions.specs.declared.machine.Machine.{Machine}
 use Rattle.pct_actions.specs.TableFits.{NamesFit, NewFits, KeysFit}
 use Rattle.pct_keys.specs.Tables.{row_at}
 use Rattle.pct_actions.specs.MachineChanges.{held_moved}
-use Rattle.pct_actions.proofs.HeldChanges.{is_occupied_at-on_held}
-use Rattle.pct_actions.proofs.KeyTables.{kept_fit}
 use Rattle.pct_engine.specs.Views.{machine_thread, process_view}
 use Rattle.pct_engine.proofs.MachineViews.{id-moved}
-use Rattle.pct_engine.proofs.NamedFits.{quiet_all_fit, plain_quiet, plain_keeps, written_plain, both_plain, ByName, taken_case}
+use Rattle.pct_transition_cases.proofs.CaseOfTransition.{case_of}
+use Rattle.pct_transition_cases.proofs.TransitionCases.{TransitionCase, join_ended, key_made, key_deleted, specific_set, destructor_called}
 use Rattle.pct_engine.proofs.RowAnswers.{answer_on_rows}
 use Rattle.pct_engine.proofs.NewThreads.{offered_is_next, ids_asked, transition_new}
 use Rattle.pct_engine.proofs.JoinedThreads.{join_fits}
@@ -54,6 +53,10 @@ answer_is script slots slot m h tid q position answer placed named is query answ
     ∙ sym (answer_on_rows slots h.id m.keys.rows rows (query_at shared (next_of script h.frames) h.thread.status)) in
     subst (IsAnswer m.threads answer) seen answered
 
+is_there : (found : Option Key) → is_none found ≡ false → is_some found ≡ true
+is_there None none = absurd (true≢false none)
+is_there (Some key) none = refl
+
 -- ---- the transition of the thread on a slot, by a choice that is offered
 
 module _ (script : Script) (slots passes slot : ℕ) (m : Machine) (h : Held) (choice : Alt) where
@@ -70,74 +73,44 @@ module _ (script : Script) (slots passes slot : ℕ) (m : Machine) (h : Held) (c
   IsOffered = offers (choices_in script slots (process_view script m) own) choice ≡ true
 
   -- what it sees of the others
-  abbrev seen_others : Others
-  seen_others = answer_in slots h.id (map slot_view m.threads) (query_at (process_view script m).shared (next_of script h.frames) h.thread.status)
+  pub others_are : others_in script slots (process_view script m) own ≡ answer_in slots h.id (map slot_view m.threads) (query_at (process_view script m).shared (next_of script h.frames) h.thread.status)
+  others_are = answer_on_rows slots h.id m.keys.rows (map slot_view m.threads) (query_at (process_view script m).shared (next_of script h.frames) h.thread.status)
 
-  seen_is : others_in script slots (process_view script m) own ≡ seen_others
-  seen_is = answer_on_rows slots h.id m.keys.rows (map slot_view m.threads) (query_at (process_view script m).shared (next_of script h.frames) h.thread.status)
+  -- its transition, by case
+  abbrev pub Case : Others → NextStatement → Status → Transition → Type 0
+  Case others next s o = TransitionCase passes (body_at script h.frames) (process_view script m).shared own others true next s o
 
-  offered_is : IsOffered → offers (choices_at m.keys.places own seen_others (next_of script h.frames) h.thread.status) choice ≡ true
-  offered_is offered = sym (ap (λ (others : Others). offers (choices_at m.keys.places own others (next_of script h.frames) h.thread.status) choice) seen_is) ∙ offered
-
-  -- a fact of each transition that the thread may make holds of it
-  pub by_case : (P : Transition → Type 0) → ByName P slots h.id (map slot_view m.threads) m.keys.places (row_at m.keys slot) h.thread.status → IsOffered → P taken
-  by_case P by_name offered =
-      subst P
-      (sym (ap (λ (others : Others). acts_or choice h.thread.status (transition_at passes (body_at script h.frames) (process_view script m).shared own others choice (next_of script h.frames) h.thread.status)) seen_is))
-      (taken_case P slots passes (map slot_view m.threads) (body_at script h.frames) (process_view script m).shared own choice (next_of script h.frames) h.thread.status by_name (offered_is offered))
+  pub its_case : IsOffered → Case (others_in script slots (process_view script m) own) (next_of script h.frames) h.thread.status taken
+  its_case offered = case_of passes (body_at script h.frames) (process_view script m).shared own (others_in script slots (process_view script m) own) true choice (next_of script h.frames) h.thread.status (λ known. offered)
 
   -- the keys that it changes fit the table
-  keys_fit : AreOnPlaces m.keys.places → ByName (λ o. KeysFit slot o.actions m.keys) slots h.id (map slot_view m.threads) m.keys.places (row_at m.keys slot) h.thread.status
-  unfolding begins_join ends_join detaches requests acts_on_request creates_key deletes_key sets_specific calls_destructor
-  keys_fit on = record {
-    rests = tt;
-    plain = λ o not plain. kept_fit slot o.actions m.keys (plain_keeps o.actions plain);
-    begins = λ id x not seen other joinable unjoined. (tt, tt);
-    ends = λ next id v d x joins seen value. (tt, plain_keeps (written d v) (written_plain d v));
-    canceled = λ id joins. (tt, (tt, tt));
-    requested = λ next id not. (tt, tt);
-    detached = λ next id x not seen unjoined. (tt, tt);
-    made = λ next k result key destructor not among. (new_fits m.keys.places k among, plain_keeps (written result 0 ++ written key k) (both_plain result key 0 k));
-    deleted = λ next k not named. (named, tt);
-    set = λ next k v not named. (named, tt);
-    begun = λ n not. (tt, tt);
-    taken = λ pass k v f not among. (left_fits m.keys.places (row_at m.keys slot) k on among, (tt, tt));
-  }
+  keys_fit : AreOnPlaces m.keys.places → {others : Others} {next : NextStatement} {s : Status} {o : Transition} → Case others next s o → KeysFit slot o.actions m.keys
+  keys_fit on (key_made frame result key destructor k among) = (new_fits m.keys.places k (among refl), (tt, (tt, tt)))
+  keys_fit on (key_deleted frame key named) = (is_there _ named, tt)
+  keys_fit on (specific_set frame key v named) = (is_there _ named, tt)
+  keys_fit on (destructor_called next k f key none is destructor among) = (left_fits m.keys.places (row_at m.keys slot) k on (among refl), (tt, tt))
+  keys_fit on _ = assumption
 
   pub taken_keys : AreOnPlaces m.keys.places → IsOffered → KeysFit slot taken.actions m.keys
-  taken_keys on offered = by_case (λ o. KeysFit slot o.actions m.keys) (keys_fit on) offered
+  taken_keys on offered = keys_fit on (its_case offered)
 
   module _ (placed : ArePlaced slots m.threads) (here : held_at m.threads slot ≡ Some h) where
     -- what a transition names fits the table after it
     abbrev Names : Transition → Type 0
-    Names o = NamesFit slot o.actions (on_held slot (held_moved o) m.threads)
+    Names o = NamesFit o.actions (on_held slot (held_moved o) m.threads)
 
-    occupied : (f : Held → Held) → is_occupied_at (on_held slot f m.threads) slot ≡ true
-    occupied f = is_occupied_at-on_held slot f m.threads ∙ ap is_some here
-
-    names_fit : ByName Names slots h.id (map slot_view m.threads) m.keys.places (row_at m.keys slot) h.thread.status
-    unfolding begins_join ends_join detaches requests acts_on_request creates_key deletes_key sets_specific calls_destructor
-    names_fit = record {
-      rests = tt;
-      plain = λ o not plain. quiet_all_fit slot o.actions (on_held slot (held_moved o) m.threads) (plain_quiet o.actions plain);
-      begins = λ id x not seen other joinable unjoined. (occupied (held_moved (begins_join id)), tt);
-      ends = λ next id v d x joins seen value. (
-        join_fits slots slot id v m.threads placed h here joins x seen value (held_moved (ends_join next d id v)) (id-moved (ends_join next d id v)),
-        quiet_all_fit slot (written d v) _ (plain_quiet (written d v) (written_plain d v)),
-      );
-      canceled = λ id joins. (tt, (tt, tt));
-      requested = λ next id not. (tt, tt);
-      detached = λ next id x not seen unjoined. (tt, tt);
-      made = λ next k result key destructor not among. (tt, quiet_all_fit slot (written result 0 ++ written key k) _ (plain_quiet (written result 0 ++ written key k) (both_plain result key 0 k)));
-      deleted = λ next k not named. (tt, tt);
-      set = λ next k v not named. (tt, tt);
-      begun = λ n not. (tt, tt);
-      taken = λ pass k v f not among. (tt, (tt, tt));
-    }
+    names_fit : {others : Others} {next : NextStatement} {s : Status} {o : Transition} → others ≡ answer_in slots h.id (map slot_view m.threads) (query_at (process_view script m).shared next s) → h.thread.status ≡ s → Case others next s o → Names o
+    unfolding query_at answer_in
+    names_fit asked at (join_ended frame operand d id v x seen value) =
+        let o : Transition = goes_on (suc frame.pc) (EndJoin id ∷ Write d v ∷ []) (Joined id v ∷ []) in (
+          join_fits slots slot id v m.threads placed h here at x (sym (ap (λ (all : Others). all.target) asked) ∙ seen) value (held_moved o) (id-moved o),
+          (tt, tt),
+        )
+    names_fit asked at _ = assumption
 
     -- the threads that it names fit it
-    pub taken_names : IsOffered → NamesFit slot taken.actions (on_held slot (held_moved taken) m.threads)
-    taken_names offered = by_case Names names_fit offered
+    pub taken_names : IsOffered → NamesFit taken.actions (on_held slot (held_moved taken) m.threads)
+    taken_names offered = names_fit others_are refl (its_case offered)
 
     -- the thread that it creates fits the table
     pub taken_new : IsOffered → NewFits taken.created m.threads
@@ -145,5 +118,5 @@ module _ (script : Script) (slots passes slot : ℕ) (m : Machine) (h : Held) (c
         let shared : SharedState = (process_view script m).shared in
         let query : Query = query_at shared (next_of script h.frames) h.thread.status in
         transition_new m.threads passes (body_at script h.frames) shared own (others_in script slots (process_view script m) own)
-        (λ new among. offered_is_next slots new m.threads placed.all (ids_asked slots h.id new.id (map slot_view m.threads) query (sym (ap (λ (others : Others). list_any (nat_eq new.id) others.new_ids) seen_is) ∙ among)))
+        (λ new among. offered_is_next slots new m.threads placed.all (ids_asked slots h.id new.id (map slot_view m.threads) query (sym (ap (λ (others : Others). list_any (nat_eq new.id) others.new_ids) others_are) ∙ among)))
         choice (next_of script h.frames) h.thread.status offered

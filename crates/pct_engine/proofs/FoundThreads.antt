@@ -1,5 +1,5 @@
 -- The thread that an entry names: what a search in the slots finds is what is kept of it.
-use Rattle.std.proofs.Common.{◌≡◌, ℕ, ◌<◌, Bool, true, false, not, ◌&&◌, cond, List, map, length, Option, Some, None, refl, sym, ap, ◌∙◌, subst, inl, inr}
+use Rattle.std.proofs.Common.{◌≡◌, ℕ, ◌<◌, Bool, true, false, not, ◌&&◌, cond, List, map, length, Option, Some, None, refl, sym, ap, ◌∙◌, inl, inr}
 use Rattle.std.specs.Prelude.{IfNone, nat_eq, nat_le, slice_get, is_some, is_none, option_map, option_and_then, find}
 use Rattle.std.specs.Option.{option_map_or}
 use Rattle.std.proofs.lemmas.Bool.{cases_lt, and_parts, and_cases, and_from, eq-eqb, eqb-true, eqb-false, ne_eqb, not-true, not-false, cond-true, cond-false}
@@ -15,7 +15,7 @@ use Rattle.pct_threads.specs.Tables.{slot_at, held_at}
 use Rattle.pct_threads.proofs.TableLemmas.{within-occupied}
 use Rattle.pct_engine_laws.specs.Seen.{SeenSlot, SeenProcess, is_live_seen}
 use Rattle.pct_engine_laws.specs.SeenSteps.{thread_on, thread_with, if_offered_in, seen_transition}
-use Rattle.pct_transitions.specs.ThreadViews.{thread_of, threads_of, slot_view, with_specific, ArePlaced}
+use Rattle.pct_transitions.specs.ThreadViews.{thread_of, threads_of, slot_view, with_specific}
 use Rattle.pct_keys.specs.Tables.{row_at}
 use Rattle.pct_actions.specs.declared.machine.Machine.{Machine}
 use Rattle.pct_actions.specs.TableFits.{HasRows}
@@ -102,10 +102,6 @@ admits m e may =
     let b = and_parts (is_none m.stop && nat_le e.worker 16) (nat_eq e.pid 1) a.0 in
     let d = and_parts (is_none m.stop) (nat_le e.worker 16) b.0 in
     record { running = d.0; worker = d.1; first = eqb-true e.pid 1 b.1; live = not-true m.has_ended a.1 }
-
--- threads that are placed on a number of slots are placed on those of their table
-pub placed_by_length : (slots : ℕ) (threads : List Slot) → ArePlaced slots threads → ArePlaced (length threads) threads
-placed_by_length slots threads placed = subst (λ (n : ℕ). ArePlaced n threads) (sym placed.all) placed
 
 -- a choice between none and none
 pub none_either : {T : Type 0} (b : Bool) (o : Option T) → o ≡ None → cond b o None ≡ None

@@ -1,6 +1,6 @@
 -- The thread that another sees by its id. The one that another joins has ended and is not detached, so that its slot can be given
 -- back.
-use Rattle.std.proofs.Common.{◌≡◌, ◌≢◌, ℕ, Bool, true, false, not, ◌&&◌, List, map, Option, Some, None, refl, sym, ap, ◌∙◌, inl, inr}
+use Rattle.std.proofs.Common.{◌≡◌, ℕ, Bool, true, false, not, ◌&&◌, List, map, Option, Some, None, refl, sym, ap, ◌∙◌, inl, inr}
 use Rattle.std.specs.Prelude.{is_some, option_map, IfSome}
 use Rattle.std.specs.Option.{option_map_or}
 use Rattle.std.proofs.lemmas.Bool.{cases_eq, and_from, false≢true}
@@ -12,21 +12,19 @@ use Rattle.pct_model.specs.declared.transition.Action.TheVariants as action
 use Rattle.pct_model.specs.ThreadSlots.{is_ended_status, holds_slot, slot_of}
 use Rattle.pct_model.specs.World.{SharedState}
 use Rattle.pct_model.specs.NextStatement.{NextStatement}
-use Rattle.pct_model.specs.OtherThreads.{query_at, is_joining, exit_value_of}
-use Rattle.pct_threads.specs.Slots.{Held, Slot, has_id, is_reclaimable, with_change}
-use Rattle.pct_threads.specs.Tables.{slot_at, held_at, is_reclaimable_at, on_held}
+use Rattle.pct_model.specs.OtherThreads.{query_at, exit_value_of}
+use Rattle.pct_threads.specs.Slots.{Held, Slot, is_reclaimable, with_change}
+use Rattle.pct_threads.specs.Tables.{held_at, is_reclaimable_at, on_held}
 use Rattle.pct_threads.proofs.TableLemmas.{within-occupied, slot_at-on_slot_other}
 use Rattle.pct_engine_laws.specs.Seen.{SeenSlot}
 use Rattle.pct_engine_laws.specs.SeenSteps.{thread_with, target_in, answer_in}
-use Rattle.pct_transitions.specs.Answers.{any_on}
 use Rattle.pct_transitions.specs.ThreadViews.{thread_of, slot_view, ArePlaced}
-use Rattle.pct_transitions.proofs.SlotAnswers.{any_found, target_by, is_joined}
-use Rattle.pct_transitions.proofs.ThreadJoiners.{joining_is}
+use Rattle.pct_transitions.proofs.SlotAnswers.{target_by, is_joined}
 use Rattle.pct_actions.specs.TableFits.{NameFits}
 use Rattle.pct_actions.specs.MachineChanges.{slot_named}
 use Rattle.pct_actions.proofs.HeldChanges.{held_at-on_held}
-use Rattle.pct_actions.proofs.SearchedSlots.{held_found, held_with}
-use Rattle.pct_engine.proofs.FoundThreads.{thread_with-here, thread_with-none}
+use Rattle.pct_actions.proofs.SearchedSlots.{held_found}
+use Rattle.pct_engine.proofs.FoundThreads.{thread_with-here}
 
 -- what a thread in pthread_join asks
 pub target_asked : (slots tid id : ℕ) (rows : List SeenSlot) (shared : SharedState) (next : NextStatement) (s : Status) → s ≡ status.Joining id → (answer_in slots tid rows (query_at shared next s)).target ≡ target_in slots id rows
@@ -37,25 +35,11 @@ target_asked slots tid id rows shared next s is = ap (λ (x : Status). (answer_i
 
 module _ (slots id : ℕ) (threads : List Slot) (placed : ArePlaced slots threads) (x : Target) (seen : target_in slots id (map slot_view threads) ≡ Some x) where
   -- it is the one with the id
-  pub seen_is : (k : ℕ) (t : Held) → held_at threads k ≡ Some t → t.id ≡ id → target_by (is_joined threads id) (thread_of t) ≡ x
+  seen_is : (k : ℕ) (t : Held) → held_at threads k ≡ Some t → t.id ≡ id → target_by (is_joined threads id) (thread_of t) ≡ x
   seen_is k t at named =
       let found : thread_with slots id (map slot_view threads) ≡ Some (thread_of t) =
       thread_with-here slots id k threads t at named (ap (slot_of slots) (sym named) ∙ placed.place k t at) (within-occupied threads k (ap is_some at)) in
       same_Some (target_by (is_joined threads id) (thread_of t)) x (sym (ap (option_map (target_by (is_joined threads id))) found) ∙ seen)
-
-  -- there is one
-  pub seen_held : (k : ℕ) × (t : Held) × (held_at threads k ≡ Some t) × (t.id ≡ id)
-  seen_held = either (has_id id (slot_at threads (slot_of slots id))) refl where
-    either : (has : Bool) → has_id id (slot_at threads (slot_of slots id)) ≡ has → (k : ℕ) × (t : Held) × (held_at threads k ≡ Some t) × (t.id ≡ id)
-    either false none = absurd (none-some x (sym (ap (option_map (target_by (is_joined threads id))) (thread_with-none slots id (slot_of slots id) threads refl none)) ∙ seen))
-    either true has = let at = held_with id (held_at threads (slot_of slots id)) has in (slot_of slots id, at.0, at.1, at.2)
-
-  -- if it is seen not to be joined, no thread joins it
-  pub seen_unjoined : x.joining ≡ false → (j : ℕ) (z : Held) → held_at threads j ≡ Some z → z.thread.status ≢ status.Joining id
-  seen_unjoined unjoined j z at joins =
-      let none : is_joined threads id ≡ false = ap (λ (y : Target). y.joining) (seen_is seen_held.0 seen_held.1 seen_held.2 seen_held.3) ∙ unjoined in
-      let passes : any_on (λ u. is_joining id u.status) (held_at threads j) ≡ true = ap (any_on (λ u. is_joining id u.status)) at ∙ joining_is id z.thread.status joins in
-      false≢true (sym none ∙ any_found (λ u. is_joining id u.status) threads j (within-occupied threads j (ap is_some at)) passes)
 
 -- ---- the thread that is joined
 
@@ -78,7 +62,7 @@ module _ (slots slot id v : ℕ) (threads : List Slot) (placed : ArePlaced slots
   target_value k t at named = ap (λ (y : Target). y.value) (seen_is slots id threads placed x seen k t at named) ∙ value
 
   -- the thread with the id has ended
-  pub target_ended : (k : ℕ) (t : Held) → held_at threads k ≡ Some t → t.id ≡ id → is_ended_status t.thread.status ≡ true
+  target_ended : (k : ℕ) (t : Held) → held_at threads k ≡ Some t → t.id ≡ id → is_ended_status t.thread.status ≡ true
   target_ended k t at named = ended_by t.thread.status v (target_value k t at named)
 
   before_change : (f : Held → Held) → ((b : Held) → (f b).id ≡ b.id) → (o : Option Held) (t : Held) → option_map f o ≡ Some t → (b : Held) × (o ≡ Some b) × (b.id ≡ t.id)
@@ -106,5 +90,5 @@ module _ (slots slot id v : ℕ) (threads : List Slot) (placed : ArePlaced slots
       ap (λ (o : Option Held). option_map_or is_reclaimable o false) at.1 ∙ joined_at f same_id k at.0 at.1 at.2
 
   -- the thread that it joins fits, after a change of the thread that joins it
-  pub join_fits : (f : Held → Held) → ((b : Held) → (f b).id ≡ b.id) → NameFits slot (action.EndJoin id) (on_held slot f threads)
+  pub join_fits : (f : Held → Held) → ((b : Held) → (f b).id ≡ b.id) → NameFits (action.EndJoin id) (on_held slot f threads)
   join_fits f same_id = joined_fits f same_id (slot_named id (on_held slot f threads)) refl

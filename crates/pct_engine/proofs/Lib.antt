@@ -10,12 +10,9 @@ mod ReadySlots
 mod EnabledThreads
 mod LegalChoices
 mod StepViews
-mod NamedFits
 mod JoinedThreads
 mod NewThreads
 mod FittingSteps
-mod JoinersKept
-mod JoinersAfter
 mod FittingIds
 mod EngineRuns
 pub mod EngineLaws

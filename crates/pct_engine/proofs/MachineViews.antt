@@ -43,32 +43,8 @@ use Rattle.pct_engine.proofs.OpenTables.{IsOpen, open_named, open_all}
 -- after an action, with its data
 thread_of-after : (a : Action) (own : KeyValues) (h : Held) → with_specific (own_row a own) (thread_of (held_after a h)) ≡ thread_after a (with_specific own (thread_of h))
 unfolding held_after thread_after
-thread_of-after (action.SetLocal i v) own h = refl
-thread_of-after (action.SetGlobal i v) own h = refl
-thread_of-after (action.Call f a k) own h = refl
-thread_of-after (action.CallAlone f a k) own h = refl
-thread_of-after (action.Leave s) own h = refl
-thread_of-after (action.PushHandler f a) own h = refl
 thread_of-after action.PopHandler own h = refl
-thread_of-after (action.SetState state) own h = refl
-thread_of-after (action.SetMode mode) own h = refl
-thread_of-after (action.BeginPoint index) own h = refl
-thread_of-after (action.BeginJoin id) own h = refl
-thread_of-after (action.EndJoin id) own h = refl
-thread_of-after (action.CancelJoin id) own h = refl
-thread_of-after (action.Request id) own h = refl
-thread_of-after (action.Detach id) own h = refl
-thread_of-after (action.MakeKey k destructor) own h = refl
-thread_of-after (action.DeleteKey k) own h = refl
-thread_of-after (action.SetSpecific k v) own h = refl
-thread_of-after action.BeginPass own h = refl
-thread_of-after (action.TakeKey k) own h = refl
-thread_of-after (action.BeginEnd why) own h = refl
-thread_of-after (action.EndThread v) own h = refl
-thread_of-after action.MarkEnded own h = refl
-thread_of-after (action.BeginExit v) own h = refl
-thread_of-after (action.EndProcess n) own h = refl
-thread_of-after (action.Stop why) own h = refl
+thread_of-after _ own h = refl
 
 all_after : (actions : List Action) (own : KeyValues) (h : Held) → with_specific (for_each own_row actions own) (thread_of (for_each held_after actions h)) ≡ for_each thread_after actions (with_specific own (thread_of h))
 all_after [] own h = refl
@@ -210,15 +186,15 @@ no_names (row ∷ rows) (s ∷ threads) fit =
     ∙ ap (λ (rest : List SeenSlot). laws.with_change (λ t. t) (with_row row (open_view s)) ∷ rest) (no_names rows threads (omega (arith, fit)))
 
 -- what is kept of the slots, with their rows, after actions on the threads that they name
-all_named_view : (slots slot : ℕ) (actions : List Action) (rows : List KeyValues) (threads : List Slot) → length rows ≡ length threads → IsOpen slots slot threads → NamesFit slot actions threads
-    → with_rows (map (for_each named_row actions) rows) (map open_view (for_each (named_on slot) actions threads)) ≡ map (laws.with_change (for_each named_after actions)) (with_rows rows (map open_view threads))
+all_named_view : (slots slot : ℕ) (actions : List Action) (rows : List KeyValues) (threads : List Slot) → length rows ≡ length threads → IsOpen slots slot threads → NamesFit actions threads
+    → with_rows (map (for_each named_row actions) rows) (map open_view (for_each named_on actions threads)) ≡ map (laws.with_change (for_each named_after actions)) (with_rows rows (map open_view threads))
 all_named_view slots slot [] rows threads fit was fits = no_names rows threads fit
 all_named_view slots slot (a ∷ actions) rows threads fit was fits =
-    let next : List Slot = named_on slot a threads in
-    let next_fit : length (map (named_row a) rows) ≡ length next = length-map rows (named_row a) ∙ fit ∙ sym (follows_named slot a threads).same_length in
-    ap (λ (rs : List KeyValues). with_rows rs (map open_view (for_each (named_on slot) actions next))) (sym (map-map (for_each named_row actions) (named_row a) rows))
+    let next : List Slot = named_on a threads in
+    let next_fit : length (map (named_row a) rows) ≡ length next = length-map rows (named_row a) ∙ fit ∙ sym (follows_named a threads).same_length in
+    ap (λ (rs : List KeyValues). with_rows rs (map open_view (for_each named_on actions next))) (sym (map-map (for_each named_row actions) (named_row a) rows))
     ∙ all_named_view slots slot actions (map (named_row a) rows) next next_fit (open_named slots slot a threads was) fits.1
-    ∙ ap (map (laws.with_change (for_each named_after actions))) (named_view rows slot a threads fit (λ j h here. ap (λ (n : ℕ). slot_of n h.id) was.all ∙ was.place j h here) fits.0)
+    ∙ ap (map (laws.with_change (for_each named_after actions))) (named_view rows a threads fit (λ j h here. ap (λ (n : ℕ). slot_of n h.id) was.all ∙ was.place j h here) fits.0)
     ∙ change_after (named_after a) (for_each named_after actions) (all_named_keep actions) (with_rows rows (map open_view threads))
 
 -- ---- a thread that has ended and is detached
@@ -287,7 +263,7 @@ keys_moved slot o threads keys = with_new_row (length (settled slot (after_names
 
 -- what is kept of the slots, with their rows, after a transition of the thread with an id
 pub table_view-moved : (slots slot tid : ℕ) (o : Transition) (threads : List Slot) (keys : Table) (h : Held) → ArePlaced slots threads → length keys.rows ≡ length threads → held_at threads slot ≡ Some h → h.id ≡ tid
-    → NamesFit slot o.actions (on_held slot (held_moved o) threads) → KeysFit slot o.actions keys → NewFits o.created threads
+    → NamesFit o.actions (on_held slot (held_moved o) threads) → KeysFit slot o.actions keys → NewFits o.created threads
     → with_rows (keys_moved slot o threads keys).rows (map slot_view (table_moved slot o threads)) ≡ slots_moved slots tid o (with_rows keys.rows (map slot_view threads))
 table_view-moved slots slot tid o threads keys h placed fit here named names fits new =
     let low : slot < length threads = within-occupied threads slot (ap is_some here) in
@@ -311,90 +287,18 @@ table_view-moved slots slot tid o threads keys h placed fit here named names fit
 
 shared_after-view : (script : Script) (slot : ℕ) (a : Action) (globals : List ℕ) (keys : Table) (exit_value : Option ℕ) → shared_view script (globals_after a globals) (keys_after slot a keys).places (exit_value_after a exit_value) ≡ shared_after a (shared_view script globals keys.places exit_value)
 unfolding globals_after keys_after exit_value_after shared_after
-shared_after-view script slot (action.SetLocal i v) globals keys exit_value = refl
-shared_after-view script slot (action.SetGlobal i v) globals keys exit_value = refl
-shared_after-view script slot (action.Call f a k) globals keys exit_value = refl
-shared_after-view script slot (action.CallAlone f a k) globals keys exit_value = refl
-shared_after-view script slot (action.Leave s) globals keys exit_value = refl
-shared_after-view script slot (action.PushHandler f a) globals keys exit_value = refl
-shared_after-view script slot action.PopHandler globals keys exit_value = refl
-shared_after-view script slot (action.SetState state) globals keys exit_value = refl
-shared_after-view script slot (action.SetMode mode) globals keys exit_value = refl
-shared_after-view script slot (action.BeginPoint index) globals keys exit_value = refl
-shared_after-view script slot (action.BeginJoin id) globals keys exit_value = refl
-shared_after-view script slot (action.EndJoin id) globals keys exit_value = refl
-shared_after-view script slot (action.CancelJoin id) globals keys exit_value = refl
-shared_after-view script slot (action.Request id) globals keys exit_value = refl
-shared_after-view script slot (action.Detach id) globals keys exit_value = refl
-shared_after-view script slot (action.MakeKey k destructor) globals keys exit_value = refl
-shared_after-view script slot (action.DeleteKey k) globals keys exit_value = refl
-shared_after-view script slot (action.SetSpecific k v) globals keys exit_value = refl
-shared_after-view script slot action.BeginPass globals keys exit_value = refl
-shared_after-view script slot (action.TakeKey k) globals keys exit_value = refl
-shared_after-view script slot (action.BeginEnd why) globals keys exit_value = refl
-shared_after-view script slot (action.EndThread v) globals keys exit_value = refl
-shared_after-view script slot action.MarkEnded globals keys exit_value = refl
 shared_after-view script slot (action.BeginExit v) globals keys exit_value = refl
-shared_after-view script slot (action.EndProcess n) globals keys exit_value = refl
-shared_after-view script slot (action.Stop why) globals keys exit_value = refl
+shared_after-view script slot _ globals keys exit_value = refl
 
 -- ---- the process
 
 -- process 1, which is reaped as it ends
 own_kept-view : (a : Action) (b : Bool) (slots : List SeenSlot) (shared : SharedState) → flat_map (own_kept a) (unless_ended b (first_process_view slots shared)) ≡ unless_ended (has_ended_after a b) (first_process_view slots shared)
 unfolding own_kept has_ended_after
-own_kept-view (action.SetLocal i v) true slots shared = refl
-own_kept-view (action.SetLocal i v) false slots shared = refl
-own_kept-view (action.SetGlobal i v) true slots shared = refl
-own_kept-view (action.SetGlobal i v) false slots shared = refl
-own_kept-view (action.Call f a k) true slots shared = refl
-own_kept-view (action.CallAlone f a k) true slots shared = refl
-own_kept-view (action.Call f a k) false slots shared = refl
-own_kept-view (action.CallAlone f a k) false slots shared = refl
-own_kept-view (action.Leave s) true slots shared = refl
-own_kept-view (action.Leave s) false slots shared = refl
-own_kept-view (action.PushHandler f a) true slots shared = refl
-own_kept-view (action.PushHandler f a) false slots shared = refl
-own_kept-view action.PopHandler true slots shared = refl
-own_kept-view action.PopHandler false slots shared = refl
-own_kept-view (action.SetState state) true slots shared = refl
-own_kept-view (action.SetState state) false slots shared = refl
-own_kept-view (action.SetMode mode) true slots shared = refl
-own_kept-view (action.SetMode mode) false slots shared = refl
-own_kept-view (action.BeginPoint index) true slots shared = refl
-own_kept-view (action.BeginPoint index) false slots shared = refl
-own_kept-view (action.BeginJoin id) true slots shared = refl
-own_kept-view (action.BeginJoin id) false slots shared = refl
-own_kept-view (action.EndJoin id) true slots shared = refl
-own_kept-view (action.EndJoin id) false slots shared = refl
-own_kept-view (action.CancelJoin id) true slots shared = refl
-own_kept-view (action.CancelJoin id) false slots shared = refl
-own_kept-view (action.Request id) true slots shared = refl
-own_kept-view (action.Request id) false slots shared = refl
-own_kept-view (action.Detach id) true slots shared = refl
-own_kept-view (action.Detach id) false slots shared = refl
-own_kept-view (action.MakeKey k destructor) true slots shared = refl
-own_kept-view (action.MakeKey k destructor) false slots shared = refl
-own_kept-view (action.DeleteKey k) true slots shared = refl
-own_kept-view (action.DeleteKey k) false slots shared = refl
-own_kept-view (action.SetSpecific k v) true slots shared = refl
-own_kept-view (action.SetSpecific k v) false slots shared = refl
-own_kept-view action.BeginPass true slots shared = refl
-own_kept-view action.BeginPass false slots shared = refl
-own_kept-view (action.TakeKey k) true slots shared = refl
-own_kept-view (action.TakeKey k) false slots shared = refl
-own_kept-view (action.BeginEnd why) true slots shared = refl
-own_kept-view (action.BeginEnd why) false slots shared = refl
-own_kept-view (action.EndThread v) true slots shared = refl
-own_kept-view (action.EndThread v) false slots shared = refl
-own_kept-view action.MarkEnded true slots shared = refl
-own_kept-view action.MarkEnded false slots shared = refl
-own_kept-view (action.BeginExit v) true slots shared = refl
-own_kept-view (action.BeginExit v) false slots shared = refl
 own_kept-view (action.EndProcess n) true slots shared = refl
 own_kept-view (action.EndProcess n) false slots shared = refl
-own_kept-view (action.Stop why) true slots shared = refl
-own_kept-view (action.Stop why) false slots shared = refl
+own_kept-view _ true slots shared = refl
+own_kept-view _ false slots shared = refl
 
 -- ---- all actions
 
@@ -436,7 +340,7 @@ kept_state processes stop = record { processes = processes; stop = stop }
 
 -- what is kept of a machine, after a transition of the thread with an id
 pub machine_view-moved : (script : Script) (slots slot tid : ℕ) (o : Transition) (m : Machine) (h : Held) → m.has_ended ≡ false → ArePlaced slots m.threads → HasRows m → held_at m.threads slot ≡ Some h → h.id ≡ tid
-    → NamesFit slot o.actions (on_held slot (held_moved o) m.threads) → KeysFit slot o.actions m.keys → NewFits o.created m.threads → machine_view script (machine_moved slot o m) ≡ seen_after slots 1 tid o (machine_view script m)
+    → NamesFit o.actions (on_held slot (held_moved o) m.threads) → KeysFit slot o.actions m.keys → NewFits o.created m.threads → machine_view script (machine_moved slot o m) ≡ seen_after slots 1 tid o (machine_view script m)
 unfolding seen_after
 machine_view-moved script slots slot tid o m h live placed fit here named names fits new =
     let after : Machine = machine_moved slot o m in
@@ -444,9 +348,9 @@ machine_view-moved script slots slot tid o m h live placed fit here named names 
     let moves = all_moved slot o.actions script (record m { threads = on_held slot (held_at_pc o.next) m.threads }) in
     let kept = λ (ps : List SeenProcess). for_each (λ a. flat_map (own_kept a)) o.actions ps in
     let shared : SharedState = shared_view script acted.globals acted.keys.places acted.exit_value in
-    let shared_is : shared_view script after.globals after.keys.places after.exit_value ≡ shared = ap (λ (ks : List KeyPlace). shared_view script after.globals ks after.exit_value) (places-with_new_row (length (settled slot (for_each (named_on slot) o.actions acted.threads))) o.created acted.keys) in
+    let shared_is : shared_view script after.globals after.keys.places after.exit_value ≡ shared = ap (λ (ks : List KeyPlace). shared_view script after.globals ks after.exit_value) (places-with_new_row (length (settled slot (for_each named_on o.actions acted.threads))) o.created acted.keys) in
     let slots_are : slots_view after ≡ slots_moved slots tid o (slots_view m) =
-    ap (λ (ts : List Slot). with_rows (with_new_row (length (settled slot (for_each (named_on slot) o.actions ts))) o.created acted.keys).rows (map slot_view (with_new o.created (settled slot (for_each (named_on slot) o.actions ts))))) (acted_threads slot o m)
+    ap (λ (ts : List Slot). with_rows (with_new_row (length (settled slot (for_each named_on o.actions ts))) o.created acted.keys).rows (map slot_view (with_new o.created (settled slot (for_each named_on o.actions ts))))) (acted_threads slot o m)
     ∙ ap (λ (keys : Table). with_rows (with_new_row (length (settled slot (after_names slot o m.threads))) o.created keys).rows (map slot_view (table_moved slot o m.threads))) (acted_keys slot o m)
     ∙ table_view-moved slots slot tid o m.threads m.keys h placed fit here named names fits new in
     let own_process : unless_ended after.has_ended (first_process_view (slots_view after) (shared_view script after.globals after.keys.places after.exit_value)) ≡ own_process_seen slots tid o (process_view script m) =
@@ -463,10 +367,10 @@ machine_view-moved script slots slot tid o m h live placed fit here named names 
 pub rows_moved : (slot : ℕ) (o : Transition) (m : Machine) → slot < length m.threads → HasRows m → HasRows (machine_moved slot o m)
 rows_moved slot o m low fit =
     let ended : List Slot = settled slot (after_names slot o m.threads) in
-    length-with_new_row (length (settled slot (for_each (named_on slot) o.actions (machine_acted slot o m).threads))) o.created (machine_acted slot o m).keys
+    length-with_new_row (length (settled slot (for_each named_on o.actions (machine_acted slot o m).threads))) o.created (machine_acted slot o m).keys
     ∙ ap (λ (keys : Table). length keys.rows) (acted_keys slot o m)
     ∙ length_all slot o.actions m.keys
     ∙ fit
     ∙ sym (follows_moved slot o m.threads low).same_length
     ∙ sym (length-with_new o.created ended)
-    ∙ sym (ap (λ (ts : List Slot). length (with_new o.created (settled slot (for_each (named_on slot) o.actions ts)))) (acted_threads slot o m))
+    ∙ sym (ap (λ (ts : List Slot). length (with_new o.created (settled slot (for_each named_on o.actions ts)))) (acted_threads slot o m))

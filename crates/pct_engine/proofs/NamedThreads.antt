@@ -10,8 +10,8 @@ use Rattle.pct_model.specs.World.{Thread}
 use Rattle.pct_model.specs.Keys.{KeyValues}
 use Rattle.pct_model.specs.ThreadSlots.{is_ended_status, holds_slot, slot_of, is_live_thread}
 use Rattle.pct_model.specs.Actions.{named_after}
-use Rattle.pct_threads.specs.Slots.{Held, Slot, unused, is_reclaimable, with_joiner, after_detach, after_change, with_change, freed}
-use Rattle.pct_threads.specs.Tables.{slot_at, held_at, id_at, is_reclaimable_at, on_slot}
+use Rattle.pct_threads.specs.Slots.{Held, Slot, unused, is_reclaimable, after_detach, after_change, with_change, freed}
+use Rattle.pct_threads.specs.Tables.{slot_at, held_at, is_reclaimable_at, on_slot}
 use Rattle.pct_engine_laws.proofs.ThreadChanges.{KeepsSlots, named_keeps}
 use Rattle.pct_engine_laws.proofs.ThreadChanges as laws
 use Rattle.pct_transitions.specs.ThreadViews.{thread_of, threads_of, with_specific}
@@ -121,11 +121,6 @@ pub same_here : (o : Option Held) → filter holds_slot (threads_of o) ≡ filte
 same_here None = refl
 same_here (Some h) = refl
 
--- another joiner
-joiner_here : (joiner : ℕ) (o : Option Held) → filter holds_slot (threads_of (option_map (with_joiner joiner) o)) ≡ filter holds_slot (map (λ (t : Thread). t) (threads_of o))
-joiner_here joiner None = refl
-joiner_here joiner (Some h) = refl
-
 -- a thread with another id is not named
 join_stays : (id : ℕ) (t : Thread) → nat_eq t.id id ≡ false → named_after (action.EndJoin id) t ≡ t
 unfolding named_after
@@ -182,10 +177,10 @@ data_here row f same (t ∷ ts) =
     either true rest = ap (λ (x : Thread). x ∷ map (with_specific row) (filter holds_slot ts)) (sym (same row t)) ∙ ap (λ (xs : List Thread). with_specific row (f t) ∷ xs) rest
     either false rest = rest
 
-module _ (rows : List KeyValues) (slot : ℕ) (threads : List Slot) (fit : length rows ≡ length threads) (placed : AreOnTheirSlots threads) where
+module _ (rows : List KeyValues) (threads : List Slot) (fit : length rows ≡ length threads) (placed : AreOnTheirSlots threads) where
   -- what is kept of the slots, with these rows, after a change of one
   abbrev Named : Action → Type 0
-  Named a = with_rows rows (map open_view (named_on slot a threads)) ≡ with_rows rows (map (changed_view (named_after a)) threads)
+  Named a = with_rows rows (map open_view (named_on a threads)) ≡ with_rows rows (map (changed_view (named_after a)) threads)
 
   deleted_first : (k : ℕ) → with_rows rows (map open_view threads) ≡ with_rows rows (map (changed_view (named_after (action.DeleteKey k))) threads)
   unfolding named_after
@@ -198,17 +193,11 @@ module _ (rows : List KeyValues) (slot : ℕ) (threads : List Slot) (fit : lengt
       ∙ (λ i. record { made = (slot_at threads j).made; here = data_here row f (λ own t. refl) (threads_of (held_at threads j)) i })
       ∙ sym (ap (with_row row) (get_or-map (changed_view f) threads j unused (open_view unused) low)))
 
-  named_first : (a : Action) → NameFits slot a threads → Named a
+  named_first : (a : Action) → NameFits a threads → Named a
   unfolding named_on named_after
-  named_first (action.BeginJoin id) fits =
-      ap (with_rows rows) (on_named_view id (λ t. t) (with_change (with_joiner (id_at threads slot))) threads placed (λ t other. refl)
-      (λ k h found here named i. record { made = (slot_at threads k).made; here = joiner_here (id_at threads slot) (held_at threads k) i }))
   named_first (action.EndJoin id) fits =
       ap (with_rows rows) (on_named_view id (named_after (action.EndJoin id)) freed threads placed (join_stays id)
       (λ k h found here named. join_view id (slot_at threads k) h here named (reclaimable_found id k threads h fits found here)))
-  named_first (action.CancelJoin id) fits =
-      ap (with_rows rows) (on_named_view id (λ t. t) (with_change (with_joiner 0)) threads placed (λ t other. refl)
-      (λ k h found here named i. record { made = (slot_at threads k).made; here = joiner_here 0 (held_at threads k) i }))
   named_first (action.Request id) fits =
       ap (with_rows rows) (on_named_view id (named_after (action.Request id)) (with_change held_requested) threads placed (request_stays id)
       (λ k h found here named. request_view id (slot_at threads k) h here named))
@@ -234,9 +223,9 @@ named_commutes (action.DeleteKey k) own t = refl
 named_commutes _ own t = refl
 
 -- what is kept of a table, with its rows, after an action that may name a thread, or a key
-pub named_view : (rows : List KeyValues) (slot : ℕ) (a : Action) (threads : List Slot) → length rows ≡ length threads → AreOnTheirSlots threads → NameFits slot a threads
-    → with_rows (map (named_row a) rows) (map open_view (named_on slot a threads)) ≡ map (laws.with_change (named_after a)) (with_rows rows (map open_view threads))
-named_view rows slot a threads fit placed fits =
-    named_first (map (named_row a) rows) slot threads (length-map rows (named_row a) ∙ fit) placed a fits
+pub named_view : (rows : List KeyValues) (a : Action) (threads : List Slot) → length rows ≡ length threads → AreOnTheirSlots threads → NameFits a threads
+    → with_rows (map (named_row a) rows) (map open_view (named_on a threads)) ≡ map (laws.with_change (named_after a)) (with_rows rows (map open_view threads))
+named_view rows a threads fit placed fits =
+    named_first (map (named_row a) rows) threads (length-map rows (named_row a) ∙ fit) placed a fits
     ∙ ap (with_rows (map (named_row a) rows)) (sym (change_of_open (named_after a) (named_keeps a) threads))
     ∙ changed_rows (named_after a) (named_row a) (named_commutes a) rows (map open_view threads) (fit ∙ sym (length-map threads open_view))

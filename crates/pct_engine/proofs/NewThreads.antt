@@ -21,10 +21,9 @@ use Rattle.pct_threads.specs.Tables.{slot_at, held_at, is_free_at, next_id_at}
 use Rattle.pct_threads.proofs.TableLemmas.{is_free_at-within}
 use Rattle.pct_engine_laws.specs.Seen.{SeenSlot}
 use Rattle.pct_engine_laws.specs.SeenSteps.{is_empty, new_ids_from, answer_in}
-use Rattle.pct_engine_laws.proofs.OfferedChoices.{Creates, transition_makes}
+use Rattle.pct_engine_laws.proofs.WhatTransitionsMake.{Creates, transition_makes}
 use Rattle.pct_transitions.specs.ThreadViews.{threads_of, slot_view}
 use Rattle.pct_actions.specs.TableFits.{IsNext, NewFits}
-use Rattle.pct_engine.proofs.NamedFits.{each_among}
 
 -- ---- the ids that are offered
 
@@ -100,4 +99,4 @@ pub transition_new : (threads : List Slot) (passes : ℕ) (body : List Stmt) (sh
     → (choice : Alt) (next : NextStatement) (s : Status) → offers (choices_at shared.keys t others next s) choice ≡ true → NewFits (acts_or choice s (transition_at passes body shared t others choice next s)).created threads
 transition_new threads passes body shared t others next_fits choice next s offered =
     let P : ℕ → Type 0 = λ n. list_any (nat_eq n) others.new_ids ≡ true in
-    created_fits threads P _ next_fits (transition_makes P (λ n. Unit {0}) passes body shared t others choice (each_among others.new_ids) (λ i d inside. tt) next s offered).thread
+    created_fits threads P _ next_fits (transition_makes P (λ n. Unit {0}) passes body shared t others (λ n among. among) (λ k among. tt) choice next s offered).thread

@@ -7,8 +7,8 @@ use Rattle.pct_model.specs.declared.transition.Action.{Action}
 use Rattle.pct_model.specs.declared.transition.Action.TheVariants as action
 use Rattle.pct_model.specs.ThreadSlots.{is_ended_status, holds_slot, slot_of}
 use Rattle.pct_model.specs.Actions.{for_each}
-use Rattle.pct_threads.specs.Slots.{Held, Slot, with_joiner, after_detach, after_change, with_change, freed}
-use Rattle.pct_threads.specs.Tables.{slot_at, held_at, id_at, on_slot}
+use Rattle.pct_threads.specs.Slots.{Held, Slot, after_detach, after_change, with_change, freed}
+use Rattle.pct_threads.specs.Tables.{slot_at, held_at, on_slot}
 use Rattle.pct_threads.proofs.TableLemmas.{length-on_slot}
 use Rattle.pct_transitions.specs.ThreadViews.{thread_of}
 use Rattle.pct_actions.specs.MachineChanges.{held_requested, slot_named, on_named, named_on}
@@ -49,12 +49,6 @@ open_change slots slot k change threads inside keeps was =
 
 -- ---- the changes of named threads
 
-joiner_keeps : (joiner : ℕ) (o : Option Held) (h : Held) → option_map (with_joiner joiner) o ≡ Some h → ComesFrom o h
-joiner_keeps joiner None h is = absurd (none-some h is)
-joiner_keeps joiner (Some b) h is =
-    let same : with_joiner joiner b ≡ h = same_Some (with_joiner joiner b) h is in
-    record { before = b; here = refl; same_id = sym (ap (λ (x : Held). x.id) same); holds = λ holds. sym (ap (λ (x : Held). holds_slot (thread_of x)) same) ∙ holds }
-
 request_by : (e : Bool) (b h : Held) → cond e b (record b { thread = record b.thread { cancel = record b.thread.cancel { pending = true } } }) ≡ h → ComesFrom (Some b) h
 request_by true b h same = record { before = b; here = refl; same_id = sym (ap (λ (x : Held). x.id) same); holds = λ holds. sym (ap (λ (x : Held). holds_slot (thread_of x)) same) ∙ holds }
 request_by false b h same = record { before = b; here = refl; same_id = sym (ap (λ (x : Held). x.id) same); holds = λ holds. sym (ap (λ (x : Held). holds_slot (thread_of x)) same) ∙ holds }
@@ -84,16 +78,14 @@ module _ (slots slot id : ℕ) (change : Slot → Slot) (threads : List Slot) wh
   named_open : KeepsHeld change → IsOpen slots slot threads → IsOpen slots slot (on_named id change threads)
   named_open keeps was = named_open_by (slot_named id threads) refl keeps was
 
-pub open_named : (slots slot : ℕ) (a : Action) (threads : List Slot) → IsOpen slots slot threads → IsOpen slots slot (named_on slot a threads)
+pub open_named : (slots slot : ℕ) (a : Action) (threads : List Slot) → IsOpen slots slot threads → IsOpen slots slot (named_on a threads)
 unfolding named_on
-open_named slots slot (action.BeginJoin id) threads was = named_open slots slot id (with_change (with_joiner (id_at threads slot))) threads (λ s. joiner_keeps (id_at threads slot) s.here) was
 open_named slots slot (action.EndJoin id) threads was = named_open slots slot id freed threads (λ s h is. absurd (none-some h is)) was
-open_named slots slot (action.CancelJoin id) threads was = named_open slots slot id (with_change (with_joiner 0)) threads (λ s. joiner_keeps 0 s.here) was
 open_named slots slot (action.Request id) threads was = named_open slots slot id (with_change held_requested) threads (λ s. request_keeps s.here) was
 open_named slots slot (action.Detach id) threads was = named_open slots slot id (after_change after_detach) threads (λ s. detach_keeps s.here) was
 open_named slots slot _ threads was = was
 
 -- all actions
-pub open_all : (slots slot : ℕ) (actions : List Action) (threads : List Slot) → IsOpen slots slot threads → IsOpen slots slot (for_each (named_on slot) actions threads)
+pub open_all : (slots slot : ℕ) (actions : List Action) (threads : List Slot) → IsOpen slots slot threads → IsOpen slots slot (for_each named_on actions threads)
 open_all slots slot [] threads was = was
-open_all slots slot (a ∷ actions) threads was = open_all slots slot actions (named_on slot a threads) (open_named slots slot a threads was)
+open_all slots slot (a ∷ actions) threads was = open_all slots slot actions (named_on a threads) (open_named slots slot a threads was)

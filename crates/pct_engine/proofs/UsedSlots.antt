@@ -58,7 +58,7 @@ slots_moved slot o m new occupied moved =
     subst (λ (threads : List Slot). HeldOrCreated old threads o.created) (sym after) (held_or_created o.created old (settled slot (after_names slot o old)) (follows_moved slot o old (within-occupied old slot occupied)))
   where
     threads_are : (machine_moved slot o m).threads ≡ with_new o.created (settled slot (after_names slot o m.threads))
-    threads_are = ap (λ (threads : List Slot). with_new o.created (settled slot (for_each (named_on slot) o.actions threads))) (acted_threads slot o m)
+    threads_are = ap (λ (threads : List Slot). with_new o.created (settled slot (for_each named_on o.actions threads))) (acted_threads slot o m)
 
 -- the slots that cover the threads after a step
 pub covers_after : (used next : List ℕ) (old new : List Slot) (made : Option NewThread) → Covers used old → HeldOrCreated old new made

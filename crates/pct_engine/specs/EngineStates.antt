@@ -11,7 +11,6 @@ use Rattle.pct_model.specs.Laws.{Laws}
 use Rattle.pct_model.specs.Run.{Run, run, verdict_of}
 use Rattle.pct_engine_laws.specs.Seen.{seen}
 use Rattle.pct_engine_laws.specs.RunLaws.{IsLegalWhileOpen}
-use Rattle.pct_transitions.specs.Joiners.{HaveJoiners}
 use Rattle.pct_actions.specs.declared.machine.Machine.{Machine}
 use Rattle.pct_actions.specs.TableFits.{HasRows}
 use Rattle.pct_engine.specs.Views.{machine_view}
@@ -24,15 +23,14 @@ pub record EngineValue : Type 0 where
 
 -- ---- what its parts are
 
--- the run of the history is defined, the events are those of the run, the machine has what is kept of its state, each slot has a
--- row of thread-specific data, and the joiner of each thread is the one that is suspended in pthread_join for it
+-- the run of the history is defined, the events are those of the run, the machine has what is kept of its state, and each slot has a
+-- row of thread-specific data
 pub record StandsFor (script : Script) (config : Config) (history : List Entry) (events : List Event) (machine : Machine) : Type 0 where
   pub after : Run
   pub is_run : run script config history ≡ Some after
   pub events_are : reverse events ≡ after.events
   pub parts_are : machine_view script machine ≡ seen config.slots after.world
   pub rows_are : HasRows machine
-  pub joiners_are : HaveJoiners machine.threads
 
 -- the lengths and the capacities of the lists of entries and of events: there is room for `budget` entries, with three
 -- events each

@@ -53,7 +53,7 @@ pub record IsFound (m : Machine) (e : Entry) (slot : ℕ) (o : Transition) : Typ
   pub named : held.id ≡ e.tid
   pub fits : AllFit (length held.frames) (length held.thread.handlers) held.thread.pass o.actions
   pub keys_fit : KeysFit slot o.actions m.keys
-  pub names : NamesFit slot o.actions (on_held slot (held_moved o) m.threads)
+  pub names : NamesFit o.actions (on_held slot (held_moved o) m.threads)
   pub created : NewFits o.created m.threads
 
 -- the step of a state to which the machine corresponds, with these events

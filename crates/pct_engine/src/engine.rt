@@ -4,7 +4,6 @@ ghost use Rattle.std.specs.Prelude.{◌≡◌, ◌↔◌, ◌*◌, ◌≤◌, tr
 ghost use Rattle.pct_model.specs.World.{opening};
 ghost use Rattle.pct_model.specs.Run.{is_config, run};
 ghost use Rattle.pct_engine_laws.specs.Seen.{seen};
-ghost use Rattle.pct_transitions.specs.Joiners.{HaveJoiners};
 ghost use Rattle.pct_actions.specs.TableFits.{HasRows};
 ghost use Rattle.pct_engine.specs.Views.{machine_view};
 ghost use Rattle.pct_engine.specs.EngineStates.{StandsFor, HasRoom};
@@ -169,7 +168,6 @@ impl Engine {
 fn opening(alloc: Global, script: &Script, config: Config) -> Result<Machine, NoMemory>
     requires { IsTrue (is_config config) }
     ensures view { IfOk result (λ machine. machine_view script.now machine ≡ seen config.slots (opening script.now)) }
-    ensures joiners { IfOk result (λ machine. HaveJoiners machine.threads) }
     ensures rows { IfOk result (λ machine. HasRows machine) }
 {
     let main = main_of(script.funcs.as_slice()) as u32;

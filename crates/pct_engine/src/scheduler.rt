@@ -11,8 +11,6 @@ ghost use Rattle.pct_threads.specs.Tables.{held_at, is_occupied_at};
 ghost use Rattle.pct_engine_laws.specs.SeenSteps.{others_in, seen_chosen, seen_verdict};
 ghost use Rattle.pct_transitions.specs.Listed.{listed, AreWithin};
 ghost use Rattle.pct_transitions.specs.Positions.{IsPosition};
-ghost use Rattle.pct_transitions.specs.Joiners.{HaveJoiners};
-ghost use Rattle.pct_transitions.specs.ThreadViews.{ArePlaced};
 ghost use Rattle.pct_transitions.specs.Answers.{IsAnswer, NumbersFit};
 ghost use Rattle.pct_actions.specs.TableFits.{HasRows};
 ghost use Rattle.pct_engine.specs.Views.{machine_thread, process_view, machine_view};
@@ -71,7 +69,6 @@ pub(crate) fn chosen(
     requires placed { ArePlacedIn program.now.config.slots machine.now }
     requires rows { HasRows machine.now }
     requires numbers { NumbersFitIn machine.now }
-    requires joiners { HaveJoiners machine.now.threads }
     ensures choice { IsSeenChoice program.now.script program.now.config (machine_view program.now.script machine.now) count worker a b result }
     ensures legal { worker ≤ MAX_WORKER
         → IfSome result (λ e. is_some (legal_transition program.now.script program.now.config (machine_view program.now.script machine.now) e) ≡ true) }
@@ -96,7 +93,6 @@ fn chosen_in(
     requires placed { ArePlacedIn program.now.config.slots machine.now }
     requires rows { HasRows machine.now }
     requires numbers { NumbersFitIn machine.now }
-    requires joiners { HaveJoiners machine.now.threads }
     ensures value { result ≡ seen_chosen program.now.script program.now.config.slots (machine_view program.now.script machine.now) worker a b }
     ensures legal { worker ≤ MAX_WORKER
         → IfSome result (λ e. is_some (legal_transition program.now.script program.now.config (machine_view program.now.script machine.now) e) ≡ true) }
@@ -131,10 +127,8 @@ fn chosen_slot(program: &Program, machine: &Machine, used: SlotSet, a: u32) -> O
 // The entry of a worker for the thread on a slot, by a number that chooses one of its choices.
 fn entry_on(program: &Program, machine: &Machine, slot: u32, worker: u32, b: u32) -> Option<Entry>
     requires occupied { is_occupied_at machine.now.threads slot ≡ true }
-    requires placed { ArePlaced (length machine.now.threads) machine.now.threads }
     requires rows { HasRows machine.now }
     requires numbers { NumbersFit machine.now.threads machine.now.keys }
-    requires joiners { HaveJoiners machine.now.threads }
     ensures { (held : Held) → held_at machine.now.threads slot ≡ Some held → result ≡ entry_for worker b (candidate_of program.now.script machine.now (machine_thread machine.now slot held)) }
 {
     let choices = choices_on(program, machine, slot);
@@ -204,9 +198,7 @@ fn has_choice(program: &Program, machine: &Machine, slot: u32) -> bool
 // The choices of the thread on a slot.
 fn choices_on(program: &Program, machine: &Machine, slot: u32) -> Choices
     requires occupied { is_occupied_at machine.now.threads slot ≡ true }
-    requires placed { ArePlaced (length machine.now.threads) machine.now.threads }
     requires rows { HasRows machine.now }
-    requires joiners { HaveJoiners machine.now.threads }
     ensures value { (held : Held) → held_at machine.now.threads slot ≡ Some held → listed machine.now.threads machine.now.keys result ≡ choices_of program.now.script machine.now (machine_thread machine.now slot held) }
     ensures within { AreWithin (length machine.now.threads) result }
 {
@@ -217,8 +209,6 @@ fn choices_on(program: &Program, machine: &Machine, slot: u32) -> Choices
 // What the next step of a thread of a machine in this position depends on, of the other threads.
 #[inline(always)]
 fn others_of(machine: &Machine, position: &Position) -> Others
-    requires placed { ArePlaced (length machine.now.threads) machine.now.threads }
-    requires joiners { HaveJoiners machine.now.threads }
     ensures value { (script : Script) (t : Thread) → IsPosition script position.now t → IsAnswer machine.now.threads result (others_in script (length machine.now.threads) (process_view script machine.now) t) }
     ensures within { All (λ s. s < length machine.now.threads) result.free }
 {

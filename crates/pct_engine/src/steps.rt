@@ -3,7 +3,6 @@
 ghost use Rattle.std.specs.Prelude.{◌≡◌, ◌<◌, Some, None, true, IfSome, if◌then◌else◌, option_map};
 ghost use Rattle.pct_model.specs.World.{World};
 ghost use Rattle.pct_engine_laws.specs.Seen.{seen};
-ghost use Rattle.pct_transitions.specs.Joiners.{HaveJoiners};
 ghost use Rattle.pct_actions.specs.TableFits.{HasRows};
 ghost use Rattle.pct_engine.specs.Views.{machine_view};
 ghost use Rattle.pct_engine.specs.UsedSlots.{HeldOrCreated};
@@ -26,11 +25,9 @@ pub(crate) fn step(
     requires placed { ArePlacedIn program.now.config.slots machine.old }
     requires rows { HasRows machine.old }
     requires numbers { NumbersFitIn machine.old }
-    requires joiners { HaveJoiners machine.old.threads }
     ensures step { (w : World) → machine_view program.now.script machine.old ≡ seen program.now.config.slots w
         → StepsBy program.now.script program.now.config w machine.old machine.new entry (if result then Some transition.new.events else None) }
     ensures slots { result ≡ true → HeldOrCreated machine.old.threads machine.new.threads transition.new.created }
-    ensures joiners { HaveJoiners machine.new.threads }
     ensures rows { HasRows machine.new }
 {
     let Some(slot) = transition_of(program, machine, entry, transition) else {
@@ -51,7 +48,6 @@ fn transition_of(
     requires placed { ArePlacedIn program.now.config.slots machine.now }
     requires rows { HasRows machine.now }
     requires numbers { NumbersFitIn machine.now }
-    requires joiners { HaveJoiners machine.now.threads }
     ensures found { IfSome result (λ slot. IsFound machine.now entry slot transition.new) }
     ensures value { legal_transition program.now.script program.now.config (machine_view program.now.script machine.now) entry ≡ option_map (λ slot. transition.new) result }
 {

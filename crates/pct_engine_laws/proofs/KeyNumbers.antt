@@ -13,7 +13,7 @@ use Rattle.pct_model.specs.declared.transition.Action.TheVariants as action
 use Rattle.pct_model.specs.Keys.{Key, KeyPlace, no_keys, KeyValues, key_place, key_at, next_key, number_at, free_places, new_keys, on_place, left_places, left_keys}
 use Rattle.pct_model.specs.World.{SharedState}
 use Rattle.pct_model.specs.Actions.{shared_after, for_each}
-use Rattle.pct_engine_laws.proofs.OfferedChoices.{makes_key, Makes, FirstMakes}
+use Rattle.pct_engine_laws.proofs.WhatTransitionsMake.{makes_key, Makes, FirstMakes}
 
 -- fewer than n keys were ever made on a place, and the number of the key on it is limited by n
 pub record HasFewOn (n : ℕ) (p : KeyPlace) : Type 0 where

@@ -11,7 +11,7 @@ pub mod OpeningSeen
 pub mod PlacedThreads
 pub mod LongerRuns
 pub mod OpenRuns
-pub mod OfferedChoices
+pub mod WhatTransitionsMake
 pub mod KeyNumbers
 pub mod RunNumbers
 pub mod FewThreads

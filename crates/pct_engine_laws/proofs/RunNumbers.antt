@@ -1,8 +1,8 @@
 -- The numbers of a run that is limited in its entries: of its threads and keys, and those in its entries.
-use Rattle.std.proofs.Common.{◌≡◌, ℕ, ◌+◌, ◌*◌, ◌<◌, ◌≤◌, Bool, true, false, not, ◌&&◌, cond, List, [], ◌∷◌, length, map, filter, count_by, get_or, Option, Some, None, refl, sym, ap, ◌∙◌, subst, arith, length-append, zero-add, eqb-true}
+use Rattle.std.proofs.Common.{◌≡◌, ℕ, ◌+◌, ◌*◌, ◌<◌, ◌≤◌, Bool, true, false, not, ◌&&◌, cond, List, [], ◌∷◌, length, map, filter, count_by, get_or, Option, Some, None, inl, inr, refl, sym, ap, ◌∙◌, subst, arith, length-append, zero-add, eqb-true}
 use Rattle.std.specs.Prelude.{All, nat_eq, nat_le, is_none, find, option_map, option_and_then}
-use Rattle.std.specs.List.{range_with_len}
-use Rattle.std.proofs.lemmas.Bool.{and_parts, leb-true}
+use Rattle.std.specs.List.{list_any, range_with_len}
+use Rattle.std.proofs.lemmas.Bool.{false≢true, and_parts, or_cases, leb-true}
 use Rattle.std.proofs.lemmas.List.{length-map}
 use Rattle.std.proofs.lemmas.List.Elements.{All-nil, All-cons, All-head, All-tail, All-append, All-map, All-weaker, All-filter, All-from_get_or}
 use Rattle.std.proofs.lemmas.List.FromFn.{length-range_with_len, get_or-range_with_len}
@@ -17,16 +17,17 @@ use Rattle.pct_model.specs.declared.schedule.Alt.{Alt}
 use Rattle.pct_model.specs.declared.schedule.Alt.TheVariants as alt
 use Rattle.pct_model.specs.declared.schedule.Config.{Config}
 use Rattle.pct_model.specs.declared.schedule.Entry.{Entry}
+use Rattle.pct_model.specs.declared.state.Status.{Status}
 use Rattle.pct_model.specs.declared.transition.Action.{Action}
 use Rattle.pct_model.specs.declared.transition.Action.TheVariants as action
 use Rattle.pct_model.specs.declared.transition.NewThread.{NewThread}
 use Rattle.pct_model.specs.declared.transition.Transition.{Transition}
-use Rattle.pct_model.specs.Keys.{KeyPlace}
+use Rattle.pct_model.specs.Keys.{KeyPlace, new_keys, left_keys}
 use Rattle.pct_model.specs.World.{Thread, Process, World, first_process, opening}
 use Rattle.pct_model.specs.Actions.{shared_after, process_after, has_ended, other_process_after, for_each, thread_moved, thread_created, threads_moved, changed, is_live_process, after_transition}
 use Rattle.pct_model.specs.ChoiceTable.{choices_of, offers}
-use Rattle.pct_model.specs.NextStatement.{next_of, body_at}
-use Rattle.pct_model.specs.OtherThreads.{query_at, answer_to, others_of}
+use Rattle.pct_model.specs.NextStatement.{NextStatement, next_of, body_at}
+use Rattle.pct_model.specs.OtherThreads.{Others, query_at, answer_to, others_of}
 use Rattle.pct_model.specs.ThreadSlots.{holds_slot, is_on, is_free, next_id, free_ids, is_live_thread, with_id}
 use Rattle.pct_model.specs.TransitionTable.{transition_by}
 use Rattle.pct_model.specs.Step.{Successor, if_offered, step, transition_of}
@@ -34,9 +35,10 @@ use Rattle.pct_model.specs.Run.{Run, run_step, run_from, run}
 use Rattle.pct_engine_laws.specs.RunNumbers.{IsChoiceWithin, IsEntryWithin}
 use Rattle.pct_engine_laws.proofs.LongerRuns.{run_parts, run_step-is, run_after}
 use Rattle.pct_engine_laws.proofs.KeyNumbers.{HasFewOn, new_keys_within, left_keys_within, few_keys_more, few_keys_after, no_keys_few}
-use Rattle.pct_engine_laws.proofs.OfferedChoices.{offered_has, each_choice, Creates, MakesWith, transition_makes}
+use Rattle.pct_engine_laws.proofs.WhatTransitionsMake.{Creates, MakesWith, transition_makes}
 use Rattle.pct_engine_laws.proofs.StepSeen.{successor_of, may_step}
 use Rattle.pct_engine_laws.proofs.ThreadChanges.{transition_keeps}
+use Rattle.pct_transition_cases.proofs.OfferedChoices.{Offered, may_go, may_act, may_create, may_make_key, may_destroy, offered_of}
 
 -- ---- the numbers of a process
 
@@ -77,6 +79,24 @@ unfolding answer_to
 asked_within slots tid n threads query.NewIds few within = free_within slots n threads few within
 asked_within slots tid n threads _ few within = All-nil (λ (id : ℕ). id ≤ 64 + 64 * n)
 
+-- ---- the numbers of a choice
+
+-- what all numbers have, one among them has
+all_among : (P : ℕ → Type 0) (n : ℕ) (numbers : List ℕ) → All P numbers → list_any (nat_eq n) numbers ≡ true → P n
+all_among P n [] all among = absurd (false≢true among)
+all_among P n (k ∷ numbers) all among = elim (or_cases (nat_eq n k) (list_any (nat_eq n) numbers) among) [
+  | inl here ↦ subst P (sym (eqb-true n k here)) (All-head P k numbers all)
+  | inr later ↦ all_among P n numbers (All-tail P k numbers all) later
+]
+
+case_within : (limit : ℕ) (keys : List KeyPlace) (t : Thread) (others : Others) → All (λ (n : ℕ). n ≤ limit) others.new_ids → All (λ (n : ℕ). n ≤ limit) (new_keys keys) → All (λ (n : ℕ). n ≤ limit) (left_keys keys t.specific)
+    → {next : NextStatement} {s : Status} {choice : Alt} → Offered keys t others next s choice → IsChoiceWithin limit choice
+case_within limit keys t others ids made left (may_go next s alive) = tt
+case_within limit keys t others ids made left (may_act next s alive enabled) = omega arith
+case_within limit keys t others ids made left (may_create frame result id f v detached n among) = all_among (λ (k : ℕ). k ≤ limit) n others.new_ids ids among
+case_within limit keys t others ids made left (may_make_key frame result key destructor n among) = all_among (λ (k : ℕ). k ≤ limit) n (new_keys keys) made among
+case_within limit keys t others ids made left (may_destroy next k none among) = all_among (λ (n : ℕ). n ≤ limit) k (left_keys keys t.specific) left among
+
 module _ (script : Script) (config : Config) (p : Process) (t : Thread) (choice : Alt) (n : ℕ) (slots : config.slots ≤ 64) (has : HasFew n p.pid p.threads p.shared.keys) (offered : offers (choices_of script config p t) choice ≡ true) where
   ids_within : All (λ (id : ℕ). id ≤ 64 + 64 * n) (others_of script config p t).new_ids
   ids_within = asked_within config.slots t.id n p.threads (query_at p.shared (next_of script t.frames) t.status) slots has.few
@@ -84,17 +104,17 @@ module _ (script : Script) (config : Config) (p : Process) (t : Thread) (choice 
   -- a choice that the thread is offered
   choice_within : IsChoiceWithin (128 + 128 * n) choice
   choice_within =
-      let others = others_of script config p t in
-      offered_has (IsChoiceWithin (128 + 128 * n)) (choices_of script config p t) choice
-      (each_choice (IsChoiceWithin (128 + 128 * n)) tt (omega arith) p.shared.keys t others
-      (All-weaker (λ (id : ℕ). id ≤ 64 + 64 * n) (λ id. id ≤ 128 + 128 * n) (λ id small. omega (arith, small)) others.new_ids ids_within)
-      (new_keys_within n p.shared.keys has.keys_few) (left_keys_within n p.shared.keys has.keys_few t.specific)
-      (next_of script t.frames) t.status) offered
+      let more : All (λ (id : ℕ). id ≤ 128 + 128 * n) (others_of script config p t).new_ids = All-weaker (λ (id : ℕ). id ≤ 64 + 64 * n) (λ id. id ≤ 128 + 128 * n) (λ id small. omega (arith, small)) (others_of script config p t).new_ids ids_within in
+      case_within (128 + 128 * n) p.shared.keys t (others_of script config p t) more (new_keys_within n p.shared.keys has.keys_few) (left_keys_within n p.shared.keys has.keys_few t.specific)
+      (offered_of p.shared.keys t (others_of script config p t) choice (next_of script t.frames) t.status offered)
 
   -- what its transition makes
   made_within : MakesWithin n (transition_by script config p t choice)
   made_within =
-      transition_makes (λ id. id ≤ 64 + 64 * n) (λ k. k ≤ 128 + 128 * n) config.passes (body_at script t.frames) p.shared t (others_of script config p t) choice ids_within (new_keys_within n p.shared.keys has.keys_few) (next_of script t.frames) t.status offered
+      transition_makes (λ id. id ≤ 64 + 64 * n) (λ k. k ≤ 128 + 128 * n) config.passes (body_at script t.frames) p.shared t (others_of script config p t)
+      (λ id among. all_among (λ (i : ℕ). i ≤ 64 + 64 * n) id (others_of script config p t).new_ids ids_within among)
+      (λ k among. all_among (λ (i : ℕ). i ≤ 128 + 128 * n) k (new_keys p.shared.keys) (new_keys_within n p.shared.keys has.keys_few) among)
+      choice (next_of script t.frames) t.status offered
 
 -- ---- a process after a transition
 

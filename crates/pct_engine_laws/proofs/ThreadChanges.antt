@@ -88,7 +88,7 @@ then_keeps f g first second = record {
 -- an action keeps the id of its thread
 pub action_keeps_id : (a : Action) (t : Thread) → (thread_after a t).id ≡ t.id
 unfolding thread_after
-action_keeps_id (action.SetLocal i v) t = refl
+action_keeps_id (action.Write d v) t = refl
 action_keeps_id _ t = refl
 
 actions_keep_id : (actions : List Action) (t : Thread) → (for_each thread_after actions t).id ≡ t.id

@@ -5,6 +5,8 @@ use Rattle.std.specs.Prelude.{ℕ, suc, Bool, true, not, ◌&&◌, ◌||◌, if�
 use Rattle.pct_model.specs.declared.frame.Frame.{Frame}
 use Rattle.pct_model.specs.declared.state.FrameKind.TheVariants.{Start}
 use Rattle.pct_model.specs.declared.state.Status.TheVariants.{Running, AtPoint, Joining, Ending, Exiting, Ended}
+use Rattle.pct_model.specs.declared.statement.Dest.{Dest}
+use Rattle.pct_model.specs.declared.statement.Dest.TheVariants as destination
 use Rattle.pct_model.specs.declared.stop.Why.{Why}
 use Rattle.pct_model.specs.declared.transition.Action.{Action}
 use Rattle.pct_model.specs.declared.transition.Action.TheVariants as action
@@ -27,6 +29,11 @@ abbrev pub set_local : ℕ → ℕ → List Frame → List Frame
 set_local i v [] = []
 set_local i v (frame ∷ below) = record frame { locals = slice_set frame.locals i v } ∷ below
 
+-- the frames with a value that is written to a destination, if it is a local of the top one
+abbrev pub frames_written : Dest → ℕ → List Frame → List Frame
+frames_written (destination.Local i) v frames = set_local i v frames
+frames_written _ v frames = frames
+
 -- a list without its first item
 abbrev pub without_first : {T : Type 0} → List T → List T
 without_first [] = []
@@ -39,7 +46,7 @@ thread_at (Some pc) t = record t { status = Running; frames = at_pc pc t.frames 
 
 -- the thread after an action
 unfoldable pub thread_after : Action → Thread → Thread
-thread_after (action.SetLocal i v) t = record t { frames = set_local i v t.frames }
+thread_after (action.Write d v) t = record t { frames = frames_written d v t.frames }
 thread_after (action.Call f a kind) t = record t { status = Running; frames = new_frame f a kind ∷ t.frames }
 thread_after (action.CallAlone f a kind) t = record t { status = Running; frames = new_frame f a kind ∷ [] }
 thread_after (action.Leave status) t = record t { status = status; frames = without_first t.frames }
@@ -78,9 +85,14 @@ thread_created (Some new) = new_thread new.id new.detached (new_frame new.func n
 
 -- ---- its process
 
+-- the globals with a value that is written to a destination, if it is one of them
+abbrev pub globals_written : Dest → ℕ → List ℕ → List ℕ
+globals_written (destination.Global i) v globals = slice_set globals i v
+globals_written _ v globals = globals
+
 -- the shared state after an action
 unfoldable pub shared_after : Action → SharedState → SharedState
-shared_after (action.SetGlobal i v) s = record s { globals = slice_set s.globals i v }
+shared_after (action.Write d v) s = record s { globals = globals_written d v s.globals }
 shared_after (action.MakeKey k destructor) s = record s { keys = with_key (key_place k) k destructor s.keys }
 shared_after (action.DeleteKey k) s = record s { keys = without_key (key_place k) s.keys }
 shared_after (action.BeginExit v) s = record s { exit_value = Some v }

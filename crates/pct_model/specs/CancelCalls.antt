@@ -7,6 +7,7 @@ use Rattle.pct_model.specs.declared.point.PointKind.{PointKind}
 use Rattle.pct_model.specs.declared.point.PointKind.TheVariants as kinds
 use Rattle.pct_model.specs.declared.point.PointWait.{PointWait}
 use Rattle.pct_model.specs.declared.point.PointWait.TheVariants as wait
+use Rattle.pct_model.specs.declared.point.TheConstants.{TESTCANCEL_POINT}
 use Rattle.pct_model.specs.declared.state.Mode.{Mode}
 use Rattle.pct_model.specs.declared.state.Mode.TheVariants.{Deferred, Asynchronous}
 use Rattle.pct_model.specs.declared.state.Reason.TheVariants.{Canceled}
@@ -22,7 +23,7 @@ use Rattle.pct_model.specs.declared.transition.Transition.{Transition}
 use Rattle.pct_model.specs.NextStatement.{NextStatement, StatementIn}
 use Rattle.pct_model.specs.Points.{point_at}
 use Rattle.pct_model.specs.ThreadCalls.{join_point}
-use Rattle.pct_model.specs.Transitions.{goes_on, acts, no_change, written}
+use Rattle.pct_model.specs.Transitions.{goes_on, acts, no_change}
 
 -- ---- pthread_cancel
 
@@ -54,17 +55,17 @@ mode_if false = Deferred
 
 -- pthread_setcancelstate, in a thread with a state: the previous state is written to `old`
 unfoldable pub sets_state : ℕ → Bool → Dest → State → Transition
-sets_state next enable old state = goes_on next (action.SetState (state_if enable) ∷ written old (state_number state)) (what.StateSet enable ∷ [])
+sets_state next enable old state = goes_on next (action.SetState (state_if enable) ∷ action.Write old (state_number state) ∷ []) (what.StateSet enable ∷ [])
 
 -- pthread_setcanceltype, in a thread with a type: the previous type is written to `old` (XSH pthread_setcancelstate)
 unfoldable pub sets_mode : ℕ → Bool → Dest → Mode → Transition
-sets_mode next asynchronous old mode = goes_on next (action.SetMode (mode_if asynchronous) ∷ written old (mode_number mode)) (what.ModeSet asynchronous ∷ [])
+sets_mode next asynchronous old mode = goes_on next (action.SetMode (mode_if asynchronous) ∷ action.Write old (mode_number mode) ∷ []) (what.ModeSet asynchronous ∷ [])
 
 -- ---- cancellation points
 
 -- the index of pthread_testcancel in the table of cancellation points
 abbrev pub testcancel_point : ℕ
-testcancel_point = 23
+testcancel_point = TESTCANCEL_POINT
 
 -- pthread_testcancel, where no request is acted upon: the thread goes on
 unfoldable pub tests_cancel : ℕ → Transition

@@ -21,13 +21,12 @@ use Rattle.pct_model.specs.LineParsing.{is_empty}
 use Rattle.pct_model.specs.NextStatement.{NextStatement, StatementIn, next_of}
 use Rattle.pct_model.specs.Once.{is_pair}
 use Rattle.pct_model.specs.OpenPushes.{open_pushes}
-use Rattle.pct_model.specs.OwnEvents.{made_process, thread_with, made_thread}
 use Rattle.pct_model.specs.StopTable.{has_begun_to_end}
 use Rattle.pct_model.specs.ThreadCalls.{join_point}
 use Rattle.pct_model.specs.ThreadNumbers.{NumbersThreads}
 use Rattle.pct_model.specs.ThreadSlots.{is_ended_status}
 use Rattle.pct_model.specs.ThreadSummary.{ThreadSummary, summary_of}
-use Rattle.pct_model.specs.World.{Thread, Process, World, body_of}
+use Rattle.pct_model.specs.World.{Thread, Process, World, made_process, thread_with, made_thread, body_of}
 
 -- ---- handlers
 
@@ -108,7 +107,34 @@ abbrev pub is_call_of : ℕ → NextStatement → Bool
 is_call_of index (StatementIn frame (statement.PointCall i)) = nat_eq i index && is_required (point_kind index)
 is_call_of index _ = false
 
+-- a thread with this status and these frames has begun to end and does not exit its process: it is Ending or Ended, or its bottom
+-- frame is that of a handler or of a destructor
+abbrev pub is_ending : Status → List Frame → Bool
+is_ending st frames = is_ending_status st || option_map_or is_end_kind (bottom_kind frames) false
+
+-- ---- thread-specific data
+
+-- the key is on a place
+abbrev pub IsOn : List KeyPlace → ℕ → Key → Type 0
+IsOn keys place key = key_at keys place ≡ Some key
+
+-- the place is in the current pass of a thread over the destructors
+abbrev pub IsInPass : ℕ → Thread → Type 0
+IsInPass place t = slice_get t.specific.in_pass place ≡ Some true
+
+-- a thread has no value at a place, and the place is not in its pass
+abbrev pub IsEmptyAt : ℕ → Thread → Type 0
+IsEmptyAt place t = (value_at place t.specific ≡ 0) × ¬ (IsInPass place t)
+
+-- the destructor of a key was called in a pass of a thread
+abbrev pub was_destroyed : ℕ → Key → ThreadSummary → Bool
+was_destroyed pass key s = list_any (is_pair pass key.number) s.destroyed
+
 -- ---- threads
+
+-- the index is that of a function of the script
+abbrev pub IsFunction : Script → ℕ → Type 0
+IsFunction script func = func < length script.funcs
 
 -- a thread of a process with these keys, and what the events so far report of it
 pub record ThreadKept (script : Script) (keys : List KeyPlace) (t : Thread) (s : ThreadSummary) : Type 0 where
@@ -126,19 +152,18 @@ pub record ThreadKept (script : Script) (keys : List KeyPlace) (t : Thread) (s :
   -- were open at its ending event and have not run (XSH pthread_cleanup_push, 2.9.5.3)
   pub pushes : s.exiting ≡ false → AreOpen (open_functions script t.frames) t.handlers s.left
   -- the function of each handler is one of the script
-  pub functions : All (λ (handler : ℕ × ℕ). handler.0 < length script.funcs) t.handlers
+  pub functions : All (λ (handler : ℕ × ℕ). IsFunction script handler.0) t.handlers
   -- the pc of each frame is that of a statement of its function
   pub places : All (λ (frame : Frame). frame.pc < length (body_of script frame.func)) t.frames
   -- it has no frame exactly if it is Ending, Exiting or Ended
   pub frames : is_empty t.frames ≡ has_no_frame t.status
   -- its bottom frame is that of `main`, of a start routine, of a handler, a destructor or an exit function, and no other is
   pub bottom : HasOneBottom t.frames
-  -- unless it exits its process, it has a reason exactly if it is Ending or Ended, or its bottom frame is that of a handler or of a
-  -- destructor
-  pub has_reason : s.exiting ≡ false → has_begun_to_end t.reason ≡ (is_ending_status t.status || option_map_or is_end_kind (bottom_kind t.frames) false)
-  -- it has begun to exit its process exactly if it is Exiting, or runs an exit function and has no other frame; no other thread has
-  -- such a frame
+  -- unless it exits its process, it has a reason exactly if it is ending
+  pub has_reason : s.exiting ≡ false → has_begun_to_end t.reason ≡ is_ending t.status t.frames
+  -- it has begun to exit its process exactly if it is Exiting, or runs an exit function and has no other frame
   pub exiting : s.exiting ≡ is_exiting t.status t.frames
+  -- unless it exits its process, none of its frames is that of an exit function
   pub exit_functions : s.exiting ≡ false → list_any (λ (frame : Frame). is_exit_kind frame.kind) t.frames ≡ false
   -- a thread that has a reason has its cancelability disabled (XSH 2.9.5.3), and so has one that exits its process, by a choice of
   -- this host
@@ -149,21 +174,45 @@ pub record ThreadKept (script : Script) (keys : List KeyPlace) (t : Thread) (s :
   pub at_point : (index : ℕ) → t.status ≡ status.AtPoint index → is_call_of index (next_of script t.frames) ≡ true
   -- the number of its passes over destructors
   pub passes : s.passes ≡ t.pass
-  -- the destructor of a key whose place is in the current pass was not called in it
-  pub not_destroyed : (place : ℕ) (key : Key) → slice_get t.specific.in_pass place ≡ Some true → key_at keys place ≡ Some key → list_any (is_pair t.pass key.number) s.destroyed ≡ false
+  -- the destructor of a key whose place is in the current pass was not called in it (XSH pthread_key_create)
+  pub not_destroyed : (place : ℕ) (key : Key) → IsInPass place t → IsOn keys place key → was_destroyed t.pass key s ≡ false
   -- at a place without a key it has no value, and the place is not in its pass
-  pub no_key : (place : ℕ) → key_at keys place ≡ None → (value_at place t.specific ≡ 0) × (slice_get t.specific.in_pass place ≢ Some true)
+  pub no_key : (place : ℕ) → key_at keys place ≡ None → IsEmptyAt place t
   -- before the first pass no place is in a pass
   pub no_pass : t.pass ≡ 0 → All (λ in_pass. in_pass ≡ false) t.specific.in_pass
 
 -- ---- keys
 
--- the keys of a process: the key on a place has the number of the last one that was made on it, and its destructor is a function of
--- the script
+-- the key has the number of the last key that was made on its place
+abbrev pub HasLastNumber : ℕ → KeyPlace → Key → Type 0
+HasLastNumber place p key = (0 < p.made) × (1 + place + MAX_KEYS * p.made ≡ key.number + MAX_KEYS)
+
+-- the keys of a process
 pub record KeysKept (script : Script) (keys : List KeyPlace) : Type 0 where
+  -- a process has MAX_KEYS places for keys
   pub places : length keys ≡ MAX_KEYS
-  pub numbers : (place : ℕ) (p : KeyPlace) (key : Key) → slice_get keys place ≡ Some p → p.key ≡ Some key → (0 < p.made) × (1 + place + MAX_KEYS * p.made ≡ key.number + MAX_KEYS)
-  pub destructors : (place : ℕ) (key : Key) (f : ℕ) → key_at keys place ≡ Some key → key.destructor ≡ Some f → f < length script.funcs
+  -- the key on a place is the last one that was made there
+  pub numbers : (place : ℕ) (p : KeyPlace) (key : Key) → slice_get keys place ≡ Some p → p.key ≡ Some key → HasLastNumber place p key
+  -- its destructor is a function of the script
+  pub destructors : (place : ℕ) (key : Key) (f : ℕ) → IsOn keys place key → key.destructor ≡ Some f → IsFunction script f
+
+-- ---- each process, each thread
+
+-- the fact is true of each process that was made
+abbrev pub EachProcess : World → (ℕ → Process → Type 0) → Type 0
+EachProcess w Is = (pid : ℕ) (p : Process) → made_process pid w ≡ Some p → Is pid p
+
+-- the fact is true of each thread of a process that was made and is not gone
+abbrev pub EachThreadOf : Process → (ℕ → Thread → Type 0) → Type 0
+EachThreadOf p Is = (tid : ℕ) (t : Thread) → thread_with tid p ≡ Some t → t.gone ≡ false → Is tid t
+
+-- the fact is true of each such thread of process pid of a state
+abbrev pub EachThreadIn : ℕ → World → (ℕ → Thread → Type 0) → Type 0
+EachThreadIn pid w Is = (tid : ℕ) (t : Thread) → made_thread pid tid w ≡ Some t → t.gone ≡ false → Is tid t
+
+-- the fact is true of each such thread of each process of a state
+abbrev pub EachThread : World → (ℕ → ℕ → Thread → Type 0) → Type 0
+EachThread w Is = (pid : ℕ) → EachThreadIn pid w (Is pid)
 
 -- ---- joins
 
@@ -178,10 +227,19 @@ pub record Joins (pid tid id : ℕ) (w : World) (events : List Event) : Type 0 w
   pub other : id ≢ tid
   pub not_joined : target.joined ≡ false
   pub joinable : target.detached ≡ false
-  -- no second thread joins it
-  pub alone : (second : ℕ) (u : Thread) → made_thread pid second w ≡ Some u → u.gone ≡ false → u.status ≡ status.Joining id → second ≡ tid
+  -- no other thread of the process is suspended in pthread_join for it
+  pub alone : EachThreadIn pid w (λ second u. u.status ≡ status.Joining id → second ≡ tid)
 
 -- ---- states
+
+-- a thread that has ended exits its process: the last thread of a process does so (XSH pthread_exit)
+pub record ExitsAfterItsEnd (t : Thread) (s : ThreadSummary) : Type 0 where
+  pub ended : t.ended ≡ true
+  pub exits : s.exiting ≡ true
+
+-- each thread of the process has ended
+abbrev pub HasOnlyEnded : Process → Type 0
+HasOnlyEnded p = EachThreadOf p (λ tid t. t.ended ≡ true)
 
 -- the state after a run, and the events of the run, newest first
 pub record Kept (script : Script) (config : Config) (w : World) (events : List Event) : Type 0 where
@@ -190,13 +248,13 @@ pub record Kept (script : Script) (config : Config) (w : World) (events : List E
   -- the threads that were made and are not gone are the known ones
   pub known : (pid tid : ℕ) → is_known pid tid events ≡ option_map_or (λ t. not t.gone) (made_thread pid tid w) false
   -- the keys of each process
-  pub keys : (pid : ℕ) (p : Process) → made_process pid w ≡ Some p → KeysKept script p.shared.keys
-  -- each thread that was made and is not gone
-  pub threads : (pid tid : ℕ) (p : Process) (t : Thread) → made_process pid w ≡ Some p → thread_with tid p ≡ Some t → t.gone ≡ false → ThreadKept script p.shared.keys t (summary_of pid tid events)
-  -- each is joined or detached if the events report so
-  pub joined : (pid tid : ℕ) (t : Thread) → made_thread pid tid w ≡ Some t → t.gone ≡ false → t.joined ≡ is_joined pid tid events
-  pub detached : (pid tid : ℕ) (t : Thread) → made_thread pid tid w ≡ Some t → t.gone ≡ false → t.detached ≡ is_detached pid tid events
-  -- each that is suspended in pthread_join
-  pub joins : (pid tid : ℕ) (t : Thread) → made_thread pid tid w ≡ Some t → t.gone ≡ false → (id : ℕ) → t.status ≡ status.Joining id → Joins pid tid id w events
-  -- if a thread that has ended exits its process, each thread of the process has ended (XSH pthread_exit)
-  pub last : (pid : ℕ) (p : Process) → made_process pid w ≡ Some p → (tid : ℕ) (t : Thread) → thread_with tid p ≡ Some t → t.gone ≡ false → t.ended ≡ true → (summary_of pid tid events).exiting ≡ true → (id : ℕ) (other : Thread) → thread_with id p ≡ Some other → other.gone ≡ false → other.ended ≡ true
+  pub keys : EachProcess w (λ pid p. KeysKept script p.shared.keys)
+  -- each thread of each process
+  pub threads : EachProcess w (λ pid p. EachThreadOf p (λ tid t. ThreadKept script p.shared.keys t (summary_of pid tid events)))
+  -- a thread is joined or detached exactly if the events report so
+  pub joined : EachThread w (λ pid tid t. t.joined ≡ is_joined pid tid events)
+  pub detached : EachThread w (λ pid tid t. t.detached ≡ is_detached pid tid events)
+  -- each thread that is suspended in pthread_join
+  pub joins : EachThread w (λ pid tid t. (id : ℕ) → t.status ≡ status.Joining id → Joins pid tid id w events)
+  -- if a thread exits its process after its own end, each thread of the process has ended (XSH pthread_exit)
+  pub last : EachProcess w (λ pid p. EachThreadOf p (λ tid t. ExitsAfterItsEnd t (summary_of pid tid events) → HasOnlyEnded p))

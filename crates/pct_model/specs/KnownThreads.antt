@@ -6,9 +6,13 @@ use Rattle.std.specs.List.{list_any}
 use Rattle.pct_model.specs.declared.event.Event.{Event}
 use Rattle.pct_model.specs.declared.event.What.{What}
 use Rattle.pct_model.specs.declared.event.What.TheVariants as what
-use Rattle.pct_model.specs.OwnEvents.{makes_process}
 
 -- ---- threads that are known
+
+-- the event is a fork that makes the process with an id
+abbrev pub makes_process : ℕ → What → Bool
+makes_process pid (what.Forked child) = nat_eq child pid
+makes_process pid _ = false
 
 -- the event creates the thread with an id
 abbrev pub creates_id : ℕ → What → Bool

@@ -36,10 +36,9 @@ pub mod TransitionTable
 pub mod Actions
 pub mod Step
 pub mod Run
-pub mod OwnEvents
 pub mod ThreadNumbers
-pub mod ThreadSummary
 pub mod KnownThreads
+pub mod ThreadSummary
 pub mod Once
 pub mod JoinLaw
 pub mod Laws

@@ -9,7 +9,7 @@ use Rattle.pct_model.specs.declared.state.FrameKind.TheVariants as kind
 use Rattle.pct_model.specs.declared.transition.Action.TheVariants as action
 use Rattle.pct_model.specs.declared.transition.Transition.{Transition}
 use Rattle.pct_model.specs.Jumps.{holds, is_while, close_of}
-use Rattle.pct_model.specs.Transitions.{goes_on, written}
+use Rattle.pct_model.specs.Transitions.{goes_on}
 
 -- `nop`, and each statement that only goes to a pc
 unfoldable pub jumps : ℕ → Transition
@@ -21,7 +21,7 @@ emits next v = goes_on next [] (Emit v ∷ [])
 
 -- `set`: a variable gets a value
 unfoldable pub sets : ℕ → Dest → ℕ → Transition
-sets next d v = goes_on next (written d v) []
+sets next d v = goes_on next (action.Write d v ∷ []) []
 
 -- the value of a variable; `-`, which the grammar does not allow here, has the value 0
 unfoldable pub variable_value : List ℕ → Frame → Dest → ℕ

@@ -5,9 +5,8 @@ use Rattle.std.specs.Option.{IsSomeAnd}
 use Rattle.pct_model.specs.declared.event.Event.{Event}
 use Rattle.pct_model.specs.declared.event.What.{What}
 use Rattle.pct_model.specs.declared.event.What.TheVariants as what
-use Rattle.pct_model.specs.World.{Thread, Process, World}
+use Rattle.pct_model.specs.World.{Thread, Process, World, made_process, made_thread}
 use Rattle.pct_model.specs.ThreadSlots.{is_on}
-use Rattle.pct_model.specs.OwnEvents.{made_process, made_thread}
 
 -- the process made after k others has the pid 1 + k
 abbrev pub HasProcessNumbers : World → Type 0

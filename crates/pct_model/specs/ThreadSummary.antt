@@ -7,7 +7,7 @@ use Rattle.pct_model.specs.declared.event.What.TheVariants as what
 use Rattle.pct_model.specs.declared.state.Reason.{Reason}
 use Rattle.pct_model.specs.declared.state.Reason.TheVariants as reason
 use Rattle.pct_model.specs.Actions.{without_first}
-use Rattle.pct_model.specs.OwnEvents.{makes_process}
+use Rattle.pct_model.specs.KnownThreads.{makes_process}
 
 -- what the events so far report of a thread
 pub record ThreadSummary : Type 0 where

@@ -1,13 +1,11 @@
 -- Transitions: what a thread does in one step, as data. ScriptStatements.antt, CleanupHandlers.antt, ThreadCalls.antt,
 -- CancelCalls.antt, KeyCalls.antt, ThreadEnds.antt and ProcessExit.antt give the transitions; Actions.antt gives what a transition changes.
 use Rattle.std.specs.Prelude.{ℕ, List, [], ◌∷◌, Some, None}
-use Rattle.pct_model.specs.declared.statement.Dest.{Dest}
-use Rattle.pct_model.specs.declared.statement.Dest.TheVariants as destination
 use Rattle.pct_model.specs.declared.event.What.{What}
 use Rattle.pct_model.specs.declared.event.What.TheVariants.{Stopped}
 use Rattle.pct_model.specs.declared.stop.Why.{Why}
 use Rattle.pct_model.specs.declared.transition.Action.{Action}
-use Rattle.pct_model.specs.declared.transition.Action.TheVariants.{SetLocal, SetGlobal, Stop}
+use Rattle.pct_model.specs.declared.transition.Action.TheVariants.{Stop}
 use Rattle.pct_model.specs.declared.transition.NewThread.{NewThread}
 use Rattle.pct_model.specs.declared.transition.Transition.{Transition}
 
@@ -30,9 +28,3 @@ no_change = acts [] []
 -- a stop: nothing else changes
 abbrev pub stops : Why → Transition
 stops why = acts (Stop why ∷ []) (Stopped why ∷ [])
-
--- the actions that write a value to a destination; `-` drops it
-abbrev pub written : Dest → ℕ → List Action
-written (destination.Local i) v = SetLocal i v ∷ []
-written (destination.Global i) v = SetGlobal i v ∷ []
-written destination.Drop v = []

@@ -1,7 +1,7 @@
 -- The state of the machine: processes, their threads, and the state of each (XSH 2.9, pthread_create, fork). Frames,
 -- cleanup handlers and exit functions are listed newest first; processes, threads and fork handlers in the order
 -- in which they were created or registered. Entries are never removed from the lists of processes and threads.
-use Rattle.std.specs.Prelude.{ℕ, Bool, false, List, [], ◌∷◌, length, map, replicate, Option, None, slice_get, slice_index, option_and_then}
+use Rattle.std.specs.Prelude.{ℕ, Bool, false, List, [], ◌∷◌, length, map, replicate, Option, None, find, nat_eq, slice_get, slice_index, option_and_then}
 use Rattle.std.specs.Option.{option_map_or}
 use Rattle.pct_model.specs.declared.script.Script.{Script}
 use Rattle.pct_model.specs.declared.statement.Stmt.{Stmt}
@@ -88,6 +88,18 @@ pub record World : Type 0 where
   pub stop : Option Why
 
 -- ---- lookup
+
+-- the process with an id, if one was made
+abbrev pub made_process : ℕ → World → Option Process
+made_process pid w = find (λ p. nat_eq p.pid pid) w.processes
+
+-- the thread of a process with an id, if one was made
+abbrev pub thread_with : ℕ → Process → Option Thread
+thread_with tid p = find (λ t. nat_eq t.id tid) p.threads
+
+-- thread tid of process pid, if it was made
+abbrev pub made_thread : ℕ → ℕ → World → Option Thread
+made_thread pid tid w = option_and_then (thread_with tid) (made_process pid w)
 
 -- the body of the function at an index
 abbrev pub body_of : Script → ℕ → List Stmt

@@ -36,7 +36,7 @@ pub use line_kind::{ArgumentKind, LINE_KINDS, LineKind, SymbolKind};
 pub use name::{MAX_NAME, Name};
 pub use other_threads::{Query, Target};
 pub use parsed_line::{Argument, ParsedLine, Token, Tokens};
-pub use point::{Point, PointKind, PointWait};
+pub use point::{JOIN_POINT, Point, PointKind, PointWait, TESTCANCEL_POINT};
 pub use refusal::{ParseWhy, ScheduleWhy};
 pub use role::{Block, Change, Role};
 pub use schedule::{Alt, Config, Entry};

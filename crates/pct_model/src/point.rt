@@ -3,6 +3,11 @@
 ghost use Rattle.std.specs.Prelude.{◌≡◌};
 ghost use Rattle.pct_model.specs.Points.{kind_text, wait_text};
 
+/// The index of pthread_join in the table of cancellation points.
+pub const JOIN_POINT: u32 = 22;
+/// The index of pthread_testcancel in the table of cancellation points.
+pub const TESTCANCEL_POINT: u32 = 23;
+
 /// Whether a function shall be a cancellation point (required), or may be one (optional).
 #[derive(Clone, Copy)]
 pub enum PointKind {

@@ -2,6 +2,7 @@
 
 use crate::event::What;
 use crate::state::{FrameKind, Mode, Reason, State, Status};
+use crate::statement::Dest;
 use crate::stop::Why;
 use crate::up_to_three::UpToThree;
 
@@ -9,10 +10,8 @@ use crate::up_to_three::UpToThree;
 /// a thread.
 #[derive(Clone, Copy)]
 pub enum Action {
-    /// The local with this index in the thread's top frame gets a value.
-    SetLocal(u32, u32),
-    /// The global with this index gets a value.
-    SetGlobal(u32, u32),
+    /// The destination, a local of the thread's top frame or a global, gets a value; `-` drops it.
+    Write(Dest, u32),
     /// The thread calls a function with an argument, and runs in the new frame.
     Call {
         func: u32,

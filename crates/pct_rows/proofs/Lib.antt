@@ -3,7 +3,6 @@ mod ExampleScripts
 mod Outcomes
 mod OnceRows
 mod JoinRows
-mod OwnEventRows
 mod ThreadRows
 mod ChoiceRows
 mod ProcessRows

@@ -7,7 +7,7 @@ use Rattle.pct_model.specs.declared.keyword.Keyword.TheVariants as keyword
 use Rattle.pct_model.specs.Keywords.{keyword_text}
 use Rattle.pct_model.specs.Lines.{lines_of, strip_cr}
 use Rattle.pct_model.specs.Schedule.{Read, Schedule, begins, header_of, entry_of, is_end, read_entry, nothing_after, read_end, prepend_entry, entries_from, with_config, schedule_at, schedule_from, sched_of}
-use Rattle.pct_schedule.specs.Reader.{ended, with_entry, entries_in, with_header, schedule_in}
+use Rattle.pct_schedule.proofs.LineByLine.{ended, with_entry, entries_in, with_header, schedule_in}
 
 -- a schedule of these entries and the entries that are read after them
 abbrev after_these : Config → List Entry → Read (List Entry) → Schedule
@@ -63,9 +63,13 @@ none_before : (config : Config) (read : Read (List Entry)) → after_these confi
 none_before config (Ok entries) = refl
 none_before config (Err fault) = refl
 
-header_same : (n : ℕ) (o : Option Config) (lines : List (List ℕ)) → with_header n o lines ≡ schedule_at n o (map strip_cr lines)
+-- the lines after a header with these numbers
+pub from_first : (n : ℕ) (config : Config) (lines : List (List ℕ)) → with_config config (entries_from n config.budget 0 (map strip_cr lines)) ≡ entries_in n config [] lines
+from_first n config lines = sym (entries_same n config [] lines ∙ none_before config (entries_from n config.budget 0 (map strip_cr lines)))
+
+pub header_same : (n : ℕ) (o : Option Config) (lines : List (List ℕ)) → with_header n o lines ≡ schedule_at n o (map strip_cr lines)
 header_same n None lines = refl
-header_same n (Some config) lines = entries_same (n + 1) config [] lines ∙ none_before config (entries_from (n + 1) config.budget 0 (map strip_cr lines))
+header_same n (Some config) lines = sym (from_first (n + 1) config lines)
 
 both_same : (t : Bool) (a b x y : Schedule) → a ≡ x → b ≡ y → cond t a b ≡ cond t x y
 both_same true a b x y e f = e

@@ -9,14 +9,13 @@ use Rattle.pct_model.specs.declared.schedule.Config.{Config}
 use Rattle.pct_model.specs.declared.keyword.Keyword.TheVariants as keyword
 use Rattle.pct_model.specs.Keywords.{keyword_text}
 use Rattle.pct_model.specs.Lines.{◌>>=◌, split_once, words_of, number_of}
-use Rattle.pct_model.specs.Run.{is_config}
 use Rattle.pct_model.specs.Schedule.{begins, config_of, header_of_words, header_of, numbered_choice, choice_of, entry_of_parts, entry_of_words, entry_of, is_number, is_end_of_words, is_end}
 use Rattle.pct_model.proofs.Bytes.{same_bytes}
 use Rattle.pct_text.specs.FirstNumber.{split_number}
 use Rattle.pct_text.proofs.SplitOnce.{lacks-uncons}
 use Rattle.pct_text.proofs.Numbers.{number_lacks}
 use Rattle.pct_text.proofs.Lines.{words_of-split_once, words_of-last, words_of-some}
-use Rattle.pct_schedule.specs.Reader.{begins_with, config_in, header_in, choice_in, entry_in, end_in}
+use Rattle.pct_schedule.proofs.Splits.{begins_with, header_in, choice_in, entry_in, end_in}
 
 and_false : (b : Bool) → (b && false) ≡ false
 and_false true = refl
@@ -101,12 +100,6 @@ no_number (Some n) w parts e is = absurd (none_is_none parts (sym (number_lacks 
 
 -- ---- headers
 
-bind_config : (a b c : Option ℕ) → (a >>= λ most. b >>= λ over. c >>= λ slots. cond (is_config (record { budget = most; passes = over; slots = slots })) (Some (record { budget = most; passes = over; slots = slots })) None) ≡ config_of a b c
-bind_config None b c = refl
-bind_config (Some most) None c = refl
-bind_config (Some most) (Some over) None = refl
-bind_config (Some most) (Some over) (Some slots) = refl
-
 no_config : (a b : Option ℕ) → config_of a b None ≡ None
 no_config None b = refl
 no_config (Some most) None = refl
@@ -133,32 +126,25 @@ last_number title format budget passes slots (Some parts) e =
     ∙ sym (too_many_words title format budget passes parts.0 (words_of parts.1) (words_of-some parts.1))
     ∙ ap (λ (words : List (List ℕ)). of_numbers title format (budget ∷ passes ∷ words)) (sym (words_of-split_once slots parts e))
 
--- the three words after the first two
-numbers_by_splits : (title format numbers : List ℕ) (o : Option (List ℕ × List ℕ)) → split_once 32 numbers ≡ o
-    → ((parts : List ℕ × List ℕ) → o ≡ Some parts → (p : Option (List ℕ × List ℕ)) → split_once 32 parts.1 ≡ p → if_title title format (config_in numbers) ≡ of_numbers title format (words_of numbers))
-    → if_title title format (config_in numbers) ≡ of_numbers title format (words_of numbers)
-unfolding config_in
-numbers_by_splits title format numbers None e more =
-    rw (e, words_of-last numbers e) (or_none (bytes_eq title (keyword_text keyword.Schedule) && bytes_eq format (codes "1")))
-numbers_by_splits title format numbers (Some parts) e more = more parts refl (split_once 32 parts.1) refl
+header_by_four : (line : List ℕ) (title format budget : List ℕ × List ℕ) (o : Option (List ℕ × List ℕ)) → split_once 32 line ≡ Some title → split_once 32 title.1 ≡ Some format
+    → split_once 32 format.1 ≡ Some budget → split_once 32 budget.1 ≡ o → header_in line ≡ header_of_words (words_of line)
+unfolding header_in
+header_by_four line title format budget None e f g h =
+    rw (words_of-split_once line title e, words_of-split_once title.1 format f, words_of-split_once format.1 budget g, words_of-last budget.1 h, e, f, g, h) refl
+header_by_four line title format budget (Some passes) e f g h =
+    rw (words_of-split_once line title e, words_of-split_once title.1 format f, words_of-split_once format.1 budget g, words_of-split_once budget.1 passes h, e, f, g, h)
+    (last_number title.0 format.0 budget.0 passes.0 passes.1 (split_once 32 passes.1) refl)
 
-numbers_by_two : (title format numbers : List ℕ) (parts : List ℕ × List ℕ) (p : Option (List ℕ × List ℕ)) → split_once 32 numbers ≡ Some parts → split_once 32 parts.1 ≡ p
-    → if_title title format (config_in numbers) ≡ of_numbers title format (words_of numbers)
-unfolding config_in
-numbers_by_two title format numbers parts None e f =
-    rw (words_of-split_once numbers parts e, words_of-last parts.1 f, e, f) (or_none (bytes_eq title (keyword_text keyword.Schedule) && bytes_eq format (codes "1")))
-numbers_by_two title format numbers parts (Some last) e f =
-    rw (words_of-split_once numbers parts e, words_of-split_once parts.1 last f, e, f)
-    (ap (if_title title format) (bind_config (number_of parts.0) (number_of last.0) (number_of last.1)) ∙ last_number title format parts.0 last.0 last.1 (split_once 32 last.1) refl)
-
-numbers_same : (title format numbers : List ℕ) → if_title title format (config_in numbers) ≡ of_numbers title format (words_of numbers)
-numbers_same title format numbers =
-    numbers_by_splits title format numbers (split_once 32 numbers) refl (λ parts e p f. numbers_by_two title format numbers parts p e f)
+header_by_three : (line : List ℕ) (title format : List ℕ × List ℕ) (o : Option (List ℕ × List ℕ)) → split_once 32 line ≡ Some title → split_once 32 title.1 ≡ Some format
+    → split_once 32 format.1 ≡ o → header_in line ≡ header_of_words (words_of line)
+unfolding header_in
+header_by_three line title format None e f g = rw (words_of-split_once line title e, words_of-split_once title.1 format f, words_of-last format.1 g, e, f, g) refl
+header_by_three line title format (Some budget) e f g = header_by_four line title format budget (split_once 32 budget.1) e f g refl
 
 header_by_two : (line : List ℕ) (title : List ℕ × List ℕ) (o : Option (List ℕ × List ℕ)) → split_once 32 line ≡ Some title → split_once 32 title.1 ≡ o → header_in line ≡ header_of_words (words_of line)
 unfolding header_in
 header_by_two line title None e f = rw (words_of-split_once line title e, words_of-last title.1 f, e, f) refl
-header_by_two line title (Some format) e f = rw (words_of-split_once line title e, words_of-split_once title.1 format f, e, f) (numbers_same title.0 format.0 format.1)
+header_by_two line title (Some format) e f = header_by_three line title format (split_once 32 format.1) e f refl
 
 header_by_one : (line : List ℕ) (o : Option (List ℕ × List ℕ)) → split_once 32 line ≡ o → header_in line ≡ header_of_words (words_of line)
 unfolding header_in
@@ -168,6 +154,10 @@ header_by_one line (Some title) e = header_by_two line title (split_once 32 titl
 pub header_same : (line : List ℕ) → header_in line ≡ header_of line
 unfolding header_of
 header_same line = header_by_one line (split_once 32 line) refl
+
+-- the same, from the words to the splits
+pub header_by_splits : (line : List ℕ) → header_of line ≡ header_in line
+header_by_splits line = sym (header_same line)
 
 -- ---- entries
 
@@ -198,8 +188,12 @@ choice_by_split words None e = rw (words_of-last words e, e) refl
 choice_by_split words (Some parts) e =
     rw (words_of-split_once words parts e, e, not_go words parts (bytes_eq words (keyword_text keyword.Go)) e refl) (numbered_same parts.0 parts.1 (split_once 32 parts.1) refl)
 
-choice_same : (words : List ℕ) → choice_in words ≡ choice_of (words_of words)
+pub choice_same : (words : List ℕ) → choice_in words ≡ choice_of (words_of words)
 choice_same words = choice_by_split words (split_once 32 words) refl
+
+-- the same, from the words to the splits
+pub choice_by_splits : (words : List ℕ) → choice_of (words_of words) ≡ choice_in words
+choice_by_splits words = sym (choice_same words)
 
 entry_by_numbers : (line : List ℕ) (first second third : List ℕ × List ℕ) (a b c : Option ℕ) → split_once 32 line ≡ Some first → split_once 32 first.1 ≡ Some second → split_once 32 second.1 ≡ Some third
     → number_of first.0 ≡ a → number_of second.0 ≡ b → number_of third.0 ≡ c → entry_in line ≡ entry_of_parts a b c (choice_in third.1)
@@ -248,6 +242,10 @@ pub entry_same : (line : List ℕ) → entry_in line ≡ entry_of line
 unfolding entry_of
 entry_same line = entry_by_one line (split_once 32 line) refl
 
+-- the same, from the words to the splits
+pub entry_by_splits : (line : List ℕ) → entry_of line ≡ entry_in line
+entry_by_splits line = sym (entry_same line)
+
 -- ---- ends
 
 many_end_words : (n : ℕ) (a b : List ℕ) (words : List (List ℕ)) → 0 < length words → is_end_of_words n (a ∷ b ∷ words) ≡ false
@@ -270,3 +268,7 @@ end_by_one n line (Some parts) e = rw (words_of-split_once line parts e, e) (end
 pub end_same : (n : ℕ) (line : List ℕ) → end_in n line ≡ is_end n line
 unfolding is_end
 end_same n line = end_by_one n line (split_once 32 line) refl
+
+-- the same, from the words to the splits
+pub end_by_splits : (n : ℕ) (line : List ℕ) → is_end n line ≡ end_in n line
+end_by_splits n line = sym (end_same n line)

@@ -1,4 +1,6 @@
+pub mod Splits
 pub mod BySplits
+pub mod LineByLine
 pub mod ByEntries
 pub mod LineLoops
 pub mod Markers

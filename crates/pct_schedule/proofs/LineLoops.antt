@@ -1,7 +1,7 @@
 -- The loop over the lines of a schedule's text.
-use Rattle.std.proofs.Common.{◌≡◌, ℕ, zero, suc, ◌+◌, ◌<◌, arith, Bool, true, false, not, ◌&&◌, cond, List, [], ◌∷◌, ◌++◌, Option, Some, None, Result, Ok, Err, length, refl, sym, ap, ◌∙◌, nat_lt}
+use Rattle.std.proofs.Common.{◌≡◌, ℕ, zero, suc, ◌+◌, ◌<◌, arith, Bool, true, false, not, ◌&&◌, cond, List, [], ◌∷◌, ◌++◌, Option, Some, None, Result, Ok, Err, length, refl, sym, ap, ◌∙◌, nat_eq, nat_lt}
 use Rattle.std.specs.Prelude.{is_some}
-use Rattle.std.specs.Option.{option_map_or}
+use Rattle.std.proofs.lemmas.Bool.{eqb-true}
 use Rattle.pct_model.specs.declared.schedule.Config.{Config}
 use Rattle.pct_model.specs.declared.schedule.Entry.{Entry}
 use Rattle.pct_model.specs.declared.refusal.ScheduleWhy.{ScheduleWhy}
@@ -9,15 +9,15 @@ use Rattle.pct_model.specs.declared.refusal.ScheduleWhy.TheVariants as why
 use Rattle.pct_model.specs.declared.keyword.Keyword.TheVariants as keyword
 use Rattle.pct_model.specs.Keywords.{keyword_text}
 use Rattle.pct_model.specs.Lines.{lines_of, strip_cr}
-use Rattle.pct_model.specs.Schedule.{Schedule, begins, header_of, entry_of, is_end, sched_of}
+use Rattle.pct_model.specs.Schedule.{Schedule, begins, header_of, entry_of, is_end, read_entry, nothing_after, read_end, sched_of}
 use Rattle.pct_text.specs.FirstLine.{IsFirstLine}
 use Rattle.pct_text.proofs.Lines.{lines_of-nil}
 use Rattle.pct_text.proofs.FirstLines.{has_a_line}
 use Rattle.pct_schedule.specs.declared.fault.ScheduleFault.{ScheduleFault}
 use Rattle.pct_schedule.specs.declared.fault.ScheduleFault.TheVariants as fault
 use Rattle.pct_schedule.specs.Gives.{Fails, Refuses}
-use Rattle.pct_schedule.specs.Memory.{entry_is_first, has_entry_after, stores_an_entry}
-use Rattle.pct_schedule.specs.Reader.{ended, with_entry, entries_in, schedule_in, header_line, from_header, entry_at, nothing_after, end_at}
+use Rattle.pct_schedule.specs.Memory.{header_line, entry_is_first, has_entry_after, stores_an_entry}
+use Rattle.pct_schedule.proofs.LineByLine.{ended, with_entry, entries_in, schedule_in, from_header}
 use Rattle.pct_schedule.proofs.ByEntries.{by_lines}
 
 -- the first line of a text, without its CR
@@ -74,6 +74,22 @@ by_header n (line ∷ lines) = header_step (begins (keyword_text keyword.Schedul
 pub from_its_header : (text : List ℕ) (header : Header) → header_line 1 (lines_of text) ≡ header → sched_of text ≡ from_header header
 from_its_header text header e = by_lines text ∙ by_header 1 (lines_of text) ∙ ap from_header e
 
+-- ---- one line
+
+-- `end` with the right number, and what is after it
+end_by : (n count : ℕ) (line : List ℕ) (after : List (List ℕ)) → is_end count line ≡ true → read_end n count line after ≡ nothing_after n after
+end_by n count line after is = ap (λ t. cond t (nothing_after n after) (Err (n, why.BadEnd))) is
+
+-- the line is the last one: nothing is after it
+pub is_last : (n count : ℕ) (line after : List ℕ) → is_end count line ≡ true → nat_eq (length after) 0 ≡ true → read_end n count line (lines_of after) ≡ Ok []
+is_last n count line [] is none = end_by n count line (lines_of []) is ∙ ap (nothing_after n) lines_of-nil
+is_last n count line (b ∷ bytes) is none = let e : length (b ∷ bytes) ≡ 0 = eqb-true (length (b ∷ bytes)) 0 none in absurd (omega (arith, e))
+
+-- a line is after the last one
+pub is_not_last : (n count : ℕ) (line after : List ℕ) → is_end count line ≡ true → nat_eq (length after) 0 ≡ false → read_end n count line (lines_of after) ≡ Err (n + 1, why.Trailing)
+is_not_last n count line [] is some = absurd cc
+is_not_last n count line (b ∷ bytes) is some = end_by n count line (lines_of (b ∷ bytes)) is ∙ ap (nothing_after n) (has_a_line b bytes).2.lines
+
 -- ---- the entries
 
 -- a value that is read is passed on, and a fault is the schedule's
@@ -94,12 +110,12 @@ by_entry_line n config entries rest line after last reads is =
     ∙ ap (λ (l : List ℕ). at_entry n config entries (lines_of after) l (begins (keyword_text keyword.End) l)) reads.read
     ∙ ap (at_entry n config entries (lines_of after) line) is
 
-ended_at : (n : ℕ) (config : Config) (entries : List Entry) (after : List ℕ) → ended (n + 1) config entries (lines_of after) ≡ and_then (nothing_after n after) (λ _. Ok (config, entries))
-ended_at n config entries [] = ap (ended (n + 1) config entries) lines_of-nil
-ended_at n config entries (b ∷ bytes) = ap (ended (n + 1) config entries) (has_a_line b bytes).2.lines
+ended_at : (n : ℕ) (config : Config) (entries : List Entry) (after : List (List ℕ)) → ended (n + 1) config entries after ≡ and_then (nothing_after n after) (λ _. Ok (config, entries))
+ended_at n config entries [] = refl
+ended_at n config entries (line ∷ lines) = refl
 
-by_end : (n : ℕ) (config : Config) (entries : List Entry) (after : List ℕ) (is : Bool)
-    → cond is (ended (n + 1) config entries (lines_of after)) (Err (n, why.BadEnd)) ≡ and_then (cond is (nothing_after n after) (Err (n, why.BadEnd))) (λ _. Ok (config, entries))
+by_end : (n : ℕ) (config : Config) (entries : List Entry) (after : List (List ℕ)) (is : Bool)
+    → cond is (ended (n + 1) config entries after) (Err (n, why.BadEnd)) ≡ and_then (cond is (nothing_after n after) (Err (n, why.BadEnd))) (λ _. Ok (config, entries))
 by_end n config entries after true = ended_at n config entries after
 by_end n config entries after false = refl
 
@@ -108,24 +124,24 @@ if_in_budget n e go true = refl
 if_in_budget n e go false = refl
 
 by_entry : (n : ℕ) (config : Config) (count : ℕ) (o : Option Entry) (go : Entry → Schedule)
-    → with_entry n config count o go ≡ and_then (option_map_or (λ e. cond (nat_lt count config.budget) (Ok e) (Err (n, why.TooMany))) o (Err (n, why.BadEntry))) go
+    → with_entry n config count o go ≡ and_then (read_entry n config.budget count o) go
 by_entry n config count None go = refl
 by_entry n config count (Some e) go = if_in_budget n e go (nat_lt count config.budget)
 
 pub at_last_line : (n count : ℕ) (config : Config) (entries : List Entry) (rest line after : List ℕ) (all : Schedule) → ReadsLine rest line after
     → begins (keyword_text keyword.End) line ≡ true → all ≡ entries_in n config entries (lines_of rest)
-    → count ≡ length entries → all ≡ and_then (end_at n count line after) (λ _. Ok (config, entries))
+    → count ≡ length entries → all ≡ and_then (read_end n count line (lines_of after)) (λ _. Ok (config, entries))
 at_last_line n count config entries rest line after all reads is so_far many =
-    so_far ∙ by_entry_line n config entries rest line after true reads is ∙ by_end n config entries after (is_end (length entries) line)
-    ∙ ap (λ (k : ℕ). and_then (end_at n k line after) (λ _. Ok (config, entries))) (sym many)
+    so_far ∙ by_entry_line n config entries rest line after true reads is ∙ by_end n config entries (lines_of after) (is_end (length entries) line)
+    ∙ ap (λ (k : ℕ). and_then (read_end n k line (lines_of after)) (λ _. Ok (config, entries))) (sym many)
 
 pub at_entry_line : (n count : ℕ) (config : Config) (entries : List Entry) (rest line after : List ℕ) (all : Schedule) → ReadsLine rest line after
     → begins (keyword_text keyword.End) line ≡ false → all ≡ entries_in n config entries (lines_of rest)
-    → count ≡ length entries → all ≡ and_then (entry_at n config.budget count line) (λ e. entries_in (n + 1) config (entries ++ e ∷ []) (lines_of after))
+    → count ≡ length entries → all ≡ and_then (read_entry n config.budget count (entry_of line)) (λ e. entries_in (n + 1) config (entries ++ e ∷ []) (lines_of after))
 at_entry_line n count config entries rest line after all reads is so_far many =
     so_far ∙ by_entry_line n config entries rest line after false reads is
     ∙ by_entry n config (length entries) (entry_of line) (λ e. entries_in (n + 1) config (entries ++ e ∷ []) (lines_of after))
-    ∙ ap (λ (k : ℕ). and_then (entry_at n config.budget k line) (λ e. entries_in (n + 1) config (entries ++ e ∷ []) (lines_of after))) (sym many)
+    ∙ ap (λ (k : ℕ). and_then (read_entry n config.budget k (entry_of line)) (λ e. entries_in (n + 1) config (entries ++ e ∷ []) (lines_of after))) (sym many)
 
 pub no_end : (n : ℕ) (config : Config) (entries : List Entry) (rest : List ℕ) (all : Schedule) → rest ≡ [] → all ≡ entries_in n config entries (lines_of rest) → all ≡ Err (n, why.BadEnd)
 unfolding entries_in
@@ -142,10 +158,7 @@ stays_failed (fault.Refused line w) all read go e is = e ∙ ap (λ r. and_then 
 
 -- ---- memory
 
-abbrev entry_of_line : ℕ → ℕ → ℕ → Option Entry → Result Entry (ℕ × ScheduleWhy)
-entry_of_line n budget count o = option_map_or (λ e. cond (nat_lt count budget) (Ok e) (Err (n, why.TooMany))) o (Err (n, why.BadEntry))
-
-read_is_some : (n budget count : ℕ) (o : Option Entry) (e : Entry) → entry_of_line n budget count o ≡ Ok e → is_some o ≡ true
+read_is_some : (n budget count : ℕ) (o : Option Entry) (e : Entry) → read_entry n budget count o ≡ Ok e → is_some o ≡ true
 read_is_some n budget count None e h = absurd cc
 read_is_some n budget count (Some other) e h = refl
 
@@ -154,7 +167,7 @@ first_by line = not (begins (keyword_text keyword.End) line) && is_some (entry_o
 
 -- the line of an entry that is read is an entry
 pub first_is_entry : (n budget count : ℕ) (text line after : List ℕ) (e : Entry) → ReadsLine text line after → begins (keyword_text keyword.End) line ≡ false
-    → entry_at n budget count line ≡ Ok e → entry_is_first (lines_of text) ≡ true
+    → read_entry n budget count (entry_of line) ≡ Ok e → entry_is_first (lines_of text) ≡ true
 unfolding entry_is_first
 first_is_entry n budget count text line after e reads other is =
     let some : is_some (entry_of line) ≡ true = read_is_some n budget count (entry_of line) e is in

@@ -17,7 +17,7 @@ use Rattle.pct_model.specs.Lines.{◌>>=◌, lines_of, without_empty_last, strip
 use Rattle.pct_model.specs.Run.{is_config}
 use Rattle.pct_model.specs.Schedule.{Schedule, begins, config_of, header_of_words, header_of, numbered_choice, choice_of, entry_of_parts, entry_of_words, entry_of, is_end, sched_of, is_marker, marker_in, split_at_marker, replay_parts}
 use Rattle.pct_schedule.specs.Schedules.{fits, is_choice, is_entry, IsSchedule}
-use Rattle.pct_schedule.specs.Reader.{ended, with_entry, entries_in, with_header, schedule_in}
+use Rattle.pct_schedule.proofs.LineByLine.{ended, with_entry, entries_in, with_header, schedule_in}
 use Rattle.pct_schedule.proofs.ByEntries.{by_lines}
 
 -- ---- values that pass a test

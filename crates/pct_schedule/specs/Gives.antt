@@ -19,7 +19,7 @@ abbrev pub Refuses : {Y : Type 0} → ScheduleFault → Result Y (ℕ × Schedul
 Refuses fault.NoMemory read = ⊥
 Refuses (fault.Refused line why) read = read ≡ Err (line, why)
 
--- the result is what the text gives, and memory does not run out
-abbrev pub GivesAlways : {X : Type 0} → Result X ScheduleFault → Result X (ℕ × ScheduleWhy) → Type 0
-GivesAlways (Ok x) read = read ≡ Ok x
-GivesAlways (Err e) read = Refuses e read
+-- the result, seen by view, is what the text gives, and memory does not run out
+abbrev pub GivesAlways : {X Y : Type 0} → (X → Y) → Result X ScheduleFault → Result Y (ℕ × ScheduleWhy) → Type 0
+GivesAlways view (Ok x) read = read ≡ Ok (view x)
+GivesAlways view (Err e) read = Refuses e read

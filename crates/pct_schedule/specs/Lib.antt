@@ -1,4 +1,3 @@
 pub mod Gives
 pub mod Memory
-pub mod Reader
 pub mod Schedules

@@ -2,10 +2,9 @@
 
 ghost use Rattle.std.specs.Prelude.{◌≡◌};
 ghost use Rattle.pct_model.specs.Keywords.{keyword_text};
-ghost use Rattle.pct_model.specs.Lines.{number_of};
+ghost use Rattle.pct_model.specs.Lines.{words_of, number_of};
 ghost use Rattle.pct_model.specs.Run.{is_config};
-ghost use Rattle.pct_model.specs.Schedule.{begins, numbered_choice, is_number};
-ghost use Rattle.pct_schedule.specs.Reader.{config_in, header_in, choice_in, entry_in, end_in};
+ghost use Rattle.pct_model.specs.Schedule.{begins, config_of, header_of, numbered_choice, choice_of, entry_of, is_number, is_end};
 
 use pct_model::{
     Alt, Config, Entry, Keyword, MAX_BUDGET, MAX_PASSES, MAX_SLOTS, MAX_WORKER, MIN_PASSES,
@@ -21,13 +20,10 @@ pub fn begins_with(line: &[u8], keyword: Keyword) -> bool
     line.starts_with(word) && line[word.len()..].starts_with(b" ")
 }
 
-// `BUDGET PASSES SLOTS`, a configuration within the limits.
-#[tactic(auto, unfolding(crate::specs::Reader::config_in))]
-fn config_of(words: &[u8]) -> Option<Config>
-    ensures { result ≡ config_in words.now }
+// The configuration of three numbers, if it is within the limits.
+fn config_of(budget: &[u8], passes: &[u8], slots: &[u8]) -> Option<Config>
+    ensures { result ≡ config_of (number_of budget.now) (number_of passes.now) (number_of slots.now) }
 {
-    let (budget, words) = split_once(words, b' ')?;
-    let (passes, slots) = split_once(words, b' ')?;
     let config = Config {
         budget: number_of(budget)?,
         passes: number_of(passes)?,
@@ -53,14 +49,16 @@ fn is_config(config: Config) -> bool
 }
 
 /// The configuration in a header, `schedule 1 BUDGET PASSES SLOTS`, if it is within the limits.
-#[tactic(auto, unfolding(crate::specs::Reader::header_in))]
+#[tactic(auto, using(crate::proofs::BySplits::header_by_splits), unfolding(crate::proofs::Splits::header_in))]
 pub fn header_of(line: &[u8]) -> Option<Config>
-    ensures { result ≡ header_in line.now }
+    ensures { result ≡ header_of line.now }
 {
     let (title, words) = split_once(line, b' ')?;
-    let (format, numbers) = split_once(words, b' ')?;
+    let (format, words) = split_once(words, b' ')?;
+    let (budget, words) = split_once(words, b' ')?;
+    let (passes, slots) = split_once(words, b' ')?;
     if title == Keyword::Schedule.text() && format == b"1".as_slice() {
-        config_of(numbers)
+        config_of(budget, passes, slots)
     } else {
         None
     }
@@ -84,9 +82,9 @@ fn numbered_choice(kind: &[u8], number: u32) -> Option<Alt>
 }
 
 // An alternative: `go`, or a keyword and a number.
-#[tactic(auto, unfolding(crate::specs::Reader::choice_in))]
+#[tactic(auto, using(crate::proofs::BySplits::choice_by_splits), unfolding(crate::proofs::Splits::choice_in))]
 fn choice_of(words: &[u8]) -> Option<Alt>
-    ensures { result ≡ choice_in words.now }
+    ensures { result ≡ choice_of (words_of words.now) }
 {
     if words == Keyword::Go.text() {
         return Some(Alt::Go);
@@ -96,9 +94,9 @@ fn choice_of(words: &[u8]) -> Option<Alt>
 }
 
 /// The entry of a line: worker, process, thread and alternative.
-#[tactic(auto, unfolding(crate::specs::Reader::entry_in))]
+#[tactic(auto, using(crate::proofs::BySplits::entry_by_splits, crate::proofs::BySplits::choice_by_splits), unfolding(crate::proofs::Splits::entry_in))]
 pub fn entry_of(line: &[u8]) -> Option<Entry>
-    ensures { result ≡ entry_in line.now }
+    ensures { result ≡ entry_of line.now }
 {
     let (worker, words) = split_number(line)?;
     let (pid, words) = split_number(words)?;
@@ -117,9 +115,9 @@ pub fn entry_of(line: &[u8]) -> Option<Entry>
 }
 
 /// Whether a line is `end N` with this N.
-#[tactic(auto, unfolding(crate::specs::Reader::end_in))]
+#[tactic(auto, using(crate::proofs::BySplits::end_by_splits), unfolding(crate::proofs::Splits::end_in))]
 pub fn is_end(count: usize, line: &[u8]) -> bool
-    ensures { result ≡ end_in count line.now }
+    ensures { result ≡ is_end count line.now }
 {
     match split_once(line, b' ') {
         Some((title, number)) => title == Keyword::End.text() && is_number(count, number),

@@ -1,15 +1,14 @@
 //! Reading a schedule: the header is found, then each line after it is parsed once, and its entry is stored.
 
-ghost use Rattle.std.specs.Prelude.{◌≡◌, ◌+◌, ◌-◌, ◌<◌, ◌≤◌, ◌^◌, true, length, Err, IfSome, IfOk, []};
+ghost use Rattle.std.specs.Prelude.{◌≡◌, ◌+◌, ◌-◌, ◌<◌, ◌≤◌, ◌^◌, true, length, map, Err, IfSome, IfOk, []};
 ghost use Rattle.std.specs.Option.{option_map};
 ghost use Rattle.pct_model.specs.declared.limits.TheConstants.{MAX_INPUT};
-ghost use Rattle.pct_model.specs.Lines.{lines_of};
-ghost use Rattle.pct_model.specs.Schedule.{sched_of};
+ghost use Rattle.pct_model.specs.Lines.{lines_of, strip_cr};
+ghost use Rattle.pct_model.specs.Schedule.{entry_of, read_entry, read_end, entries_from, with_config, sched_of};
 ghost use Rattle.pct_schedule.specs.declared.fault.ScheduleFault.TheVariants.{NoMemory};
 ghost use Rattle.pct_schedule.specs.Gives.{Gives, GivesAlways};
-ghost use Rattle.pct_schedule.specs.Memory.{entry_is_first, stores_an_entry};
+ghost use Rattle.pct_schedule.specs.Memory.{header_line, entry_is_first, stores_an_entry};
 ghost use Rattle.pct_schedule.specs.Schedules.{IsSchedule};
-ghost use Rattle.pct_schedule.specs.Reader.{entries_in, header_line, entry_at, end_at};
 
 use crate::fault::ScheduleFault;
 use crate::line::{begins_with, entry_of, header_of, is_end};
@@ -41,9 +40,8 @@ fn find_header(text: &[u8]) -> Option<(u32, &[u8], &[u8])>
 }
 
 // Line `number` as an entry, after `count` entries.
-#[tactic(auto, using(crate::proofs::BySplits::entry_same))]
 fn entry_at(number: u32, budget: u32, count: usize, line: &[u8]) -> Result<Entry, ScheduleFault>
-    ensures { GivesAlways result (entry_at number budget count line.now) }
+    ensures { GivesAlways (λ entry. entry) result (read_entry number budget count (entry_of line.now)) }
 {
     let Some(entry) = entry_of(line) else {
         return Err(ScheduleFault::Refused {
@@ -62,10 +60,9 @@ fn entry_at(number: u32, budget: u32, count: usize, line: &[u8]) -> Result<Entry
 }
 
 // Line `number` as the last line, after `count` entries.
-#[tactic(auto, using(crate::proofs::BySplits::end_same))]
 fn end_at(number: u32, count: usize, line: &[u8], after: &[u8]) -> Result<(), ScheduleFault>
     requires { number < 2 ^ 32 - 1 }
-    ensures { GivesAlways result (end_at number count line.now after.now) }
+    ensures { GivesAlways (λ _. []) result (read_end number count line.now (lines_of after.now)) }
 {
     if !is_end(count, line) {
         return Err(ScheduleFault::Refused {
@@ -92,7 +89,7 @@ fn read_entries(
 ) -> Result<Entries, ScheduleFault>
     requires { first + length text.now < 2 ^ 32 }
     ensures read { Gives (λ entries. (config, entries)) result
-        (entries_in first config [] (lines_of text.now)) }
+        (with_config config (entries_from first config.budget 0 (map strip_cr (lines_of text.now)))) }
     ensures memory { result ≡ Err NoMemory → entry_is_first (lines_of text.now) ≡ true }
 {
     let mut entries = Vec::new(alloc);

@@ -35,7 +35,8 @@ use Rattle.pct_text.proofs.Numbers.{number_again, decimal_lacks, digits_of_decim
 use Rattle.pct_text.proofs.Lines.{strip_cr-lacks, lines_of-nil, lines_of-line}
 use Rattle.pct_schedule.specs.Schedules.{fits, is_choice, is_entry, IsSchedule}
 use Rattle.pct_text.specs.FirstNumber.{split_number}
-use Rattle.pct_schedule.specs.Reader.{begins_with, config_in, header_in, choice_in, entry_in, end_in, ended, with_entry, entries_in, with_header, schedule_in}
+use Rattle.pct_schedule.proofs.Splits.{begins_with, header_in, choice_in, entry_in, end_in}
+use Rattle.pct_schedule.proofs.LineByLine.{ended, with_entry, entries_in, with_header, schedule_in}
 use Rattle.pct_schedule.proofs.BySplits.{begins-schedule, begins-end, header_same, entry_same, end_same}
 use Rattle.pct_schedule.proofs.ByEntries.{by_lines}
 use Rattle.pct_schedule_laws.proofs.PlainWords.{is_plain_byte, is_plain, are_plain, keyword_plain, decimal_plain}
@@ -166,13 +167,6 @@ in_limits c is =
 number_lacks_blank : (n : ℕ) → split_once 32 (decimal n) ≡ None
 number_lacks_blank n = decimal_lacks 32 n refl
 
-config_again : (c : Config) → is_config c ≡ true → config_in (decimal c.budget ++ 32 ∷ (decimal c.passes ++ 32 ∷ decimal c.slots)) ≡ Some c
-unfolding config_in
-config_again c is =
-    let limits = in_limits c is in
-    rw (split_again 32 (decimal c.budget) (decimal c.passes ++ 32 ∷ decimal c.slots) (number_lacks_blank c.budget), split_again 32 (decimal c.passes) (decimal c.slots) (number_lacks_blank c.passes), number_again c.budget (omega (arith, limits.budget)), number_again c.passes (omega (arith, limits.passes)), number_again c.slots (omega (arith, limits.slots)))
-    (ap (λ (b : Bool). cond b (Some c) None) is)
-
 one_is_one : decimal 1 ≡ 49 ∷ []
 unfolding digits
 one_is_one = refl
@@ -180,11 +174,13 @@ one_is_one = refl
 header_again : (c : Config) → is_config c ≡ true → header_of (join_with_byte 32 (header_line c)) ≡ Some c
 unfolding header_line header_in
 header_again c is =
-    let numbers = decimal c.budget ++ 32 ∷ (decimal c.passes ++ 32 ∷ decimal c.slots) in
+    let limits = in_limits c is in
+    let limited = decimal c.passes ++ 32 ∷ decimal c.slots in
+    let numbers = decimal c.budget ++ 32 ∷ limited in
     let line = keyword_text keyword.Schedule ++ 32 ∷ (decimal 1 ++ 32 ∷ numbers) in
     sym (header_same line)
-    ∙ rw (split_again 32 (keyword_text keyword.Schedule) (decimal 1 ++ 32 ∷ numbers) (plain_lacks (keyword_text keyword.Schedule) (keyword_plain keyword.Schedule)), split_again 32 (decimal 1) numbers (number_lacks_blank 1), bytes_eq-refl (keyword_text keyword.Schedule), one_is_one)
-    (config_again c is)
+    ∙ rw (split_again 32 (keyword_text keyword.Schedule) (decimal 1 ++ 32 ∷ numbers) (plain_lacks (keyword_text keyword.Schedule) (keyword_plain keyword.Schedule)), split_again 32 (decimal 1) numbers (number_lacks_blank 1), split_again 32 (decimal c.budget) limited (number_lacks_blank c.budget), split_again 32 (decimal c.passes) (decimal c.slots) (number_lacks_blank c.passes), bytes_eq-refl (keyword_text keyword.Schedule), one_is_one, number_again c.budget (omega (arith, limits.budget)), number_again c.passes (omega (arith, limits.passes)), number_again c.slots (omega (arith, limits.slots)))
+    (ap (λ (b : Bool). cond b (Some c) None) is)
 
 header_found : (n : ℕ) (c : Config) (lines : List (List (List ℕ))) → is_config c ≡ true → schedule_in n (lines_of (text_of (header_line c ∷ lines))) ≡ entries_in (n + 1) c [] (lines_of (text_of lines))
 unfolding header_line

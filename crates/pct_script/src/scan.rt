@@ -2,6 +2,7 @@
 //! lines are stored, so that the other checks do not parse the text again.
 
 ghost use Rattle.std.specs.Prelude.{IfOk, MatchOption, OnOk, Some, [], filter_map, length, option_map, option_to_list, ◌++◌, ◌∷◌, ◌≡◌, ◌≤◌};
+ghost use Rattle.pct_model.specs.declared.limits.TheConstants.{MAX_INPUT};
 ghost use Rattle.pct_model.specs.LineParsing.{spelled_lines, words_in};
 ghost use Rattle.pct_model.specs.Spelling.{misspelled, spelling};
 ghost use Rattle.pct_script.specs.Outlines.{outline_of, outline_of_words, outlines_in, outlines_of};
@@ -27,19 +28,20 @@ pub(crate) struct SpelledLines<'a> {
 
 impl<'a> Model for SpelledLines<'a> {
     ghost use Rattle.std.specs.Prelude.{ℕ, ◌+◌, ◌≤◌, List, length};
+    ghost use Rattle.pct_model.specs.declared.limits.TheConstants.{MAX_INPUT};
     ghost use Rattle.pct_script.specs.SpelledLines.{spelled_from};
 
     ghost Value = { List (ℕ × List ℕ) };
 
     ghost view = { λ lines. spelled_from lines.number lines.rest.now };
 
-    ghost invariant = { λ lines. lines.number + length lines.rest.now ≤ 16777217 };
+    ghost invariant = { λ lines. lines.number + length lines.rest.now ≤ MAX_INPUT + 1 };
 }
 
 impl<'a> SpelledLines<'a> {
     /// The lines of a whole text.
     pub(crate) fn of(text: &'a [u8]) -> SpelledLines<'a>
-        requires { length text.now ≤ 16777216 }
+        requires { length text.now ≤ MAX_INPUT }
         ensures { result ≡ spelled_lines text.now }
     {
         SpelledLines {
@@ -269,7 +271,7 @@ fn store_spelled(
 
 /// The parsed lines of a text, or its first misspelled line.
 pub(crate) fn stored_lines<'a>(alloc: Global, text: &'a [u8]) -> Result<StoredLines<'a>, ParseFault>
-    requires { length text.now ≤ 16777216 }
+    requires { length text.now ≤ MAX_INPUT }
     ensures { ParsesTo (λ lines. lines) result (spelling (spelled_lines text.now)) (Some (parsed_lines text.now)) }
 {
     let mut lines = Vec::new(alloc);

@@ -1,6 +1,7 @@
 //! The symbol table: the names that the lines of a script declare, looked up for its statements.
 
 ghost use Rattle.std.specs.Prelude.{IfOk, IfSome, MatchOption, OnOk, [], bytes_eq, drop, length, position, true, ◌++◌, ◌<◌, ◌∷◌, ◌≡◌, ◌≤◌};
+ghost use Rattle.pct_model.specs.declared.limits.TheConstants.{MAX_INPUT};
 ghost use Rattle.pct_model.specs.Names.{all_different, index_among};
 ghost use Rattle.pct_script.specs.Symbols.{symbols_of};
 ghost use Rattle.std.specs.List.{list_any};
@@ -22,12 +23,13 @@ pub(crate) struct Namespace {
 
 impl Model for Namespace {
     ghost use Rattle.std.specs.Prelude.{ℕ, ◌≤◌, List, length};
+    ghost use Rattle.pct_model.specs.declared.limits.TheConstants.{MAX_INPUT};
 
     ghost Value = { List (List ℕ) };
 
     ghost view = { λ t. t.names };
 
-    ghost invariant = { λ t. length t.names ≤ 16777216 };
+    ghost invariant = { λ t. length t.names ≤ MAX_INPUT };
 }
 
 fn first_index(names: &[Name], word: &[u8]) -> Option<usize>
@@ -39,7 +41,7 @@ fn first_index(names: &[Name], word: &[u8]) -> Option<usize>
 impl Namespace {
     /// The namespace of these names.
     pub(crate) fn of(names: Vec<Name>) -> Namespace
-        requires { length names.items ≤ 16777216 }
+        requires { length names.items ≤ MAX_INPUT }
         ensures { result ≡ names.items }
     {
         Namespace {
@@ -193,7 +195,7 @@ pub(crate) fn names_declared(
     lines: &[Line],
     kind: SymbolKind,
 ) -> Result<Namespace, AllocError>
-    requires { length lines.now ≤ 16777216 }
+    requires { length lines.now ≤ MAX_INPUT }
     ensures { IfOk result (λ names. names ≡ names_declared lines.now kind) }
 {
     let mut names = Vec::new(alloc);

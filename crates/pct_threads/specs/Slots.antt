@@ -16,8 +16,6 @@ use Rattle.pct_threads.specs.Records.{new_record, ended_record}
 pub record Held : Type 0 where
   pub id : ℕ
   pub detached : Bool
-  -- the id of the thread that joins it, 0 if there is none
-  pub joiner : ℕ
   pub frames : List Frame
   pub thread : Thread
 
@@ -52,7 +50,7 @@ frames_of slot = option_map_or (λ held. held.frames) slot.here []
 
 -- the place of a thread
 abbrev pub place_of : Held → Place
-place_of held = record { id = held.id; detached = held.detached; joiner = held.joiner; depth = length held.frames }
+place_of held = record { id = held.id; detached = held.detached; depth = length held.frames }
 
 -- the thread has ended, and is not detached
 abbrev pub is_reclaimable : Held → Bool
@@ -73,10 +71,6 @@ on_frame number change frames = slice_set frames (length frames - 1 - number) (c
 -- with another record
 abbrev pub with_record : Thread → Held → Held
 with_record thread held = record held { thread = thread }
-
--- with another joiner
-abbrev pub with_joiner : ℕ → Held → Held
-with_joiner joiner held = record held { joiner = joiner }
 
 -- with a new frame
 abbrev pub with_frame : ℕ → ℕ → ℕ → Held → Held
@@ -104,7 +98,7 @@ after_detach held = if is_ended_status held.thread.status then None else Some (r
 
 -- a new thread, with one frame of its start routine (XSH pthread_create)
 abbrev pub new_held : ℕ → ℕ → ℕ → Bool → Held
-new_held id func arg detached = record { id = id; detached = detached; joiner = 0; frames = new_frame func arg kind.Start ∷ []; thread = new_record }
+new_held id func arg detached = record { id = id; detached = detached; frames = new_frame func arg kind.Start ∷ []; thread = new_record }
 
 -- ---- changes of a slot
 

@@ -4,7 +4,7 @@ use Rattle.std.specs.Option.{option_map_or}
 use Rattle.pct_model.specs.declared.frame.Frame.{Frame}
 use Rattle.pct_threads.specs.declared.record.Thread.{Thread}
 use Rattle.pct_threads.specs.declared.record.Place.{Place}
-use Rattle.pct_threads.specs.Slots.{Held, Slot, unused, is_occupied, holds_thread, frames_of, place_of, is_reclaimable, after_end, after_detach, after_change, with_change, with_joiner, freed, created}
+use Rattle.pct_threads.specs.Slots.{Held, Slot, unused, is_occupied, holds_thread, frames_of, place_of, is_reclaimable, after_end, after_detach, after_change, with_change, freed, created}
 
 -- ---- what is on a slot
 
@@ -24,11 +24,7 @@ is_occupied_at slots index = is_occupied (slot_at slots index)
 abbrev pub is_free_at : List Slot → ℕ → Bool
 is_free_at slots index = option_map_or (λ slot. not (is_occupied slot)) (slice_get slots index) false
 
--- the id of the thread that holds the slot, 0 if there is none
-abbrev pub id_at : List Slot → ℕ → ℕ
-id_at slots index = option_map_or (λ held. held.id) (held_at slots index) 0
-
--- its place
+-- the place of the thread that holds the slot
 abbrev pub place_at : List Slot → ℕ → Option Place
 place_at slots index = option_map place_of (held_at slots index)
 
@@ -70,6 +66,6 @@ with_end index value slots = on_slot index (after_change (after_end value)) slot
 abbrev pub with_detach : ℕ → List Slot → List Slot
 with_detach index slots = on_slot index (after_change after_detach) slots
 
--- the table of a child process: the thread on this slot alone, which no thread joins (XSH fork). Ids are not used again.
+-- the table of a child process: the thread on this slot alone (XSH fork). Ids are not used again.
 abbrev pub replica_of : ℕ → List Slot → List Slot
-replica_of index slots = slice_set (map freed slots) index (with_change (with_joiner 0) (slot_at slots index))
+replica_of index slots = slice_set (map freed slots) index (slot_at slots index)

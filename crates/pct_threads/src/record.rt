@@ -30,8 +30,6 @@ pub struct Thread {
 pub struct Place {
     pub id: u32,
     pub detached: bool,
-    /// The id of the thread that joins this one, 0 if there is none.
-    pub joiner: u32,
     /// The number of frames.
     pub depth: u32,
 }

@@ -21,7 +21,6 @@ pub(crate) struct Row {
     occupied: bool,
     id: u32,
     detached: bool,
-    joiner: u32,
     frames: ArrayVec<Frame, MAX_DEPTH>,
     thread: Thread,
 }
@@ -32,7 +31,7 @@ impl Model for Row {
 
     ghost Value = { Slot };
 
-    ghost view = { λ r. record { made = r.made; here = cond r.occupied (Some (record { id = r.id; detached = r.detached; joiner = r.joiner; frames = reverse r.frames.items; thread = r.thread })) None } };
+    ghost view = { λ r. record { made = r.made; here = cond r.occupied (Some (record { id = r.id; detached = r.detached; frames = reverse r.frames.items; thread = r.thread })) None } };
 }
 
 impl Row {
@@ -40,7 +39,7 @@ impl Row {
     ghost use Rattle.std.specs.Borrow.{sem};
     ghost use Rattle.pct_threads.specs.declared.row.TheConstants.{MAX_DEPTH};
     ghost use Rattle.pct_threads.specs.FrameWords.{frame_word_of};
-    ghost use Rattle.pct_threads.specs.Slots.{unused, is_occupied, has_id, frames_of, place_of, frame_at, with_joiner, with_frame, without_frame, without_frames, with_frame_word, after_end, after_detach, after_change, with_change, freed, created};
+    ghost use Rattle.pct_threads.specs.Slots.{unused, is_occupied, has_id, frames_of, place_of, frame_at, with_frame, without_frame, without_frames, with_frame_word, after_end, after_detach, after_change, with_change, freed, created};
     ghost use Rattle.pct_threads.specs.Lends.{LendsRecord};
 
     /// The slot on which no thread was created.
@@ -52,7 +51,6 @@ impl Row {
             occupied: false,
             id: 0,
             detached: false,
-            joiner: 0,
             frames: ArrayVec::new(),
             thread: Thread::new(),
         }
@@ -88,7 +86,6 @@ impl Row {
         Place {
             id: self.id,
             detached: self.detached,
-            joiner: self.joiner,
             depth: self.frames.len() as u32,
         }
     }
@@ -119,7 +116,6 @@ impl Row {
         self.occupied = true;
         self.id = id;
         self.detached = detached;
-        self.joiner = 0;
         self.frames.clear();
         self.frames.push(new_frame(func, arg, FrameKind::Start));
         self.thread = Thread::new();
@@ -149,13 +145,6 @@ impl Row {
         self.occupied = false;
     }
 
-    /// The thread with this id joins the thread; 0 for none.
-    pub(crate) fn set_joiner(&mut self, joiner: u32)
-        ensures { self.new ≡ with_change (with_joiner joiner) self.old }
-    {
-        self.joiner = joiner;
-    }
-
     /// The slot is given back. The number of threads ever created on it becomes that of the other slot.
     pub(crate) fn free_as(&mut self, other: &Row)
         ensures { self.new ≡ freed other.now }
@@ -164,15 +153,14 @@ impl Row {
         self.occupied = false;
     }
 
-    /// The slot becomes a copy of the other, except that no thread joins its thread.
+    /// The slot becomes a copy of the other.
     pub(crate) fn copy_from(&mut self, other: &Row)
-        ensures { self.new ≡ with_change (with_joiner 0) other.now }
+        ensures { self.new ≡ other.now }
     {
         self.made = other.made;
         self.occupied = other.occupied;
         self.id = other.id;
         self.detached = other.detached;
-        self.joiner = 0;
         copy_frames(&mut self.frames, other.frames.as_slice());
         self.thread = other.thread.copy();
     }

@@ -41,8 +41,8 @@ impl Threads {
     ghost use Rattle.pct_set.specs.Slots.{slots_where};
     ghost use Rattle.pct_threads.specs.declared.row.TheConstants.{MAX_DEPTH};
     ghost use Rattle.pct_threads.specs.FrameWords.{frame_word_of};
-    ghost use Rattle.pct_threads.specs.Slots.{unused, has_id, frame_at, with_joiner, with_frame, without_frame, without_frames, with_frame_word, freed};
-    ghost use Rattle.pct_threads.specs.Tables.{slot_at, is_occupied_at, is_free_at, id_at, place_at, thread_at, frames_at, is_reclaimable_at, next_id_at, on_slot, on_held, with_created, with_end, with_detach, replica_of};
+    ghost use Rattle.pct_threads.specs.Slots.{unused, has_id, frame_at, with_frame, without_frame, without_frames, with_frame_word, freed};
+    ghost use Rattle.pct_threads.specs.Tables.{slot_at, is_occupied_at, is_free_at, place_at, thread_at, frames_at, is_reclaimable_at, next_id_at, on_slot, on_held, with_created, with_end, with_detach, replica_of};
     ghost use Rattle.pct_threads.specs.Lends.{LendsSlot, LendsThread};
 
     /// A table of 1 to 64 slots, none of them occupied. `NoMemory` is returned if the table does not fit into memory.
@@ -115,7 +115,7 @@ impl Threads {
         free
     }
 
-    /// The id, whether the thread is detached, the id of the thread that joins it, and the number of its frames.
+    /// The id, whether the thread is detached, and the number of its frames.
     pub fn place(&self, slot: u32) -> Place
         requires { is_occupied_at self.now slot ≡ true }
         ensures value { place_at self.now slot ≡ Some result }
@@ -136,7 +136,7 @@ impl Threads {
 
     /// Creates a thread on a free slot, with one frame of `func` with `arg` (pthread_create). Returns its id, that of
     /// `next_id`. The thread is running; its cancelability is enabled and deferred, and no request is pending; it has no
-    /// handlers, and no thread joins it.
+    /// handlers.
     pub fn create(&mut self, slot: u32, func: u32, arg: u32, detached: bool) -> u32
         requires free { is_free_at self.old slot ≡ true }
         requires fits { next_id_at self.old slot < 2 ^ 32 }
@@ -181,24 +181,6 @@ impl Threads {
         self.row_mut(slot).free();
     }
 
-    /// The thread on the slot `joiner` joins the thread on the slot `target` (pthread_join).
-    pub fn join_begin(&mut self, joiner: u32, target: u32)
-        requires joiner { is_occupied_at self.old joiner ≡ true }
-        requires target { is_occupied_at self.old target ≡ true }
-        ensures { self.new ≡ on_held target (with_joiner (id_at self.old joiner)) self.old }
-    {
-        let id = self.place(joiner).id;
-        self.row_mut(target).set_joiner(id);
-    }
-
-    /// No thread joins the thread on the slot `target` from now on.
-    pub fn join_cancel(&mut self, target: u32)
-        requires { is_occupied_at self.old target ≡ true }
-        ensures { self.new ≡ on_held target (with_joiner 0) self.old }
-    {
-        self.row_mut(target).set_joiner(0);
-    }
-
     /// Detaches the thread (pthread_detach). One that has ended gives back its slot.
     pub fn detach(&mut self, slot: u32)
         requires { is_occupied_at self.old slot ≡ true }
@@ -209,8 +191,7 @@ impl Threads {
 
     /// Makes this the table of the child process of a thread (fork). The other table is that of the parent; both have the same
     /// number of slots, and the thread's slot is occupied in the other. Afterwards it alone is occupied, by a copy of the
-    /// thread with the same id, which no thread joins; and as many threads were ever created on each slot as in the other
-    /// table.
+    /// thread with the same id; and as many threads were ever created on each slot as in the other table.
     pub fn clone_one_from(&mut self, other: &Threads, slot: u32)
         requires counts { length self.old ≡ length other.now }
         requires occupied { is_occupied_at other.now slot ≡ true }

@@ -4,4 +4,3 @@ pub mod ListedChoices
 pub mod KeyChoices
 pub mod CancelRows
 pub mod SlotAnswers
-pub mod ThreadJoiners

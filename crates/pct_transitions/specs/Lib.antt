@@ -1,6 +1,5 @@
 pub mod Programs
 pub mod ThreadViews
 pub mod Positions
-pub mod Joiners
 pub mod Answers
 pub mod Listed

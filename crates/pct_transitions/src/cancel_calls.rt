@@ -11,11 +11,11 @@ ghost use Rattle.pct_transitions.specs.Positions.{next_at, IsDecoded};
 
 use crate::current::next_pc;
 use crate::program::Program;
-use crate::transitions::{acts, goes_on, no_change, no_next, written_after};
+use crate::transitions::{acts, goes_on, no_change, no_next};
 use pct_cancel::point_at;
 use pct_model::{
-    Action, Dest, Frame, Mode, PointKind, PointWait, Reason, State, Status, Stmt, Transition,
-    UpToThree, What,
+    Action, Dest, Frame, JOIN_POINT, Mode, PointKind, PointWait, Reason, State, Status, Stmt,
+    TESTCANCEL_POINT, Transition, UpToThree, What,
 };
 
 // ---- pthread_cancel
@@ -41,7 +41,10 @@ pub(crate) fn sets_state(next: u32, enable: bool, old: Dest, state: State) -> Tr
 {
     goes_on(
         next,
-        written_after(Action::SetState(state_if(enable)), old, state_number(state)),
+        UpToThree::two(
+            Action::SetState(state_if(enable)),
+            Action::Write(old, state_number(state)),
+        ),
         UpToThree::one(What::StateSet(enable)),
     )
 }
@@ -53,10 +56,9 @@ pub(crate) fn sets_mode(next: u32, asynchronous: bool, old: Dest, mode: Mode) ->
 {
     goes_on(
         next,
-        written_after(
+        UpToThree::two(
             Action::SetMode(mode_if(asynchronous)),
-            old,
-            mode_number(mode),
+            Action::Write(old, mode_number(mode)),
         ),
         UpToThree::one(What::ModeSet(asynchronous)),
     )
@@ -111,8 +113,11 @@ fn mode_if(asynchronous: bool) -> Mode
 pub(crate) fn tests_cancel(next: u32) -> Transition
     ensures { result ≡ tests_cancel next }
 {
-    // pthread_testcancel has this index in the table of cancellation points.
-    goes_on(next, UpToThree::none(), UpToThree::one(What::Done(23)))
+    goes_on(
+        next,
+        UpToThree::none(),
+        UpToThree::one(What::Done(TESTCANCEL_POINT)),
+    )
 }
 
 /// A call of the cancellation point with this index: the thread is suspended at a required one, and goes on at an optional one.
@@ -136,9 +141,8 @@ pub(crate) fn called_kind(statement: &Stmt) -> Option<PointKind>
     ensures { result ≡ called_kind statement.now }
 {
     match statement {
-        // pthread_join and pthread_testcancel have these indexes in the table of cancellation points.
-        Stmt::Join { .. } => point_kind(22),
-        Stmt::TestCancel => point_kind(23),
+        Stmt::Join { .. } => point_kind(JOIN_POINT),
+        Stmt::TestCancel => point_kind(TESTCANCEL_POINT),
         Stmt::PointCall(index) => point_kind(*index),
         _ => None,
     }

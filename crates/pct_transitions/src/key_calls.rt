@@ -1,11 +1,10 @@
 //! The transitions of pthread_key_create, pthread_key_delete, pthread_setspecific and pthread_getspecific. `next` is the program
 //! counter of the next statement.
 
-ghost use Rattle.std.specs.Prelude.{◌≡◌, ◌∷◌, ◌++◌};
+ghost use Rattle.std.specs.Prelude.{◌≡◌};
 ghost use Rattle.pct_model.specs.KeyCalls.{creates_key, fails_to_create_key, creates_key_by, deletes_key, sets_specific, gets_specific};
-ghost use Rattle.pct_model.specs.Transitions.{written};
 
-use crate::transitions::{goes_on, no_change, written, written_after};
+use crate::transitions::{goes_on, no_change};
 use pct_model::{Action, Alt, Caller, Dest, Transition, UpToThree, What};
 
 // ---- pthread_key_create
@@ -38,37 +37,9 @@ fn creates_key(next: u32, answer: Dest, key: Dest, dtor: Option<u32>, number: u3
     let make = Action::MakeKey(number, dtor);
     goes_on(
         next,
-        both_written_after(make, answer, 0, key, number),
+        UpToThree::three(make, Action::Write(answer, 0), Action::Write(key, number)),
         UpToThree::one(What::KeyMade(number)),
     )
-}
-
-// An action, and then those that write a value to each of two destinations.
-fn both_written_after(
-    action: Action,
-    first: Dest,
-    value: u32,
-    second: Dest,
-    other: u32,
-) -> UpToThree<Action>
-    ensures { result ≡ action ∷ (written first value ++ written second other) }
-{
-    match first {
-        Dest::Drop => written_after(action, second, other),
-        Dest::Local(i) => two_then_written(action, Action::SetLocal(i, value), second, other),
-        Dest::Global(i) => two_then_written(action, Action::SetGlobal(i, value), second, other),
-    }
-}
-
-// Two actions, and then those that write a value to a destination.
-fn two_then_written(first: Action, second: Action, dest: Dest, value: u32) -> UpToThree<Action>
-    ensures { result ≡ first ∷ second ∷ written dest value }
-{
-    match dest {
-        Dest::Drop => UpToThree::two(first, second),
-        Dest::Local(i) => UpToThree::three(first, second, Action::SetLocal(i, value)),
-        Dest::Global(i) => UpToThree::three(first, second, Action::SetGlobal(i, value)),
-    }
 }
 
 // No place is free: the result is EAGAIN, which is 1 in this host, and the key is not written.
@@ -80,7 +51,11 @@ fn fails_to_create_key(next: u32, answer: Dest) -> Transition
         call: Caller::KeyCreate,
         number: 1,
     };
-    goes_on(next, written(answer, 1), UpToThree::one(failed))
+    goes_on(
+        next,
+        UpToThree::one(Action::Write(answer, 1)),
+        UpToThree::one(failed),
+    )
 }
 
 // ---- pthread_key_delete, pthread_setspecific, pthread_getspecific
@@ -114,5 +89,9 @@ pub(crate) fn sets_specific(next: u32, key: u32, value: u32) -> Transition
 pub(crate) fn gets_specific(next: u32, dest: Dest, value: u32) -> Transition
     ensures { result ≡ gets_specific next dest value }
 {
-    goes_on(next, written(dest, value), UpToThree::none())
+    goes_on(
+        next,
+        UpToThree::one(Action::Write(dest, value)),
+        UpToThree::none(),
+    )
 }

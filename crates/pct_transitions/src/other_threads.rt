@@ -1,15 +1,14 @@
 //! What the next step of a thread depends on, of the other threads of its process.
 
 ghost use Rattle.std.specs.Prelude.{◌≡◌, ◌<◌, ◌≤◌, ◌||◌, [], None, All, false, length, map, nat_eq};
-ghost use Rattle.std.specs.List.{list_all};
+ghost use Rattle.std.specs.List.{list_all, list_any};
 ghost use Rattle.pct_model.specs.World.{SharedState};
 ghost use Rattle.pct_model.specs.ThreadSlots.{slot_of};
-ghost use Rattle.pct_model.specs.OtherThreads.{statement_query, running_query, query_at, exit_value_of};
+ghost use Rattle.pct_model.specs.OtherThreads.{statement_query, running_query, query_at, is_joining, exit_value_of};
 ghost use Rattle.pct_threads.specs.Tables.{held_at, next_id_at};
 ghost use Rattle.pct_engine_laws.specs.SeenSteps.{threads_on, target_in, new_ids_from, answer_in};
 ghost use Rattle.pct_transitions.specs.Positions.{next_at};
-ghost use Rattle.pct_transitions.specs.Joiners.{HaveJoiners};
-ghost use Rattle.pct_transitions.specs.ThreadViews.{slot_view, ArePlaced};
+ghost use Rattle.pct_transitions.specs.ThreadViews.{slot_view};
 ghost use Rattle.pct_transitions.specs.Answers.{any_on, is_other_running, IsAnswer};
 
 use crate::current::value_of;
@@ -73,13 +72,10 @@ fn statement_query(globals: &[u32], frame: &Frame, statement: &Stmt) -> Query
 
 // ---- answers
 
-/// The answer to a query of the thread with an id, in a process with these threads. Each thread is on the slot of its id, and its
-/// joiner is the thread that is suspended in pthread_join for it, if there is one.
+/// The answer to a query of the thread with an id, in a process with these threads.
 #[tactic(auto, unfolding(pct_engine_laws::specs::SeenSteps::answer_in))]
 #[inline(always)]
 pub fn answer_to(threads: &Threads, tid: u32, query: Query) -> Others
-    requires placed { ArePlaced (length threads.now) threads.now }
-    requires joiners { HaveJoiners threads.now }
     ensures value { IsAnswer threads.now result (answer_in (length threads.now) tid (map slot_view threads.now) query) }
     ensures within { All (λ s. s < length threads.now) result.free }
 {
@@ -116,8 +112,6 @@ fn no_answer() -> Others
 
 // The thread with an id, as a thread that names it sees it.
 fn target_with(threads: &Threads, id: u32) -> Option<Target>
-    requires placed { ArePlaced (length threads.now) threads.now }
-    requires joiners { HaveJoiners threads.now }
     ensures { result ≡ target_in (length threads.now) id (map slot_view threads.now) }
 {
     let slot = threads.slot_of(id);
@@ -130,7 +124,7 @@ fn target_with(threads: &Threads, id: u32) -> Option<Target>
     }
     Some(Target {
         detached: place.detached,
-        joining: place.joiner != 0,
+        joining: is_joined(threads, id),
         value: exit_value_of(threads.read(slot).status),
     })
 }
@@ -152,6 +146,40 @@ pub fn exit_value_of(status: Status) -> Option<u32>
     match status {
         Status::Ended(value) => Some(value),
         _ => None,
+    }
+}
+
+// A thread is suspended in pthread_join for the thread with this id.
+fn is_joined(threads: &Threads, id: u32) -> bool
+    ensures { result ≡ list_any (λ t. is_joining id t.status) (threads_on (map slot_view threads.now)) }
+{
+    for slot in 0..threads.slot_count() {
+        if is_joiner_on(threads, slot, id) {
+            return true;
+        }
+    }
+    false
+}
+
+// The thread on a slot is suspended in pthread_join for the thread with this id. A free slot has no thread.
+fn is_joiner_on(threads: &Threads, slot: u32, id: u32) -> bool
+    requires { slot < length threads.now }
+    ensures { result ≡ any_on (λ t. is_joining id t.status) (held_at threads.now slot) }
+{
+    if threads.is_occupied(slot) {
+        is_joining(id, threads.read(slot).status)
+    } else {
+        false
+    }
+}
+
+// The status is that of a thread in pthread_join for this id.
+fn is_joining(id: u32, status: Status) -> bool
+    ensures { result ≡ is_joining id status }
+{
+    match status {
+        Status::Joining(target) => target == id,
+        _ => false,
     }
 }
 

@@ -5,7 +5,6 @@ ghost use Rattle.std.specs.Prelude.{◌≡◌, ◌+◌, ◌%◌, ◌<◌, [], �
 ghost use Rattle.pct_model.specs.declared.limits.TheConstants.{MAX_STATEMENTS};
 ghost use Rattle.pct_model.specs.Jumps.{holds, is_while, open_of};
 ghost use Rattle.pct_model.specs.World.{body_of, statement_at};
-ghost use Rattle.pct_model.specs.Transitions.{goes_on};
 ghost use Rattle.pct_model.specs.ScriptStatements.{jumps, emits, sets, adds, calls, after_block, after_test, after_end};
 ghost use Rattle.pct_model.specs.TransitionTable.{ends_block};
 ghost use Rattle.pct_jumps.specs.JumpTable.{opens_block};
@@ -33,23 +32,20 @@ pub(crate) fn emits(next: u32, value: u32) -> Transition
 }
 
 /// `set`: a variable gets a value.
-#[tactic(auto, unfolding(pct_model::specs::ScriptStatements::sets, pct_model::specs::ScriptStatements::jumps))]
-pub(crate) fn sets(next: u32, dest: Dest, value: u32, transition: &mut Transition)
-    ensures { transition.new ≡ sets next dest value }
+#[tactic(auto, unfolding(pct_model::specs::ScriptStatements::sets))]
+pub(crate) fn sets(next: u32, dest: Dest, value: u32) -> Transition
+    ensures { result ≡ sets next dest value }
 {
-    match dest {
-        Dest::Drop => *transition = jumps(next),
-        Dest::Local(i) => *transition = acts_at(next, Action::SetLocal(i, value)),
-        Dest::Global(i) => *transition = acts_at(next, Action::SetGlobal(i, value)),
-    }
+    let write = Action::Write(dest, value);
+    goes_on(next, UpToThree::one(write), UpToThree::none())
 }
 
 /// `add`: a variable with the value `old` is increased by a value, modulo 2^32.
 #[tactic(auto, unfolding(pct_model::specs::ScriptStatements::adds))]
-pub(crate) fn adds(next: u32, dest: Dest, old: u32, value: u32, transition: &mut Transition)
-    ensures { transition.new ≡ adds next dest old value }
+pub(crate) fn adds(next: u32, dest: Dest, old: u32, value: u32) -> Transition
+    ensures { result ≡ adds next dest old value }
 {
-    sets(next, dest, old.wrapping_add(value), transition);
+    sets(next, dest, old.wrapping_add(value))
 }
 
 /// `do`: a call of a function.
@@ -74,13 +70,6 @@ pub(crate) fn ends_block(program: &Program, frame: &Frame, transition: &mut Tran
         Some(opened) => *transition = jumps(after_end(&program.script, frame, opened)),
         None => returns_by(frame.kind, 0, transition),
     }
-}
-
-// The thread goes on at a program counter after an action.
-fn acts_at(next: u32, action: Action) -> Transition
-    ensures { result ≡ goes_on next (action ∷ []) [] }
-{
-    goes_on(next, UpToThree::one(action), UpToThree::none())
 }
 
 // ---- jumps

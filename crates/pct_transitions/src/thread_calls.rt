@@ -1,18 +1,18 @@
 //! The transitions of pthread_create, pthread_join, pthread_detach and pthread_self. `next` is the program counter of the next
 //! statement.
 
-ghost use Rattle.std.specs.Prelude.{◌≡◌, ◌++◌, Some};
+ghost use Rattle.std.specs.Prelude.{◌≡◌, Some};
 ghost use Rattle.pct_model.specs.World.{statement_at};
-ghost use Rattle.pct_model.specs.Transitions.{written};
 ghost use Rattle.pct_model.specs.NextStatement.{StatementIn};
 ghost use Rattle.pct_model.specs.ThreadCalls.{creates, fails_to_create, creates_by, begins_join, ends_join, joins_with, joins_at, detaches, gets_self};
 ghost use Rattle.pct_transitions.specs.Positions.{next_at, IsDecoded};
 
 use crate::current::next_pc;
 use crate::program::Program;
-use crate::transitions::{acts, goes_on, no_change, written, written_after};
+use crate::transitions::{acts, goes_on, no_change};
 use pct_model::{
-    Action, Alt, Caller, Dest, Frame, NewThread, Stmt, Target, Transition, UpToThree, What,
+    Action, Alt, Caller, Dest, Frame, JOIN_POINT, NewThread, Stmt, Target, Transition, UpToThree,
+    What,
 };
 
 // ---- pthread_create
@@ -61,19 +61,8 @@ fn creates(
     Transition {
         next: Some(next),
         created: Some(created),
-        actions: both_written(answer, 0, id, new),
+        actions: UpToThree::two(Action::Write(answer, 0), Action::Write(id, new)),
         events: UpToThree::one(What::Created { id: new, detached }),
-    }
-}
-
-// The actions that write a value to each of two destinations.
-fn both_written(first: Dest, value: u32, second: Dest, other: u32) -> UpToThree<Action>
-    ensures { result ≡ written first value ++ written second other }
-{
-    match first {
-        Dest::Drop => written(second, other),
-        Dest::Local(i) => written_after(Action::SetLocal(i, value), second, other),
-        Dest::Global(i) => written_after(Action::SetGlobal(i, value), second, other),
     }
 }
 
@@ -86,7 +75,11 @@ fn fails_to_create(next: u32, answer: Dest) -> Transition
         call: Caller::Create,
         number: 1,
     };
-    goes_on(next, written(answer, 1), UpToThree::one(failed))
+    goes_on(
+        next,
+        UpToThree::one(Action::Write(answer, 1)),
+        UpToThree::one(failed),
+    )
 }
 
 // ---- pthread_join
@@ -96,8 +89,7 @@ fn fails_to_create(next: u32, answer: Dest) -> Transition
 pub(crate) fn begins_join(id: u32) -> Transition
     ensures { result ≡ begins_join id }
 {
-    // pthread_join has this index in the table of cancellation points.
-    acts(Action::BeginJoin(id), What::Called(22))
+    acts(Action::BeginJoin(id), What::Called(JOIN_POINT))
 }
 
 /// A thread that is suspended in pthread_join for the thread with this id returns from it, once its target has ended with a
@@ -153,7 +145,7 @@ fn ends_join(next: u32, dest: Dest, id: u32, value: u32) -> Transition
 {
     goes_on(
         next,
-        written_after(Action::EndJoin(id), dest, value),
+        UpToThree::two(Action::EndJoin(id), Action::Write(dest, value)),
         UpToThree::one(What::Joined(id, value)),
     )
 }
@@ -177,5 +169,9 @@ pub(crate) fn detaches(next: u32, id: u32) -> Transition
 pub(crate) fn gets_self(next: u32, dest: Dest, id: u32) -> Transition
     ensures { result ≡ gets_self next dest id }
 {
-    goes_on(next, written(dest, id), UpToThree::none())
+    goes_on(
+        next,
+        UpToThree::one(Action::Write(dest, id)),
+        UpToThree::none(),
+    )
 }

@@ -169,19 +169,14 @@ fn runs(
         Stmt::Emit(operand) => {
             *transition = emits(next_pc(frame), value_of(globals, frame, *operand));
         }
-        Stmt::Set(dest, operand) => sets(
-            next_pc(frame),
-            *dest,
-            value_of(globals, frame, *operand),
-            transition,
-        ),
-        Stmt::Add(dest, operand) => adds(
-            next_pc(frame),
-            *dest,
-            variable_value(globals, frame, *dest),
-            value_of(globals, frame, *operand),
-            transition,
-        ),
+        Stmt::Set(dest, operand) => {
+            *transition = sets(next_pc(frame), *dest, value_of(globals, frame, *operand));
+        }
+        Stmt::Add(dest, operand) => {
+            let old = variable_value(globals, frame, *dest);
+            let value = value_of(globals, frame, *operand);
+            *transition = adds(next_pc(frame), *dest, old, value);
+        }
         Stmt::Nop => *transition = jumps(next_pc(frame)),
         Stmt::If(operand) => {
             let value = value_of(globals, frame, *operand);

@@ -1,9 +1,9 @@
 //! Parts of transitions.
 
 ghost use Rattle.std.specs.Prelude.{◌≡◌, [], ◌∷◌};
-ghost use Rattle.pct_model.specs.Transitions.{goes_on, acts, no_change, stops, written};
+ghost use Rattle.pct_model.specs.Transitions.{goes_on, acts, no_change, stops};
 
-use pct_model::{Action, Dest, Transition, UpToThree, What, Why};
+use pct_model::{Action, Transition, UpToThree, What, Why};
 
 /// The thread goes on at a program counter, with these actions and events.
 pub(crate) fn goes_on(next: u32, actions: UpToThree<Action>, events: UpToThree<What>) -> Transition
@@ -58,26 +58,4 @@ pub(crate) fn stops(why: Why) -> Transition
     ensures { result ≡ stops why }
 {
     acts(Action::Stop(why), What::Stopped(why))
-}
-
-/// The actions that write a value to a destination; `-` drops it.
-pub(crate) fn written(dest: Dest, value: u32) -> UpToThree<Action>
-    ensures { result ≡ written dest value }
-{
-    match dest {
-        Dest::Drop => UpToThree::none(),
-        Dest::Local(i) => UpToThree::one(Action::SetLocal(i, value)),
-        Dest::Global(i) => UpToThree::one(Action::SetGlobal(i, value)),
-    }
-}
-
-/// An action, and then those that write a value to a destination; `-` drops it.
-pub(crate) fn written_after(action: Action, dest: Dest, value: u32) -> UpToThree<Action>
-    ensures { result ≡ action ∷ written dest value }
-{
-    match dest {
-        Dest::Drop => UpToThree::one(action),
-        Dest::Local(i) => UpToThree::two(action, Action::SetLocal(i, value)),
-        Dest::Global(i) => UpToThree::two(action, Action::SetGlobal(i, value)),
-    }
 }

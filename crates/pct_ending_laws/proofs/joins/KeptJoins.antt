@@ -1,18 +1,17 @@
 -- The clauses of the invariant on joins, and the law of joins, after every run.
-use Rattle.std.proofs.Common.{◌≡◌, ℕ, false, List, Option, Some, option_and_then, sym, ap, ◌∙◌}
+use Rattle.std.proofs.Common.{◌≡◌, ℕ, false, List, Some, option_and_then, sym, ap, ◌∙◌}
 use Rattle.std.proofs.lemmas.Option.{option_and_then_some}
 use Rattle.pct_model.specs.declared.script.Script.{Script}
 use Rattle.pct_model.specs.declared.schedule.Config.{Config}
 use Rattle.pct_model.specs.declared.schedule.Entry.{Entry}
 use Rattle.pct_model.specs.declared.state.Status.TheVariants as status
 use Rattle.pct_model.specs.Kept.{Joins}
-use Rattle.pct_model.specs.OwnEvents.{made_process, thread_with, made_thread}
 use Rattle.pct_model.specs.Run.{Run, run}
-use Rattle.pct_model.specs.World.{Thread, Process}
+use Rattle.pct_model.specs.World.{Thread, made_process, made_thread, thread_with}
 use Rattle.pct_ending_laws.proofs.joins.JoinTransitions.{is_in_join}
 use Rattle.pct_ending_laws.proofs.joins.NewestEvents.{newest_of_run}
 use Rattle.pct_ending_laws.proofs.joins.JoiningThreads.{JoinsOne, joins_of_processes}
-pub use Rattle.pct_ending_laws.proofs.joins.ReportedFlags.{joined_of_run, detached_of_run}
+pub use Rattle.pct_ending_laws.proofs.joins.ReportedFlags.{known_of_run, joined_of_run, detached_of_run}
 pub use Rattle.pct_ending_laws.proofs.joins.LawfulJoins.{joins_of_run}
 
 -- each thread that is suspended in pthread_join

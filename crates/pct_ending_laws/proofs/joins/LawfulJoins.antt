@@ -1,8 +1,8 @@
 -- The law of joins holds of the events of every run.
-use Rattle.std.proofs.Common.{◌≡◌, ℕ, Bool, true, false, not, ◌&&◌, ◌||◌, cond, List, [], ◌∷◌, ◌++◌, map, reverse, find, nat_eq, is_some, Option, Some, None, option_and_then, refl, sym, ap, ◌∙◌, subst, eq-eqb}
-use Rattle.std.specs.List.{list_all, list_any}
+use Rattle.std.proofs.Common.{◌≡◌, ℕ, Bool, true, false, not, ◌&&◌, ◌||◌, List, [], ◌∷◌, ◌++◌, map, reverse, nat_eq, is_some, Option, Some, option_and_then, refl, sym, ap, ◌∙◌, subst, eq-eqb}
+use Rattle.std.specs.List.{list_all}
 use Rattle.std.specs.Option.{option_map_or}
-use Rattle.std.proofs.lemmas.Bool.{false≢true, true≢false, and_parts, or_left, or_right, true_from_ne_false, cases_Bool}
+use Rattle.std.proofs.lemmas.Bool.{false≢true, true≢false, and_parts, or_left, true_from_ne_false}
 use Rattle.std.proofs.lemmas.Option.{none-some, same_Some}
 use Rattle.pct_model.specs.declared.script.Script.{Script}
 use Rattle.pct_model.specs.declared.schedule.Config.{Config}
@@ -16,26 +16,25 @@ use Rattle.pct_model.specs.declared.transition.Transition.{Transition}
 use Rattle.pct_model.specs.CancelCalls.{requests, acts_on_request}
 use Rattle.pct_model.specs.JoinLaw.{NamesLive, JoinsEnded, MayName, JoinLaw}
 use Rattle.pct_model.specs.Kept.{ThreadKept}
-use Rattle.pct_model.specs.KnownThreads.{is_known, is_joined, is_detached, ends_with, reports_end, has_own, newest_event}
-use Rattle.pct_model.specs.OwnEvents.{makes_process, own_events, made_process, thread_with, made_thread, OfMade, OfThread}
+use Rattle.pct_model.specs.KnownThreads.{is_joined, is_detached, ends_with, reports_end, has_own}
+use Rattle.pct_model.specs.World.{made_process, thread_with, made_thread, Thread, Process}
 use Rattle.pct_model.specs.Run.{Run, event_of, run}
-use Rattle.pct_model.specs.ThreadCalls.{creates, join_point, begins_join, ends_join, detaches}
+use Rattle.pct_model.specs.ThreadCalls.{creates, begins_join, ends_join, detaches}
 use Rattle.pct_model.specs.ThreadSlots.{is_ended_status, holds_slot, is_live_thread, with_id}
-use Rattle.pct_model.specs.ThreadSummary.{ThreadSummary, with_event, replicated, summary_of}
+use Rattle.pct_model.specs.ThreadSummary.{ThreadSummary, with_event, summary_of}
 use Rattle.pct_model.specs.TransitionTable.{transition_by}
-use Rattle.pct_model.specs.World.{Thread, Process}
-use Rattle.pct_ending_laws.proofs.ThreadsOfRun.{rule_kept, threads_kept}
+use Rattle.pct_ending_laws.proofs.ThreadsOfRun.{threads_fit, threads_kept}
 use Rattle.pct_ending_laws.proofs.LastThreads.{last_exits}
 use Rattle.pct_ending_laws.proofs.lift.KeyedLists.{found_passes}
-use Rattle.pct_ending_laws.proofs.lift.TakenSteps.{IsTaken, with_step}
-use Rattle.pct_ending_laws.proofs.lift.RunsSoFar.{every_run_so_far}
-use Rattle.pct_ending_laws.proofs.lift.MadeThreads.{process_is_made, own_thread_before, is_here, thread_is_made}
-use Rattle.pct_ending_laws.proofs.lift.MadeNumbers.{HaveNumbers, have_numbers}
-use Rattle.pct_ending_laws.proofs.lift.MadeKnown.{known_of_run}
-use Rattle.pct_ending_laws.proofs.thread.OwnSummary.{summary}
-use Rattle.pct_ending_laws.proofs.thread.ThreadRule.{ByStatus, Rule}
-use Rattle.pct_ending_laws.proofs.joins.JoinTransitions.{is_in_join, names_none, MayJoin, Kind, quiet, creates_one, begins, ends, detaches_one, requests_one, cancels, kind_of}
-use Rattle.pct_ending_laws.proofs.joins.ReportedFlags.{joined_of_run, detached_of_run}
+use Rattle.pct_ending_laws.proofs.lift.TakenSteps.{IsTaken, every_run}
+use Rattle.pct_ending_laws.proofs.lift.ReportedBy.{reported_by, of_thread, related, has_event, own_reading}
+use Rattle.pct_ending_laws.proofs.lift.EveryThread.{OfMade, OfThread}
+use Rattle.pct_ending_laws.proofs.lift.MadeThreads.{is_here, thread_is_made}
+use Rattle.pct_ending_laws.proofs.lift.EveryProcess.{process_taken, ids_of_run}
+use Rattle.pct_ending_laws.proofs.thread.SummaryReading.{summary, summary_reading}
+use Rattle.pct_ending_laws.proofs.thread.ThreadRule.{ByStatus, Fits}
+use Rattle.pct_ending_laws.proofs.joins.JoinTransitions.{is_in_join, names_none, Kind, quiet, ends, detaches_one, requests_one, kind_of}
+use Rattle.pct_ending_laws.proofs.joins.ReportedFlags.{known_of_run, joined_of_run, detached_of_run}
 use Rattle.pct_ending_laws.proofs.joins.NewestEvents.{newest_of_run}
 use Rattle.pct_ending_laws.proofs.joins.JoiningThreads.{JoinsOne, joins_of_processes}
 
@@ -49,42 +48,19 @@ value_after : (v : ℕ) (w : What) (s : ThreadSummary) (earlier : Bool) → (s.e
 value_after v (what.EndedWith n) s earlier before is = or_left (nat_eq n v) earlier (eq-eqb n v (same_Some n v is))
 value_after v w s earlier before is = before is
 
-module _ (pid tid : ℕ) where
-  replica_ended : (makes : Bool) (parent : ℕ) (of_process : ℕ → ThreadSummary) (s : ThreadSummary) → (replicated makes parent of_process s).ended ≡ s.ended
-  replica_ended true parent of_process s = refl
-  replica_ended false parent of_process s = refl
+-- the summary of a thread has a value exactly if the thread has an event of its end
+end_reported : (pid tid : ℕ) (events : List Event) → is_some (summary_of pid tid events).ended ≡ has_own reports_end pid tid events
+end_reported pid tid events =
+    ap (λ (s : ThreadSummary). is_some s.ended) (summary_reading tid pid events)
+    ∙ related summary (has_event reports_end) (λ s b. is_some s.ended ≡ b) refl (λ w s b same. after_event w s ∙ ap (λ (x : Bool). reports_end w || x) same) (λ w a c b d parent same. same) (λ s b same. same) tid pid events
+    ∙ sym (own_reading reports_end tid pid events)
 
-  ended_by : (same_pid same_tid : Bool) (w : What) (replica s : ThreadSummary) (earlier : Bool) → replica.ended ≡ s.ended → is_some s.ended ≡ earlier
-      → is_some (cond same_tid (cond same_pid (with_event w s) replica) s).ended ≡ ((same_pid && same_tid && reports_end w) || earlier)
-  ended_by true true w replica s earlier same before = after_event w s ∙ ap (λ (b : Bool). reports_end w || b) before
-  ended_by true false w replica s earlier same before = before
-  ended_by false true w replica s earlier same before = ap is_some same ∙ before
-  ended_by false false w replica s earlier same before = before
-
-  -- the summary of a thread has a value exactly if the thread has an event of its end
-  end_reported : (events : List Event) → is_some (summary_of pid tid events).ended ≡ has_own reports_end pid tid events
-  end_reported [] = refl
-  end_reported (e ∷ earlier) =
-      let s : ThreadSummary = summary_of pid tid earlier in
-      let of_process : ℕ → ThreadSummary = λ process. summary_of process tid earlier in
-      ended_by (nat_eq e.pid pid) (nat_eq e.tid tid) e.what (replicated (makes_process pid e.what) e.pid of_process s) s (has_own reports_end pid tid earlier)
-      (replica_ended (makes_process pid e.what) e.pid of_process s) (end_reported earlier)
-
-  value_by : (v : ℕ) (same_pid same_tid : Bool) (w : What) (replica s : ThreadSummary) (earlier : Bool) → replica.ended ≡ s.ended → (s.ended ≡ Some v → earlier ≡ true)
-      → (cond same_tid (cond same_pid (with_event w s) replica) s).ended ≡ Some v → ((same_pid && same_tid && ends_with v w) || earlier) ≡ true
-  value_by v true true w replica s earlier same before is = value_after v w s earlier before is
-  value_by v true false w replica s earlier same before is = before is
-  value_by v false true w replica s earlier same before is = before (sym same ∙ is)
-  value_by v false false w replica s earlier same before is = before is
-
-  -- it has an event of its end with this value
-  value_reported : (v : ℕ) (events : List Event) → (summary_of pid tid events).ended ≡ Some v → has_own (ends_with v) pid tid events ≡ true
-  value_reported v [] is = absurd (none-some v is)
-  value_reported v (e ∷ earlier) is =
-      let s : ThreadSummary = summary_of pid tid earlier in
-      let of_process : ℕ → ThreadSummary = λ process. summary_of process tid earlier in
-      value_by v (nat_eq e.pid pid) (nat_eq e.tid tid) e.what (replicated (makes_process pid e.what) e.pid of_process s) s (has_own (ends_with v) pid tid earlier)
-      (replica_ended (makes_process pid e.what) e.pid of_process s) (value_reported v earlier) is
+-- it has an event of its end with this value
+value_reported : (pid tid v : ℕ) (events : List Event) → (summary_of pid tid events).ended ≡ Some v → has_own (ends_with v) pid tid events ≡ true
+value_reported pid tid v events is =
+    own_reading (ends_with v) tid pid events
+    ∙ related summary (has_event (ends_with v)) (λ s b. s.ended ≡ Some v → b ≡ true) (λ none. absurd (none-some v none)) (λ w s b before ended. value_after v w s b before ended) (λ w a c b d parent before. before) (λ s b before. before) tid pid events
+    (ap (λ (s : ThreadSummary). s.ended) (sym (summary_reading tid pid events)) ∙ is)
 
 -- ---- one thread
 
@@ -97,10 +73,10 @@ unreclaimed_by false true true true holds has_status = absurd (false≢true hold
 unreclaimed_by gone true false true holds has_status = absurd (false≢true (has_status refl))
 
 -- a running thread has not ended
-running_alive : (script : Script) (passes : ℕ) (t : Thread) (events : List What) → t.status ≡ status.Running → Rule script passes t events → t.ended ≡ false
-running_alive script passes t events runs rule =
-    let fits : ByStatus script status.Running t.reason t.frames t.handlers (summary events) = subst (λ (s : Status). ByStatus script s t.reason t.frames t.handlers (summary events)) runs rule.0.by_status in
-    sym rule.0.agrees.end ∙ ap is_some fits.not_ended
+running_alive : (script : Script) (passes : ℕ) (t : Thread) (reported : ThreadSummary) → t.status ≡ status.Running → Fits script passes t reported → t.ended ≡ false
+running_alive script passes t reported runs fits =
+    let running : ByStatus script status.Running t.reason t.frames t.handlers reported = subst (λ (s : Status). ByStatus script s t.reason t.frames t.handlers reported) runs fits.by_status in
+    sym fits.agrees.end ∙ ap is_some running.not_ended
 
 -- ---- a step
 
@@ -118,11 +94,8 @@ silent_lawful e (w ∷ added) all earlier law =
     (silent_may w parts.0 e.pid e.tid (map (event_of e) added ++ earlier), silent_lawful e added parts.1 earlier law)
 
 module _ (script : Script) (config : Config) (before : List Entry) (r : Run) (is : run script config before ≡ Some r) (e : Entry) (p : Process) (t : Thread) (taken : IsTaken script config r.world e p t) where
-  numbers : HaveNumbers config.slots r
-  numbers = have_numbers script config before r is
-
   process_is : made_process e.pid r.world ≡ Some p
-  process_is = process_is_made e.pid e.tid r.world p numbers.pids taken.is_process
+  process_is = process_taken script config before r is e p t taken
 
   -- a thread of the process that holds its slot
   record IsLive (id : ℕ) (u : Thread) : Type 0 where
@@ -134,8 +107,8 @@ module _ (script : Script) (config : Config) (before : List Entry) (r : Run) (is
   live : (id : ℕ) (u : Thread) → with_id id p.threads ≡ Some u → IsLive id u
   live id u is_u =
       let passes : is_live_thread id u ≡ true = found_passes (is_live_thread id) p.threads u is_u in
-      let of_process : thread_with id p ≡ Some u = thread_is_made id p u (numbers.ids e.pid p process_is).distinct is_u in
-      record { of_process = of_process; made = own_thread_before e.pid e.tid r.world p numbers.pids taken.is_process id ∙ of_process; here = is_here id u passes; holds = (and_parts (nat_eq u.id id) (holds_slot u) passes).1 }
+      let of_process : thread_with id p ≡ Some u = thread_is_made id p u (ids_of_run script config before r is e.pid p process_is).distinct is_u in
+      record { of_process = of_process; made = ap (option_and_then (thread_with id)) process_is ∙ of_process; here = is_here id u passes; holds = (and_parts (nat_eq u.id id) (holds_slot u) passes).1 }
 
   it : IsLive e.tid t
   it = live e.tid t taken.is_thread
@@ -145,11 +118,11 @@ module _ (script : Script) (config : Config) (before : List Entry) (r : Run) (is
   names_live id u runs is_u =
       let target : IsLive id u = live id u is_u in
       let kept : ThreadKept script p.shared.keys u (summary_of e.pid id r.events) = threads_kept script config before r is e.pid id p u process_is target.of_process target.here in
-      let events : List What = own_events e.pid e.tid r.events in
-      let own : OfMade (Rule script config.passes) t events = subst (λ (found : Option Thread). OfThread (Rule script config.passes) found events) it.made (rule_kept script config before r is e.pid e.tid) in
-      let alive : t.ended ≡ false = running_alive script config.passes t events runs (own.here it.here) in
+      let reported : ThreadSummary = reported_by (of_thread summary e.tid) e.pid r.events in
+      let own : OfMade summary (Fits script config.passes) t reported = subst (λ (found : Option Thread). OfThread summary (Fits script config.passes) found reported) it.made (threads_fit script config before r is e.pid e.tid) in
+      let alive : t.ended ≡ false = running_alive script config.passes t reported runs (own.here it.here) in
       let has_status : u.ended ≡ true → is_ended_status u.status ≡ true = λ ended. true_from_ne_false (is_ended_status u.status) (λ exits.
-      true≢false (sym (last_exits script config (rule_kept script config) before r is e.pid p process_is id u target.of_process (target.here, ended, exits) e.tid t it.of_process it.here) ∙ alive)) in
+      true≢false (sym (last_exits script config (threads_fit script config) before r is e.pid p process_is id u target.of_process (target.here, ended, exits) e.tid t it.of_process it.here) ∙ alive)) in
       record {
         known = known_of_run script config before r is e.pid id ∙ ap (λ (found : Option Thread). option_map_or (λ x. not x.gone) found false) target.made ∙ ap not target.here;
         unreclaimed =
@@ -177,17 +150,15 @@ module _ (script : Script) (config : Config) (before : List Entry) (r : Run) (is
   lawful_by : (o : Transition) → Kind t.id p.threads t.status o → JoinLaw r.events → JoinLaw (map (event_of e) (reverse o.events) ++ r.events)
   unfolding creates begins_join ends_join detaches requests acts_on_request
   lawful_by o (quiet is nothing) law = silent_lawful e (reverse o.events) is.events r.events law
-  lawful_by o (creates_one next result d n f v detached s is_o) law = subst (λ (x : Transition). JoinLaw (map (event_of e) (reverse x.events) ++ r.events)) (sym is_o) (tt, law)
-  lawful_by o (begins n s may is_o) law = subst (λ (x : Transition). JoinLaw (map (event_of e) (reverse x.events) ++ r.events)) (sym is_o) (tt, law)
-  lawful_by o (ends next d n v target s is_target ended is_o) law = subst (λ (x : Transition). JoinLaw (map (event_of e) (reverse x.events) ++ r.events)) (sym is_o) (joins_ended n v target s is_target ended, law)
-  lawful_by o (detaches_one next n target s is_target alone is_o) law = subst (λ (x : Transition). JoinLaw (map (event_of e) (reverse x.events) ++ r.events)) (sym is_o) (names_live n target s is_target, law)
-  lawful_by o (requests_one next n target s is_target is_o) law = subst (λ (x : Transition). JoinLaw (map (event_of e) (reverse x.events) ++ r.events)) (sym is_o) (names_live n target s is_target, law)
-  lawful_by o (cancels n s is_o) law = subst (λ (x : Transition). JoinLaw (map (event_of e) (reverse x.events) ++ r.events)) (sym is_o) (tt, law)
+  lawful_by o (ends next d n v target s is_target ended) law = (joins_ended n v target s is_target ended, law)
+  lawful_by o (detaches_one next n target s is_target alone) law = (names_live n target s is_target, law)
+  lawful_by o (requests_one next n target s is_target) law = (names_live n target s is_target, law)
+  lawful_by o _ law = (tt, law)
 
 -- ---- every run
 
 -- the law of joins
 pub joins_of_run : (script : Script) (config : Config) (entries : List Entry) (r : Run) → run script config entries ≡ Some r → JoinLaw r.events
 joins_of_run script config entries r is =
-    every_run_so_far script config (λ r. JoinLaw r.events)
-    (λ before r is e p t taken law. lawful_by script config before r is e p t taken (transition_by script config p t e.alt) (kind_of script config p t e.alt) law) tt entries r is
+    every_run script config (λ r. JoinLaw r.events)
+    (λ before r is e p t taken law. lawful_by script config before r is e p t taken (transition_by script config p t e.alt) (kind_of script config p t e.alt) law) (λ some. tt) entries r is

@@ -1,15 +1,13 @@
 -- A thread of a process after a transition of one of them: whether it is joined and detached, by the action that names a thread.
-use Rattle.std.proofs.Common.{◌≡◌, ℕ, Bool, true, false, not, ◌||◌, ◌&&◌, cond, List, [], ◌∷◌, reverse, nat_eq, Option, Some, None, refl, sym, ap, ◌∙◌, subst, ne_eqb, eqb-true, eq-eqb}
+use mathlib.Core.Bool.{or-false}
+use Rattle.std.proofs.Common.{◌≡◌, ℕ, Bool, true, false, not, ◌||◌, ◌&&◌, cond, List, [], ◌∷◌, reverse, nat_eq, Option, Some, refl, sym, ap, ◌∙◌, ne_eqb, eqb-true, eq-eqb}
 use Rattle.std.specs.List.{list_all, list_any}
 use Rattle.std.specs.Option.{option_map_or}
-use Rattle.std.proofs.lemmas.Bool.{false≢true, true≢false, and_parts, and_from, not_from_false, eqb-false, or_from}
-use Rattle.std.proofs.lemmas.Option.{same_Some}
+use Rattle.std.proofs.lemmas.Bool.{false≢true, and_parts, eqb-false, or_from}
 use Rattle.pct_model.specs.declared.event.What.{What}
 use Rattle.pct_model.specs.declared.event.What.TheVariants as what
 use Rattle.pct_model.specs.declared.state.Status.{Status}
 use Rattle.pct_model.specs.declared.state.Status.TheVariants as status
-use Rattle.pct_model.specs.declared.statement.Dest.{Dest}
-use Rattle.pct_model.specs.declared.statement.Dest.TheVariants as destination
 use Rattle.pct_model.specs.declared.transition.Action.{Action}
 use Rattle.pct_model.specs.declared.transition.Action.TheVariants as action
 use Rattle.pct_model.specs.declared.transition.NewThread.{NewThread}
@@ -17,16 +15,14 @@ use Rattle.pct_model.specs.declared.transition.Transition.{Transition}
 use Rattle.pct_model.specs.Actions.{thread_at, thread_after, named_after, for_each, moved, thread_moved}
 use Rattle.pct_model.specs.CancelCalls.{requests, acts_on_request}
 use Rattle.pct_model.specs.KnownThreads.{detaches_id, joins_id}
-use Rattle.pct_model.specs.OwnEvents.{thread_with}
 use Rattle.pct_model.specs.ThreadCalls.{creates, begins_join, ends_join, detaches}
 use Rattle.pct_model.specs.ThreadSlots.{is_ended_status, holds_slot, is_live_thread, with_id}
-use Rattle.pct_model.specs.Transitions.{written}
-use Rattle.pct_model.specs.World.{Thread, Process}
+use Rattle.pct_model.specs.World.{Thread, Process, thread_with}
 use Rattle.pct_ending_laws.proofs.lift.KeyedLists.{AreDistinct, found_passes}
 use Rattle.pct_ending_laws.proofs.lift.ThreadIds.{ids_of}
-use Rattle.pct_ending_laws.proofs.lift.ChangedThreads.{either_keeps, all_keep, all_keep_if}
+use Rattle.pct_ending_laws.proofs.lift.ChangedThreads.{either_keeps, all_keep_if, flags, moved_flags}
 use Rattle.pct_ending_laws.proofs.lift.MadeThreads.{is_here, thread_is_made}
-use Rattle.pct_ending_laws.proofs.joins.JoinTransitions.{is_quiet, names_none, Kind, quiet, creates_one, begins, ends, detaches_one, requests_one, cancels, two_written, one_written}
+use Rattle.pct_ending_laws.proofs.joins.JoinTransitions.{is_quiet, names_none, Kind, quiet, creates_one, ends, detaches_one, requests_one}
 
 -- ---- the action that names a thread
 
@@ -46,9 +42,9 @@ releases id a = names_join id a || names_detach id a
 
 -- the action of a transition that joins or detaches a thread or sends it a request, or else one that names none
 abbrev pub naming : {tid : ℕ} {threads : List Thread} {s : Status} {o : Transition} → Kind tid threads s o → Action
-naming (ends next d id v target s is_target ended is) = action.EndJoin id
-naming (detaches_one next id target s is_target alone is) = action.Detach id
-naming (requests_one next id target s is_target is) = action.Request id
+naming (ends next d id v target s is_target ended) = action.EndJoin id
+naming (detaches_one next id target s is_target alone) = action.Detach id
+naming (requests_one next id target s is_target) = action.Request id
 naming _ = action.PopHandler
 
 -- ---- what the events report
@@ -66,10 +62,6 @@ swapped m n = by_test (nat_eq m n) refl
     by_test true is = sym (eq-eqb n m (sym (eqb-true m n is)))
     by_test false is = sym (ne_eqb n m (λ same. eqb-false m n is (sym same)))
 
-pub or_none : (b : Bool) → (b || false) ≡ b
-or_none true = refl
-or_none false = refl
-
 module _ (id : ℕ) where
   silent_join : (w : What) → names_none w ≡ true → joins_id id w ≡ false
   silent_join (what.Joined n v) none = absurd (false≢true none)
@@ -84,49 +76,22 @@ module _ (id : ℕ) where
   pub joined_reported : {tid : ℕ} {threads : List Thread} {s : Status} {o : Transition} → (k : Kind tid threads s o) → list_any (joins_id id) (reverse o.events) ≡ names_join id (naming k)
   unfolding creates begins_join ends_join detaches requests acts_on_request
   joined_reported {o} (quiet is nothing) = silent (joins_id id) silent_join (reverse o.events) is.events
-  joined_reported (creates_one next result d new f v detached s is) = ap (λ (x : Transition). list_any (joins_id id) (reverse x.events)) is
-  joined_reported (begins n s may is) = ap (λ (x : Transition). list_any (joins_id id) (reverse x.events)) is
-  joined_reported (ends next d n v target s is_target ended is) = ap (λ (x : Transition). list_any (joins_id id) (reverse x.events)) is ∙ or_none (nat_eq n id) ∙ swapped n id
-  joined_reported (detaches_one next n target s is_target alone is) = ap (λ (x : Transition). list_any (joins_id id) (reverse x.events)) is
-  joined_reported (requests_one next n target s is_target is) = ap (λ (x : Transition). list_any (joins_id id) (reverse x.events)) is
-  joined_reported (cancels n s is) = ap (λ (x : Transition). list_any (joins_id id) (reverse x.events)) is
+  joined_reported (ends next d n v target s is_target ended) = or-false (nat_eq n id) ∙ swapped n id
+  joined_reported _ = refl
 
   -- the thread is the one that is created, and is detached
   abbrev pub created_detached : Option NewThread → Bool
   created_detached created = option_map_or (λ new. nat_eq new.id id && new.detached) created false
 
-  detached_by : (o x : Transition) (names : Bool) → o ≡ x → list_any (detaches_id id) (reverse x.events) ≡ (names || created_detached x.created) → list_any (detaches_id id) (reverse o.events) ≡ (names || created_detached o.created)
-  detached_by o x names is same = subst (λ (y : Transition). list_any (detaches_id id) (reverse y.events) ≡ (names || created_detached y.created)) (sym is) same
-
   -- the events report the thread that is detached, and whether the one that is created is
   pub detached_reported : {tid : ℕ} {threads : List Thread} {s : Status} {o : Transition} → (k : Kind tid threads s o) → list_any (detaches_id id) (reverse o.events) ≡ (names_detach id (naming k) || created_detached o.created)
   unfolding creates begins_join ends_join detaches requests acts_on_request
   detached_reported {o} (quiet is nothing) = silent (detaches_id id) silent_detach (reverse o.events) is.events ∙ ap created_detached (sym is.none)
-  detached_reported {o} (creates_one next result d new f v detached s is) = detached_by o (creates next result d new f v detached) false is (or_none (nat_eq new id && detached))
-  detached_reported {o} (begins n s may is) = detached_by o (begins_join n) false is refl
-  detached_reported {o} (ends next d n v target s is_target ended is) = detached_by o (ends_join next d n v) false is refl
-  detached_reported {o} (detaches_one next n target s is_target alone is) = detached_by o (detaches next n) (nat_eq id n) is (ap (λ (b : Bool). b || false) (swapped n id))
-  detached_reported {o} (requests_one next n target s is_target is) = detached_by o (requests next n) false is refl
-  detached_reported {o} (cancels n s is) = detached_by o (acts_on_request (status.Joining n)) false is refl
+  detached_reported (creates_one next result d new f v detached s) = or-false (nat_eq new id && detached)
+  detached_reported (detaches_one next n target s is_target alone) = ap (λ (b : Bool). b || false) (swapped n id)
+  detached_reported _ = refl
 
 -- ---- the threads of the process
-
--- the id of a thread, whether its process did not inherit it, and whether it is joined and detached
-abbrev pub flags : Thread → ℕ × Bool × Bool × Bool
-flags t = (t.id, t.gone, t.joined, t.detached)
-
-action_flags : (a : Action) (t : Thread) → flags (thread_after a t) ≡ flags t
-unfolding thread_after
-action_flags (action.SetLocal i v) t = refl
-action_flags _ t = refl
-
-going_on_flags : (next : Option ℕ) (t : Thread) → flags (thread_at next t) ≡ flags t
-unfolding thread_at
-going_on_flags None t = refl
-going_on_flags (Some pc) t = refl
-
-moved_flags : (o : Transition) (t : Thread) → flags (moved o t) ≡ flags t
-moved_flags o t = all_keep flags thread_after action_flags o.actions (thread_at o.next t) ∙ going_on_flags o.next t
 
 -- a thread that is named becomes joined or detached by it
 becomes : (flag : Thread → Bool) (b : Bool) (x y : Thread) → flag x ≡ true → flag (cond b x y) ≡ (b || flag y)
@@ -162,20 +127,13 @@ none_named actions all t = all_keep_if flags named_after is_quiet quiet_flags ac
 only_named : {tid : ℕ} {threads : List Thread} {s : Status} {o : Transition} → (k : Kind tid threads s o) → (u : Thread) → flags (for_each named_after o.actions u) ≡ flags (named_after (naming k) u)
 unfolding creates begins_join ends_join detaches requests acts_on_request named_after
 only_named {o} (quiet is nothing) u = none_named o.actions is.actions u
-only_named (creates_one next result id new f v detached s is) u = ap (λ (x : Transition). flags (for_each named_after x.actions u)) is ∙ none_named (creates next result id new f v detached).actions (two_written result id 0 new) u
-only_named (begins id s may is) u = ap (λ (x : Transition). flags (for_each named_after x.actions u)) is
-only_named (ends next d id v target s is_target ended is) u = ap (λ (x : Transition). flags (for_each named_after x.actions u)) is ∙ none_named (written d v) (one_written d v) (named_after (action.EndJoin id) u)
-only_named (detaches_one next id target s is_target alone is) u = ap (λ (x : Transition). flags (for_each named_after x.actions u)) is
-only_named (requests_one next id target s is_target is) u = ap (λ (x : Transition). flags (for_each named_after x.actions u)) is
-only_named (cancels id s is) u = ap (λ (x : Transition). flags (for_each named_after x.actions u)) is
+only_named _ u = refl
 
 -- the thread runs after a transition that joins or detaches a thread
 runs_after : {tid : ℕ} {threads : List Thread} {s : Status} {o : Transition} → (k : Kind tid threads s o) (id : ℕ) → releases id (naming k) ≡ true → (t : Thread) → (moved o t).status ≡ status.Running
 unfolding ends_join detaches thread_at thread_after
-runs_after (ends next (destination.Local i) n v target s is_target ended is) id names t = ap (λ (x : Transition). (moved x t).status) is
-runs_after (ends next (destination.Global i) n v target s is_target ended is) id names t = ap (λ (x : Transition). (moved x t).status) is
-runs_after (ends next destination.Drop n v target s is_target ended is) id names t = ap (λ (x : Transition). (moved x t).status) is
-runs_after (detaches_one next n target s is_target alone is) id names t = ap (λ (x : Transition). (moved x t).status) is
+runs_after (ends next d n v target s is_target ended) id names t = refl
+runs_after (detaches_one next n target s is_target alone) id names t = refl
 runs_after k id names t = absurd (false≢true names)
 
 module _ (tid : ℕ) (o : Transition) where
@@ -198,39 +156,36 @@ module _ (tid : ℕ) (o : Transition) where
         ap (λ (f : ℕ × Bool × Bool × Bool). f.3) (only_named k (unnamed u)) ∙ named_detached (naming k) (unnamed u)
         ∙ ap (λ (f : ℕ × Bool × Bool × Bool). (names_detach f.0 (naming k) && holds_slot (unnamed u)) || f.3) (unnamed_flags u)
 
-module _ (p : Process) (tid : ℕ) (t : Thread) (o : Transition) (k : Kind t.id p.threads t.status o) (distinct : AreDistinct (ids_of p.threads)) where
-  -- the thread that is named, which holds its slot until then
-  pub record IsNamed (id : ℕ) : Type 0 where
+module _ (p : Process) (tid : ℕ) (t : Thread) (distinct : AreDistinct (ids_of p.threads)) where
+  -- the thread that a transition names, which holds its slot until then
+  pub record IsNamed (o : Transition) (id : ℕ) : Type 0 where
     pub target : Thread
     pub made : thread_with id p ≡ Some target
     pub here : target.gone ≡ false
     pub holds : holds_slot (unnamed tid o target) ≡ true
 
   -- a thread that holds its slot holds it while it is not named
-  unnamed_holds : (u : Thread) (live : Bool) → is_live_thread tid u ≡ live → u.gone ≡ false → holds_slot u ≡ true → (moved o u).status ≡ status.Running → holds_slot (cond live (moved o u) u) ≡ true
-  unnamed_holds u true is here holds runs =
+  unnamed_holds : (o : Transition) (u : Thread) (live : Bool) → is_live_thread tid u ≡ live → u.gone ≡ false → holds_slot u ≡ true → (moved o u).status ≡ status.Running → holds_slot (cond live (moved o u) u) ≡ true
+  unnamed_holds o u true is here holds runs =
       ap (λ (s : Status). not (moved o u).gone && not (is_ended_status s && ((moved o u).joined || (moved o u).detached))) runs
       ∙ ap (λ (f : ℕ × Bool × Bool × Bool). not f.1 && true) (moved_flags o u) ∙ ap (λ (gone : Bool). not gone && true) here
-  unnamed_holds u false is here holds runs = holds
+  unnamed_holds o u false is here holds runs = holds
 
-  named_by : (n id : ℕ) (target : Thread) → with_id n p.threads ≡ Some target → nat_eq id n ≡ true → (moved o target).status ≡ status.Running → IsNamed id
-  named_by n id target is_target same runs =
+  named_by : (o : Transition) (n id : ℕ) (target : Thread) → with_id n p.threads ≡ Some target → nat_eq id n ≡ true → (moved o target).status ≡ status.Running → IsNamed o id
+  named_by o n id target is_target same runs =
       let live : is_live_thread n target ≡ true = found_passes (is_live_thread n) p.threads target is_target in
       let here : target.gone ≡ false = is_here n target live in
       record {
         target = target;
         made = ap (λ (i : ℕ). thread_with i p) (eqb-true id n same) ∙ thread_is_made n p target distinct is_target;
         here = here;
-        holds = unnamed_holds target (is_live_thread tid target) refl here (and_parts (nat_eq target.id n) (holds_slot target) live).1 runs;
+        holds = unnamed_holds o target (is_live_thread tid target) refl here (and_parts (nat_eq target.id n) (holds_slot target) live).1 runs;
       }
 
-  named_of : (j : Kind t.id p.threads t.status o) (id : ℕ) → releases id (naming j) ≡ true → IsNamed id
-  named_of (ends next d n v target s is_target ended is) id names =
-      named_by n id target is_target (sym (or_none (nat_eq id n)) ∙ names) (runs_after {tid = t.id} {threads = p.threads} {s = t.status} (ends next d n v target s is_target ended is) id names target)
-  named_of (detaches_one next n target s is_target alone is) id names =
-      named_by n id target is_target names (runs_after {tid = t.id} {threads = p.threads} {s = t.status} (detaches_one next n target s is_target alone is) id names target)
-  named_of j id names = absurd (false≢true names)
-
   -- the thread that is joined or detached
-  pub is_named : (id : ℕ) → releases id (naming k) ≡ true → IsNamed id
-  is_named id names = named_of k id names
+  pub is_named : {o : Transition} (k : Kind t.id p.threads t.status o) (id : ℕ) → releases id (naming k) ≡ true → IsNamed o id
+  is_named {o} (ends next d n v target s is_target ended) id names =
+      named_by o n id target is_target (sym (or-false (nat_eq id n)) ∙ names) (runs_after {tid = t.id} {threads = p.threads} {s = t.status} (ends next d n v target s is_target ended) id names target)
+  is_named {o} (detaches_one next n target s is_target alone) id names =
+      named_by o n id target is_target names (runs_after {tid = t.id} {threads = p.threads} {s = t.status} (detaches_one next n target s is_target alone) id names target)
+  is_named k id names = absurd (false≢true names)

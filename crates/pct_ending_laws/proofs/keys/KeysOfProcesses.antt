@@ -1,30 +1,25 @@
 -- After every run, what is kept of keys holds of the keys of each process, and the data of its threads are empty at each place without a
 -- key.
-use Rattle.std.proofs.Common.{◌≡◌, ℕ, Bool, true, false, not, ◌&&◌, cond, List, [], ◌∷◌, find, nat_eq, Option, Some, None, option_map, refl, sym, ap, ◌∙◌, subst}
+use Rattle.std.proofs.Common.{◌≡◌, ℕ, Bool, true, false, not, ◌&&◌, cond, List, [], ◌∷◌, find, nat_eq, Some, refl, sym, ap, ◌∙◌, subst}
 use Rattle.std.specs.List.{list_all}
-use Rattle.std.specs.Option.{option_or}
 use Rattle.std.proofs.lemmas.Bool.{false≢true}
-use Rattle.std.proofs.lemmas.Option.{none-some, same_Some, cond_some}
+use Rattle.std.proofs.lemmas.Option.{cond_some}
 use Rattle.pct_model.specs.declared.script.Script.{Script}
-use Rattle.pct_model.specs.declared.schedule.Alt.{Alt}
 use Rattle.pct_model.specs.declared.schedule.Config.{Config}
+use Rattle.pct_model.specs.declared.schedule.Entry.{Entry}
 use Rattle.pct_model.specs.declared.transition.Action.{Action}
 use Rattle.pct_model.specs.declared.transition.Action.TheVariants as action
-use Rattle.pct_model.specs.declared.transition.NewThread.{NewThread}
 use Rattle.pct_model.specs.declared.transition.Transition.{Transition}
-use Rattle.pct_model.specs.Actions.{without_first, thread_at, thread_after, named_after, shared_after, other_process_after, thread_created, for_each, moved, thread_moved, changed}
-use Rattle.pct_model.specs.ChoiceTable.{choices_of, offers}
+use Rattle.pct_model.specs.Actions.{without_first, thread_at, thread_after, named_after, shared_after, other_process_after, for_each, moved, thread_moved, changed}
 use Rattle.pct_model.specs.Kept.{KeysKept}
 use Rattle.pct_model.specs.Keys.{KeyPlace, KeyValues}
-use Rattle.pct_model.specs.OwnEvents.{thread_with}
 use Rattle.pct_model.specs.ThreadSlots.{is_live_thread}
 use Rattle.pct_model.specs.TransitionTable.{transition_by}
-use Rattle.pct_model.specs.World.{Thread, SharedState, Process, first_process}
-use Rattle.pct_ending_laws.proofs.lift.ChangedThreads.{either_keeps, all_keep_if, changed_shared, other_threads, other_shared}
-use Rattle.pct_ending_laws.proofs.lift.MadeThreads.{own_thread_with}
-use Rattle.pct_ending_laws.proofs.lift.RunsSoFar.{AfterEveryRun}
-use Rattle.pct_ending_laws.proofs.lift.EveryThread.{OfEveryProcess, initial_thread, created_thread}
-use Rattle.pct_ending_laws.proofs.lift.EveryProcess.{IsProcessRule, every_process}
+use Rattle.pct_model.specs.World.{Thread, SharedState, Process, first_process, thread_with}
+use Rattle.pct_ending_laws.proofs.lift.ChangedThreads.{either_keeps, all_keep_if, going_on_keeps, changed_shared, other_threads, other_shared}
+use Rattle.pct_ending_laws.proofs.lift.TakenSteps.{AfterEveryRun}
+use Rattle.pct_ending_laws.proofs.lift.ThreadsAfter.{initial_thread, Moves, each_after}
+use Rattle.pct_ending_laws.proofs.lift.EveryProcess.{OfEveryProcess, IsProcessRule, unread, every_process_keeps, moves_of_run}
 use Rattle.pct_ending_laws.proofs.keys.KeyActions.{is_keyless, first_of, OnlyFirst, key_actions}
 use Rattle.pct_ending_laws.proofs.keys.KeptKeys.{keys_after, own_data, named_data, kept_after, no_keys_kept, AreEmpty, new_empty, empty_after}
 
@@ -32,7 +27,7 @@ use Rattle.pct_ending_laws.proofs.keys.KeptKeys.{keys_after, own_data, named_dat
 
 own_specific : (a : Action) (t : Thread) → (thread_after a t).specific ≡ own_data a t.specific
 unfolding thread_after
-own_specific (action.SetLocal i v) t = refl
+own_specific (action.Write d v) t = refl
 own_specific _ t = refl
 
 named_specific : (a : Action) (t : Thread) → (named_after a t).specific ≡ named_data a t.specific
@@ -44,7 +39,7 @@ named_specific _ t = refl
 
 shared_keys : (a : Action) (s : SharedState) → (shared_after a s).keys ≡ keys_after a s.keys
 unfolding shared_after
-shared_keys (action.SetGlobal i v) s = refl
+shared_keys (action.Write d v) s = refl
 shared_keys _ s = refl
 
 -- an action that changes no keys changes no data
@@ -79,18 +74,13 @@ named_moved : (actions : List Action) → list_all is_keyless (without_first act
 named_moved [] rest t = refl
 named_moved (a ∷ actions) rest t = all_keep_if (λ (x : Thread). x.specific) named_after is_keyless (λ b is x. named_specific b x ∙ named_same b is x.specific) actions rest (named_after a t) ∙ named_specific a t
 
-going_on_same : (next : Option ℕ) (t : Thread) → (thread_at next t).specific ≡ t.specific
-unfolding thread_at
-going_on_same None t = refl
-going_on_same (Some pc) t = refl
-
 -- the data of a thread after a transition of the one with an id
 data_moved : (tid : ℕ) (o : Transition) → list_all is_keyless (without_first o.actions) ≡ true → (t : Thread)
     → (thread_moved tid o t).specific ≡ named_data (first_of o.actions) (cond (is_live_thread tid t) (own_data (first_of o.actions) t.specific) t.specific)
 data_moved tid o rest t = named_moved o.actions rest (cond (is_live_thread tid t) (moved o t) t) ∙ ap (named_data (first_of o.actions)) (by_live (is_live_thread tid t))
   where
     by_live : (live : Bool) → (cond live (moved o t) t).specific ≡ cond live (own_data (first_of o.actions) t.specific) t.specific
-    by_live true = own_moved o.actions rest (thread_at o.next t) ∙ ap (own_data (first_of o.actions)) (going_on_same o.next t)
+    by_live true = own_moved o.actions rest (thread_at o.next t) ∙ ap (own_data (first_of o.actions)) (going_on_keeps (λ (u : Thread). u.specific) (λ t s frames. refl) o.next t)
     by_live false = refl
 
 -- ---- the rule of a process
@@ -100,40 +90,34 @@ pub record KeysFit (script : Script) (p : Process) : Type 0 where
   pub keys : KeysKept script p.shared.keys
   pub empty : (tid : ℕ) (t : Thread) → thread_with tid p ≡ Some t → AreEmpty p.shared.keys t.specific
 
-created_empty : (keys : List KeyPlace) (created : Option NewThread) (id : ℕ) (t : Thread) → find (λ u. nat_eq u.id id) (thread_created created) ≡ Some t → AreEmpty keys t.specific
-created_empty keys None id t is = absurd (none-some t is)
-created_empty keys (Some new) id t is = subst (λ (u : Thread). AreEmpty keys u.specific) (cond_some (nat_eq new.id id) (created_thread new) t is).1 (new_empty keys)
-
 first_fits : (script : Script) → KeysFit script (first_process script)
 first_fits script = record {
   keys = no_keys_kept script;
   empty = λ tid t is. subst (λ (u : Thread). AreEmpty (first_process script).shared.keys u.specific) (cond_some (nat_eq 1 tid) (initial_thread script) t is).1 (new_empty (first_process script).shared.keys);
 }
 
-module _ (script : Script) (config : Config) (p : Process) (tid : ℕ) (t : Thread) (choice : Alt) (offered : offers (choices_of script config p t) choice ≡ true) (fits : KeysFit script p) where
+module _ (script : Script) (config : Config) (p : Process) (e : Entry) (t : Thread) (moves : Moves script config p e t) (fits : KeysFit script p) where
   abbrev o : Transition
-  o = transition_by script config p t choice
+  o = transition_by script config p t e.alt
 
   only : OnlyFirst script p.shared.keys o.actions
-  only = key_actions script config p t choice offered
+  only = key_actions script config p t e.alt moves.offered
 
   -- the keys after the transition
   abbrev next : List KeyPlace
   next = keys_after (first_of o.actions) p.shared.keys
 
-  next_is : (changed tid o p).shared.keys ≡ next
-  next_is = ap (λ (s : SharedState). s.keys) (changed_shared tid o p) ∙ keys_moved o.actions only.rest p.shared
+  next_is : (changed e.tid o p).shared.keys ≡ next
+  next_is = ap (λ (s : SharedState). s.keys) (changed_shared e.tid o p) ∙ keys_moved o.actions only.rest p.shared
 
-  empty_by : (id : ℕ) (w : Thread) (before : Option Thread) → thread_with id p ≡ before → option_or (option_map (thread_moved tid o) before) (find (λ u. nat_eq u.id id) (thread_created o.created)) ≡ Some w → AreEmpty next w.specific
-  empty_by id w None none is = created_empty next o.created id w is
-  empty_by id w (Some u) some is =
-      subst (λ (x : Thread). AreEmpty next x.specific) (same_Some (thread_moved tid o u) w is)
-      (subst (AreEmpty next) (sym (data_moved tid o only.rest u)) (empty_after script p.shared.keys (first_of o.actions) only.first u.specific (is_live_thread tid u) (fits.empty id u some)))
+  empty_next : (id : ℕ) (w : Thread) → thread_with id (changed e.tid o p) ≡ Some w → AreEmpty next w.specific
+  empty_next = each_after script config p e t moves (λ id w. AreEmpty next w.specific)
+      (λ id u is. subst (AreEmpty next) (sym (data_moved e.tid o only.rest u)) (empty_after script p.shared.keys (first_of o.actions) only.first u.specific (is_live_thread e.tid u) (fits.empty id u is))) (λ id new makes. new_empty next)
 
-  fits_after : KeysFit script (changed tid o p)
+  fits_after : KeysFit script (changed e.tid o p)
   fits_after = record {
     keys = subst (KeysKept script) (sym next_is) (kept_after script p.shared.keys fits.keys (first_of o.actions) only.first);
-    empty = λ id w is. subst (λ (keys : List KeyPlace). AreEmpty keys w.specific) (sym next_is) (empty_by id w (thread_with id p) refl (sym (own_thread_with p.pid tid o p id) ∙ is));
+    empty = λ id w is. subst (λ (keys : List KeyPlace). AreEmpty keys w.specific) (sym next_is) (empty_next id w is);
   }
 
 -- a transition of another process
@@ -143,13 +127,13 @@ other_fits script pid o p fits = record {
   empty = λ tid t is. subst (λ (s : SharedState). AreEmpty s.keys t.specific) (sym (other_shared pid o p)) (fits.empty tid t (ap (λ (threads : List Thread). find (λ u. nat_eq u.id tid) threads) (sym (other_threads pid o p)) ∙ is));
 }
 
-keys_rule : (script : Script) (config : Config) → IsProcessRule script config (λ p. Unit {0}) (KeysFit script)
+keys_rule : (script : Script) (config : Config) → IsProcessRule unread (λ p k. KeysFit script p) script config (Moves script config)
 keys_rule script config = record {
   initial = first_fits script;
-  own = λ p tid t choice nothing is_thread found offered fits. fits_after script config p tid t choice offered fits;
-  other = other_fits script;
+  own = λ p e t k moves fits. fits_after script config p e t moves fits;
+  other = λ pid o p k fits. other_fits script pid o p fits;
 }
 
 -- after every run
 pub keys_of_run : (script : Script) (config : Config) → AfterEveryRun script config (OfEveryProcess (KeysFit script))
-keys_of_run script config = every_process script config (λ p. Unit {0}) (KeysFit script) (keys_rule script config) (λ entries r is pid p made. tt)
+keys_of_run script config = every_process_keeps script config (Moves script config) (KeysFit script) (keys_rule script config) (moves_of_run script config)

@@ -2,12 +2,16 @@
 use Rattle.std.proofs.Common.{◌≡◌, ℕ, Bool, true, false, not, ◌&&◌, cond, List, [], ◌∷◌, map, nat_eq, Option, Some, None, refl, ap, ◌∙◌}
 use Rattle.std.specs.List.{list_all}
 use Rattle.std.proofs.lemmas.Bool.{and_parts}
+use Rattle.pct_model.specs.declared.frame.Frame.{Frame}
+use Rattle.pct_model.specs.declared.state.Status.{Status}
+use Rattle.pct_model.specs.declared.state.Status.TheVariants.{Running}
 use Rattle.pct_model.specs.declared.transition.Action.{Action}
 use Rattle.pct_model.specs.declared.transition.Action.TheVariants as action
 use Rattle.pct_model.specs.declared.transition.Transition.{Transition}
+use Rattle.pct_model.specs.Keys.{KeyValues, key_place, without_value}
 use Rattle.pct_model.specs.World.{Thread, SharedState, Process}
 use Rattle.pct_model.specs.ThreadSlots.{is_live_thread}
-use Rattle.pct_model.specs.Actions.{thread_at, thread_after, named_after, shared_after, process_after, has_ended, other_process_after, for_each, moved, thread_moved, threads_moved, changed, is_live_process}
+use Rattle.pct_model.specs.Actions.{at_pc, thread_at, thread_after, named_after, shared_after, process_after, has_ended, other_process_after, for_each, moved, thread_moved, threads_moved, changed, is_live_process}
 
 -- ---- any change
 
@@ -30,35 +34,43 @@ all_keep_if view change test keeps (a ∷ actions) all t =
 
 -- ---- threads
 
--- the id of a thread, and whether its process did not inherit it
+-- a view of a thread that does not see what an action may change of a thread that it names
+pub named_keeps : {V : Type 0} (view : Thread → V) → ((t : Thread) (joined pending detached : Bool) (specific : KeyValues) → view (record t { joined = joined; pending = pending; detached = detached; specific = specific }) ≡ view t) → (a : Action) (t : Thread) → view (named_after a t) ≡ view t
+unfolding named_after
+named_keeps view same (action.EndJoin id) t = either_keeps view (is_live_thread id t) (record t { joined = true }) t t (same t true t.pending t.detached t.specific) refl
+named_keeps view same (action.Request id) t = either_keeps view (is_live_thread id t && not t.ended) (record t { pending = true }) t t (same t t.joined true t.detached t.specific) refl
+named_keeps view same (action.Detach id) t = either_keeps view (is_live_thread id t) (record t { detached = true }) t t (same t t.joined t.pending true t.specific) refl
+named_keeps view same (action.DeleteKey k) t = same t t.joined t.pending t.detached (without_value (key_place k) t.specific)
+named_keeps view same _ t = refl
+
+-- one that does not see where the thread runs, as it goes on
+pub going_on_keeps : {V : Type 0} (view : Thread → V) → ((t : Thread) (s : Status) (frames : List Frame) → view (record t { status = s; frames = frames }) ≡ view t) → (next : Option ℕ) (t : Thread) → view (thread_at next t) ≡ view t
+unfolding thread_at
+going_on_keeps view same None t = refl
+going_on_keeps view same (Some pc) t = same t Running (at_pc pc t.frames)
+
+-- the id of a thread, whether its process did not inherit it, and whether it is joined and detached
+abbrev pub flags : Thread → ℕ × Bool × Bool × Bool
+flags t = (t.id, t.gone, t.joined, t.detached)
+
+action_flags : (a : Action) (t : Thread) → flags (thread_after a t) ≡ flags t
+unfolding thread_after
+action_flags (action.Write i v) t = refl
+action_flags _ t = refl
+
+-- its own transition does not change them
+pub moved_flags : (o : Transition) (t : Thread) → flags (moved o t) ≡ flags t
+moved_flags o t = all_keep flags thread_after action_flags o.actions (thread_at o.next t) ∙ going_on_keeps flags (λ t s frames. refl) o.next t
+
+-- its id, and whether its process did not inherit it
 abbrev pub identity : Thread → ℕ × Bool
 identity t = (t.id, t.gone)
-
-going_on_keeps : (next : Option ℕ) (t : Thread) → identity (thread_at next t) ≡ identity t
-unfolding thread_at
-going_on_keeps None t = refl
-going_on_keeps (Some pc) t = refl
-
-action_keeps : (a : Action) (t : Thread) → identity (thread_after a t) ≡ identity t
-unfolding thread_after
-action_keeps (action.SetLocal i v) t = refl
-action_keeps _ t = refl
-
-named_keeps : (a : Action) (t : Thread) → identity (named_after a t) ≡ identity t
-unfolding named_after
-named_keeps (action.EndJoin id) t = either_keeps identity (is_live_thread id t) (record t { joined = true }) t t refl refl
-named_keeps (action.Request id) t = either_keeps identity (is_live_thread id t && not t.ended) (record t { pending = true }) t t refl refl
-named_keeps (action.Detach id) t = either_keeps identity (is_live_thread id t) (record t { detached = true }) t t refl refl
-named_keeps _ t = refl
-
-moved_keeps : (o : Transition) (t : Thread) → identity (moved o t) ≡ identity t
-moved_keeps o t = all_keep identity thread_after action_keeps o.actions (thread_at o.next t) ∙ going_on_keeps o.next t
 
 -- a thread after a transition of the one with an id
 pub thread_moved_keeps : (tid : ℕ) (o : Transition) (t : Thread) → identity (thread_moved tid o t) ≡ identity t
 thread_moved_keeps tid o t =
-    all_keep identity named_after named_keeps o.actions (cond (is_live_thread tid t) (moved o t) t)
-    ∙ either_keeps identity (is_live_thread tid t) (moved o t) t t (moved_keeps o t) refl
+    all_keep identity named_after (named_keeps identity (λ t j p d s. refl)) o.actions (cond (is_live_thread tid t) (moved o t) t)
+    ∙ either_keeps identity (is_live_thread tid t) (moved o t) t t (ap (λ (f : ℕ × Bool × Bool × Bool). (f.0, f.1)) (moved_flags o t)) refl
 
 -- ---- processes
 

@@ -1,65 +1,199 @@
--- A rule of a process that each transition keeps, where another rule of the process holds, holds of every process after every run.
-use Rattle.std.proofs.Common.{◌≡◌, ℕ, Bool, true, false, nat_eq, Some, refl, sym, ap, ◌∙◌, subst, eqb-true}
-use Rattle.std.proofs.lemmas.Option.{same_Some, cond_some}
+-- The lift from steps to runs: a relation between a process and what the events report of it, which each step keeps, and which a fork
+-- passes on to the process that it makes, holds of every process after every run.
+use mathlib.Core.Path.{fun_ext}
+use Rattle.std.proofs.Common.{◌≡◌, ℕ, ◌<◌, Bool, true, false, cond, List, [], ◌∷◌, ◌++◌, map, reverse, find, nat_eq, IfSome, Option, Some, None, option_map, refl, sym, ap, ◌∙◌, subst, subst₂, eqb-true, ne_eqb, mul-zero, arith}
+use Rattle.std.specs.List.{list_any}
+use Rattle.std.specs.Option.{option_or}
+use Rattle.std.proofs.lemmas.Bool.{or_from}
+use Rattle.std.proofs.lemmas.Option.{none-some, same_Some}
+use Rattle.pct_model.specs.KnownThreads.{makes_process}
+use Rattle.pct_model.specs.declared.event.Event.{Event}
+use Rattle.pct_model.specs.declared.event.What.{What}
+use Rattle.pct_model.specs.declared.event.What.TheVariants.{Forked}
 use Rattle.pct_model.specs.declared.script.Script.{Script}
-use Rattle.pct_model.specs.declared.schedule.Alt.{Alt}
 use Rattle.pct_model.specs.declared.schedule.Config.{Config}
 use Rattle.pct_model.specs.declared.schedule.Entry.{Entry}
 use Rattle.pct_model.specs.declared.transition.Transition.{Transition}
-use Rattle.pct_model.specs.World.{Thread, Process, first_process, opening}
+use Rattle.pct_model.specs.World.{Thread, Process, World, first_process, opening, made_process}
 use Rattle.pct_model.specs.ThreadSlots.{with_id}
 use Rattle.pct_model.specs.ChoiceTable.{choices_of, offers}
 use Rattle.pct_model.specs.TransitionTable.{transition_by}
-use Rattle.pct_model.specs.Actions.{other_process_after, for_each, changed}
-use Rattle.pct_model.specs.Run.{Run}
-use Rattle.pct_model.specs.OwnEvents.{made_process, thread_with}
-use Rattle.pct_ending_laws.proofs.lift.KeyedLists.{found_passes, mapped_some}
-use Rattle.pct_ending_laws.proofs.lift.TakenSteps.{IsTaken, with_step, first_run}
-use Rattle.pct_ending_laws.proofs.lift.RunsSoFar.{AfterEveryRun, every_run_so_far}
-use Rattle.pct_ending_laws.proofs.lift.ChangedThreads.{process_moved}
-use Rattle.pct_ending_laws.proofs.lift.MadeThreads.{process_after_step, other_process_is, thread_is_made, process_is_made, own_process_is}
-use Rattle.pct_ending_laws.proofs.lift.MadeNumbers.{HaveNumbers, have_numbers}
-use Rattle.pct_ending_laws.proofs.lift.EveryThread.{OfEveryProcess}
+use Rattle.pct_model.specs.Actions.{other_process_after, for_each, thread_moved, changed, after_transition}
+use Rattle.pct_model.specs.Run.{Run, event_of}
+use Rattle.pct_ending_laws.proofs.lift.KeyedLists.{found_passes, not_found}
+use Rattle.pct_ending_laws.proofs.lift.TakenSteps.{IsTaken, first_run, AfterEveryRun, every_run}
+use Rattle.pct_ending_laws.proofs.lift.CreatedThreads.{creates_with_next_id}
+use Rattle.pct_ending_laws.proofs.lift.ChangedThreads.{thread_moved_keeps, process_moved, changed_threads, other_threads}
+use Rattle.pct_ending_laws.proofs.lift.ThreadIds.{HaveIds, ids_pushed, ids_after}
+use Rattle.pct_ending_laws.proofs.lift.MadeThreads.{Makes, makes_none, forks, process_made, IsStep, is_step, process_after_step, other_process_is, process_is_made, own_process_is}
+use Rattle.pct_ending_laws.proofs.lift.ProcessIds.{HavePids, next_is_new, have_pids}
+use Rattle.pct_ending_laws.proofs.lift.ReportedBy.{Reading, reported_by, after_own, own_after, other_after, born_after}
+use Rattle.pct_ending_laws.proofs.lift.ThreadsAfter.{initial_thread, Moves}
 
-module _ (script : Script) (config : Config) (K Q : Process → Type 0) where
-  -- a rule of a process, that holds of the initial one and that each step keeps where another rule holds
-  pub record IsProcessRule : Type 0 where
-    pub initial : Q (first_process script)
-    -- a transition of a thread of the process
-    pub own : (p : Process) (tid : ℕ) (t : Thread) (choice : Alt) → K p → with_id tid p.threads ≡ Some t → thread_with tid p ≡ Some t → offers (choices_of script config p t) choice ≡ true → Q p
-        → Q (changed tid (transition_by script config p t choice) p)
-    -- a transition of a thread of another process
-    pub other : (pid : ℕ) (o : Transition) (p : Process) → Q p → Q (for_each (other_process_after pid) o.actions p)
+-- the rule holds of every process that was made
+abbrev pub OfEveryProcess : (Process → Type 0) → Run → Type 0
+OfEveryProcess K r = (pid : ℕ) (p : Process) → made_process pid r.world ≡ Some p → K p
 
-  module _ (rule : IsProcessRule) where
-    first_processes : OfEveryProcess Q (first_run script)
-    unfolding opening
-    first_processes pid p is = subst Q (cond_some (nat_eq 1 pid) (first_process script) p is).1 rule.initial
+module _ (script : Script) (config : Config) where
+  -- what is known of each legal entry that goes on from a run
+  abbrev pub Known : (Process → Entry → Thread → Type 0) → Run → Type 0
+  Known M r = (e : Entry) (p : Process) (t : Thread) → IsTaken script config r.world e p t → M p e t
 
-    module _ (r : Run) (e : Entry) (p : Process) (t : Thread) (taken : IsTaken script config r.world e p t) (numbers : HaveNumbers config.slots r) (of_process : OfEveryProcess K r) where
-      abbrev o : Transition
-      o = transition_by script config p t e.alt
+  -- its process
+  pub process_taken : AfterEveryRun script config (λ r. (e : Entry) (p : Process) (t : Thread) → IsTaken script config r.world e p t → made_process e.pid r.world ≡ Some p)
+  process_taken entries r is e p t taken = process_is_made e.pid e.tid r.world p (have_pids script config entries r is).distinct taken.is_process
 
-      process_is : made_process e.pid r.world ≡ Some p
-      process_is = process_is_made e.pid e.tid r.world p numbers.pids taken.is_process
+module _ {T : Type 0} (f : ℕ → Reading T) (R : Process → (ℕ → T) → Type 0) where
+  -- what events report of a process, by each of some readings
+  abbrev pub reported : ℕ → List Event → ℕ → T
+  reported pid events n = reported_by (f n) pid events
 
-      own_process : Q p → Q (process_moved e.pid e.tid o p)
-      own_process holds =
-          subst Q (sym (own_process_is e.pid e.tid r.world p numbers.pids taken.is_process o))
-          (rule.own p e.tid t e.alt (of_process e.pid p process_is) taken.is_thread (thread_is_made e.tid p t (numbers.ids e.pid p process_is).distinct taken.is_thread) taken.offered holds)
+  -- of a process that was not made they report nothing
+  abbrev pub FitsReports : Option Process → (ℕ → T) → Type 0
+  FitsReports None k = (n : ℕ) → k n ≡ (f n).start false
+  FitsReports (Some p) k = R p k
 
-      process_by : (pid : ℕ) (q : Process) (same : Bool) → made_process pid r.world ≡ Some q → nat_eq e.pid pid ≡ same → Q q → Q (process_moved e.pid e.tid o q)
-      process_by pid q true is same holds =
-          subst (λ (x : Process). Q x → Q (process_moved e.pid e.tid o x)) (same_Some p q (sym process_is ∙ ap (λ n. made_process n r.world) (eqb-true e.pid pid same) ∙ is)) own_process holds
-      process_by pid q false is differs holds =
-          subst Q (sym (other_process_is e.pid e.tid o q pid (found_passes (λ (x : Process). nat_eq x.pid pid) r.world.processes q is) differs)) (rule.other e.pid o q holds)
+  -- the relation holds of every process
+  abbrev pub AllFit : Run → Type 0
+  AllFit r = (pid : ℕ) → FitsReports (made_process pid r.world) (reported pid r.events)
 
-      processes_after : OfEveryProcess Q r → OfEveryProcess Q (with_step e o r)
-      processes_after of pid q is =
-          let from = mapped_some (process_moved e.pid e.tid o) (made_process pid r.world) q (sym (process_after_step e.pid e.tid o r.world pid) ∙ is) in
-          subst Q from.2 (process_by pid from.0 (nat_eq e.pid pid) from.1 refl (of pid from.0 from.1))
+  pub of_made : (r : Run) → AllFit r → (pid : ℕ) (p : Process) → made_process pid r.world ≡ Some p → R p (reported pid r.events)
+  of_made r fit pid p is = subst (λ (found : Option Process). FitsReports found (reported pid r.events)) is (fit pid)
 
-    -- after every run, the rule holds of every process, if the other one does
-    pub every_process : AfterEveryRun script config (OfEveryProcess K) → AfterEveryRun script config (OfEveryProcess Q)
-    every_process of_processes =
-        every_run_so_far script config (OfEveryProcess Q) (λ before r is e p t taken of. processes_after r e p t taken (have_numbers script config before r is) (of_processes before r is) of) first_processes
+  module _ (script : Script) (config : Config) (M : Process → Entry → Thread → Type 0) where
+    -- the relation holds of the initial process, and each step keeps it, where this is known of the step
+    pub record IsProcessRule : Type 0 where
+      pub initial : R (first_process script) (λ n. (f n).start true)
+      -- a transition of a thread of the process
+      pub own : (p : Process) (e : Entry) (t : Thread) (k : ℕ → T) → M p e t → R p k
+          → R (changed e.tid (transition_by script config p t e.alt) p) (λ n. after_own (f n) (map (event_of e) (reverse (transition_by script config p t e.alt).events)) (k n))
+      -- a transition of a thread of another process
+      pub other : (pid : ℕ) (o : Transition) (p : Process) (k : ℕ → T) → R p k → R (for_each (other_process_after pid) o.actions p) k
+
+    module _ (rule : IsProcessRule) where
+      first_by : (initial : Bool) → FitsReports (cond initial (Some (first_process script)) None) (λ n. (f n).start initial)
+      first_by true = rule.initial
+      first_by false = λ n. refl
+
+      first_fit : AllFit (first_run script)
+      unfolding opening
+      first_fit pid = first_by (nat_eq 1 pid)
+
+      -- ---- a step
+
+      module _ (r : Run) (e : Entry) (p : Process) (t : Thread) (taken : IsTaken script config r.world e p t) (pids : HavePids config.slots r.world) (known : M p e t) (fit : AllFit r) where
+        abbrev o : Transition
+        o = transition_by script config p t e.alt
+
+        -- its events, newest first
+        abbrev added : List What
+        added = reverse o.events
+
+        -- what is reported after it
+        abbrev later : ℕ → ℕ → T
+        later pid = reported pid (map (event_of e) added ++ r.events)
+
+        process_is : made_process e.pid r.world ≡ Some p
+        process_is = process_is_made e.pid e.tid r.world p pids.distinct taken.is_process
+
+        own_process : R (process_moved e.pid e.tid o p) (later e.pid)
+        own_process =
+            subst₂ R (sym (own_process_is e.pid e.tid r.world p pids.distinct taken.is_process o)) (fun_ext (λ n. sym (own_after (f n) e r.events added)))
+            (rule.own p e t (reported e.pid r.events) known (of_made r fit e.pid p process_is))
+
+        -- a process that was made before, which no event makes again
+        process_by : (pid : ℕ) (q : Process) (same : Bool) → made_process pid r.world ≡ Some q → nat_eq e.pid pid ≡ same → list_any (makes_process pid) added ≡ false → R q (reported pid r.events) → R (process_moved e.pid e.tid o q) (later pid)
+        process_by pid q true is same quiet holds =
+            let it : e.pid ≡ pid = eqb-true e.pid pid same in
+            subst₂ (λ (n : ℕ) (x : Process). R (process_moved e.pid e.tid o x) (later n)) it (same_Some p q (sym process_is ∙ ap (λ n. made_process n r.world) it ∙ is)) own_process
+        process_by pid q false is differs quiet holds =
+            subst₂ R (sym (other_process_is e.pid e.tid o q pid (found_passes (λ (x : Process). nat_eq x.pid pid) r.world.processes q is) differs)) (fun_ext (λ n. sym (other_after (f n) e r.events pid differs added quiet)))
+            (rule.other e.pid o q (reported pid r.events) holds)
+
+        -- what is reported of the process that a fork makes
+        abbrev born : ℕ → ℕ → T
+        born pid n = (f n).born (event_of e (Forked pid)) (reported_by (f n) e.pid r.events) ((f n).start false)
+
+        fit_by : (pid : ℕ) (found : Option Process) {child : Option Process} → made_process pid r.world ≡ found → FitsReports found (reported pid r.events) → Makes r.world added child → IfSome child (λ c. R c (born c.pid))
+            → FitsReports (option_or (option_map (process_moved e.pid e.tid o) found) (find (λ q. nat_eq q.pid pid) (process_made child))) (later pid)
+        fit_by pid (Some q) is holds (makes_none quiet) leaf = process_by pid q (nat_eq e.pid pid) is refl (quiet pid) holds
+        fit_by pid (Some q) is holds (forks c next only) leaf =
+            let new : made_process c.pid r.world ≡ None = not_found (λ (x : Process). x.pid) c.pid r.world.processes (next_is_new config.slots r.world pids c.pid next) in
+            let differs : nat_eq c.pid pid ≡ false = ne_eqb c.pid pid (λ same. none-some q (sym new ∙ ap (λ n. made_process n r.world) same ∙ is)) in
+            process_by pid q (nat_eq e.pid pid) is refl (ap (list_any (makes_process pid)) only ∙ or_from (nat_eq c.pid pid) false differs refl) holds
+        fit_by pid None is holds makes leaf = new_by makes leaf
+          where
+            differs : nat_eq e.pid pid ≡ false
+            differs = ne_eqb e.pid pid (λ same. none-some p (sym is ∙ ap (λ n. made_process n r.world) (sym same) ∙ process_is))
+
+            unmade : list_any (makes_process pid) added ≡ false → FitsReports None (later pid)
+            unmade quiet = λ n. other_after (f n) e r.events pid differs added quiet ∙ holds n
+
+            forked : (c : Process) → added ≡ Forked c.pid ∷ [] → R c (born c.pid) → (same : Bool) → nat_eq c.pid pid ≡ same → FitsReports (cond same (Some c) None) (later pid)
+            forked c only leaf true same =
+                let it : c.pid ≡ pid = eqb-true c.pid pid same in
+                let event : added ≡ Forked pid ∷ [] = only ∙ ap (λ m. Forked m ∷ []) it in
+                let is_born : (n : ℕ) → later pid n ≡ born pid n = λ n. ap (λ (events : List What). reported_by (f n) pid (map (event_of e) events ++ r.events)) event ∙ born_after (f n) e r.events pid differs ∙ ap ((f n).born (event_of e (Forked pid)) (reported_by (f n) e.pid r.events)) (holds n) in
+                subst (R c) (fun_ext (λ n. sym (is_born n))) (subst (λ (m : ℕ). R c (born m)) it leaf)
+            forked c only leaf false other = unmade (ap (list_any (makes_process pid)) only ∙ or_from (nat_eq c.pid pid) false other refl)
+
+            new_by : {child : Option Process} → Makes r.world added child → IfSome child (λ c. R c (born c.pid)) → FitsReports (find (λ q. nat_eq q.pid pid) (process_made child)) (later pid)
+            new_by (makes_none quiet) leaf = unmade (quiet pid)
+            new_by (forks c next only) leaf = forked c only leaf (nat_eq c.pid pid) refl
+
+        -- a state after the step, where the relation holds of the process that the step makes, if it makes one
+        fit_after : (after : World) (child : Option Process) → IsStep e o r.world after child → IfSome child (λ c. R c (born c.pid)) → AllFit (record { world = after; events = map (event_of e) added ++ r.events })
+        fit_after after child step leaf pid =
+            subst (λ (q : Option Process). FitsReports q (later pid)) (sym (process_after_step e o r.world after child step pid)) (fit_by pid (made_process pid r.world) refl (fit pid) step.makes leaf)
+
+      -- ---- every run
+
+      -- after every run, the relation holds of every process
+      pub every_process : AfterEveryRun script config (Known script config M) → AfterEveryRun script config AllFit
+      every_process known =
+          every_run script config AllFit (λ before r is e p t taken fit.
+          let o : Transition = transition_by script config p t e.alt in
+          fit_after r e p t taken (have_pids script config before r is) (known before r is e p t taken) fit (after_transition e.pid e.tid o r.world) None (is_step script config r.world e p t taken.offered) tt) (λ some. first_fit)
+
+-- ---- rules of processes alone
+
+-- no event reports anything
+abbrev pub unread : ℕ → Reading (Unit {0})
+unread n = record { start = λ initial. tt; next = λ e k. tt; born = λ e parent k. tt }
+
+module _ (script : Script) (config : Config) where
+  -- after every run, a rule of processes holds of every process, if each step keeps it, where something is known of the step
+  pub every_process_keeps : (M : Process → Entry → Thread → Type 0) (Q : Process → Type 0) → IsProcessRule unread (λ p k. Q p) script config M → AfterEveryRun script config (Known script config M) → AfterEveryRun script config (OfEveryProcess Q)
+  every_process_keeps M Q rule known entries r is = of_made unread (λ p k. Q p) r (every_process unread (λ p k. Q p) script config M rule known entries r is)
+
+  -- ---- the ids of threads
+
+  -- the entry takes a choice of the thread
+  abbrev Takes : Process → Entry → Thread → Type 0
+  Takes p e t = (0 < config.slots) × (with_id e.tid p.threads ≡ Some t) × (offers (choices_of script config p t) e.alt ≡ true)
+
+  -- the threads of a process have ids, if there are slots
+  abbrev IfSlots : Process → Type 0
+  IfSlots p = 0 < config.slots → HaveIds config.slots p.threads
+
+  ids_rule : IsProcessRule unread (λ p k. IfSlots p) script config Takes
+  ids_rule = record {
+    -- thread 1 is the first one on slot 0
+    initial = λ some. ids_pushed config.slots [] (record { numbers = λ s k t low at. absurd (none-some t at); distinct = tt }) (initial_thread script) (0, some, omega (arith, mul-zero config.slots)) some;
+    own = λ p e t k takes ids some. subst (HaveIds config.slots) (sym (changed_threads e.tid (transition_by script config p t e.alt) p))
+        (ids_after config.slots (thread_moved e.tid (transition_by script config p t e.alt)) (λ u. ap (λ (i : ℕ × Bool). i.0) (thread_moved_keeps e.tid (transition_by script config p t e.alt) u)) p.threads (transition_by script config p t e.alt).created some (creates_with_next_id script config p t e.alt takes.2) (ids some));
+    other = λ pid o p k ids some. subst (HaveIds config.slots) (sym (other_threads pid o p)) (ids some);
+  }
+
+  pub ids_of_run : AfterEveryRun script config (OfEveryProcess (λ p. HaveIds config.slots p.threads))
+  ids_of_run entries r is pid p made =
+      every_process_keeps Takes IfSlots ids_rule (λ entries r is e p t taken. ((have_pids script config entries r is).some, taken.is_thread, taken.offered)) entries r is pid p made (have_pids script config entries r is).some
+
+  -- a legal entry moves a thread whose process has ids
+  pub moves_of_run : AfterEveryRun script config (Known script config (Moves script config))
+  moves_of_run entries r is e p t taken =
+      record { is_thread = taken.is_thread; offered = taken.offered; some = (have_pids script config entries r is).some; ids = ids_of_run entries r is e.pid p (process_taken script config entries r is e p t taken) }
+
+  -- and what holds of every process holds of its process
+  pub moves_in : (K : Process → Type 0) → AfterEveryRun script config (OfEveryProcess K) → AfterEveryRun script config (Known script config (λ p e t. K p × Moves script config p e t))
+  moves_in K of_processes entries r is e p t taken = (of_processes entries r is e.pid p (process_taken script config entries r is e p t taken), moves_of_run entries r is e p t taken)

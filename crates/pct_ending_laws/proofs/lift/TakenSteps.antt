@@ -1,6 +1,7 @@
--- Runs, entry by entry: a fact of the initial state that each legal entry keeps holds after every run.
-use Rattle.std.proofs.Common.{◌≡◌, ◌<◌, Bool, true, false, ◌&&◌, cond, List, [], ◌∷◌, ◌++◌, length, map, reverse, find, nat_le, is_none, Option, Some, None, option_map, option_and_then, refl, subst}
-use Rattle.std.proofs.lemmas.Bool.{and_parts, leb-true}
+-- Runs, entry by entry: a fact of the initial state that each legal entry keeps, by what holds of the run so far, holds after every run.
+use Rattle.std.proofs.Common.{◌≡◌, ◌+◌, ◌<◌, ◌≤◌, Bool, true, false, ◌&&◌, cond, List, [], ◌∷◌, ◌++◌, length, map, reverse, find, nat_le, is_none, Option, Some, None, option_map, option_and_then, refl, ap, ◌∙◌, subst, arith}
+use Rattle.std.proofs.lemmas.Bool.{and_parts, and_from, leb-true, le-leb}
+use Rattle.std.proofs.lemmas.List.{length-append}
 use Rattle.std.proofs.lemmas.Option.{none-some, same_Some, cond_some, option_and_then_some}
 use Rattle.pct_model.specs.declared.script.Script.{Script}
 use Rattle.pct_model.specs.declared.schedule.Config.{Config}
@@ -29,10 +30,6 @@ with_step e o r = record { world = after_transition e.pid e.tid o r.world; event
 abbrev pub first_run : Script → Run
 first_run script = record { world = opening script; events = [] }
 
--- the state after a transition, and its events
-abbrev successor_of : Run → Entry → Transition → Successor
-successor_of r e o = record { world = after_transition e.pid e.tid o r.world; events = o.events }
-
 is_fifth : (a b c d e f : Bool) → (a && b && c && d && e && f) ≡ true → e ≡ true
 is_fifth a b c d e f all = let parts = and_parts (a && b && c && d && e) f all in let rest = and_parts (a && b && c && d) e parts.0 in rest.1
 
@@ -41,40 +38,73 @@ some_slots : (c : Config) → is_config c ≡ true → 0 < c.slots
 some_slots c limits =
     leb-true 1 c.slots (is_fifth (nat_le 1 c.budget) (nat_le c.budget MAX_BUDGET) (nat_le MIN_PASSES c.passes) (nat_le c.passes MAX_PASSES) (nat_le 1 c.slots) (nat_le c.slots MAX_SLOTS) limits)
 
-module _ (script : Script) (config : Config) (Holds : Run → Type 0)
-    (keeps : (r : Run) (e : Entry) (p : Process) (t : Thread) → 0 < config.slots → IsTaken script config r.world e p t → Holds r → Holds (with_step e (transition_by script config p t e.alt) r)) where
-  taken_keeps : (r : Run) (e : Entry) (o : Transition) → 0 < config.slots → transition_of script config r.world e ≡ Some o → Holds r → Holds (with_step e o r)
-  taken_keeps r e o some is holds =
+module _ (script : Script) (config : Config) where
+  -- the fact holds after every run
+  abbrev pub AfterEveryRun : (Run → Type 0) → Type 0
+  AfterEveryRun Holds = (entries : List Entry) (after : Run) → run script config entries ≡ Some after → Holds after
+
+  -- ---- one entry more
+
+  -- a legal entry leads to the next run
+  record LeadsTo (r : Run) (e : Entry) (next : Run) : Type 0 where
+    process : Process
+    thread : Thread
+    taken : IsTaken script config r.world e process thread
+    is_next : with_step e (transition_by script config process thread e.alt) r ≡ next
+
+  taken_by : (r : Run) (e : Entry) (o : Transition) (next : Run) → transition_of script config r.world e ≡ Some o → with_step e o r ≡ next → LeadsTo r e next
+  taken_by r e o next is leads =
       option_and_then_some (λ p. option_and_then (if_offered script config p e) (with_id e.tid p.threads)) (find (is_live_process e.pid) r.world.processes) o is
-      (λ p is_process taken. option_and_then_some (if_offered script config p e) (with_id e.tid p.threads) o taken
+      (λ p is_process found. option_and_then_some (if_offered script config p e) (with_id e.tid p.threads) o found
       (λ t is_thread offered.
       let parts = cond_some (offers (choices_of script config p t) e.alt) (transition_by script config p t e.alt) o offered in
-      subst (λ (x : Transition). Holds (with_step e x r)) parts.1 (keeps r e p t some (record { is_process = is_process; is_thread = is_thread; offered = parts.0 }) holds)))
+      record { process = p; thread = t; taken = record { is_process = is_process; is_thread = is_thread; offered = parts.0 }; is_next = ap (λ (x : Transition). with_step e x r) parts.1 ∙ leads }))
 
-  step_by : (r next : Run) (e : Entry) (may : Bool) (o : Option Transition) → 0 < config.slots → transition_of script config r.world e ≡ o
-      → option_map (λ (s : Successor). record { world = s.world; events = map (event_of e) (reverse s.events) ++ r.events }) (cond may (option_map (successor_of r e) o) None) ≡ Some next → Holds r → Holds next
-  step_by r next e true (Some o) some taken is holds = subst Holds (same_Some (with_step e o r) next is) (taken_keeps r e o some taken holds)
-  step_by r next e true None some taken is holds = absurd (none-some next is)
-  step_by r next e false o some taken is holds = absurd (none-some next is)
+  step_by : (r : Run) (e : Entry) (next : Run) (may : Bool) (o : Option Transition) → transition_of script config r.world e ≡ o
+      → option_map (λ (s : Successor). record { world = s.world; events = map (event_of e) (reverse s.events) ++ r.events }) (cond may (option_map (λ (x : Transition). record { world = after_transition e.pid e.tid x r.world; events = x.events }) o) None) ≡ Some next → LeadsTo r e next
+  step_by r e next true (Some o) found is = taken_by r e o next found (same_Some (with_step e o r) next is)
+  step_by r e next true None found is = absurd (none-some next is)
+  step_by r e next false o found is = absurd (none-some next is)
 
-  step_keeps : (r next : Run) (e : Entry) → 0 < config.slots → run_step script config r e ≡ Some next → Holds r → Holds next
+  leads : (r : Run) (e : Entry) (next : Run) → run_step script config r e ≡ Some next → LeadsTo r e next
   unfolding run_step step
-  step_keeps r next e some is holds =
-      step_by r next e (is_none r.world.stop && nat_le e.worker MAX_WORKER) (transition_of script config r.world e) some refl is holds
+  leads r e next is = step_by r e next (is_none r.world.stop && nat_le e.worker MAX_WORKER) (transition_of script config r.world e) refl is
 
-  from_keeps : (r after : Run) (entries : List Entry) → 0 < config.slots → run_from script config r entries ≡ Some after → Holds r → Holds after
+  -- the run of some entries and one more
+  run_more : (r mid next : Run) (before : List Entry) (e : Entry) → run_from script config r before ≡ Some mid → run_step script config mid e ≡ Some next → run_from script config r (before ++ e ∷ []) ≡ Some next
   unfolding run_from
-  from_keeps r after [] some is holds = subst Holds (same_Some r after is) holds
-  from_keeps r after (e ∷ entries) some is holds =
-      option_and_then_some (λ next. run_from script config next entries) (run_step script config r e) after is
-      (λ next stepped ran. from_keeps next after entries some ran (step_keeps r next e some stepped holds))
+  run_more r mid next [] e is stepped = ap (λ (x : Run). option_and_then (λ n. run_from script config n []) (run_step script config x e)) (same_Some r mid is) ∙ ap (option_and_then (λ n. run_from script config n [])) stepped
+  run_more r mid next (first ∷ before) e is stepped =
+      option_and_then_some (λ n. run_from script config n before) (run_step script config r first) mid is
+      (λ n first_step ran. ap (option_and_then (λ x. run_from script config x (before ++ e ∷ []))) first_step ∙ run_more n mid next before e ran stepped)
 
-  run_by : (entries : List Entry) (after : Run) (limits within : Bool) → is_config config ≡ limits → cond (limits && within) (run_from script config (first_run script) entries) None ≡ Some after → (0 < config.slots → Holds (first_run script)) → Holds after
-  run_by entries after true true limits is first = let some = some_slots config limits in from_keeps (first_run script) after entries some is (first some)
-  run_by entries after true false limits is first = absurd (none-some after is)
-  run_by entries after false within limits is first = absurd (none-some after is)
+  -- ---- every run
 
-  -- what holds of the initial state, and is kept by each legal entry, holds after every run
-  pub every_run : (0 < config.slots → Holds (first_run script)) → (entries : List Entry) (after : Run) → run script config entries ≡ Some after → Holds after
-  unfolding run
-  every_run first entries after is = run_by entries after (is_config config) (nat_le (length entries) config.budget) refl is first
+  module _ (Holds : Run → Type 0)
+      (keeps : (before : List Entry) (r : Run) → run script config before ≡ Some r → (e : Entry) (p : Process) (t : Thread) → IsTaken script config r.world e p t → Holds r → Holds (with_step e (transition_by script config p t e.alt) r)) where
+    step_keeps : (before : List Entry) (r next : Run) (e : Entry) → run script config before ≡ Some r → run_step script config r e ≡ Some next → Holds r → Holds next
+    step_keeps before r next e is stepped holds =
+        let to = leads r e next stepped in
+        subst Holds to.is_next (keeps before r is e to.process to.thread to.taken holds)
+
+    from_keeps : (entries before : List Entry) (r after : Run) → is_config config ≡ true → length before + length entries ≤ config.budget → run_from script config (first_run script) before ≡ Some r → run_from script config r entries ≡ Some after → Holds r → Holds after
+    unfolding run_from run
+    from_keeps [] before r after limits within so_far is holds = subst Holds (same_Some r after is) holds
+    from_keeps (e ∷ entries) before r after limits within so_far is holds =
+        let ran : run script config before ≡ Some r =
+        ap (λ (b : Bool). cond b (run_from script config (first_run script) before) None) (and_from (is_config config) (nat_le (length before) config.budget) limits (le-leb (length before) config.budget (omega (arith, within)))) ∙ so_far in
+        option_and_then_some (λ next. run_from script config next entries) (run_step script config r e) after is
+        (λ next stepped rest.
+        from_keeps entries (before ++ e ∷ []) next after limits (omega (arith, within, length-append before (e ∷ []))) (run_more (first_run script) r next before e so_far stepped) rest
+        (step_keeps before r next e ran stepped holds))
+
+    run_by : (entries : List Entry) (after : Run) (limits within : Bool) → is_config config ≡ limits → nat_le (length entries) config.budget ≡ within → cond (limits && within) (run_from script config (first_run script) entries) None ≡ Some after → (0 < config.slots → Holds (first_run script)) → Holds after
+    unfolding run_from
+    run_by entries after true true limits within is first = from_keeps entries [] (first_run script) after limits (omega (arith, leb-true (length entries) config.budget within)) refl is (first (some_slots config limits))
+    run_by entries after true false limits within is first = absurd (none-some after is)
+    run_by entries after false within limits fits is first = absurd (none-some after is)
+
+    -- what holds of the initial state, and is kept by each legal entry that goes on from a run, holds after every run
+    pub every_run : (0 < config.slots → Holds (first_run script)) → AfterEveryRun Holds
+    unfolding run
+    every_run first entries after is = run_by entries after (is_config config) (nat_le (length entries) config.budget) refl refl is first

@@ -1,7 +1,6 @@
 -- Cleanup handlers that are pushed and popped, and calls of functions.
-use Rattle.std.proofs.Common.{◌≡◌, ℕ, suc, ◌+◌, ◌<◌, Bool, true, false, cond, List, [], ◌∷◌, ◌++◌, length, map, Some, nat_eq, refl, sym, ap, ◌∙◌, subst, arith, length-append}
-use Rattle.pct_model.specs.declared.event.What.{What}
-use Rattle.pct_model.specs.declared.event.What.TheVariants.{Popped}
+use Rattle.std.proofs.Common.{◌≡◌, ℕ, suc, ◌+◌, ◌<◌, Bool, true, false, List, [], ◌∷◌, ◌++◌, length, map, Some, refl, sym, ap, ◌∙◌, subst, arith, length-append}
+use Rattle.pct_model.specs.declared.event.What.TheVariants.{Pushed, Popped}
 use Rattle.pct_model.specs.declared.frame.Frame.{Frame}
 use Rattle.pct_model.specs.declared.script.Script.{Script}
 use Rattle.pct_model.specs.declared.state.FrameKind.{FrameKind}
@@ -10,18 +9,16 @@ use Rattle.pct_model.specs.declared.statement.Operand.{Operand}
 use Rattle.pct_model.specs.declared.statement.Stmt.TheVariants as statement
 use Rattle.pct_model.specs.declared.transition.Action.TheVariants as action
 use Rattle.pct_model.specs.Actions.{without_first, thread_at, thread_after}
-use Rattle.pct_model.specs.CleanupHandlers.{pushes, pops}
 use Rattle.pct_model.specs.Kept.{AreOpen, open_functions}
 use Rattle.pct_model.specs.Once.{newest}
 use Rattle.pct_model.specs.OpenPushes.{open_pushes}
-use Rattle.pct_model.specs.ScriptStatements.{calls}
-use Rattle.pct_model.specs.ThreadSummary.{ThreadSummary}
+use Rattle.pct_model.specs.ThreadSummary.{ThreadSummary, with_event}
 use Rattle.pct_model.specs.Transitions.{goes_on}
 use Rattle.pct_model.specs.World.{Thread, body_of, statement_at, new_frame}
 use Rattle.pct_ending_laws.proofs.StaticPushes.{PushesMatch}
-use Rattle.pct_ending_laws.proofs.thread.OwnSummary.{summary, AreLawful}
+use Rattle.pct_ending_laws.proofs.thread.SummaryReading.{AllMayCome}
 use Rattle.pct_ending_laws.proofs.thread.ThreadRule.{FramesFit, Fits, Keeps}
-use Rattle.pct_ending_laws.proofs.thread.GoingOn.{running, none_created, no_change_keeps, at_pc_fits}
+use Rattle.pct_ending_laws.proofs.thread.GoingOn.{running, none_created, at_pc_fits}
 
 -- ---- lists of handlers
 
@@ -56,20 +53,20 @@ module _ (script : Script) (passes : ℕ) (matches : PushesMatch script) where
     in_passes = fits.in_passes;
   }
 
-  module _ (t : Thread) (frame : Frame) (below : List Frame) (events : List What) (lawful : AreLawful passes events) where
+  module _ (t : Thread) (frame : Frame) (below : List Frame) (reported : ThreadSummary) where
     -- `do`
-    pub call_keeps : (f : ℕ) (x : Operand) (v : ℕ) → statement_at script frame ≡ Some (statement.Do f x) → f < length script.funcs → Fits script passes (running t (frame ∷ below)) (summary events) → Keeps script passes (running t (frame ∷ below)) events (calls (suc frame.pc) f v)
-    unfolding calls thread_at thread_after
+    pub call_keeps : (f : ℕ) (x : Operand) (v : ℕ) → statement_at script frame ≡ Some (statement.Do f x) → f < length script.funcs → Fits script passes (running t (frame ∷ below)) reported → Keeps script passes (running t (frame ∷ below)) reported (goes_on (suc frame.pc) (action.Call f v kind.Call ∷ []) [])
+    unfolding thread_at thread_after
     call_keeps f x v at in_script fits =
-        let next : Fits script passes (running t (record frame { pc = suc frame.pc } ∷ below)) (summary events) = at_pc_fits script passes t frame below (suc frame.pc) (matches.next frame (statement.Do f x) at) (matches.next_within frame (statement.Do f x) at refl) (summary events) fits in
+        let next : Fits script passes (running t (record frame { pc = suc frame.pc } ∷ below)) reported = at_pc_fits script passes t frame below (suc frame.pc) (matches.next frame (statement.Do f x) at) (matches.next_within frame (statement.Do f x) at refl) reported fits in
         record {
-          own = (call_fits f v kind.Call t (record frame { pc = suc frame.pc } ∷ below) (summary events) in_script next.by_status.fit next, lawful);
+          own = (call_fits f v kind.Call t (record frame { pc = suc frame.pc } ∷ below) reported in_script next.by_status.fit next, tt);
           created = none_created script passes;
         }
 
     -- pthread_cleanup_push
-    pub push_keeps : (f : ℕ) (x : Operand) (v : ℕ) → statement_at script frame ≡ Some (statement.Push f x) → f < length script.funcs → Fits script passes (running t (frame ∷ below)) (summary events) → Keeps script passes (running t (frame ∷ below)) events (pushes (suc frame.pc) f v)
-    unfolding pushes thread_at thread_after
+    pub push_keeps : (f : ℕ) (x : Operand) (v : ℕ) → statement_at script frame ≡ Some (statement.Push f x) → f < length script.funcs → Fits script passes (running t (frame ∷ below)) reported → Keeps script passes (running t (frame ∷ below)) reported (goes_on (suc frame.pc) (action.PushHandler f v ∷ []) (Pushed f v ∷ []))
+    unfolding thread_at thread_after
     push_keeps f x v at in_script fits = record {
       own = (
         record {
@@ -93,16 +90,16 @@ module _ (script : Script) (passes : ℕ) (matches : PushesMatch script) where
           };
           in_passes = fits.in_passes;
         },
-        (refl, tt, lawful),
+        (tt, tt),
       );
       created = none_created script passes;
     }
 
     -- ---- pthread_cleanup_pop
 
-    module _ (f a : ℕ) (handlers : List (ℕ × ℕ)) (fits : Fits script passes (running (record t { handlers = (f, a) ∷ handlers }) (frame ∷ below)) (summary events)) (popped : AreOpen (open_functions script (record frame { pc = suc frame.pc } ∷ below)) handlers (summary events).left) (within : suc frame.pc < length (body_of script frame.func)) where
+    module _ (f a : ℕ) (handlers : List (ℕ × ℕ)) (fits : Fits script passes (running (record t { handlers = (f, a) ∷ handlers }) (frame ∷ below)) reported) (popped : AreOpen (open_functions script (record frame { pc = suc frame.pc } ∷ below)) handlers reported.left) (within : suc frame.pc < length (body_of script frame.func)) where
       -- the thread after a pop
-      pop_fits : (run : Bool) → Fits script passes (running (record t { handlers = handlers }) (record frame { pc = suc frame.pc } ∷ below)) (summary (Popped f a run ∷ events))
+      pop_fits : (run : Bool) → Fits script passes (running (record t { handlers = handlers }) (record frame { pc = suc frame.pc } ∷ below)) (with_event (Popped f a run) reported)
       pop_fits run = record {
         agrees = record {
           handlers_agree = ap without_first fits.agrees.handlers_agree;
@@ -122,25 +119,33 @@ module _ (script : Script) (passes : ℕ) (matches : PushesMatch script) where
       }
 
       -- the event of a pop
-      pop_lawful : (run : Bool) → AreLawful passes (Popped f a run ∷ events)
+      pop_lawful : (run : Bool) → AllMayCome passes (Popped f a run ∷ []) reported
       pop_lawful run =
-          let fewer : length (summary events).left < length ((f, a) ∷ handlers) = left_below (open_functions script (record frame { pc = suc frame.pc } ∷ below)) (f, a) handlers (summary events).left popped in
-          (refl, (ap newest fits.agrees.handlers_agree, λ begun. subst (λ (hs : List (ℕ × ℕ)). length (summary events).left < length hs) (sym fits.agrees.handlers_agree) fewer), lawful)
+          let fewer : length reported.left < length ((f, a) ∷ handlers) = left_below (open_functions script (record frame { pc = suc frame.pc } ∷ below)) (f, a) handlers reported.left popped in
+          ((ap newest fits.agrees.handlers_agree, λ begun. subst (λ (hs : List (ℕ × ℕ)). length reported.left < length hs) (sym fits.agrees.handlers_agree) fewer), tt)
 
-      -- by the argument of the pop
-      pop_by : (drop : Bool) → Keeps script passes (running (record t { handlers = (f, a) ∷ handlers }) (frame ∷ below)) events (cond drop (goes_on (suc frame.pc) (action.PopHandler ∷ []) (Popped f a false ∷ [])) (goes_on (suc frame.pc) (action.PopHandler ∷ action.Call f a kind.PopHandler ∷ []) (Popped f a true ∷ [])))
+      -- the handler is removed, and called
+      drops : Keeps script passes (running (record t { handlers = (f, a) ∷ handlers }) (frame ∷ below)) reported (goes_on (suc frame.pc) (action.PopHandler ∷ []) (Popped f a false ∷ []))
       unfolding thread_at thread_after
-      pop_by true = record { own = (pop_fits false, pop_lawful false); created = none_created script passes }
-      pop_by false = record {
-        own = (call_fits f a kind.PopHandler (record t { handlers = handlers }) (record frame { pc = suc frame.pc } ∷ below) (summary (Popped f a true ∷ events)) fits.agrees.functions.0 fits.by_status.fit (pop_fits true), pop_lawful true);
+      drops = record { own = (pop_fits false, pop_lawful false); created = none_created script passes }
+
+      runs : Keeps script passes (running (record t { handlers = (f, a) ∷ handlers }) (frame ∷ below)) reported (goes_on (suc frame.pc) (action.PopHandler ∷ action.Call f a kind.PopHandler ∷ []) (Popped f a true ∷ []))
+      unfolding thread_at thread_after
+      runs = record {
+        own = (call_fits f a kind.PopHandler (record t { handlers = handlers }) (record frame { pc = suc frame.pc } ∷ below) (with_event (Popped f a true) reported) fits.agrees.functions.0 fits.by_status.fit (pop_fits true), pop_lawful true);
         created = none_created script passes;
       }
 
-    -- pthread_cleanup_pop
-    pub pop_keeps : (handlers : List (ℕ × ℕ)) (x : Operand) (v : ℕ) → statement_at script frame ≡ Some (statement.Pop x) → Fits script passes (running (record t { handlers = handlers }) (frame ∷ below)) (summary events) → Keeps script passes (running (record t { handlers = handlers }) (frame ∷ below)) events (pops (suc frame.pc) v handlers)
-    unfolding pops
-    pop_keeps [] x v at fits = no_change_keeps script passes (running (record t { handlers = [] }) (frame ∷ below)) events (fits, lawful)
-    pop_keeps ((f, a) ∷ handlers) x v at fits =
-        let top : (g : ℕ) × (open_pushes (body_of script frame.func) frame.pc ≡ g ∷ open_pushes (body_of script frame.func) (suc frame.pc)) = matches.pop frame x at in
-        let are : AreOpen (top.0 ∷ open_functions script (record frame { pc = suc frame.pc } ∷ below)) ((f, a) ∷ handlers) (summary events).left = subst (λ (fs : List ℕ). AreOpen (fs ++ open_functions script below) ((f, a) ∷ handlers) (summary events).left) top.1 fits.by_status.pushes in
-        pop_by f a handlers fits (pop_open top.0 (open_functions script (record frame { pc = suc frame.pc } ∷ below)) (f, a) handlers (summary events).left are) (matches.next_within frame (statement.Pop x) at refl) (nat_eq v 0)
+    module _ (x : Operand) (at : statement_at script frame ≡ Some (statement.Pop x)) (f a : ℕ) (handlers : List (ℕ × ℕ)) (fits : Fits script passes (running (record t { handlers = (f, a) ∷ handlers }) (frame ∷ below)) reported) where
+      -- the handlers without the one that is popped
+      popped : AreOpen (open_functions script (record frame { pc = suc frame.pc } ∷ below)) handlers reported.left
+      popped =
+          let top : (g : ℕ) × (open_pushes (body_of script frame.func) frame.pc ≡ g ∷ open_pushes (body_of script frame.func) (suc frame.pc)) = matches.pop frame x at in
+          let are : AreOpen (top.0 ∷ open_functions script (record frame { pc = suc frame.pc } ∷ below)) ((f, a) ∷ handlers) reported.left = subst (λ (fs : List ℕ). AreOpen (fs ++ open_functions script below) ((f, a) ∷ handlers) reported.left) top.1 fits.by_status.pushes in
+          pop_open top.0 (open_functions script (record frame { pc = suc frame.pc } ∷ below)) (f, a) handlers reported.left are
+
+      pub drop_keeps : Keeps script passes (running (record t { handlers = (f, a) ∷ handlers }) (frame ∷ below)) reported (goes_on (suc frame.pc) (action.PopHandler ∷ []) (Popped f a false ∷ []))
+      drop_keeps = drops f a handlers fits popped (matches.next_within frame (statement.Pop x) at refl)
+
+      pub run_keeps : Keeps script passes (running (record t { handlers = (f, a) ∷ handlers }) (frame ∷ below)) reported (goes_on (suc frame.pc) (action.PopHandler ∷ action.Call f a kind.PopHandler ∷ []) (Popped f a true ∷ []))
+      run_keeps = runs f a handlers fits popped (matches.next_within frame (statement.Pop x) at refl)

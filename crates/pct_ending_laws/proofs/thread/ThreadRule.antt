@@ -1,8 +1,7 @@
--- What each thread keeps, beside its own events: the facts of Kept.antt, arranged by the status of the thread.
-use Rattle.std.proofs.Common.{◌≡◌, ℕ, ◌<◌, Bool, true, false, ◌||◌, List, [], ◌∷◌, ◌++◌, length, reverse, Some, None}
+-- What each thread keeps, beside what the events report of it: the facts of Kept.antt, arranged by the status of the thread.
+use Rattle.std.proofs.Common.{◌≡◌, ℕ, ◌<◌, Bool, true, false, ◌||◌, List, [], ◌∷◌, length, reverse, Some, None}
 use Rattle.std.specs.Prelude.{is_some}
 use Rattle.std.specs.List.{AllByRecursion}
-use Rattle.pct_model.specs.declared.event.What.{What}
 use Rattle.pct_model.specs.declared.frame.Frame.{Frame}
 use Rattle.pct_model.specs.declared.script.Script.{Script}
 use Rattle.pct_model.specs.declared.state.FrameKind.{FrameKind}
@@ -19,10 +18,11 @@ use Rattle.pct_model.specs.Actions.{moved}
 use Rattle.pct_model.specs.Kept.{AreOpen, open_functions, is_join, is_call_of}
 use Rattle.pct_model.specs.NextStatement.{next_of}
 use Rattle.pct_model.specs.StopTable.{has_begun_to_end}
-use Rattle.pct_model.specs.ThreadSummary.{ThreadSummary}
+use Rattle.pct_model.specs.ThreadSummary.{ThreadSummary, no_events}
 use Rattle.pct_model.specs.World.{Thread, body_of}
-use Rattle.pct_ending_laws.proofs.lift.EveryThread.{created_thread}
-use Rattle.pct_ending_laws.proofs.thread.OwnSummary.{summary, AreLawful}
+use Rattle.pct_ending_laws.proofs.lift.ReportedBy.{after_all}
+use Rattle.pct_ending_laws.proofs.lift.ThreadsAfter.{created_thread}
+use Rattle.pct_ending_laws.proofs.thread.SummaryReading.{summary, AllMayCome}
 use Rattle.pct_ending_laws.proofs.thread.Passes.{PassesFit}
 
 -- ---- frames
@@ -96,12 +96,14 @@ module _ (script : Script) where
   -- ---- threads
 
   -- the handlers, the reason and the end of a thread are those that its events report
-  pub record Agrees (handlers : List (ℕ × ℕ)) (why : Reason) (ended : Bool) (state : State) (s : ThreadSummary) : Type 0 where
-    pub handlers_agree : s.handlers ≡ handlers
-    pub reason : s.reason ≡ why
-    pub end : is_some s.ended ≡ ended
-    pub functions : AllByRecursion IsHandler handlers
-    pub disabled : (has_begun_to_end why || s.exiting) ≡ true → state ≡ Disable
+  abbrev pub Agrees : List (ℕ × ℕ) → Reason → Bool → State → ThreadSummary → Type 0
+  Agrees handlers why ended state s = record {
+    handlers_agree : s.handlers ≡ handlers;
+    reason : s.reason ≡ why;
+    end : is_some s.ended ≡ ended;
+    functions : AllByRecursion IsHandler handlers;
+    disabled : (has_begun_to_end why || s.exiting) ≡ true → state ≡ Disable;
+  }
 
   module _ (passes : ℕ) where
     -- a thread and what its events report
@@ -113,13 +115,9 @@ module _ (script : Script) where
       in_passes : PassesFit passes t.pass t.specific.in_pass s.passes s.destroyed;
     }
 
-    -- what each thread keeps, beside its own events
-    abbrev pub Rule : Thread → List What → Type 0
-    Rule t events = Fits t (summary events) × AreLawful passes events
-
     -- ---- transitions
 
-    -- a transition of a thread keeps the rule, for it and for a thread that it creates
-    pub record Keeps (t : Thread) (events : List What) (o : Transition) : Type 0 where
-      pub own : Rule (moved o t) (reverse o.events ++ events)
-      pub created : (new : NewThread) → o.created ≡ Some new → Rule (created_thread new) []
+    -- a thread fits its events after a transition, the events of which may come, and a thread that it creates fits none
+    pub record Keeps (t : Thread) (reported : ThreadSummary) (o : Transition) : Type 0 where
+      pub own : Fits (moved o t) (after_all summary (reverse o.events) reported) × AllMayCome passes (reverse o.events) reported
+      pub created : (new : NewThread) → o.created ≡ Some new → Fits (created_thread new) no_events

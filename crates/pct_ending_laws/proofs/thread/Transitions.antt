@@ -1,109 +1,135 @@
 -- Each transition of a thread keeps the rule of the thread.
-use Rattle.std.proofs.Common.{◌≡◌, ℕ, suc, true, List, [], ◌∷◌, Option, Some, None, refl, subst}
-use Rattle.pct_model.specs.declared.event.What.{What}
+use Rattle.std.proofs.Common.{◌≡◌, ℕ, ◌%◌, true, List, [], ◌∷◌, nat_eq, eq-eqb, Option, refl, ap, ◌∙◌, subst}
+use Rattle.std.proofs.lemmas.Bool.{and_from}
+use Rattle.std.proofs.lemmas.Option.{same_Some}
+use Rattle.pct_model.specs.declared.event.Caller.TheVariants as caller
 use Rattle.pct_model.specs.declared.event.What.TheVariants as what
 use Rattle.pct_model.specs.declared.frame.Frame.{Frame}
-use Rattle.pct_model.specs.declared.other_threads.Target.{Target}
 use Rattle.pct_model.specs.declared.schedule.Alt.{Alt}
 use Rattle.pct_model.specs.declared.schedule.Config.{Config}
 use Rattle.pct_model.specs.declared.script.Script.{Script}
+use Rattle.pct_model.specs.declared.state.FrameKind.TheVariants as kind
 use Rattle.pct_model.specs.declared.state.Status.{Status}
 use Rattle.pct_model.specs.declared.state.Status.TheVariants as status
+use Rattle.pct_model.specs.declared.statement.Operand.{Operand}
 use Rattle.pct_model.specs.declared.statement.Stmt.{Stmt}
 use Rattle.pct_model.specs.declared.statement.Stmt.TheVariants as statement
 use Rattle.pct_model.specs.declared.transition.Action.TheVariants as action
-use Rattle.pct_model.specs.CancelCalls.{passes_point}
-use Rattle.pct_model.specs.ChoiceTable.{choices_at, choices_of, offers}
-use Rattle.pct_model.specs.Kept.{KeysKept}
-use Rattle.pct_model.specs.NextStatement.{NextStatement, NoStatement, StatementIn, next_in, next_of, body_at}
+use Rattle.pct_model.specs.declared.transition.NewThread.{NewThread}
+use Rattle.pct_model.specs.declared.transition.Transition.{Transition}
+use Rattle.pct_model.specs.Actions.{thread_at, thread_after}
+use Rattle.pct_model.specs.CancelCalls.{mode_number, mode_if, testcancel_point, point_kind, is_required}
+use Rattle.pct_model.specs.ChoiceTable.{choices_of, offers}
+use Rattle.pct_model.specs.Kept.{is_join, is_call_of, KeysKept}
+use Rattle.pct_model.specs.NextStatement.{NextStatement, next_in, next_of, body_at}
 use Rattle.pct_model.specs.OtherThreads.{Others, others_of}
-use Rattle.pct_model.specs.StopTable.{stop_at}
-use Rattle.pct_model.specs.ThreadCalls.{ends_join, joins_with, joins_at}
-use Rattle.pct_model.specs.Transitions.{written}
-use Rattle.pct_model.specs.TransitionTable.{runs, transition_at, transition_by}
-use Rattle.pct_model.specs.World.{Thread, SharedState, Process, body_of, statement_at}
+use Rattle.pct_model.specs.ThreadSummary.{ThreadSummary, no_events}
+use Rattle.pct_model.specs.TransitionTable.{transition_by}
+use Rattle.pct_model.specs.World.{Thread, SharedState, Process, value_of}
+use Rattle.pct_transition_cases.proofs.CaseOfTransition.{case_of}
+use Rattle.pct_transition_cases.proofs.PlacedStatements.{IsPlaced, on_top, is_placed}
+use Rattle.pct_transition_cases.proofs.TransitionCases.{TransitionCase, rests, stopped, jumped, emitted, variable_set, variable_added, function_called, main_returned, start_returned, call_left, handler_left, exit_function_left, thread_made, thread_not_made, join_begun, join_ended, thread_detached, self_got, request_sent, state_set, mode_set, cancel_tested, point_begun, point_done, point_passed, canceled, canceled_at_point, canceled_in_join, key_made, key_not_made, key_deleted, specific_set, specific_got, handler_pushed, handler_popped, handler_called, exit_called, handler_run, destructor_called, pass_begun, thread_ended, thread_ended_with_keys, last_ended, last_ended_with_keys, process_ended}
 use Rattle.pct_ending_laws.proofs.StaticPushes.{PushesMatch}
-use Rattle.pct_ending_laws.proofs.lift.Choices.{by_choice}
-use Rattle.pct_ending_laws.proofs.thread.ThreadRule.{Rule, Keeps}
+use Rattle.pct_ending_laws.proofs.lift.ThreadsAfter.{created_thread}
+use Rattle.pct_ending_laws.proofs.lift.OfferedNumbers.{left_key_of}
+use Rattle.pct_ending_laws.proofs.keys.LeftKeys.{left_in_pass, destructor_in_script}
+use Rattle.pct_ending_laws.proofs.thread.ActingOnRequests.{cancel_fits}
+use Rattle.pct_ending_laws.proofs.thread.ThreadRule.{Fits, Keeps}
 use Rattle.pct_ending_laws.proofs.thread.NamedFunctions.{NamesFunctions}
-use Rattle.pct_ending_laws.proofs.thread.GoingOn.{one_written, running, no_change_keeps, stops_or_keeps, going_on_keeps}
-use Rattle.pct_ending_laws.proofs.thread.Ends.{ending_keeps, exiting_keeps}
-use Rattle.pct_ending_laws.proofs.thread.Statements.{statement_keeps}
-use Rattle.pct_ending_laws.proofs.thread.ActingOnRequests.{acting_keeps}
+use Rattle.pct_ending_laws.proofs.thread.GoingOn.{running, none_created, no_change_keeps, stop_keeps, by_handlers}
+use Rattle.pct_ending_laws.proofs.thread.Handlers.{call_keeps, push_keeps, drop_keeps, run_keeps}
+use Rattle.pct_ending_laws.proofs.thread.Ends.{begin_keeps, handler_keeps, destructor_keeps, pass_keeps, end_keeps, end_with_keys_keeps, last_keeps, last_with_keys_keeps, exiting_keeps}
+use Rattle.pct_ending_laws.proofs.thread.Statements.{not_begun, new_fits, next_keeps, leads_keeps, main_keeps, start_keeps, call_left_keeps, handler_left_keeps, no_exit_function, state_keeps}
 
-module _ (script : Script) (passes : ℕ) (matches : PushesMatch script) (names : NamesFunctions script) (shared : SharedState) (kept : KeysKept script shared.keys) (t : Thread) (others : Others) (choice : Alt) (events : List What) where
+module _ (script : Script) (passes : ℕ) (matches : PushesMatch script) (names : NamesFunctions script) (shared : SharedState) (kept : KeysKept script shared.keys) (t : Thread) (others : Others) (reported : ThreadSummary) where
   -- the thread, with a status and frames
   abbrev own : Status → List Frame → Thread
   own s frames = record t { status = s; frames = frames }
 
-  -- the choice is one of the thread with a status and frames, before a statement
-  abbrev IsOffered : NextStatement → Status → List Frame → Type 0
-  IsOffered next s frames = offers (choices_at shared.keys (own s frames) others next s) choice ≡ true
+  -- the value of an operand
+  abbrev value : Frame → Operand → ℕ
+  value frame v = value_of shared.globals frame v
 
-  -- ---- a thread without a statement
-
-  nothing_joined : (id : ℕ) (frames : List Frame) → Rule script passes (own (status.Joining id) frames) events → (target : Option Target) → Keeps script passes (own (status.Joining id) frames) events (joins_at target id NoStatement)
-  nothing_joined id frames rule None = no_change_keeps script passes (own (status.Joining id) frames) events rule
-  nothing_joined id frames rule (Some target) = value_unused target.value
-    where
-      value_unused : (value : Option ℕ) → Keeps script passes (own (status.Joining id) frames) events (joins_with value id NoStatement)
-      value_unused None = no_change_keeps script passes (own (status.Joining id) frames) events rule
-      value_unused (Some v) = no_change_keeps script passes (own (status.Joining id) frames) events rule
-
-  without_statement : (body : List Stmt) (frames : List Frame) (s : Status) → IsOffered NoStatement s frames → Rule script passes (own s frames) events → Keeps script passes (own s frames) events (transition_at passes body shared (own s frames) others choice NoStatement s)
-  unfolding transition_at choices_at passes_point
-  without_statement body frames (status.AtPoint index) offered rule = no_change_keeps script passes (own (status.AtPoint index) frames) events rule
-  without_statement body frames (status.Joining id) offered rule = nothing_joined id frames rule others.target
-  without_statement body frames status.Ending offered rule = ending_keeps script passes matches t frames events rule.1 shared.keys kept others others.is_last choice t.handlers rule.0 offered
-  without_statement body frames status.Exiting offered rule = exiting_keeps script passes (own status.Exiting frames) events shared.exit_functions shared.exit_value rule
-  without_statement body frames s offered rule = no_change_keeps script passes (own s frames) events rule
-
-  -- ---- a thread with a statement
-
-  module _ (frame : Frame) (below : List Frame) where
-    -- a join that returns, by the value of its target and the statement
-    join_returns : (id : ℕ) → Rule script passes (own (status.Joining id) (frame ∷ below)) events → (value : Option ℕ) (s : Stmt) → statement_at script frame ≡ Some s → Keeps script passes (own (status.Joining id) (frame ∷ below)) events (joins_with value id (StatementIn frame s))
-    unfolding ends_join
-    join_returns id rule (Some v) (statement.Join operand d) at =
-        going_on_keeps script passes t frame below (status.Joining id) events (suc frame.pc) (action.EndJoin id ∷ written d v) (what.Joined id v ∷ []) (matches.next frame (statement.Join operand d) at) (matches.next_within frame (statement.Join operand d) at refl) (one_written d v) refl (refl, tt, rule.1) (record { agrees = rule.0.agrees; placed = rule.0.placed; by_status = rule.0.by_status.0; in_passes = rule.0.in_passes })
-    join_returns id rule (Some v) s at = no_change_keeps script passes (own (status.Joining id) (frame ∷ below)) events rule
-    join_returns id rule None s at = no_change_keeps script passes (own (status.Joining id) (frame ∷ below)) events rule
-
-    -- a thread that is suspended at a point goes on
-    goes_past : (index : ℕ) → Rule script passes (own (status.AtPoint index) (frame ∷ below)) events → (s : Stmt) → statement_at script frame ≡ Some s → Keeps script passes (own (status.AtPoint index) (frame ∷ below)) events (passes_point index (StatementIn frame s))
-    unfolding passes_point
-    goes_past index rule (statement.PointCall i) at =
-        going_on_keeps script passes t frame below (status.AtPoint index) events (suc frame.pc) [] (what.Done index ∷ []) (matches.next frame (statement.PointCall i) at) (matches.next_within frame (statement.PointCall i) at refl) refl refl (refl, tt, rule.1) (record { agrees = rule.0.agrees; placed = rule.0.placed; by_status = rule.0.by_status.0; in_passes = rule.0.in_passes })
-    goes_past index rule s at = no_change_keeps script passes (own (status.AtPoint index) (frame ∷ below)) events rule
-
-    joins : (id : ℕ) → Rule script passes (own (status.Joining id) (frame ∷ below)) events → (target : Option Target) (s : Stmt) → statement_at script frame ≡ Some s → Keeps script passes (own (status.Joining id) (frame ∷ below)) events (joins_at target id (StatementIn frame s))
-    joins id rule None s at = no_change_keeps script passes (own (status.Joining id) (frame ∷ below)) events rule
-    joins id rule (Some target) s at = join_returns id rule target.value s at
-
-    at_statement : (s : Stmt) → statement_at script frame ≡ Some s → (st : Status) → IsOffered (StatementIn frame s) st (frame ∷ below) → Rule script passes (own st (frame ∷ below)) events → Keeps script passes (own st (frame ∷ below)) events (transition_at passes (body_of script frame.func) shared (own st (frame ∷ below)) others choice (StatementIn frame s) st)
-    unfolding transition_at choices_at
-    at_statement s at status.Running offered rule =
-        stops_or_keeps script passes (running t (frame ∷ below)) events rule (stop_at (body_of script frame.func) shared (running t (frame ∷ below)) others frame s) (runs passes (body_of script frame.func) shared (running t (frame ∷ below)) others choice frame s) (statement_keeps script passes matches names shared t others choice frame below events rule.1 rule.0 s at)
-    at_statement s at (status.AtPoint index) offered rule = goes_past index rule s at
-    at_statement s at (status.Joining id) offered rule = joins id rule others.target s at
-    at_statement s at status.Ending offered rule = ending_keeps script passes matches t (frame ∷ below) events rule.1 shared.keys kept others others.is_last choice t.handlers rule.0 offered
-    at_statement s at status.Exiting offered rule = exiting_keeps script passes (own status.Exiting (frame ∷ below)) events shared.exit_functions shared.exit_value rule
-    at_statement s at st offered rule = no_change_keeps script passes (own st (frame ∷ below)) events rule
-
-    with_frame : (s : Option Stmt) → statement_at script frame ≡ s → (st : Status) → IsOffered (next_in frame s) st (frame ∷ below) → Rule script passes (own st (frame ∷ below)) events → Keeps script passes (own st (frame ∷ below)) events (transition_at passes (body_of script frame.func) shared (own st (frame ∷ below)) others choice (next_in frame s) st)
-    with_frame None at st offered rule = without_statement (body_of script frame.func) (frame ∷ below) st offered rule
-    with_frame (Some s) at st offered rule = at_statement s at st offered rule
-
-  -- ---- any thread
-
-  pub by_frames : (frames : List Frame) (s : Status) → IsOffered (next_of script frames) s frames → Rule script passes (own s frames) events → Keeps script passes (own s frames) events (transition_at passes (body_at script frames) shared (own s frames) others choice (next_of script frames) s)
-  by_frames [] s offered rule = without_statement [] [] s offered rule
-  by_frames (frame ∷ below) s offered rule = with_frame frame below (statement_at script frame) refl s offered rule
+  case_keeps : {frames : List Frame} {body : List Stmt} {next : NextStatement} {s : Status} {o : Transition} → IsPlaced script frames body next → TransitionCase passes body shared (own s frames) others true next s o → Fits script passes (own s frames) reported → Keeps script passes (own s frames) reported o
+  unfolding thread_at thread_after
+  case_keeps {frames} place (rests next s alive) rule = no_change_keeps script passes (own s frames) reported rule
+  case_keeps {frames} place (stopped frame s why) rule = stop_keeps script passes why (own status.Running frames) reported rule
+  -- statements of the script language
+  case_keeps (on_top frame below s at) (jumped _ _ pc leads) rule = leads_keeps script passes matches t frame below reported rule shared.globals at leads
+  case_keeps (on_top frame below s at) (emitted _ v) rule = next_keeps script passes matches t frame below reported rule status.Running (statement.Emit v) at refl refl [] (what.Emit (value frame v) ∷ []) refl refl (tt, tt)
+  case_keeps (on_top frame below s at) (variable_set _ d v) rule = next_keeps script passes matches t frame below reported rule status.Running (statement.Set d v) at refl refl (action.Write d _ ∷ []) [] refl refl tt
+  case_keeps (on_top frame below s at) (variable_added _ d v) rule = next_keeps script passes matches t frame below reported rule status.Running (statement.Add d v) at refl refl (action.Write d _ ∷ []) [] refl refl tt
+  case_keeps (on_top frame below s at) (function_called _ f v room) rule = call_keeps script passes matches t frame below reported f v (value frame v) at (names.called frame f v at) rule
+  case_keeps (on_top frame below s at) (main_returned _ _ v returns is) rule = main_keeps script passes matches t frame below reported rule v
+  case_keeps (on_top frame below s at) (start_returned _ _ v returns is) rule = start_keeps script passes matches t frame below reported rule v is
+  case_keeps (on_top frame below s at) (call_left _ _ v returns kinds) rule = call_left_keeps script passes matches t frame below reported rule shared.globals at returns kinds
+  case_keeps (on_top frame below s at) (handler_left _ _ v returns kinds) rule = handler_left_keeps script passes matches t frame below reported rule shared.globals at returns kinds
+  case_keeps (on_top frame below s at) (exit_function_left _ _ v returns is) rule = absurd (no_exit_function script passes matches t frame below reported rule is)
+  -- threads
+  case_keeps (on_top frame below s at) (thread_made _ result id f v detached new among) rule = record {
+    own = (next_keeps script passes matches t frame below reported rule status.Running (statement.Create result id f v detached) at refl refl (action.Write result 0 ∷ action.Write id new ∷ []) (what.Created new detached ∷ []) refl refl (tt, tt)).own;
+    created = λ made e. subst (λ (n : NewThread). Fits script passes (created_thread n) no_events) (same_Some (record { id = new; detached = detached; func = f; arg = value frame v }) made e) (new_fits script passes matches new f (value frame v) detached kind.Start (names.created frame result id f v detached at) (refl, refl));
+  }
+  case_keeps (on_top frame below s at) (thread_not_made _ result id f v detached) rule = next_keeps script passes matches t frame below reported rule status.Running (statement.Create result id f v detached) at refl refl (action.Write result 1 ∷ []) (what.Answer caller.Create 1 ∷ []) refl refl (tt, tt)
+  case_keeps (on_top frame below s at) (join_begun _ id d target seen other joinable unjoined) rule = record {
+    own = (record { agrees = rule.agrees; placed = rule.placed; by_status = (rule.by_status, ap (λ (x : Option Stmt). is_join (next_in frame x)) at); in_passes = rule.in_passes }, (tt, tt));
+    created = none_created script passes;
+  }
+  case_keeps (on_top frame below s at) (join_ended _ operand d id v target seen ended) rule =
+      let awake : Fits script passes (running t (frame ∷ below)) reported = record { agrees = rule.agrees; placed = rule.placed; by_status = rule.by_status.0; in_passes = rule.in_passes } in
+      next_keeps script passes matches t frame below reported awake (status.Joining id) (statement.Join operand d) at refl refl (action.EndJoin id ∷ action.Write d v ∷ []) (what.Joined id v ∷ []) refl refl (tt, tt)
+  case_keeps (on_top frame below s at) (thread_detached _ id target seen joinable unjoined) rule = next_keeps script passes matches t frame below reported rule status.Running (statement.Detach id) at refl refl (action.Detach (value frame id) ∷ []) (what.Detached (value frame id) ∷ []) refl refl (tt, tt)
+  case_keeps (on_top frame below s at) (self_got _ d) rule = next_keeps script passes matches t frame below reported rule status.Running (statement.SelfId d) at refl refl (action.Write d t.id ∷ []) [] refl refl tt
+  -- cancellation
+  case_keeps (on_top frame below s at) (request_sent _ id target seen) rule = next_keeps script passes matches t frame below reported rule status.Running (statement.CancelThread id) at refl refl (action.Request (value frame id) ∷ []) (what.Request (value frame id) ∷ []) refl refl (tt, tt)
+  case_keeps (on_top frame below s at) (state_set _ enable old outside) rule = state_keeps script passes matches t frame below reported rule enable old at outside
+  case_keeps (on_top frame below s at) (mode_set _ asynchronous old) rule = next_keeps script passes matches t frame below reported rule status.Running (statement.SetMode asynchronous old) at refl refl (action.SetMode (mode_if asynchronous) ∷ action.Write old (mode_number t.mode) ∷ []) (what.ModeSet asynchronous ∷ []) refl refl (tt, tt)
+  case_keeps (on_top frame below s at) (cancel_tested _) rule = next_keeps script passes matches t frame below reported rule status.Running statement.TestCancel at refl refl [] (what.Done testcancel_point ∷ []) refl refl (tt, tt)
+  case_keeps (on_top frame below s at) (point_begun _ index is) rule = record {
+    own = (
+      record {
+        agrees = rule.agrees;
+        placed = rule.placed;
+        by_status = (rule.by_status, ap (λ (x : Option Stmt). is_call_of index (next_in frame x)) at ∙ and_from (nat_eq index index) (is_required (point_kind index)) (eq-eqb index index refl) (ap is_required is));
+        in_passes = rule.in_passes;
+      },
+      (tt, tt),
+    );
+    created = none_created script passes;
+  }
+  case_keeps (on_top frame below s at) (point_done _ index) rule = next_keeps script passes matches t frame below reported rule status.Running (statement.PointCall index) at refl refl [] (what.Done index ∷ []) refl refl (tt, tt)
+  case_keeps (on_top frame below s at) (point_passed _ index i) rule =
+      let awake : Fits script passes (running t (frame ∷ below)) reported = record { agrees = rule.agrees; placed = rule.placed; by_status = rule.by_status.0; in_passes = rule.in_passes } in
+      next_keeps script passes matches t frame below reported awake (status.AtPoint index) (statement.PointCall i) at refl refl [] (what.Done index ∷ []) refl refl (tt, tt)
+  case_keeps {frames} place (canceled next enabled) rule = record { own = cancel_fits script passes (own status.Running frames) reported (enabled refl) rule.agrees rule.in_passes rule.by_status; created = none_created script passes }
+  case_keeps {frames} place (canceled_at_point next index enabled) rule = record { own = cancel_fits script passes (own (status.AtPoint index) frames) reported (enabled refl) rule.agrees rule.in_passes rule.by_status.0; created = none_created script passes }
+  case_keeps {frames} place (canceled_in_join next id enabled) rule = record { own = cancel_fits script passes (own (status.Joining id) frames) reported (enabled refl) rule.agrees rule.in_passes rule.by_status.0; created = none_created script passes }
+  -- keys
+  case_keeps (on_top frame below s at) (key_made _ result key destructor k among) rule = next_keeps script passes matches t frame below reported rule status.Running (statement.KeyCreate result key destructor) at refl refl (action.MakeKey k destructor ∷ action.Write result 0 ∷ action.Write key k ∷ []) (what.KeyMade k ∷ []) refl refl (tt, tt)
+  case_keeps (on_top frame below s at) (key_not_made _ result key destructor) rule = next_keeps script passes matches t frame below reported rule status.Running (statement.KeyCreate result key destructor) at refl refl (action.Write result 1 ∷ []) (what.Answer caller.KeyCreate 1 ∷ []) refl refl (tt, tt)
+  case_keeps (on_top frame below s at) (key_deleted _ key named) rule = next_keeps script passes matches t frame below reported rule status.Running (statement.KeyDelete key) at refl refl (action.DeleteKey (value frame key) ∷ []) (what.KeyGone (value frame key) ∷ []) refl refl (tt, tt)
+  case_keeps (on_top frame below s at) (specific_set _ key v named) rule = next_keeps script passes matches t frame below reported rule status.Running (statement.SetSpecific key v) at refl refl (action.SetSpecific (value frame key) (value frame v) ∷ []) [] refl refl tt
+  case_keeps (on_top frame below s at) (specific_got _ d key) rule = next_keeps script passes matches t frame below reported rule status.Running (statement.GetSpecific d key) at refl refl (action.Write d _ ∷ []) [] refl refl tt
+  -- cleanup handlers
+  case_keeps (on_top frame below s at) (handler_pushed _ f v room) rule = push_keeps script passes matches t frame below reported f v (value frame v) at (names.pushed frame f v at) rule
+  case_keeps (on_top frame below s at) (handler_popped _ v f a handlers is) rule =
+      by_handlers script passes t status.Running (frame ∷ below) reported _ ((f, a) ∷ handlers) is (λ r. drop_keeps script passes matches t frame below reported v at f a handlers r) rule
+  case_keeps (on_top frame below s at) (handler_called _ v f a handlers is room) rule =
+      by_handlers script passes t status.Running (frame ∷ below) reported _ ((f, a) ∷ handlers) is (λ r. run_keeps script passes matches t frame below reported v at f a handlers r) rule
+  -- the end of a thread
+  case_keeps (on_top frame below s at) (exit_called _ v begun) rule = begin_keeps script passes t (frame ∷ below) reported rule (value frame v) (not_begun t.reason begun)
+  case_keeps {frames} place (handler_run next f a handlers is) rule = by_handlers script passes t status.Ending frames reported _ ((f, a) ∷ handlers) is (λ r. handler_keeps script passes matches t frames reported f a handlers r) rule
+  case_keeps {frames} place (destructor_called next k f key none is named among) rule =
+      by_handlers script passes t status.Ending frames reported _ [] none (λ r. destructor_keeps script passes matches t frames reported r k f (destructor_in_script script shared.keys kept k key f is named) (left_in_pass script shared.keys kept t.specific k (left_key_of shared.keys t.specific k (among refl)))) rule
+  case_keeps {frames} place (pass_begun next none more) rule = by_handlers script passes t status.Ending frames reported _ [] none (λ r. pass_keeps script passes matches t frames reported r more) rule
+  case_keeps {frames} place (thread_ended next none) rule = by_handlers script passes t status.Ending frames reported _ [] none (λ r. end_keeps script passes matches t frames reported r) rule
+  case_keeps {frames} place (thread_ended_with_keys next left none some limit) rule = by_handlers script passes t status.Ending frames reported _ [] none (λ r. end_with_keys_keeps script passes matches t frames reported r left some limit) rule
+  case_keeps {frames} place (last_ended next none is_last) rule = by_handlers script passes t status.Ending frames reported _ [] none (λ r. last_keeps script passes matches t frames reported r) rule
+  case_keeps {frames} place (last_ended_with_keys next left none is_last some limit) rule = by_handlers script passes t status.Ending frames reported _ [] none (λ r. last_with_keys_keeps script passes matches t frames reported r left some limit) rule
+  case_keeps {frames} place (process_ended next v) rule = exiting_keeps script passes (own status.Exiting frames) reported (v % 256) rule
 
 -- a transition of a thread, by any choice
-pub transition_keeps : (script : Script) → PushesMatch script → NamesFunctions script → (config : Config) (p : Process) (t : Thread) (events : List What) (choice : Alt) → KeysKept script p.shared.keys → offers (choices_of script config p t) choice ≡ true → Rule script config.passes t events → Keeps script config.passes t events (transition_by script config p t choice)
-transition_keeps script matches names config p t events choice kept offered rule =
+pub transition_keeps : (script : Script) → PushesMatch script → NamesFunctions script → (config : Config) (p : Process) (t : Thread) (reported : ThreadSummary) (choice : Alt) → KeysKept script p.shared.keys → offers (choices_of script config p t) choice ≡ true → Fits script config.passes t reported → Keeps script config.passes t reported (transition_by script config p t choice)
+transition_keeps script matches names config p t reported choice kept offered rule =
     let others : Others = others_of script config p t in
-    by_choice (Keeps script config.passes t events) choice t.status (transition_at config.passes (body_at script t.frames) p.shared t others choice (next_of script t.frames) t.status)
-    (λ n acts. acting_keeps script config.passes t events p.shared.keys others (next_of script t.frames) n (subst (λ (by : Alt). offers (choices_of script config p t) by ≡ true) acts offered) rule)
-    (by_frames script config.passes matches names p.shared kept t others choice events t.frames t.status offered rule)
+    case_keeps script config.passes matches names p.shared kept t others reported (is_placed script t.frames) (case_of config.passes (body_at script t.frames) p.shared t others true choice (next_of script t.frames) t.status (λ known. offered)) rule

@@ -17,14 +17,14 @@ name_all-requires c =
     let o = c.args.transition.now in
     let old = c.args.machine.now in
     let moved : c.act_own.new.machine.threads ≡ on_held c.args.slot (held_moved o) old.threads = ap (λ (m : Machine). m.threads) c.act_own.ensures ∙ acted_threads c.args.slot o old in
-    subst (NamesFit c.args.slot o.actions) (sym moved) c.requires.names
+    subst (NamesFit o.actions) (sym moved) c.requires.names
 
 pub settle-requires : goal.settle-requires
 settle-requires c =
     let o = c.args.transition.now in
     let old = c.args.machine.now in
     let moved : c.act_own.new.machine.threads ≡ on_held c.args.slot (held_moved o) old.threads = ap (λ (m : Machine). m.threads) c.act_own.ensures ∙ acted_threads c.args.slot o old in
-    let named : c.name_all.new.threads ≡ after_names c.args.slot o old.threads = c.name_all.ensures ∙ ap (for_each (named_on c.args.slot) o.actions) moved in
+    let named : c.name_all.new.threads ≡ after_names c.args.slot o old.threads = c.name_all.ensures ∙ ap (for_each named_on o.actions) moved in
     subst (λ (threads : List Slot). c.args.slot < length threads) (sym named) (inside_names c.args.slot o old.threads (within-occupied old.threads c.args.slot c.requires.occupied))
 
 pub create-requires-clause-fits : goal.create-requires-clause-fits
@@ -32,7 +32,7 @@ create-requires-clause-fits c =
     let o = c.args.transition.now in
     let old = c.args.machine.now in
     let moved : c.act_own.new.machine.threads ≡ on_held c.args.slot (held_moved o) old.threads = ap (λ (m : Machine). m.threads) c.act_own.ensures ∙ acted_threads c.args.slot o old in
-    let made : c.settle.new.threads ≡ settled c.args.slot (after_names c.args.slot o old.threads) = c.settle.ensures ∙ ap (settled c.args.slot) (c.name_all.ensures ∙ ap (for_each (named_on c.args.slot) o.actions) moved) in
+    let made : c.settle.new.threads ≡ settled c.args.slot (after_names c.args.slot o old.threads) = c.settle.ensures ∙ ap (settled c.args.slot) (c.name_all.ensures ∙ ap (for_each named_on o.actions) moved) in
     subst (NewFits o.created) (sym made) (new_kept o.created old.threads (settled c.args.slot (after_names c.args.slot o old.threads)) (follows_moved c.args.slot o old.threads (within-occupied old.threads c.args.slot c.requires.occupied)) c.requires.created)
 
 pub create-requires-clause-rows : goal.create-requires-clause-rows
@@ -40,7 +40,7 @@ create-requires-clause-rows c =
     let o = c.args.transition.now in
     let old = c.args.machine.now in
     let moved : c.act_own.new.machine.threads ≡ on_held c.args.slot (held_moved o) old.threads = ap (λ (m : Machine). m.threads) c.act_own.ensures ∙ acted_threads c.args.slot o old in
-    let made : c.settle.new.threads ≡ settled c.args.slot (after_names c.args.slot o old.threads) = c.settle.ensures ∙ ap (settled c.args.slot) (c.name_all.ensures ∙ ap (for_each (named_on c.args.slot) o.actions) moved) in
+    let made : c.settle.new.threads ≡ settled c.args.slot (after_names c.args.slot o old.threads) = c.settle.ensures ∙ ap (settled c.args.slot) (c.name_all.ensures ∙ ap (for_each named_on o.actions) moved) in
     ap (λ (m : Machine). length m.keys.rows) c.act_own.ensures
     ∙ ap (λ (keys : Table). length keys.rows) (acted_keys c.args.slot o old)
     ∙ length_all c.args.slot o.actions old.keys

@@ -10,7 +10,7 @@ use Rattle.pct_actions.proofs.named_threads.+name_all.Goals as goal
 pub name-requires : goal.name-requires
 name-requires t c =
     let rest : drop c.args.from c.args.actions.now ≡ c.in-Some.action ∷ drop (c.args.from + 1) c.args.actions.now = drop_item c.args.actions.now c.args.from c.in-Some.action (sym c.in-Some.ensures.value) in
-    (subst (λ (actions : List Action). NamesFit c.args.slot actions c.args.threads.now) rest c.requires).0
+    (subst (λ (actions : List Action). NamesFit actions c.args.threads.now) rest c.requires).0
 
 pub overflow_add-from : goal.overflow_add-from
 overflow_add-from t c =
@@ -20,15 +20,15 @@ overflow_add-from t c =
 pub name_all-requires : goal.name_all-requires
 name_all-requires t c =
     let rest : drop c.args.from c.args.actions.now ≡ c.in-Some.action ∷ drop (c.args.from + 1) c.args.actions.now = drop_item c.args.actions.now c.args.from c.in-Some.action (sym c.in-Some.ensures.value) in
-    let fits = (subst (λ (actions : List Action). NamesFit c.args.slot actions c.args.threads.now) rest c.requires).1 in
+    let fits = (subst (λ (actions : List Action). NamesFit actions c.args.threads.now) rest c.requires).1 in
     (omega (arith, c.decreases, ap length rest), rw c.name.ensures fits)
 
 pub returns-in-Some : goal.returns-in-Some
 returns-in-Some t c =
     let rest : drop c.args.from c.args.actions.now ≡ c.in-Some.action ∷ drop (c.args.from + 1) c.args.actions.now = drop_item c.args.actions.now c.args.from c.in-Some.action (sym c.in-Some.ensures.value) in
     c.name_all.ensures
-    ∙ ap (for_each (named_on c.args.slot) (drop (c.args.from + 1) c.args.actions.now)) c.name.ensures
-    ∙ ap (λ (actions : List Action). for_each (named_on c.args.slot) actions c.args.threads.now) (sym rest)
+    ∙ ap (for_each named_on (drop (c.args.from + 1) c.args.actions.now)) c.name.ensures
+    ∙ ap (λ (actions : List Action). for_each named_on actions c.args.threads.now) (sym rest)
 
 pub returns-in_default : goal.returns-in_default
-returns-in_default t c = ap (λ (actions : List Action). for_each (named_on c.args.slot) actions c.args.threads.now) (sym (drop_none c.args.actions.now c.args.from (sym c.in_default.ensures.value)))
+returns-in_default t c = ap (λ (actions : List Action). for_each named_on actions c.args.threads.now) (sym (drop_none c.args.actions.now c.args.from (sym c.in_default.ensures.value)))

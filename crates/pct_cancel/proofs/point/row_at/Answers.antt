@@ -1,6 +1,9 @@
-use Rattle.std.proofs.lemmas.Option.{slice_get-get_or}
-use Rattle.pct_cancel.specs.declared.point.TheConstants.{POINTS}
+use Rattle.std.proofs.Common.{arith}
+use Rattle.pct_cancel.proofs.Table.{rows_count, row_in}
 use Rattle.pct_cancel.proofs.point.row_at.Goals as goal
 
+pub bounds-table-index : goal.bounds-table-index
+bounds-table-index c = omega (arith, rows_count c.table.result.now c.table.ensures)
+
 pub returns : goal.returns
-returns c = slice_get-get_or POINTS c.args.index _ c.requires
+returns c = row_in c.table.result.now c.table.ensures c.args.index _ c.requires

@@ -6,7 +6,6 @@ use Rattle.pct_threads.specs.Slots.{Slot, with_frame_word}
 use Rattle.pct_threads.specs.Tables.{on_held, with_created}
 use Rattle.pct_engine.proofs.EngineChoices.{some_slots}
 use Rattle.pct_engine.proofs.FirstStates.{machine_view-first, rows-first}
-use Rattle.pct_engine.proofs.JoinersAfter.{joiners-first}
 use Rattle.pct_model.proofs.StaticFacts.{few_functions}
 use Rattle.pct_engine.proofs.engine.opening.Goals as goal
 
@@ -30,9 +29,3 @@ returns-clause-rows c =
     rows-first c.args.config.slots c.main_of-main.result c.set_frame_word.new.self c.in_ok-new.field-0 c.in_ok-new-2.field-0
     (c.set_frame_word.ensures ∙ ap (λ (slots : List Slot). on_held 0 (with_frame_word 0 2 0) slots) (c.create.ensures.table ∙ ap (with_created 0 c.main_of-main.result 0 false) c.in_ok-threads.ensures))
     c.in_ok-new-2.ensures
-
-pub returns-clause-joiners : goal.returns-clause-joiners
-returns-clause-joiners c =
-    joiners-first c.args.config.slots c.main_of-main.result c.set_frame_word.new.self
-    (some_slots c.args.config c.requires)
-    (c.set_frame_word.ensures ∙ ap (λ (slots : List Slot). on_held 0 (with_frame_word 0 2 0) slots) (c.create.ensures.table ∙ ap (with_created 0 c.main_of-main.result 0 false) c.in_ok-threads.ensures))

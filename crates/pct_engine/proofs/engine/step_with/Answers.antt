@@ -59,7 +59,7 @@ returns-clause-stands c =
     let budget = ap (λ (p : ProgramValue). p.config.budget) c.program.view_is in
     let left : length c.args.history.now.items < program.config.budget = omega (arith, budget, c.len.ensures, c.if-len-program.false) in
     let made = subst (λ b. StepsBy program.script program.config stands.after.world c.args.machine.now c.step.new.machine c.args.entry (if b then Some c.step.new.transition.events else None)) c.if-not-step.false (c.step.ensures.step stands.after.world stands.parts_are) in
-    let more = stands-more program.script program.config c.args.history.now.items c.args.events.now.items c.args.machine.now c.step.new.machine c.args.entry c.step.new.transition.events left stands made c.step.ensures.rows c.step.ensures.joiners in
+    let more = stands-more program.script program.config c.args.history.now.items c.args.events.now.items c.args.machine.now c.step.new.machine c.args.entry c.step.new.transition.events left stands made c.step.ensures.rows in
     rw (c.record_entry.ensures.last, c.record_events.ensures.last) more
 
 pub returns-clause-used : goal.returns-clause-used

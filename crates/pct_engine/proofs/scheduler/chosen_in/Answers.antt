@@ -5,7 +5,6 @@ use Rattle.pct_model.specs.World.{Thread}
 use Rattle.pct_actions.proofs.HeldChanges.{held_on}
 use Rattle.pct_engine.specs.Views.{machine_thread}
 use Rattle.pct_engine.specs.ReadyThreads.{candidate_of}
-use Rattle.pct_engine.proofs.FoundThreads.{placed_by_length}
 use Rattle.pct_engine.proofs.Readiness.{seen_chosen-machine, seen_chosen-ended}
 use Rattle.pct_engine.proofs.LegalChoices.{chosen_is_legal}
 use Rattle.pct_engine.proofs.scheduler.chosen_in.Goals as goal
@@ -19,9 +18,6 @@ returns-in_default-clause-value c =
     let running : is_none c.args.machine.now.stop ≡ true = ap not (sym c.is_some.ensures ∙ c.if-is_some.false) in
     sym (seen_chosen-machine script c.args.program.now.config.slots c.args.machine.now c.args.worker c.args.a c.args.b (c.requires.placed c.if-machine.false).all running c.if-machine.false
     ∙ ap (option_and_then (λ (t : Thread). entry_for c.args.worker c.args.b (candidate_of script c.args.machine.now t))) (sym c.in_default.ensures.value))
-
-pub entry_on-requires-clause-placed : goal.entry_on-requires-clause-placed
-entry_on-requires-clause-placed c = placed_by_length c.args.program.now.config.slots c.args.machine.now.threads (c.requires.placed c.if-machine.false)
 
 pub returns-clause-value : goal.returns-clause-value
 returns-clause-value c =

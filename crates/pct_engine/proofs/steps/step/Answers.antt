@@ -1,6 +1,5 @@
 use Rattle.std.proofs.Common.{None, refl, sym, ap, subst}
 use Rattle.pct_actions.specs.TableFits.{HasRows}
-use Rattle.pct_engine.proofs.JoinersAfter.{joiners_made}
 use Rattle.pct_threads.proofs.TableLemmas.{within-occupied}
 use Rattle.pct_engine.proofs.StepViews.{step_by_view, step_made}
 use Rattle.pct_engine.proofs.MachineViews.{rows_moved}
@@ -22,12 +21,6 @@ returns-clause-step c = λ w view.
 pub returns-clause-slots : goal.returns-clause-slots
 returns-clause-slots c = λ made.
     slots_moved c.in-Some.slot c.transition_of.new.transition c.args.machine.now c.change.new.machine (ap is_some c.in-Some.ensures.found.here) c.change.ensures
-
-pub returns-clause-joiners : goal.returns-clause-joiners
-returns-clause-joiners c =
-    let program = c.args.program.now in
-    let machine = c.args.machine.now in
-    joiners_made program.script program.config machine c.change.new.machine c.args.entry c.in-Some.slot c.transition_of.new.transition c.requires.placed c.requires.rows c.requires.joiners c.in-Some.ensures.found c.in-Some.ensures.value c.change.ensures
 
 pub returns-clause-rows : goal.returns-clause-rows
 returns-clause-rows c =

@@ -15,12 +15,8 @@ use Rattle.pct_actions.specs.MachineChanges.{held_moved}
 use Rattle.pct_actions.proofs.SearchedSlots.{held_with}
 use Rattle.pct_engine.specs.Views.{machine_thread, process_view}
 use Rattle.pct_engine.proofs.FittingSteps.{answer_is, taken_names, taken_new, taken_keys}
-use Rattle.pct_engine.proofs.FoundThreads.{admits, placed_by_length, legal_transition-unfound, legal_transition-found}
+use Rattle.pct_engine.proofs.FoundThreads.{admits, legal_transition-unfound, legal_transition-found}
 use Rattle.pct_engine.proofs.steps.transition_of.Goals as goal
-
-pub answer_to-others-requires-clause-placed : goal.answer_to-others-requires-clause-placed
-answer_to-others-requires-clause-placed c =
-    placed_by_length c.args.program.now.config.slots c.args.machine.now.threads (c.requires.placed (admits c.args.machine.now c.args.entry (sym c.may_step.ensures ∙ c.if-not-may_step.false)).live)
 
 pub offers-requires : goal.offers-requires
 offers-requires c =
@@ -71,7 +67,7 @@ returns-clause-found c =
       named = found.2;
       fits = (c.transition_by.ensures.fits own position).actions;
       keys_fit = subst (λ (o : Transition). KeysFit slot o.actions machine.keys) (sym taken) (taken_keys script config.slots config.passes slot machine found.0 c.args.entry.alt (on_places machine.keys c.find-none.ensures.sound) offered);
-      names = subst (λ (o : Transition). NamesFit slot o.actions (on_held slot (held_moved o) machine.threads)) (sym taken) (taken_names script config.slots config.passes slot machine found.0 c.args.entry.alt placed found.1 offered);
+      names = subst (λ (o : Transition). NamesFit o.actions (on_held slot (held_moved o) machine.threads)) (sym taken) (taken_names script config.slots config.passes slot machine found.0 c.args.entry.alt placed found.1 offered);
       created = subst (λ (o : Transition). NewFits o.created machine.threads) (sym taken) (taken_new script config.slots config.passes slot machine found.0 c.args.entry.alt placed found.1 offered);
     }
 

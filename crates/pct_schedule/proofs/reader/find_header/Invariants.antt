@@ -1,6 +1,6 @@
 use Rattle.std.proofs.Common.{◌≡◌, ◌+◌, ◌≤◌, length}
 use Rattle.pct_model.specs.Lines.{lines_of}
-use Rattle.pct_schedule.specs.Reader.{header_line}
+use Rattle.pct_schedule.specs.Memory.{header_line}
 use Rattle.pct_schedule.proofs.reader.find_header.Given as goal
 
 abbrev pub invariant-loop-raw : goal.invariant-loop-raw

@@ -1,7 +1,18 @@
-use Rattle.std.proofs.Common.{◌≡◌, [], ◌∷◌, length, sym, ap, arith, length-append}
+use Rattle.std.proofs.Common.{◌≡◌, [], ◌∷◌, length, refl, sym, ap, ◌∙◌, arith, length-append}
 use Rattle.std.proofs.lemmas.Result.{err_from_is_err_and}
+use Rattle.pct_model.specs.Lines.{lines_of}
+use Rattle.pct_schedule.proofs.LineByLine.{entries_in}
+use Rattle.pct_schedule.proofs.ByEntries.{from_first}
 use Rattle.pct_schedule.proofs.LineLoops.{reads_line, at_last_line, at_entry_line, no_end, goes_on, stays_failed, first_is_entry, first_stays}
 use Rattle.pct_schedule.proofs.reader.read_entries.Goals as goal
+
+pub loop-raw-init : goal.loop-raw-init
+loop-raw-init c = record {
+  read = from_first c.args.first c.args.config (lines_of c.args.text.now) ∙ ap (λ entries. entries_in c.args.first c.args.config entries (lines_of c.args.text.now)) (sym c.new-entries.ensures.items);
+  bound = omega arith;
+  start = λ _. refl;
+  memory = λ some. absurd (omega (arith, some, ap length c.new-entries.ensures.items));
+}
 
 pub returns-in_err-end_at-clause-read : goal.returns-in_err-end_at-clause-read
 returns-in_err-end_at-clause-read c =
@@ -18,7 +29,7 @@ returns-then-begins_with-clause-read c =
     let reads = reads_line c.loop-raw.rest.now c.in-Some.raw.now c.strip_cr-line.result.now c.in-Some.after.now c.in-Some.ensures c.strip_cr-line.ensures in
     let many : c.len.result ≡ length c.loop-raw.entries.items = omega (arith, c.len.ensures, c.loop-raw.entries.ok.0) in
     rw c.of.ensures
-    (goes_on _ _ c.in_ok-end_at.field-0 _
+    (goes_on _ _ [] _
     (at_last_line c.loop-raw.number c.len.result c.args.config c.loop-raw.entries.items _ _ _ _ reads (sym c.if-begins_with.ensures) c.loop-raw.invariant.read many)
     c.in_ok-end_at.ensures)
 

@@ -1,11 +1,11 @@
-use Rattle.std.proofs.Common.{◌≡◌, ℕ, true, List, Option, Some, None, Result, Err, sym, ap, ◌∙◌}
+use Rattle.std.proofs.Common.{◌≡◌, ℕ, true, List, map, Option, Some, None, Result, Err, sym, ap, ◌∙◌}
 use Rattle.std.specs.Prelude.{is_some}
 use Rattle.std.proofs.lemmas.Result.{err_from_is_err_and}
 use Rattle.pct_model.specs.declared.schedule.Config.{Config}
-use Rattle.pct_model.specs.Lines.{lines_of}
-use Rattle.pct_model.specs.Schedule.{Schedule, header_of}
-use Rattle.pct_schedule.specs.Reader.{header_in, with_header}
-use Rattle.pct_schedule.proofs.BySplits.{header_same}
+use Rattle.pct_model.specs.Lines.{lines_of, strip_cr}
+use Rattle.pct_model.specs.Schedule.{Schedule, header_of, schedule_at}
+use Rattle.pct_schedule.proofs.LineByLine.{with_header}
+use Rattle.pct_schedule.proofs.ByEntries.{header_same}
 use Rattle.pct_schedule.proofs.LineLoops.{from_its_header, stored_after}
 use Rattle.pct_schedule.proofs.WithinLimits.{sched_within}
 use Rattle.pct_schedule.proofs.reader.read_schedule.Goals as goal
@@ -18,8 +18,8 @@ passed_on r passed failed e is from gives =
     let same : failed ≡ e = cc in
     ap (λ x. Err x) same
 
-by_config : (n : ℕ) (line : List ℕ) (lines : List (List ℕ)) (all : Schedule) (o : Option Config) → o ≡ header_in line → all ≡ with_header n (header_of line) lines → all ≡ with_header n o lines
-by_config n line lines all o e so_far = so_far ∙ ap (λ (h : Option Config). with_header n h lines) (sym (header_same line) ∙ sym e)
+by_config : (n : ℕ) (line : List ℕ) (lines : List (List ℕ)) (all : Schedule) (o : Option Config) → o ≡ header_of line → all ≡ with_header n (header_of line) lines → all ≡ schedule_at n o (map strip_cr lines)
+by_config n line lines all o e so_far = so_far ∙ ap (λ (h : Option Config). with_header n h lines) (sym e) ∙ header_same n o lines
 
 pub returns-in_default-clause-read : goal.returns-in_default-clause-read
 returns-in_default-clause-read c = from_its_header c.args.text.now None c.in_default.ensures.found
@@ -37,7 +37,7 @@ returns-in_err-entries-clause-read c =
 pub returns-in_err-entries-clause-memory : goal.returns-in_err-entries-clause-memory
 returns-in_err-entries-clause-memory c = λ e.
     let p = err_from_is_err_and c.from_residual.result c.from_residual.ensures.1 in
-    let legal : is_some (header_of c.in-Some.line.now) ≡ true = ap is_some (sym (header_same c.in-Some.line.now) ∙ sym c.in-Some-header_of.ensures) in
+    let legal : is_some (header_of c.in-Some.line.now) ≡ true = ap is_some (sym c.in-Some-header_of.ensures) in
     stored_after c.args.text.now c.in-Some.number c.in-Some.line.now (lines_of c.in-Some.after.now) c.in-Some.ensures.found legal (c.in_err-entries.ensures.memory (passed_on c.from_residual.result _ _ _ p.1 p.2 e))
 
 pub returns-clause-read : goal.returns-clause-read

@@ -9,7 +9,7 @@ invariant_of-result c =
     let entries = c.in_ok-history.ensures in
     let events = c.in_ok-events.ensures in
     let budget = ap (λ (p : ProgramValue). p.config.budget) c.in_ok-program.ensures in (
-      stands-first c.args.script c.args.config program c.in_ok-history.history.items c.in_ok-events.events.items c.in_ok-machine.machine c.requires c.in_ok-program.ensures entries.items events.items c.in_ok-machine.ensures.view c.in_ok-machine.ensures.rows c.in_ok-machine.ensures.joiners,
+      stands-first c.args.script c.args.config program c.in_ok-history.history.items c.in_ok-events.events.items c.in_ok-machine.machine c.requires c.in_ok-program.ensures entries.items events.items c.in_ok-machine.ensures.view c.in_ok-machine.ensures.rows,
       record {
         entries_within = omega (arith, entries.len);
         entries_room = omega (arith, budget, entries.exact);

@@ -1,0 +1,73 @@
+-- The pids of processes after every run: they are numbered in the order in which the processes were made, and no two are the same.
+use Rattle.std.proofs.Common.{◌≡◌, ℕ, zero, suc, ◌+◌, ◌<◌, false, true, List, [], ◌∷◌, ◌++◌, length, map, reverse, nat_eq, slice_get, get_or, ne_eqb, arith, Option, Some, None, inl, inr, refl, sym, ap, ◌∙◌, subst, append-nil}
+use Rattle.std.specs.List.{list_any}
+use Rattle.std.proofs.lemmas.List.{map-append, length-map}
+use Rattle.std.proofs.lemmas.List.Elements.{All-map}
+use Rattle.std.proofs.lemmas.List.Folds.{list_any_none}
+use Rattle.std.proofs.lemmas.Option.{none-some, same_Some, slice_get-map, slice_get-get_or}
+use Rattle.pct_model.specs.declared.script.Script.{Script}
+use Rattle.pct_model.specs.declared.schedule.Config.{Config}
+use Rattle.pct_model.specs.declared.schedule.Entry.{Entry}
+use Rattle.pct_model.specs.declared.transition.Transition.{Transition}
+use Rattle.pct_model.specs.World.{Process, World, first_process, opening}
+use Rattle.pct_model.specs.TransitionTable.{transition_by}
+use Rattle.pct_model.specs.Actions.{after_transition}
+use Rattle.pct_model.specs.ThreadNumbers.{HasProcessNumbers}
+use Rattle.pct_ending_laws.proofs.lift.KeyedLists.{AreDistinct, distinct_push, keys_changed, item_pushed, mapped_some}
+use Rattle.pct_ending_laws.proofs.lift.TakenSteps.{AfterEveryRun, every_run}
+use Rattle.pct_ending_laws.proofs.lift.ChangedThreads.{pids_of, process_moved, process_moved_pid}
+use Rattle.pct_ending_laws.proofs.lift.MadeThreads.{Makes, makes_none, forks, process_made, IsStep, is_step}
+
+-- what is kept of pids; a process has slots
+pub record HavePids (slots : ℕ) (w : World) : Type 0 where
+  pub some : 0 < slots
+  pub distinct : AreDistinct (pids_of w.processes)
+  pub numbers : HasProcessNumbers w
+
+-- no process has the next pid
+pub next_is_new : (slots : ℕ) (w : World) → HavePids slots w → (pid : ℕ) → pid ≡ 1 + length w.processes → list_any (λ n. nat_eq n pid) (pids_of w.processes) ≡ false
+next_is_new slots w pids pid next = list_any_none (λ n. nat_eq n pid) (pids_of w.processes) (All-map (λ n. nat_eq n pid ≡ false) (λ (q : Process). q.pid) w.processes (λ k d low.
+    let number : (get_or w.processes k d).pid ≡ 1 + k = pids.numbers k (get_or w.processes k d) (slice_get-get_or w.processes k d low) in
+    ne_eqb (get_or w.processes k d).pid pid (λ same. absurd (omega (arith, number, next, same, low)))))
+
+first_number : (script : Script) (k : ℕ) (p : Process) → slice_get (first_process script ∷ []) k ≡ Some p → p.pid ≡ 1 + k
+first_number script zero p at = ap (λ (q : Process). q.pid) (sym (same_Some (first_process script) p at))
+first_number script (suc k) p at = absurd (none-some p at)
+
+first_pids : (script : Script) (slots : ℕ) → 0 < slots → HavePids slots (opening script)
+unfolding opening
+first_pids script slots some = record { some = some; distinct = (refl, tt); numbers = first_number script }
+
+module _ (slots : ℕ) (e : Entry) (o : Transition) (w after : World) (pids : HavePids slots w) where
+  abbrev moved : List Process
+  moved = map (process_moved e.pid e.tid o) w.processes
+
+  same_pids : pids_of moved ≡ pids_of w.processes
+  same_pids = keys_changed (λ (q : Process). q.pid) (process_moved e.pid e.tid o) (process_moved_pid e.pid e.tid o) w.processes
+
+  number : (k : ℕ) (q : Process) → slice_get moved k ≡ Some q → q.pid ≡ 1 + k
+  number k q at =
+      let from = mapped_some (process_moved e.pid e.tid o) (slice_get w.processes k) q (sym (slice_get-map (process_moved e.pid e.tid o) w.processes k) ∙ at) in
+      ap (λ (x : Process). x.pid) (sym from.2) ∙ process_moved_pid e.pid e.tid o from.0 ∙ pids.numbers k from.0 from.1
+
+  pids_by : {child : Option Process} → after.processes ≡ moved ++ process_made child → Makes w (reverse o.events) child → HavePids slots after
+  pids_by are (makes_none quiet) =
+      let same : after.processes ≡ moved = are ∙ append-nil moved in
+      record { some = pids.some; distinct = subst AreDistinct (sym (ap pids_of same ∙ same_pids)) pids.distinct; numbers = λ k q at. number k q (ap (λ (ps : List Process). slice_get ps k) (sym same) ∙ at) }
+  pids_by are (forks child next only) = record {
+    some = pids.some;
+    distinct = subst AreDistinct (sym (ap pids_of are ∙ map-append (λ (q : Process). q.pid) moved (child ∷ []) ∙ ap (λ (ns : List ℕ). ns ++ child.pid ∷ []) same_pids)) (distinct_push (pids_of w.processes) child.pid (next_is_new slots w pids child.pid next) pids.distinct);
+    numbers = λ k q at. elim (item_pushed moved child true k q (ap (λ (ps : List Process). slice_get ps k) (sym are) ∙ at)) [
+      | inl before ↦ number k q before
+      | inr last ↦ ap (λ (x : Process). x.pid) (sym last.2) ∙ next ∙ ap (λ n. 1 + n) (sym (last.1 ∙ length-map w.processes (process_moved e.pid e.tid o)))
+    ];
+  }
+
+-- after every run
+pub have_pids : (script : Script) (config : Config) → AfterEveryRun script config (λ r. HavePids config.slots r.world)
+have_pids script config =
+    every_run script config (λ r. HavePids config.slots r.world) (λ before r is e p t taken pids.
+    let o : Transition = transition_by script config p t e.alt in
+    let after : World = after_transition e.pid e.tid o r.world in
+    let step : IsStep e o r.world after None = is_step script config r.world e p t taken.offered in
+    pids_by config.slots e o r.world after pids step.processes step.makes) (λ some. first_pids script config.slots some)

@@ -1,0 +1,65 @@
+-- What a transition makes: a thread and a key with the number of the choice, if there are any.
+use Rattle.std.proofs.Common.{◌≡◌, ℕ, Bool, true, false, List, [], ◌∷◌, Option, Some, None, refl}
+use Rattle.std.specs.Prelude.{nat_eq}
+use Rattle.std.specs.List.{list_any}
+use Rattle.std.proofs.lemmas.Bool.{true≢false}
+use Rattle.pct_model.specs.declared.schedule.Alt.{Alt}
+use Rattle.pct_model.specs.declared.state.Status.{Status}
+use Rattle.pct_model.specs.declared.statement.Stmt.{Stmt}
+use Rattle.pct_model.specs.declared.transition.Action.{Action}
+use Rattle.pct_model.specs.declared.transition.Action.TheVariants as action
+use Rattle.pct_model.specs.declared.transition.NewThread.{NewThread}
+use Rattle.pct_model.specs.declared.transition.Transition.{Transition}
+use Rattle.pct_model.specs.ChoiceTable.{choices_at, offers}
+use Rattle.pct_model.specs.Keys.{new_keys}
+use Rattle.pct_model.specs.NextStatement.{NextStatement}
+use Rattle.pct_model.specs.OtherThreads.{Others}
+use Rattle.pct_model.specs.TransitionTable.{transition_at, acts_or}
+use Rattle.pct_model.specs.World.{Thread, SharedState}
+use Rattle.pct_transition_cases.proofs.TransitionCases.{TransitionCase, thread_made, key_made}
+use Rattle.pct_transition_cases.proofs.CaseOfTransition.{case_of}
+
+-- the action makes a key
+abbrev pub makes_key : Action → Bool
+makes_key (action.MakeKey k destructor) = true
+makes_key _ = false
+
+module _ (P : ℕ → Type 0) where
+  -- the id of the thread that is created, if there is one, has a property
+  abbrev pub Creates : Option NewThread → Type 0
+  Creates None = Unit {0}
+  Creates (Some new) = P new.id
+
+  -- the number of the key that an action makes, if it makes one, has a property
+  abbrev pub Makes : Action → Type 0
+  Makes (action.MakeKey k destructor) = P k
+  Makes _ = Unit {0}
+
+  -- the same of the first of these actions, and no other makes a key
+  abbrev pub FirstMakes : List Action → Type 0
+  FirstMakes [] = Unit {0}
+  FirstMakes (a ∷ actions) = Makes a × (list_any makes_key actions ≡ false)
+
+-- a transition creates at most one thread, whose id has the first property, and makes at most one key, whose number has the second
+pub record MakesWith (P Q : ℕ → Type 0) (o : Transition) : Type 0 where
+  pub thread : Creates P o.created
+  pub key : FirstMakes Q o.actions
+
+-- ---- transitions by a choice that is offered
+
+module _ (P Q : ℕ → Type 0) where
+  first_none : (actions : List Action) → list_any makes_key actions ≡ false → FirstMakes Q actions
+  first_none [] none = tt
+  first_none (action.MakeKey k destructor ∷ actions) none = absurd (true≢false none)
+  first_none (_ ∷ actions) none = (tt, none)
+
+  module _ (passes : ℕ) (body : List Stmt) (shared : SharedState) (t : Thread) (others : Others) (new : (n : ℕ) → list_any (nat_eq n) others.new_ids ≡ true → P n) (made : (k : ℕ) → list_any (nat_eq k) (new_keys shared.keys) ≡ true → Q k) where
+    case_makes : {next : NextStatement} {s : Status} {o : Transition} → TransitionCase passes body shared t others true next s o → MakesWith P Q o
+    case_makes (thread_made frame result id f v detached n among) = record { thread = new n (among refl); key = (tt, refl) }
+    case_makes (key_made frame result key destructor k among) = record { thread = tt; key = (made k (among refl), refl) }
+    case_makes {o = o} _ = record { thread = tt; key = first_none o.actions refl }
+
+    -- the transition of a thread by a choice that is offered: a thread that it creates has one of the ids for a new thread, and a key
+    -- that it makes one of the numbers for a new key
+    pub transition_makes : (choice : Alt) (next : NextStatement) (s : Status) → offers (choices_at shared.keys t others next s) choice ≡ true → MakesWith P Q (acts_or choice s (transition_at passes body shared t others choice next s))
+    transition_makes choice next s offered = case_makes (case_of passes body shared t others true choice next s (λ known. offered))

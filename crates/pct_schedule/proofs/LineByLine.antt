@@ -1,0 +1,42 @@
+-- A schedule, one line of a text after the other, with the list of entries so far, as the code reads it.
+use Rattle.std.specs.Prelude.{ℕ, ◌+◌, if◌then◌else◌, List, [], ◌∷◌, ◌++◌, length, Option, Some, None, Ok, Err, nat_lt}
+use Rattle.pct_model.specs.declared.schedule.Config.{Config}
+use Rattle.pct_model.specs.declared.schedule.Entry.{Entry}
+use Rattle.pct_model.specs.declared.refusal.ScheduleWhy.TheVariants as why
+use Rattle.pct_model.specs.declared.keyword.Keyword.TheVariants as keyword
+use Rattle.pct_model.specs.Keywords.{keyword_text}
+use Rattle.pct_model.specs.Lines.{strip_cr}
+use Rattle.pct_model.specs.Schedule.{Schedule, begins, header_of, entry_of, is_end}
+
+-- the last line of a schedule, with the lines after it
+abbrev pub ended : ℕ → Config → List Entry → List (List ℕ) → Schedule
+ended n config entries [] = Ok (config, entries)
+ended n config entries (line ∷ lines) = Err (n, why.Trailing)
+
+-- a line after the header, and the reading after it
+abbrev pub with_entry : ℕ → Config → ℕ → Option Entry → (Entry → Schedule) → Schedule
+with_entry n config count None go = Err (n, why.BadEntry)
+with_entry n config count (Some e) go = if nat_lt count config.budget then go e else Err (n, why.TooMany)
+
+-- the lines after the header, from line n on, after these entries
+unfoldable pub entries_in : ℕ → Config → List Entry → List (List ℕ) → Schedule
+entries_in n config entries [] = Err (n, why.BadEnd)
+entries_in n config entries (line ∷ lines) =
+    if begins (keyword_text keyword.End) (strip_cr line)
+    then (if is_end (length entries) (strip_cr line) then ended (n + 1) config entries lines else Err (n, why.BadEnd))
+    else with_entry n config (length entries) (entry_of (strip_cr line)) (λ e. entries_in (n + 1) config (entries ++ e ∷ []) lines)
+
+-- a header, with the lines after it
+abbrev pub with_header : ℕ → Option Config → List (List ℕ) → Schedule
+with_header n None lines = Err (n, why.BadHeader)
+with_header n (Some config) lines = entries_in (n + 1) config [] lines
+
+-- the schedule in the lines from line n on: the lines before the header are skipped
+unfoldable pub schedule_in : ℕ → List (List ℕ) → Schedule
+schedule_in n [] = Err (1, why.BadHeader)
+schedule_in n (line ∷ lines) = if begins (keyword_text keyword.Schedule) (strip_cr line) then with_header n (header_of (strip_cr line)) lines else schedule_in (n + 1) lines
+
+-- the schedule of a header and the lines after it
+abbrev pub from_header : Option (ℕ × List ℕ × List (List ℕ)) → Schedule
+from_header None = Err (1, why.BadHeader)
+from_header (Some found) = with_header found.0 (header_of found.1) found.2

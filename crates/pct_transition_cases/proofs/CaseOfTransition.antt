@@ -1,0 +1,285 @@
+-- Each transition of the table is one of the cases.
+use Rattle.std.proofs.Common.{◌≡◌, ℕ, suc, ◌<◌, ◌≤◌, Bool, true, false, cond, not, ◌&&◌, ◌||◌, List, [], ◌∷◌, ◌++◌, length, nat_eq, nat_lt, find, is_none, Option, Some, None, option_map, option_and_then, inl, inr, refl, sym, ap, ◌∙◌, eqb-true, pos_of_ne-zero, arith}
+use Rattle.std.specs.List.{list_any}
+use Rattle.std.proofs.lemmas.Bool.{true≢false, or_parts, not-false, ltb-true, ltb-false, eqb-false}
+use Rattle.std.proofs.lemmas.Option.{none-some}
+use Rattle.pct_model.specs.declared.event.What.TheVariants as what
+use Rattle.pct_model.specs.declared.frame.Frame.{Frame}
+use Rattle.pct_model.specs.declared.limits.TheConstants.{MAX_FRAMES, MAX_HANDLERS}
+use Rattle.pct_model.specs.declared.other_threads.Target.{Target}
+use Rattle.pct_model.specs.declared.point.PointKind.{PointKind}
+use Rattle.pct_model.specs.declared.point.PointKind.TheVariants.{Required, Optional}
+use Rattle.pct_model.specs.declared.schedule.Alt.{Alt}
+use Rattle.pct_model.specs.declared.schedule.Alt.TheVariants as alt
+use Rattle.pct_model.specs.declared.state.FrameKind.{FrameKind}
+use Rattle.pct_model.specs.declared.state.FrameKind.TheVariants as kind
+use Rattle.pct_model.specs.declared.state.Status.{Status}
+use Rattle.pct_model.specs.declared.state.Status.TheVariants as status
+use Rattle.pct_model.specs.declared.statement.Dest.{Dest}
+use Rattle.pct_model.specs.declared.statement.Operand.{Operand}
+use Rattle.pct_model.specs.declared.statement.Stmt.{Stmt}
+use Rattle.pct_model.specs.declared.statement.Stmt.TheVariants as statement
+use Rattle.pct_model.specs.declared.stop.Why.{Why}
+use Rattle.pct_model.specs.declared.stop.Why.TheVariants.{Unbuilt, AsyncCall}
+use Rattle.pct_model.specs.declared.transition.Action.TheVariants as action
+use Rattle.pct_model.specs.declared.transition.Transition.{Transition}
+use Rattle.pct_model.specs.Cancelability.{is_asynchronous}
+use Rattle.pct_model.specs.CancelCalls.{requests, sets_state, sets_mode, tests_cancel, point_kind, calls_point, passes_point, acts_on_request}
+use Rattle.pct_model.specs.ChoiceTable.{choices_at, offers}
+use Rattle.pct_model.specs.CleanupHandlers.{pushes, pops}
+use Rattle.pct_model.specs.Jumps.{open_of}
+use Rattle.pct_model.specs.KeyCalls.{creates_key, fails_to_create_key, creates_key_by, deletes_key, sets_specific, gets_specific}
+use Rattle.pct_model.specs.Keys.{Key, key_place, key_with, left_keys, value_at, due_places}
+use Rattle.pct_model.specs.NextStatement.{NextStatement, StatementIn}
+use Rattle.pct_model.specs.OtherThreads.{Others, target_is}
+use Rattle.pct_model.specs.ProcessExit.{exits, returns_by, ends_process}
+use Rattle.pct_model.specs.ScriptStatements.{jumps, emits, sets, adds, calls, after_block, after_test, after_end}
+use Rattle.pct_model.specs.StopTable.{StopTest, first_stop, is_stack_full, has_begun_to_end, is_in_handler, is_async_safe, is_built, stops_of, stop_at}
+use Rattle.pct_model.specs.ThreadCalls.{creates, fails_to_create, creates_by, begins_join, ends_join, joins_with, joins_at, detaches, gets_self}
+use Rattle.pct_model.specs.ThreadEnds.{end_value, ends_by_exit, ends_thread, calls_destructor, begins_pass_or_ends, without_handlers, goes_on_ending}
+use Rattle.pct_model.specs.Transitions.{goes_on, acts}
+use Rattle.pct_model.specs.TransitionTable.{ends_block, stops_or, runs, transition_at, acts_or}
+use Rattle.pct_model.specs.World.{Thread, SharedState, value_of}
+use Rattle.pct_transition_cases.proofs.OfferedChoices.{Offered, offered_alive, act_enabled, id_among, key_among, left_among, offered_of}
+use Rattle.pct_transition_cases.proofs.TransitionCases.{past_nop, past_if, past_while, past_else, past_end, Returns, by_return, by_end, TransitionCase, rests, stopped, jumped, emitted, variable_set, variable_added, function_called, main_returned, start_returned, call_left, handler_left, exit_function_left, thread_made, thread_not_made, join_begun, join_ended, thread_detached, self_got, request_sent, state_set, mode_set, cancel_tested, point_begun, point_done, point_passed, canceled, canceled_at_point, canceled_in_join, key_made, key_not_made, key_deleted, specific_set, specific_got, handler_pushed, handler_popped, handler_called, exit_called, handler_run, destructor_called, pass_begun, thread_ended, thread_ended_with_keys, last_ended, last_ended_with_keys, process_ended}
+
+-- ---- stops
+
+-- where no stop applies, each test is false
+no_stop : (tests : List StopTest) → first_stop tests ≡ None → list_any (λ (test : StopTest). test.0) tests ≡ false
+no_stop [] none = refl
+no_stop (test ∷ tests) none = by_test test.0 refl none (no_stop tests)
+  where
+    by_test : (applies : Bool) → test.0 ≡ applies → option_map (λ (s : StopTest). s.1) (cond applies (Some test) (find (λ (s : StopTest). s.0) tests)) ≡ None
+        → (first_stop tests ≡ None → list_any (λ (s : StopTest). s.0) tests ≡ false) → (test.0 || list_any (λ (s : StopTest). s.0) tests) ≡ false
+    by_test true is some later = absurd (none-some test.1 (sym some))
+    by_test false is none later = ap (λ (b : Bool). b || list_any (λ (s : StopTest). s.0) tests) is ∙ later none
+
+-- where a statement does not stop, none of its own stops applies
+none_applies : (body : List Stmt) (shared : SharedState) (t : Thread) (others : Others) (frame : Frame) (s : Stmt) → stop_at body shared t others frame s ≡ None
+    → list_any (λ (test : StopTest). test.0) (stops_of body shared t others frame s) ≡ false
+unfolding stop_at
+none_applies body shared t others frame s none =
+    let own : Bool = list_any (λ (test : StopTest). test.0) (stops_of body shared t others frame s) in
+    let called : Bool = is_asynchronous t.state t.mode && not (is_async_safe s) in
+    let all : (not (is_built s) || (called || own)) ≡ false = no_stop ((not (is_built s), Unbuilt) ∷ (called, AsyncCall) ∷ stops_of body shared t others frame s) none in
+    (or_parts called own (or_parts (not (is_built s)) (called || own) all).1).1
+
+-- a test that stands alone
+alone : (b : Bool) → (b || false) ≡ false → b ≡ false
+alone true none = absurd (true≢false none)
+alone false none = refl
+
+below_limit : (n limit : ℕ) → not (nat_lt n limit) ≡ false → n < limit
+below_limit n limit is = ltb-true n limit (not-false (nat_lt n limit) is)
+
+module _ (passes : ℕ) (body : List Stmt) (shared : SharedState) (t : Thread) (others : Others) (offered : Bool) where
+  abbrev Case : NextStatement → Status → Transition → Type 0
+  Case next s o = TransitionCase passes body shared t others offered next s o
+
+  abbrev value : Frame → Operand → ℕ
+  value frame v = value_of shared.globals frame v
+
+  -- ---- statements
+
+  return_case : (frame : Frame) (s : Stmt) (v : ℕ) → Returns body shared.globals frame s v → (k : FrameKind) → frame.kind ≡ k → Case (StatementIn frame s) status.Running (returns_by k v)
+  unfolding returns_by exits ends_by_exit
+  return_case frame s v returns kind.Main is = main_returned frame s v returns is
+  return_case frame s v returns kind.Start is = start_returned frame s v returns is
+  return_case frame s v returns kind.Call is = call_left frame s v returns (inl is)
+  return_case frame s v returns kind.PopHandler is = call_left frame s v returns (inr is)
+  return_case frame s v returns kind.Handler is = handler_left frame s v returns (inl is)
+  return_case frame s v returns kind.Destructor is = handler_left frame s v returns (inr is)
+  return_case frame s v returns kind.ExitFn is = exit_function_left frame s v returns is
+  return_case frame s v returns kind.ForkFn is = rests (StatementIn frame s) status.Running (λ known. refl)
+
+  end_case : (frame : Frame) (opened : Option ℕ) → open_of body frame.pc ≡ opened → Case (StatementIn frame statement.End) status.Running (ends_block opened body frame)
+  unfolding jumps
+  end_case frame (Some opened) is = jumped frame statement.End (after_end body frame.pc opened) (past_end opened is)
+  end_case frame None is = return_case frame statement.End 0 (by_end is) frame.kind refl
+
+  join_case : (frame : Frame) (id : Operand) (d : Dest) (found : Option Target) → others.target ≡ found
+      → (is_none found || (nat_eq (value frame id) t.id || (target_is (λ target. target.detached) found || (target_is (λ target. target.joining) found || false)))) ≡ false
+      → Case (StatementIn frame (statement.Join id d)) status.Running (begins_join (value frame id))
+  unfolding begins_join
+  join_case frame id d None is none = absurd (true≢false none)
+  join_case frame id d (Some target) is none =
+      let other : (nat_eq (value frame id) t.id ≡ false) × ((target.detached || (target.joining || false)) ≡ false) = or_parts (nat_eq (value frame id) t.id) (target.detached || (target.joining || false)) none in
+      let joinable : (target.detached ≡ false) × ((target.joining || false) ≡ false) = or_parts target.detached (target.joining || false) other.1 in
+      join_begun frame id d target is other.0 joinable.0 (alone target.joining joinable.1)
+
+  detach_case : (frame : Frame) (id : Operand) (found : Option Target) → others.target ≡ found → (is_none found || (target_is (λ target. target.detached) found || (target_is (λ target. target.joining) found || false))) ≡ false
+      → Case (StatementIn frame (statement.Detach id)) status.Running (detaches (suc frame.pc) (value frame id))
+  unfolding detaches
+  detach_case frame id None is none = absurd (true≢false none)
+  detach_case frame id (Some target) is none =
+      let joinable : (target.detached ≡ false) × ((target.joining || false) ≡ false) = or_parts target.detached (target.joining || false) none in
+      thread_detached frame id target is joinable.0 (alone target.joining joinable.1)
+
+  request_case : (frame : Frame) (id : Operand) (found : Option Target) → others.target ≡ found → (is_none found || false) ≡ false → Case (StatementIn frame (statement.CancelThread id)) status.Running (requests (suc frame.pc) (value frame id))
+  unfolding requests
+  request_case frame id None is none = absurd (true≢false none)
+  request_case frame id (Some target) is none = request_sent frame id target is
+
+  create_case : (choice : Alt) (frame : Frame) (result id : Dest) (f : ℕ) (v : Operand) (detached : Bool) → (offered ≡ true → Offered shared.keys t others (StatementIn frame (statement.Create result id f v detached)) status.Running choice)
+      → Case (StatementIn frame (statement.Create result id f v detached)) status.Running (creates_by choice (suc frame.pc) result id f (value frame v) detached)
+  unfolding creates fails_to_create
+  create_case (alt.New n) frame result id f v detached may = thread_made frame result id f v detached n (λ known. id_among (may known))
+  create_case alt.Go frame result id f v detached may = thread_not_made frame result id f v detached
+  create_case _ frame result id f v detached may = rests (StatementIn frame (statement.Create result id f v detached)) status.Running (λ known. refl)
+
+  create_key_case : (choice : Alt) (frame : Frame) (result key : Dest) (destructor : Option ℕ) → (offered ≡ true → Offered shared.keys t others (StatementIn frame (statement.KeyCreate result key destructor)) status.Running choice)
+      → Case (StatementIn frame (statement.KeyCreate result key destructor)) status.Running (creates_key_by choice (suc frame.pc) result key destructor)
+  unfolding creates_key fails_to_create_key
+  create_key_case (alt.New n) frame result key destructor may = key_made frame result key destructor n (λ known. key_among (may known))
+  create_key_case alt.Go frame result key destructor may = key_not_made frame result key destructor
+  create_key_case _ frame result key destructor may = rests (StatementIn frame (statement.KeyCreate result key destructor)) status.Running (λ known. refl)
+
+  point_case : (frame : Frame) (index : ℕ) (k : Option PointKind) → point_kind index ≡ k → Case (StatementIn frame (statement.PointCall index)) status.Running (calls_point (suc frame.pc) index k)
+  unfolding calls_point
+  point_case frame index (Some Required) is = point_begun frame index is
+  point_case frame index (Some Optional) is = point_done frame index
+  point_case frame index None is = rests (StatementIn frame (statement.PointCall index)) status.Running (λ known. refl)
+
+  pop_by : (frame : Frame) (v : Operand) (f a : ℕ) (handlers : List (ℕ × ℕ)) → t.handlers ≡ (f, a) ∷ handlers → (drop : Bool) → not drop && is_stack_full t.frames ≡ false
+      → Case (StatementIn frame (statement.Pop v)) status.Running (cond drop (goes_on (suc frame.pc) (action.PopHandler ∷ []) (what.Popped f a false ∷ [])) (goes_on (suc frame.pc) (action.PopHandler ∷ action.Call f a kind.PopHandler ∷ []) (what.Popped f a true ∷ [])))
+  pop_by frame v f a handlers is true none = handler_popped frame v f a handlers is
+  pop_by frame v f a handlers is false none = handler_called frame v f a handlers is (below_limit (length t.frames) MAX_FRAMES none)
+
+  pop_case : (frame : Frame) (v : Operand) (handlers : List (ℕ × ℕ)) → t.handlers ≡ handlers → not (nat_eq (value frame v) 0) && is_stack_full t.frames ≡ false
+      → Case (StatementIn frame (statement.Pop v)) status.Running (pops (suc frame.pc) (value frame v) handlers)
+  unfolding pops
+  pop_case frame v [] is none = rests (StatementIn frame (statement.Pop v)) status.Running (λ known. refl)
+  pop_case frame v ((f, a) ∷ handlers) is none = pop_by frame v f a handlers is (nat_eq (value frame v) 0) none
+
+  running_case : (choice : Alt) (frame : Frame) (s : Stmt) → (offered ≡ true → Offered shared.keys t others (StatementIn frame s) status.Running choice) → stop_at body shared t others frame s ≡ None
+      → Case (StatementIn frame s) status.Running (runs passes body shared t others choice frame s)
+  unfolding runs emits sets adds jumps calls gets_self ends_by_exit pushes sets_state sets_mode tests_cancel deletes_key sets_specific gets_specific stops_of
+  running_case choice frame (statement.Emit v) may none = emitted frame v
+  running_case choice frame (statement.Set d v) may none = variable_set frame d v
+  running_case choice frame (statement.Add d v) may none = variable_added frame d v
+  running_case choice frame statement.Nop may none = jumped frame statement.Nop (suc frame.pc) past_nop
+  running_case choice frame (statement.If v) may none = jumped frame (statement.If v) (after_test body frame.pc (value frame v)) (past_if v)
+  running_case choice frame statement.Else may none = jumped frame statement.Else (after_block body frame.pc) past_else
+  running_case choice frame (statement.While v) may none = jumped frame (statement.While v) (after_test body frame.pc (value frame v)) (past_while v)
+  running_case choice frame statement.End may none = end_case frame (open_of body frame.pc) refl
+  running_case choice frame (statement.Do f v) may none = function_called frame f v (below_limit (length t.frames) MAX_FRAMES (alone (is_stack_full t.frames) (none_applies body shared t others frame (statement.Do f v) none)))
+  running_case choice frame (statement.Return v) may none = return_case frame (statement.Return v) (value frame v) (by_return v) frame.kind refl
+  running_case choice frame (statement.Create result id f v detached) may none = create_case choice frame result id f v detached may
+  running_case choice frame (statement.Join id d) may none = join_case frame id d others.target refl (none_applies body shared t others frame (statement.Join id d) none)
+  running_case choice frame (statement.Detach id) may none = detach_case frame id others.target refl (none_applies body shared t others frame (statement.Detach id) none)
+  running_case choice frame (statement.CancelThread id) may none = request_case frame id others.target refl (none_applies body shared t others frame (statement.CancelThread id) none)
+  running_case choice frame (statement.SelfId d) may none = self_got frame d
+  running_case choice frame statement.TestCancel may none = cancel_tested frame
+  running_case choice frame (statement.SetState enable old) may none = state_set frame enable old (alone (enable && is_in_handler t.frames) (none_applies body shared t others frame (statement.SetState enable old) none))
+  running_case choice frame (statement.SetMode asynchronous old) may none = mode_set frame asynchronous old
+  running_case choice frame (statement.PointCall index) may none = point_case frame index (point_kind index) refl
+  running_case choice frame (statement.KeyCreate result key destructor) may none = create_key_case choice frame result key destructor may
+  running_case choice frame (statement.KeyDelete key) may none = key_deleted frame key (alone (is_none (key_with (value frame key) shared.keys)) (none_applies body shared t others frame (statement.KeyDelete key) none))
+  running_case choice frame (statement.SetSpecific key v) may none = specific_set frame key v (alone (is_none (key_with (value frame key) shared.keys)) (none_applies body shared t others frame (statement.SetSpecific key v) none))
+  running_case choice frame (statement.GetSpecific d key) may none = specific_got frame d key
+  running_case choice frame (statement.ThreadExit v) may none = exit_called frame v (alone (has_begun_to_end t.reason) (none_applies body shared t others frame (statement.ThreadExit v) none))
+  running_case choice frame (statement.Push f v) may none = handler_pushed frame f v (below_limit (length t.handlers) MAX_HANDLERS (alone (not (nat_lt (length t.handlers) MAX_HANDLERS)) (none_applies body shared t others frame (statement.Push f v) none)))
+  running_case choice frame (statement.Pop v) may none = pop_case frame v t.handlers refl (alone (not (nat_eq (value frame v) 0) && is_stack_full t.frames) (none_applies body shared t others frame (statement.Pop v) none))
+  running_case choice frame s may none = rests (StatementIn frame s) status.Running (λ known. refl)
+
+  stop_case : (frame : Frame) (s : Stmt) (stop : Option Why) (other : Transition) → (stop ≡ None → Case (StatementIn frame s) status.Running other) → Case (StatementIn frame s) status.Running (stops_or stop other)
+  stop_case frame s (Some why) other goes = stopped frame s why
+  stop_case frame s None other goes = goes refl
+
+  -- ---- suspended threads
+
+  point_passed_case : (index : ℕ) (next : NextStatement) → Case next (status.AtPoint index) (passes_point index next)
+  unfolding passes_point
+  point_passed_case index (StatementIn frame (statement.PointCall i)) = point_passed frame index i
+  point_passed_case index next = rests next (status.AtPoint index) (λ known. refl)
+
+  join_value_case : (id : ℕ) (target : Target) → others.target ≡ Some target → (ended : Option ℕ) → target.value ≡ ended → (next : NextStatement) → Case next (status.Joining id) (joins_with ended id next)
+  unfolding ends_join
+  join_value_case id target is (Some v) ended_is (StatementIn frame (statement.Join operand d)) = join_ended frame operand d id v target is ended_is
+  join_value_case id target is ended ended_is next = rests next (status.Joining id) (λ known. refl)
+
+  join_ended_case : (id : ℕ) (next : NextStatement) (found : Option Target) → others.target ≡ found → Case next (status.Joining id) (joins_at found id next)
+  join_ended_case id next (Some target) is = join_value_case id target is target.value refl next
+  join_ended_case id next None is = rests next (status.Joining id) (λ known. refl)
+
+  -- ---- threads that end
+
+  module _ (next : NextStatement) (no_handlers : t.handlers ≡ []) where
+    destructor_by : (k : ℕ) (key : Key) → (offered ≡ true → list_any (nat_eq k) (left_keys shared.keys t.specific) ≡ true) → key_with k shared.keys ≡ Some key → (destructor : Option ℕ) → key.destructor ≡ destructor
+        → Case next status.Ending (calls_destructor t.pass k (value_at (key_place k) t.specific) destructor)
+    unfolding calls_destructor
+    destructor_by k key among is (Some f) destructor_is = destructor_called next k f key no_handlers is destructor_is among
+    destructor_by k key among is None destructor_is = rests next status.Ending (λ known. refl)
+
+    destructor_case : (k : ℕ) → (offered ≡ true → list_any (nat_eq k) (left_keys shared.keys t.specific) ≡ true) → (found : Option Key) → key_with k shared.keys ≡ found
+        → Case next status.Ending (calls_destructor t.pass k (value_at (key_place k) t.specific) (option_and_then (λ key. key.destructor) found))
+    unfolding calls_destructor
+    destructor_case k among (Some key) is = destructor_by k key among is key.destructor refl
+    destructor_case k among None is = rests next status.Ending (λ known. refl)
+
+    ended_by : (left : ℕ) → (0 < left → passes ≤ t.pass) → (none : Bool) → nat_eq left 0 ≡ none → Case next status.Ending (acts (action.EndThread (end_value t.reason) ∷ []) (cond none [] (what.Leftover left ∷ []) ++ what.EndedWith (end_value t.reason) ∷ []))
+    ended_by left last true is = thread_ended next no_handlers
+    ended_by left last false is = let some : 0 < left = pos_of_ne-zero (eqb-false left 0 is) in thread_ended_with_keys next left no_handlers some (last some)
+
+    last_ended_by : others.is_last ≡ true → (left : ℕ) → (0 < left → passes ≤ t.pass) → (none : Bool) → nat_eq left 0 ≡ none
+        → Case next status.Ending (acts (action.MarkEnded ∷ action.BeginExit 0 ∷ []) (cond none [] (what.Leftover left ∷ []) ++ what.EndedWith (end_value t.reason) ∷ what.ExitBegun 0 ∷ []))
+    last_ended_by is_last left last true is = last_ended next no_handlers is_last
+    last_ended_by is_last left last false is = let some : 0 < left = pos_of_ne-zero (eqb-false left 0 is) in last_ended_with_keys next left no_handlers is_last some (last some)
+
+    ended_case : (left : ℕ) → (0 < left → passes ≤ t.pass) → (is_last : Bool) → others.is_last ≡ is_last → Case next status.Ending (ends_thread is_last left (end_value t.reason))
+    unfolding ends_thread
+    ended_case left last true is = last_ended_by is left last (nat_eq left 0) refl
+    ended_case left last false is = ended_by left last (nat_eq left 0) refl
+
+    -- keys are due, and the limit allows a pass
+    pass_by : (due : ℕ) (some more : Bool) → not (nat_eq due 0) ≡ some → nat_lt t.pass passes ≡ more
+        → Case next status.Ending (cond (some && more) (acts (action.BeginPass ∷ []) (what.PassBegun (suc t.pass) ∷ [])) (ends_thread others.is_last due (end_value t.reason)))
+    pass_by due true true is below = pass_begun next no_handlers (ltb-true t.pass passes below)
+    pass_by due true false is past = ended_case due (λ some. ltb-false t.pass passes past) others.is_last refl
+    pass_by due false more is limit = let nothing : due ≡ 0 = eqb-true due 0 (not-false (nat_eq due 0) is) in ended_case due (λ some. absurd (omega (arith, some, nothing))) others.is_last refl
+
+    without_handlers_case : (choice : Alt) → (offered ≡ true → Offered shared.keys t others next status.Ending choice) → Case next status.Ending (without_handlers others.is_last passes shared.keys t choice)
+    unfolding begins_pass_or_ends
+    without_handlers_case (alt.Dtor k) may = destructor_case k (λ known. left_among (may known)) (key_with k shared.keys) refl
+    without_handlers_case _ may =
+        let due : ℕ = length (due_places shared.keys t.specific) in
+        pass_by due (not (nat_eq due 0)) (nat_lt t.pass passes) refl refl
+
+  ending_case : (choice : Alt) (next : NextStatement) → (offered ≡ true → Offered shared.keys t others next status.Ending choice) → (handlers : List (ℕ × ℕ)) → t.handlers ≡ handlers
+      → Case next status.Ending (goes_on_ending others.is_last passes shared.keys t choice handlers)
+  unfolding goes_on_ending
+  ending_case choice next may [] is = without_handlers_case next is choice may
+  ending_case choice next may ((f, a) ∷ handlers) is = handler_run next f a handlers is
+
+  exit_case : (next : NextStatement) (functions : List ℕ) (exit_value : Option ℕ) → Case next status.Exiting (ends_process functions exit_value)
+  unfolding ends_process
+  exit_case next [] (Some v) = process_ended next v
+  exit_case next _ _ = rests next status.Exiting (λ known. refl)
+
+  -- ---- the table
+
+  -- where the thread goes on
+  pub going_case : (choice : Alt) (next : NextStatement) (s : Status) → (offered ≡ true → Offered shared.keys t others next s choice) → Case next s (transition_at passes body shared t others choice next s)
+  unfolding transition_at
+  going_case choice (StatementIn frame s) status.Running may = stop_case frame s (stop_at body shared t others frame s) (runs passes body shared t others choice frame s) (running_case choice frame s may)
+  going_case choice next (status.AtPoint index) may = point_passed_case index next
+  going_case choice next (status.Joining id) may = join_ended_case id next others.target refl
+  going_case choice next status.Ending may = ending_case choice next may t.handlers refl
+  going_case choice next status.Exiting may = exit_case next shared.exit_functions shared.exit_value
+  going_case choice next s may = rests next s (λ known. offered_alive (may known))
+
+  acting_case : (n : ℕ) (next : NextStatement) (s : Status) → (offered ≡ true → Offered shared.keys t others next s (alt.Act n)) → Case next s (acts_on_request s)
+  unfolding acts_on_request
+  acting_case n next status.Running may = canceled next (λ known. act_enabled (may known))
+  acting_case n next (status.AtPoint index) may = canceled_at_point next index (λ known. act_enabled (may known))
+  acting_case n next (status.Joining id) may = canceled_in_join next id (λ known. act_enabled (may known))
+  acting_case n next s may = rests next s (λ known. offered_alive (may known))
+
+  by_choice : (choice : Alt) (next : NextStatement) (s : Status) → (offered ≡ true → Offered shared.keys t others next s choice) → Case next s (acts_or choice s (transition_at passes body shared t others choice next s))
+  by_choice (alt.Act n) next s may = acting_case n next s may
+  by_choice choice next s may = going_case choice next s may
+
+  -- the case of the transition that a choice makes
+  pub case_of : (choice : Alt) (next : NextStatement) (s : Status) → (offered ≡ true → offers (choices_at shared.keys t others next s) choice ≡ true) → Case next s (acts_or choice s (transition_at passes body shared t others choice next s))
+  case_of choice next s legal = by_choice choice next s (λ known. offered_of shared.keys t others choice next s (legal known))

@@ -1,0 +1,4 @@
+pub mod OfferedChoices
+pub mod TransitionCases
+pub mod CaseOfTransition
+pub mod PlacedStatements

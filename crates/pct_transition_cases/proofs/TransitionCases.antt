@@ -1,0 +1,149 @@
+-- What the transition of a thread can be, by case: one case for each shape of transition, with its actions and events in full, and
+-- with what is known of the thread where it is made. A proof about transitions has a clause for each case of which it has something to
+-- say, and one for all others.
+use Rattle.std.proofs.Common.{◌≡◌, ℕ, suc, ◌+◌, ◌%◌, ◌<◌, ◌≤◌, Bool, true, false, ◌&&◌, List, [], ◌∷◌, length, nat_eq, is_none, Option, Some, None, ◌⊎◌}
+use Rattle.std.specs.List.{list_any}
+use Rattle.pct_model.specs.declared.event.Caller.TheVariants as caller
+use Rattle.pct_model.specs.declared.event.What.TheVariants as what
+use Rattle.pct_model.specs.declared.frame.Frame.{Frame}
+use Rattle.pct_model.specs.declared.limits.TheConstants.{MAX_FRAMES, MAX_HANDLERS}
+use Rattle.pct_model.specs.declared.other_threads.Target.{Target}
+use Rattle.pct_model.specs.declared.point.PointKind.TheVariants.{Required}
+use Rattle.pct_model.specs.declared.state.FrameKind.TheVariants as kind
+use Rattle.pct_model.specs.declared.state.Reason.TheVariants as reason
+use Rattle.pct_model.specs.declared.state.State.TheVariants.{Enable}
+use Rattle.pct_model.specs.declared.state.Status.{Status}
+use Rattle.pct_model.specs.declared.state.Status.TheVariants as status
+use Rattle.pct_model.specs.declared.statement.Dest.{Dest}
+use Rattle.pct_model.specs.declared.statement.Operand.{Operand}
+use Rattle.pct_model.specs.declared.statement.Stmt.{Stmt}
+use Rattle.pct_model.specs.declared.statement.Stmt.TheVariants as statement
+use Rattle.pct_model.specs.declared.stop.Why.{Why}
+use Rattle.pct_model.specs.declared.transition.Action.TheVariants as action
+use Rattle.pct_model.specs.declared.transition.Transition.{Transition}
+use Rattle.pct_model.specs.CancelCalls.{state_number, mode_number, state_if, mode_if, testcancel_point, point_kind}
+use Rattle.pct_model.specs.Jumps.{open_of}
+use Rattle.pct_model.specs.Keys.{Key, key_place, key_with, new_keys, left_keys, value_at}
+use Rattle.pct_model.specs.NextStatement.{NextStatement, StatementIn}
+use Rattle.pct_model.specs.OtherThreads.{Others}
+use Rattle.pct_model.specs.ScriptStatements.{variable_value, after_block, after_test, after_end}
+use Rattle.pct_model.specs.StopTable.{has_begun_to_end, is_in_handler}
+use Rattle.pct_model.specs.ThreadCalls.{join_point}
+use Rattle.pct_model.specs.ThreadEnds.{end_value}
+use Rattle.pct_model.specs.ThreadSlots.{is_ended_status}
+use Rattle.pct_model.specs.Transitions.{goes_on, creates_thread, acts, no_change, stops}
+use Rattle.pct_model.specs.World.{Thread, SharedState, value_of}
+
+-- ---- jumps and returns
+
+module _ (body : List Stmt) (globals : List ℕ) (frame : Frame) where
+  -- a statement that changes nothing but the pc, and the pc to which it leads
+  pub data Leads : Stmt → ℕ → Type 0 where
+    past_nop : Leads statement.Nop (suc frame.pc)
+    past_if : (v : Operand) → Leads (statement.If v) (after_test body frame.pc (value_of globals frame v))
+    past_while : (v : Operand) → Leads (statement.While v) (after_test body frame.pc (value_of globals frame v))
+    past_else : Leads statement.Else (after_block body frame.pc)
+    past_end : (opened : ℕ) → open_of body frame.pc ≡ Some opened → Leads statement.End (after_end body frame.pc opened)
+
+  -- a statement that returns from its function, and the value
+  pub data Returns : Stmt → ℕ → Type 0 where
+    by_return : (v : Operand) → Returns (statement.Return v) (value_of globals frame v)
+    by_end : open_of body frame.pc ≡ None → Returns statement.End 0
+
+-- ---- the cases
+
+module _ (passes : ℕ) (body : List Stmt) (shared : SharedState) (t : Thread) (others : Others) (offered : Bool) where
+  -- the value of an operand
+  abbrev value : Frame → Operand → ℕ
+  value frame v = value_of shared.globals frame v
+
+  -- the transition of a thread at a statement, with a status. Where the choice that makes it is known to be offered, `offered` is true,
+  -- and the case has what this tells of the thread
+  pub data TransitionCase : NextStatement → Status → Transition → Type 0 where
+    -- it changes nothing
+    rests : (next : NextStatement) (s : Status) → (offered ≡ true → is_ended_status s ≡ false) → TransitionCase next s no_change
+    stopped : (frame : Frame) (s : Stmt) (why : Why) → TransitionCase (StatementIn frame s) status.Running (stops why)
+    -- statements of the script language
+    jumped : (frame : Frame) (s : Stmt) (pc : ℕ) → Leads body shared.globals frame s pc → TransitionCase (StatementIn frame s) status.Running (goes_on pc [] [])
+    emitted : (frame : Frame) (v : Operand) → TransitionCase (StatementIn frame (statement.Emit v)) status.Running (goes_on (suc frame.pc) [] (what.Emit (value frame v) ∷ []))
+    variable_set : (frame : Frame) (d : Dest) (v : Operand) → TransitionCase (StatementIn frame (statement.Set d v)) status.Running (goes_on (suc frame.pc) (action.Write d (value frame v) ∷ []) [])
+    variable_added : (frame : Frame) (d : Dest) (v : Operand)
+        → TransitionCase (StatementIn frame (statement.Add d v)) status.Running (goes_on (suc frame.pc) (action.Write d ((variable_value shared.globals frame d + value frame v) % 4294967296) ∷ []) [])
+    function_called : (frame : Frame) (f : ℕ) (v : Operand) → length t.frames < MAX_FRAMES
+        → TransitionCase (StatementIn frame (statement.Do f v)) status.Running (goes_on (suc frame.pc) (action.Call f (value frame v) kind.Call ∷ []) [])
+    -- returns, by the kind of the frame
+    main_returned : (frame : Frame) (s : Stmt) (v : ℕ) → Returns body shared.globals frame s v → frame.kind ≡ kind.Main
+        → TransitionCase (StatementIn frame s) status.Running (acts (action.BeginExit v ∷ []) (what.ExitBegun v ∷ []))
+    start_returned : (frame : Frame) (s : Stmt) (v : ℕ) → Returns body shared.globals frame s v → frame.kind ≡ kind.Start
+        → TransitionCase (StatementIn frame s) status.Running (acts (action.BeginEnd (reason.Exit v) ∷ []) (what.EndingExit v ∷ []))
+    call_left : (frame : Frame) (s : Stmt) (v : ℕ) → Returns body shared.globals frame s v → (frame.kind ≡ kind.Call) ⊎ (frame.kind ≡ kind.PopHandler)
+        → TransitionCase (StatementIn frame s) status.Running (acts (action.Leave status.Running ∷ []) [])
+    handler_left : (frame : Frame) (s : Stmt) (v : ℕ) → Returns body shared.globals frame s v → (frame.kind ≡ kind.Handler) ⊎ (frame.kind ≡ kind.Destructor)
+        → TransitionCase (StatementIn frame s) status.Running (acts (action.Leave status.Ending ∷ []) [])
+    exit_function_left : (frame : Frame) (s : Stmt) (v : ℕ) → Returns body shared.globals frame s v → frame.kind ≡ kind.ExitFn
+        → TransitionCase (StatementIn frame s) status.Running (acts (action.Leave status.Exiting ∷ []) [])
+    -- threads
+    thread_made : (frame : Frame) (result id : Dest) (f : ℕ) (v : Operand) (detached : Bool) (new : ℕ) → (offered ≡ true → list_any (nat_eq new) others.new_ids ≡ true)
+        → TransitionCase (StatementIn frame (statement.Create result id f v detached)) status.Running
+        (creates_thread (suc frame.pc) (record { id = new; detached = detached; func = f; arg = value frame v }) (action.Write result 0 ∷ action.Write id new ∷ []) (what.Created new detached ∷ []))
+    thread_not_made : (frame : Frame) (result id : Dest) (f : ℕ) (v : Operand) (detached : Bool)
+        → TransitionCase (StatementIn frame (statement.Create result id f v detached)) status.Running (goes_on (suc frame.pc) (action.Write result 1 ∷ []) (what.Answer caller.Create 1 ∷ []))
+    join_begun : (frame : Frame) (id : Operand) (d : Dest) (target : Target) → others.target ≡ Some target → nat_eq (value frame id) t.id ≡ false → target.detached ≡ false → target.joining ≡ false
+        → TransitionCase (StatementIn frame (statement.Join id d)) status.Running (acts (action.BeginJoin (value frame id) ∷ []) (what.Called join_point ∷ []))
+    join_ended : (frame : Frame) (operand : Operand) (d : Dest) (id v : ℕ) (target : Target) → others.target ≡ Some target → target.value ≡ Some v
+        → TransitionCase (StatementIn frame (statement.Join operand d)) (status.Joining id) (goes_on (suc frame.pc) (action.EndJoin id ∷ action.Write d v ∷ []) (what.Joined id v ∷ []))
+    thread_detached : (frame : Frame) (id : Operand) (target : Target) → others.target ≡ Some target → target.detached ≡ false → target.joining ≡ false
+        → TransitionCase (StatementIn frame (statement.Detach id)) status.Running (goes_on (suc frame.pc) (action.Detach (value frame id) ∷ []) (what.Detached (value frame id) ∷ []))
+    self_got : (frame : Frame) (d : Dest) → TransitionCase (StatementIn frame (statement.SelfId d)) status.Running (goes_on (suc frame.pc) (action.Write d t.id ∷ []) [])
+    -- cancellation
+    request_sent : (frame : Frame) (id : Operand) (target : Target) → others.target ≡ Some target
+        → TransitionCase (StatementIn frame (statement.CancelThread id)) status.Running (goes_on (suc frame.pc) (action.Request (value frame id) ∷ []) (what.Request (value frame id) ∷ []))
+    state_set : (frame : Frame) (enable : Bool) (old : Dest) → enable && is_in_handler t.frames ≡ false
+        → TransitionCase (StatementIn frame (statement.SetState enable old)) status.Running (goes_on (suc frame.pc) (action.SetState (state_if enable) ∷ action.Write old (state_number t.state) ∷ []) (what.StateSet enable ∷ []))
+    mode_set : (frame : Frame) (asynchronous : Bool) (old : Dest)
+        → TransitionCase (StatementIn frame (statement.SetMode asynchronous old)) status.Running (goes_on (suc frame.pc) (action.SetMode (mode_if asynchronous) ∷ action.Write old (mode_number t.mode) ∷ []) (what.ModeSet asynchronous ∷ []))
+    cancel_tested : (frame : Frame) → TransitionCase (StatementIn frame statement.TestCancel) status.Running (goes_on (suc frame.pc) [] (what.Done testcancel_point ∷ []))
+    point_begun : (frame : Frame) (index : ℕ) → point_kind index ≡ Some Required
+        → TransitionCase (StatementIn frame (statement.PointCall index)) status.Running (acts (action.BeginPoint index ∷ []) (what.Called index ∷ []))
+    point_done : (frame : Frame) (index : ℕ) → TransitionCase (StatementIn frame (statement.PointCall index)) status.Running (goes_on (suc frame.pc) [] (what.Done index ∷ []))
+    point_passed : (frame : Frame) (index i : ℕ) → TransitionCase (StatementIn frame (statement.PointCall i)) (status.AtPoint index) (goes_on (suc frame.pc) [] (what.Done index ∷ []))
+    canceled : (next : NextStatement) → (offered ≡ true → t.state ≡ Enable) → TransitionCase next status.Running (acts (action.BeginEnd reason.Canceled ∷ []) (what.EndingCanceled ∷ []))
+    canceled_at_point : (next : NextStatement) (index : ℕ) → (offered ≡ true → t.state ≡ Enable)
+        → TransitionCase next (status.AtPoint index) (acts (action.BeginEnd reason.Canceled ∷ []) (what.EndingCanceled ∷ []))
+    canceled_in_join : (next : NextStatement) (id : ℕ) → (offered ≡ true → t.state ≡ Enable)
+        → TransitionCase next (status.Joining id) (acts (action.CancelJoin id ∷ action.BeginEnd reason.Canceled ∷ []) (what.EndingCanceled ∷ []))
+    -- keys
+    key_made : (frame : Frame) (result key : Dest) (destructor : Option ℕ) (k : ℕ) → (offered ≡ true → list_any (nat_eq k) (new_keys shared.keys) ≡ true)
+        → TransitionCase (StatementIn frame (statement.KeyCreate result key destructor)) status.Running (goes_on (suc frame.pc) (action.MakeKey k destructor ∷ action.Write result 0 ∷ action.Write key k ∷ []) (what.KeyMade k ∷ []))
+    key_not_made : (frame : Frame) (result key : Dest) (destructor : Option ℕ)
+        → TransitionCase (StatementIn frame (statement.KeyCreate result key destructor)) status.Running (goes_on (suc frame.pc) (action.Write result 1 ∷ []) (what.Answer caller.KeyCreate 1 ∷ []))
+    key_deleted : (frame : Frame) (key : Operand) → is_none (key_with (value frame key) shared.keys) ≡ false
+        → TransitionCase (StatementIn frame (statement.KeyDelete key)) status.Running (goes_on (suc frame.pc) (action.DeleteKey (value frame key) ∷ []) (what.KeyGone (value frame key) ∷ []))
+    specific_set : (frame : Frame) (key v : Operand) → is_none (key_with (value frame key) shared.keys) ≡ false
+        → TransitionCase (StatementIn frame (statement.SetSpecific key v)) status.Running (goes_on (suc frame.pc) (action.SetSpecific (value frame key) (value frame v) ∷ []) [])
+    specific_got : (frame : Frame) (d : Dest) (key : Operand)
+        → TransitionCase (StatementIn frame (statement.GetSpecific d key)) status.Running (goes_on (suc frame.pc) (action.Write d (value_at (key_place (value frame key)) t.specific) ∷ []) [])
+    -- cleanup handlers
+    handler_pushed : (frame : Frame) (f : ℕ) (v : Operand) → length t.handlers < MAX_HANDLERS
+        → TransitionCase (StatementIn frame (statement.Push f v)) status.Running (goes_on (suc frame.pc) (action.PushHandler f (value frame v) ∷ []) (what.Pushed f (value frame v) ∷ []))
+    handler_popped : (frame : Frame) (v : Operand) (f a : ℕ) (handlers : List (ℕ × ℕ)) → t.handlers ≡ (f, a) ∷ handlers
+        → TransitionCase (StatementIn frame (statement.Pop v)) status.Running (goes_on (suc frame.pc) (action.PopHandler ∷ []) (what.Popped f a false ∷ []))
+    handler_called : (frame : Frame) (v : Operand) (f a : ℕ) (handlers : List (ℕ × ℕ)) → t.handlers ≡ (f, a) ∷ handlers → length t.frames < MAX_FRAMES
+        → TransitionCase (StatementIn frame (statement.Pop v)) status.Running (goes_on (suc frame.pc) (action.PopHandler ∷ action.Call f a kind.PopHandler ∷ []) (what.Popped f a true ∷ []))
+    -- the end of a thread
+    exit_called : (frame : Frame) (v : Operand) → has_begun_to_end t.reason ≡ false
+        → TransitionCase (StatementIn frame (statement.ThreadExit v)) status.Running (acts (action.BeginEnd (reason.Exit (value frame v)) ∷ []) (what.EndingExit (value frame v) ∷ []))
+    handler_run : (next : NextStatement) (f a : ℕ) (handlers : List (ℕ × ℕ)) → t.handlers ≡ (f, a) ∷ handlers
+        → TransitionCase next status.Ending (acts (action.PopHandler ∷ action.CallAlone f a kind.Handler ∷ []) (what.HandlerRun f a ∷ []))
+    destructor_called : (next : NextStatement) (k f : ℕ) (key : Key) → t.handlers ≡ [] → key_with k shared.keys ≡ Some key → key.destructor ≡ Some f → (offered ≡ true → list_any (nat_eq k) (left_keys shared.keys t.specific) ≡ true)
+        → TransitionCase next status.Ending (acts (action.TakeKey k ∷ action.CallAlone f (value_at (key_place k) t.specific) kind.Destructor ∷ []) (what.DtorRun t.pass k f (value_at (key_place k) t.specific) ∷ []))
+    pass_begun : (next : NextStatement) → t.handlers ≡ [] → t.pass < passes → TransitionCase next status.Ending (acts (action.BeginPass ∷ []) (what.PassBegun (suc t.pass) ∷ []))
+    thread_ended : (next : NextStatement) → t.handlers ≡ [] → TransitionCase next status.Ending (acts (action.EndThread (end_value t.reason) ∷ []) (what.EndedWith (end_value t.reason) ∷ []))
+    thread_ended_with_keys : (next : NextStatement) (left : ℕ) → t.handlers ≡ [] → 0 < left → passes ≤ t.pass
+        → TransitionCase next status.Ending (acts (action.EndThread (end_value t.reason) ∷ []) (what.Leftover left ∷ what.EndedWith (end_value t.reason) ∷ []))
+    last_ended : (next : NextStatement) → t.handlers ≡ [] → others.is_last ≡ true
+        → TransitionCase next status.Ending (acts (action.MarkEnded ∷ action.BeginExit 0 ∷ []) (what.EndedWith (end_value t.reason) ∷ what.ExitBegun 0 ∷ []))
+    last_ended_with_keys : (next : NextStatement) (left : ℕ) → t.handlers ≡ [] → others.is_last ≡ true → 0 < left → passes ≤ t.pass
+        → TransitionCase next status.Ending (acts (action.MarkEnded ∷ action.BeginExit 0 ∷ []) (what.Leftover left ∷ what.EndedWith (end_value t.reason) ∷ what.ExitBegun 0 ∷ []))
+    -- the end of a process
+    process_ended : (next : NextStatement) (v : ℕ) → TransitionCase next status.Exiting (acts (action.EndProcess (v % 256) ∷ []) (what.ProcessEnded (v % 256) ∷ []))

@@ -1,0 +1,8 @@
+use Rattle.std.proofs.Common.{◌≡◌, false, take}
+use Rattle.std.specs.List.{list_any}
+use Rattle.pct_model.specs.OtherThreads.{is_joining}
+use Rattle.pct_transitions.specs.Answers.{any_on}
+use Rattle.pct_transitions.proofs.other_threads.is_joined.Given as goal
+
+abbrev pub invariant-loop-slot : goal.invariant-loop-slot
+invariant-loop-slot l = list_any (λ s. any_on (λ t. is_joining l.id t.status) s.here) (take l.slot l.threads) ≡ false
