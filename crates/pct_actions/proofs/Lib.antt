@@ -1,7 +1,9 @@
 mod FrameChanges
-mod RoomAfter
-pub mod HeldChanges
 pub mod RestItems
-pub mod SearchedSlots
-pub mod KeyTables
-pub mod FollowingTables
+mod TwoChanges
+mod ChangedSlots
+mod TableSlots
+mod OwnThread
+mod NamedThreads
+mod FittingActions
+mod NewThreads

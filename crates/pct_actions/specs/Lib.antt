@@ -1,2 +1,5 @@
-pub mod MachineChanges
 pub mod TableFits
+pub mod ProcessChanges
+pub mod ProcessParts
+pub mod OwnChanges
+pub mod SharedChanges

@@ -1,15 +1,10 @@
-//! The state of a run, and what a transition changes in it.
+//! What a transition changes in a process.
 #![tactic(auto)]
 
-mod actions;
-mod globals;
-mod key_actions;
-mod machine;
-mod named_slots;
+mod made;
 mod named_threads;
 mod own_actions;
+mod own_thread;
+mod shared_actions;
 
-pub use actions::change;
-pub use globals::Globals;
-pub use machine::Machine;
-pub use named_slots::slot_named;
+pub use made::make;

@@ -3,24 +3,24 @@
 ghost use Rattle.std.specs.Prelude.{◌≡◌, ◌<◌, ◌≤◌, ◌∷◌, [], ℕ, suc, List, length, Some, None, true};
 ghost use Rattle.pct_model.specs.declared.limits.TheConstants.{MAX_FRAMES, MAX_HANDLERS, MAX_PASSES};
 ghost use Rattle.pct_model.specs.declared.state.Status.TheVariants as status;
-ghost use Rattle.pct_model.specs.Actions.{set_local, frames_written, at_pc, without_first};
+ghost use Rattle.pct_model.specs.Actions.{set_local, frames_written, at_pc, without_first, thread_at, thread_after};
+ghost use Rattle.pct_model.specs.Cancelability.{ending_state, ending_mode};
 ghost use Rattle.pct_model.specs.World.{new_frame};
 ghost use Rattle.pct_threads.specs.FrameWords.{kind_number};
-ghost use Rattle.pct_threads.specs.Records.{ended_record};
-ghost use Rattle.pct_threads.specs.Slots.{Held, without_frame};
-ghost use Rattle.pct_threads.specs.Tables.{held_at, is_occupied_at, on_held};
+ghost use Rattle.pct_threads.specs.Slots.{Held, after_change};
+ghost use Rattle.pct_threads.specs.Tables.{held_at, is_occupied_at, on_slot};
 ghost use Rattle.pct_engine_laws.specs.Fitting.{Fits};
-ghost use Rattle.pct_actions.specs.MachineChanges.{held_after, held_at_pc, held_ending, held_exiting, held_with_status};
+ghost use Rattle.pct_actions.specs.OwnChanges.{on_own, unless_reclaimed};
 
 use pct_cleanup::Handlers;
 use pct_model::{Action, Dest, FrameKind, Mode, Reason, State, Status};
 use pct_threads::Threads;
 
 /// The thread on a slot goes on at a program counter, if there is one.
-#[tactic(auto, unfolding(crate::specs::MachineChanges::held_at_pc))]
+#[tactic(auto, unfolding(pct_model::specs::Actions::thread_at))]
 pub(crate) fn go_on(threads: &mut Threads, slot: u32, next: Option<u32>)
     requires { is_occupied_at threads.old slot ≡ true }
-    ensures { threads.new ≡ on_held slot (held_at_pc next) threads.old }
+    ensures { threads.new ≡ on_own slot (thread_at next) threads.old }
 {
     match next {
         None => {}
@@ -29,11 +29,12 @@ pub(crate) fn go_on(threads: &mut Threads, slot: u32, next: Option<u32>)
 }
 
 /// Makes an action's change in the thread on a slot.
-#[tactic(auto, unfolding(crate::specs::MachineChanges::held_after))]
-pub(crate) fn act_alone(threads: &mut Threads, slot: u32, action: Action)
+#[tactic(auto, unfolding(pct_model::specs::Actions::thread_after))]
+pub(crate) fn act(threads: &mut Threads, slot: u32, action: Action)
     requires occupied { is_occupied_at threads.old slot ≡ true }
     requires fits { (held : Held) → held_at threads.old slot ≡ Some held → Fits (length held.frames) (length held.thread.handlers) held.thread.pass action }
-    ensures { threads.new ≡ on_held slot (held_after action) threads.old }
+    ensures table { threads.new ≡ on_own slot (thread_after action) threads.old }
+    ensures length { length threads.new ≡ length threads.old }
 {
     match action {
         Action::Write(dest, value) => write_local(threads, slot, dest, value),
@@ -46,7 +47,6 @@ pub(crate) fn act_alone(threads: &mut Threads, slot: u32, action: Action)
         Action::SetMode(mode) => set_mode(threads, slot, mode),
         Action::BeginPoint(index) => set_status(threads, slot, Status::AtPoint(index)),
         Action::BeginJoin(id) => set_status(threads, slot, Status::Joining(id)),
-        Action::CancelJoin(_) => set_status(threads, slot, Status::Running),
         Action::BeginPass => begin_pass(threads, slot),
         Action::BeginEnd(why) => begin_end(threads, slot, why),
         Action::EndThread(value) => end_thread(threads, slot, value),
@@ -56,13 +56,24 @@ pub(crate) fn act_alone(threads: &mut Threads, slot: u32, action: Action)
     }
 }
 
+/// The thread on a slot gives the slot back if it has ended and is detached.
+pub(crate) fn settle(threads: &mut Threads, slot: u32)
+    requires { is_occupied_at threads.old slot ≡ true }
+    ensures { threads.new ≡ on_slot slot (after_change unless_reclaimed) threads.old }
+{
+    if threads.place(slot).detached {
+        if let Status::Ended(value) = threads.read(slot).status {
+            threads.end(slot, value);
+        }
+    }
+}
+
 // ---- each action
 
 // The thread runs at a program counter.
-#[tactic(auto, unfolding(crate::specs::MachineChanges::held_at_pc))]
 fn run_at(threads: &mut Threads, slot: u32, pc: u32)
     requires { is_occupied_at threads.old slot ≡ true }
-    ensures { threads.new ≡ on_held slot (held_at_pc (Some pc)) threads.old }
+    ensures { threads.new ≡ on_own slot (λ t. record t { status = status.Running; frames = at_pc pc t.frames }) threads.old }
 {
     set_pc(threads, slot, pc);
     set_status(threads, slot, Status::Running);
@@ -71,7 +82,7 @@ fn run_at(threads: &mut Threads, slot: u32, pc: u32)
 // A value is written to a destination, if it is a local of the newest frame.
 fn write_local(threads: &mut Threads, slot: u32, dest: Dest, value: u32)
     requires { is_occupied_at threads.old slot ≡ true }
-    ensures { threads.new ≡ on_held slot (λ h. record h { frames = frames_written dest value h.frames }) threads.old }
+    ensures { threads.new ≡ on_own slot (λ t. record t { frames = frames_written dest value t.frames }) threads.old }
 {
     match dest {
         Dest::Local(i) => set_local(threads, slot, i, value),
@@ -82,7 +93,7 @@ fn write_local(threads: &mut Threads, slot: u32, dest: Dest, value: u32)
 // A local of the newest frame gets a value.
 fn set_local(threads: &mut Threads, slot: u32, i: u32, value: u32)
     requires { is_occupied_at threads.old slot ≡ true }
-    ensures { threads.new ≡ on_held slot (λ h. record h { frames = set_local i value h.frames }) threads.old }
+    ensures { threads.new ≡ on_own slot (λ t. record t { frames = set_local i value t.frames }) threads.old }
 {
     let Some(frame) = threads.top_frame(slot) else {
         return;
@@ -98,7 +109,7 @@ fn set_local(threads: &mut Threads, slot: u32, i: u32, value: u32)
 fn call(threads: &mut Threads, slot: u32, func: u32, arg: u32, kind: FrameKind)
     requires occupied { is_occupied_at threads.old slot ≡ true }
     requires room { (held : Held) → held_at threads.old slot ≡ Some held → length held.frames ≤ MAX_FRAMES }
-    ensures { threads.new ≡ on_held slot (λ h. held_with_status status.Running (record h { frames = new_frame func arg kind ∷ h.frames })) threads.old }
+    ensures { threads.new ≡ on_own slot (λ t. record t { status = status.Running; frames = new_frame func arg kind ∷ t.frames }) threads.old }
 {
     threads.push_frame(slot, func, arg, kind_number(kind));
     set_status(threads, slot, Status::Running);
@@ -107,7 +118,7 @@ fn call(threads: &mut Threads, slot: u32, func: u32, arg: u32, kind: FrameKind)
 // The thread calls a function, and runs in its frame, which is its only one.
 fn call_alone(threads: &mut Threads, slot: u32, func: u32, arg: u32, kind: FrameKind)
     requires { is_occupied_at threads.old slot ≡ true }
-    ensures { threads.new ≡ on_held slot (λ h. held_with_status status.Running (record h { frames = new_frame func arg kind ∷ [] })) threads.old }
+    ensures { threads.new ≡ on_own slot (λ t. record t { status = status.Running; frames = new_frame func arg kind ∷ [] }) threads.old }
 {
     threads.drop_frames(slot);
     call(threads, slot, func, arg, kind);
@@ -116,7 +127,7 @@ fn call_alone(threads: &mut Threads, slot: u32, func: u32, arg: u32, kind: Frame
 // The thread leaves its newest frame, and gets a status.
 fn leave(threads: &mut Threads, slot: u32, status: Status)
     requires { is_occupied_at threads.old slot ≡ true }
-    ensures { threads.new ≡ on_held slot (λ h. held_with_status status (record h { frames = without_first h.frames })) threads.old }
+    ensures { threads.new ≡ on_own slot (λ t. record t { status = status; frames = without_first t.frames }) threads.old }
 {
     leave_frame(threads, slot);
     set_status(threads, slot, status);
@@ -126,7 +137,7 @@ fn leave(threads: &mut Threads, slot: u32, status: Status)
 fn push_handler(threads: &mut Threads, slot: u32, func: u32, arg: u32)
     requires occupied { is_occupied_at threads.old slot ≡ true }
     requires room { (held : Held) → held_at threads.old slot ≡ Some held → length held.thread.handlers < MAX_HANDLERS }
-    ensures { threads.new ≡ on_held slot (λ h. record h { thread = record h.thread { handlers = (func, arg) ∷ h.thread.handlers } }) threads.old }
+    ensures { threads.new ≡ on_own slot (λ t. record t { handlers = (func, arg) ∷ t.handlers }) threads.old }
 {
     let thread = threads.write(slot);
     push_onto(&mut thread.handlers, func, arg);
@@ -135,7 +146,7 @@ fn push_handler(threads: &mut Threads, slot: u32, func: u32, arg: u32)
 // The newest cleanup handler is removed.
 fn pop_handler(threads: &mut Threads, slot: u32)
     requires { is_occupied_at threads.old slot ≡ true }
-    ensures { threads.new ≡ on_held slot (λ h. record h { thread = record h.thread { handlers = without_first h.thread.handlers } }) threads.old }
+    ensures { threads.new ≡ on_own slot (λ t. record t { handlers = without_first t.handlers }) threads.old }
 {
     let thread = threads.write(slot);
     pop_from(&mut thread.handlers);
@@ -144,7 +155,7 @@ fn pop_handler(threads: &mut Threads, slot: u32)
 // The thread has a cancelability state.
 fn set_state(threads: &mut Threads, slot: u32, state: State)
     requires { is_occupied_at threads.old slot ≡ true }
-    ensures { threads.new ≡ on_held slot (λ h. record h { thread = record h.thread { cancel = record h.thread.cancel { state = state } } }) threads.old }
+    ensures { threads.new ≡ on_own slot (λ t. record t { state = state }) threads.old }
 {
     threads.write(slot).cancel.state = state;
 }
@@ -152,7 +163,7 @@ fn set_state(threads: &mut Threads, slot: u32, state: State)
 // The thread has a cancelability type.
 fn set_mode(threads: &mut Threads, slot: u32, mode: Mode)
     requires { is_occupied_at threads.old slot ≡ true }
-    ensures { threads.new ≡ on_held slot (λ h. record h { thread = record h.thread { cancel = record h.thread.cancel { mode = mode } } }) threads.old }
+    ensures { threads.new ≡ on_own slot (λ t. record t { mode = mode }) threads.old }
 {
     threads.write(slot).cancel.mode = mode;
 }
@@ -161,7 +172,7 @@ fn set_mode(threads: &mut Threads, slot: u32, mode: Mode)
 fn begin_pass(threads: &mut Threads, slot: u32)
     requires occupied { is_occupied_at threads.old slot ≡ true }
     requires room { (held : Held) → held_at threads.old slot ≡ Some held → held.thread.pass < MAX_PASSES }
-    ensures { threads.new ≡ on_held slot (λ h. record h { thread = record h.thread { pass = suc h.thread.pass } }) threads.old }
+    ensures { threads.new ≡ on_own slot (λ t. record t { pass = suc t.pass }) threads.old }
 {
     threads.write(slot).pass += 1;
 }
@@ -169,30 +180,25 @@ fn begin_pass(threads: &mut Threads, slot: u32)
 // The thread leaves all its frames, and begins to exit its process.
 fn begin_exit(threads: &mut Threads, slot: u32)
     requires { is_occupied_at threads.old slot ≡ true }
-    ensures { threads.new ≡ on_held slot held_exiting threads.old }
+    ensures { threads.new ≡ on_own slot (λ t. record t { status = status.Exiting; frames = []; state = ending_state; mode = ending_mode }) threads.old }
 {
     threads.drop_frames(slot);
-    let thread = threads.write(slot);
-    thread.cancel.begin_end();
-    thread.status = Status::Exiting;
+    start_exiting(threads, slot);
 }
 
 // The thread leaves all its frames, and begins to end for a reason.
 fn begin_end(threads: &mut Threads, slot: u32, why: Reason)
     requires { is_occupied_at threads.old slot ≡ true }
-    ensures { threads.new ≡ on_held slot (held_ending why) threads.old }
+    ensures { threads.new ≡ on_own slot (λ t. record t { status = status.Ending; frames = []; state = ending_state; mode = ending_mode; reason = why }) threads.old }
 {
     threads.drop_frames(slot);
-    let thread = threads.write(slot);
-    thread.cancel.begin_end();
-    thread.status = Status::Ending;
-    thread.reason = why;
+    start_ending(threads, slot, why);
 }
 
 // The thread has ended with a value. It keeps its slot.
 fn end_thread(threads: &mut Threads, slot: u32, value: u32)
     requires { is_occupied_at threads.old slot ≡ true }
-    ensures { threads.new ≡ on_held slot (λ h. record h { thread = ended_record value h.thread }) threads.old }
+    ensures { threads.new ≡ on_own slot (λ t. record t { status = status.Ended value; ended = true }) threads.old }
 {
     let thread = threads.write(slot);
     thread.status = Status::Ended(value);
@@ -202,17 +208,38 @@ fn end_thread(threads: &mut Threads, slot: u32, value: u32)
 // The thread counts as ended.
 fn mark_ended(threads: &mut Threads, slot: u32)
     requires { is_occupied_at threads.old slot ≡ true }
-    ensures { threads.new ≡ on_held slot (λ h. record h { thread = record h.thread { ended = true } }) threads.old }
+    ensures { threads.new ≡ on_own slot (λ t. record t { ended = true }) threads.old }
 {
     threads.write(slot).ended = true;
 }
 
 // ---- parts
 
+// The thread begins to exit its process, and keeps its frames.
+fn start_exiting(threads: &mut Threads, slot: u32)
+    requires { is_occupied_at threads.old slot ≡ true }
+    ensures { threads.new ≡ on_own slot (λ t. record t { status = status.Exiting; state = ending_state; mode = ending_mode }) threads.old }
+{
+    let thread = threads.write(slot);
+    thread.cancel.begin_end();
+    thread.status = Status::Exiting;
+}
+
+// The thread begins to end for a reason, and keeps its frames.
+fn start_ending(threads: &mut Threads, slot: u32, why: Reason)
+    requires { is_occupied_at threads.old slot ≡ true }
+    ensures { threads.new ≡ on_own slot (λ t. record t { status = status.Ending; state = ending_state; mode = ending_mode; reason = why }) threads.old }
+{
+    let thread = threads.write(slot);
+    thread.cancel.begin_end();
+    thread.status = Status::Ending;
+    thread.reason = why;
+}
+
 // The newest frame, if there is one, is at another program counter.
 fn set_pc(threads: &mut Threads, slot: u32, pc: u32)
     requires { is_occupied_at threads.old slot ≡ true }
-    ensures { threads.new ≡ on_held slot (λ h. record h { frames = at_pc pc h.frames }) threads.old }
+    ensures { threads.new ≡ on_own slot (λ t. record t { frames = at_pc pc t.frames }) threads.old }
 {
     let depth = threads.place(slot).depth;
     if depth > 0 {
@@ -224,7 +251,7 @@ fn set_pc(threads: &mut Threads, slot: u32, pc: u32)
 // The newest frame, if there is one, is removed.
 fn leave_frame(threads: &mut Threads, slot: u32)
     requires { is_occupied_at threads.old slot ≡ true }
-    ensures { threads.new ≡ on_held slot without_frame threads.old }
+    ensures { threads.new ≡ on_own slot (λ t. record t { frames = without_first t.frames }) threads.old }
 {
     if threads.place(slot).depth > 0 {
         threads.pop_frame(slot);
@@ -234,7 +261,7 @@ fn leave_frame(threads: &mut Threads, slot: u32)
 // The thread has a status.
 fn set_status(threads: &mut Threads, slot: u32, status: Status)
     requires { is_occupied_at threads.old slot ≡ true }
-    ensures { threads.new ≡ on_held slot (held_with_status status) threads.old }
+    ensures { threads.new ≡ on_own slot (λ t. record t { status = status }) threads.old }
 {
     threads.write(slot).status = status;
 }

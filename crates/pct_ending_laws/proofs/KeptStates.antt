@@ -1,8 +1,39 @@
 -- Every run keeps the laws of its events, and ends in a state that keeps the invariant.
+use Rattle.std.proofs.Common.{◌≡◌, ℕ, false, List, Some, option_and_then, sym, ap, ◌∙◌}
+use Rattle.std.proofs.lemmas.Option.{option_and_then_some}
+use Rattle.pct_model.specs.declared.script.Script.{Script}
+use Rattle.pct_model.specs.declared.schedule.Config.{Config}
+use Rattle.pct_model.specs.declared.schedule.Entry.{Entry}
+use Rattle.pct_model.specs.declared.state.Status.TheVariants as status
+use Rattle.pct_model.specs.Kept.{IsSuspendedInJoin}
+use Rattle.pct_model.specs.Run.{Run, run}
+use Rattle.pct_model.specs.World.{Thread, made_process, made_thread, thread_with}
 use Rattle.pct_ending_laws.specs.EndingLaws.{RunsKeepLaws, StatesAreKept}
 use Rattle.pct_ending_laws.proofs.ThreadsOfRun.{once_of_run, keys_kept, threads_kept, last_kept}
-use Rattle.pct_ending_laws.proofs.joins.KeptJoins.{joins_of_run, known_of_run, joined_of_run, detached_of_run, kept_joins_of_run}
 use Rattle.pct_ending_laws.proofs.lift.MadeNumbers.{numbers_of_run}
+use Rattle.pct_ending_laws.proofs.joins.JoinTransitions.{is_in_join}
+use Rattle.pct_ending_laws.proofs.joins.NewestEvents.{newest_of_run}
+use Rattle.pct_ending_laws.proofs.joins.JoiningThreads.{JoinsOne, joins_of_processes}
+use Rattle.pct_ending_laws.proofs.joins.ReportedFlags.{known_of_run, joined_of_run, detached_of_run}
+use Rattle.pct_ending_laws.proofs.joins.LawfulJoins.{joins_of_run}
+
+-- each thread that is suspended in pthread_join
+pub kept_joins_of_run : (script : Script) (config : Config) (entries : List Entry) (r : Run) → run script config entries ≡ Some r
+    → (pid tid : ℕ) (t : Thread) → made_thread pid tid r.world ≡ Some t → t.gone ≡ false → (id : ℕ) → t.status ≡ status.Joining id → IsSuspendedInJoin pid tid id r.world r.events
+kept_joins_of_run script config entries r is pid tid t made here id joins =
+    option_and_then_some (thread_with tid) (made_process pid r.world) t made (λ p process_is thread_is.
+    let one : JoinsOne p.threads tid id = (joins_of_processes script config entries r is pid p process_is).joins tid t thread_is here id joins in
+    let in_process : (n : ℕ) → made_thread pid n r.world ≡ thread_with n p = λ n. ap (option_and_then (thread_with n)) process_is in
+    record {
+      newest = newest_of_run script config entries r is pid tid t made here (ap is_in_join joins);
+      target = one.target;
+      made = in_process id ∙ one.made;
+      here = one.here;
+      other = one.other;
+      not_joined = one.not_joined;
+      joinable = one.joinable;
+      alone = λ second u is_u. one.alone second u (sym (in_process second) ∙ is_u);
+    })
 
 -- the laws of the events of every run
 pub every_run_keeps_laws : RunsKeepLaws

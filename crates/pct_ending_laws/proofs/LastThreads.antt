@@ -1,10 +1,8 @@
 -- The last thread of a process that ends goes on to exit it: each thread of the process has ended then.
-use Rattle.std.proofs.Common.{◌≡◌, ℕ, Bool, true, false, not, ◌&&◌, ◌||◌, cond, List, [], ◌∷◌, find, nat_eq, Option, Some, None, ◌⊎◌, inl, inr, refl, sym, ap, ◌∙◌, subst}
-use Rattle.std.specs.List.{list_all}
-use Rattle.std.proofs.lemmas.Bool.{false≢true, and_parts}
-use Rattle.std.proofs.lemmas.Option.{none-some, same_Some, cond_some}
-use Rattle.pct_model.specs.declared.other_threads.Query.{Query}
-use Rattle.pct_model.specs.declared.other_threads.Query.TheVariants as query
+use Rattle.std.proofs.Common.{◌≡◌, ℕ, Bool, true, false, not, ◌&&◌, ◌||◌, cond, List, find, nat_eq, Some, None, ◌⊎◌, inl, inr, refl, sym, ap, ◌∙◌, subst}
+use Rattle.std.specs.List.{position_or_len}
+use Rattle.std.proofs.lemmas.Bool.{false≢true}
+use Rattle.std.proofs.lemmas.Option.{none-some, cond_some}
 use Rattle.pct_model.specs.declared.schedule.Entry.{Entry}
 use Rattle.pct_model.specs.declared.schedule.Config.{Config}
 use Rattle.pct_model.specs.declared.script.Script.{Script}
@@ -12,18 +10,19 @@ use Rattle.pct_model.specs.declared.state.Status.{Status}
 use Rattle.pct_model.specs.declared.transition.Transition.{Transition}
 use Rattle.pct_model.specs.Actions.{named_after, moved, thread_moved, changed}
 use Rattle.pct_model.specs.NextStatement.{next_of, body_at}
-use Rattle.pct_model.specs.OtherThreads.{is_last, query_at, answer_to, others_of}
+use Rattle.pct_model.specs.OtherThreads.{Others, others_of}
 use Rattle.pct_model.specs.ThreadSlots.{is_ended_status, holds_slot, is_live_thread}
 use Rattle.pct_model.specs.ThreadSummary.{ThreadSummary}
 use Rattle.pct_model.specs.TransitionTable.{transition_by}
 use Rattle.pct_model.specs.World.{Thread, Process, thread_with}
+use Rattle.pct_ending_laws.proofs.lift.KeyedLists.{found_at, item_passes}
 use Rattle.pct_ending_laws.proofs.lift.ChangedThreads.{all_keep, named_keeps, other_threads}
 use Rattle.pct_ending_laws.proofs.lift.TakenSteps.{AfterEveryRun}
-use Rattle.pct_ending_laws.proofs.lift.ThreadsAfter.{initial_thread, Moves, mover_found, mover_here, mover_id, is_mover, each_after}
+use Rattle.pct_ending_laws.proofs.lift.MadeThreads.{IsLive}
+use Rattle.pct_ending_laws.proofs.lift.ThreadsAfter.{initial_thread, Moves, mover, is_mover, each_after}
 use Rattle.pct_ending_laws.proofs.lift.EveryProcess.{OfEveryProcess, IsProcessRule, unread, every_process_keeps, moves_in}
 use Rattle.pct_ending_laws.proofs.lift.EveryThread.{OfEveryThread, OfItsThreads, of_its_threads}
-use Rattle.pct_ending_laws.proofs.thread.SummaryReading.{summary}
-use Rattle.pct_ending_laws.proofs.thread.ThreadRule.{Fits}
+use Rattle.pct_ending_laws.proofs.thread.ThreadRule.{summary, Fits}
 use Rattle.pct_ending_laws.proofs.thread.EndingSteps.{NeverEnds, moved_end, EndsThread, ends_only, GoesOn, after_end, ended_by_status}
 use Rattle.pct_transition_cases.proofs.CaseOfTransition.{case_of}
 use Rattle.pct_transition_cases.proofs.TransitionCases.{TransitionCase}
@@ -53,23 +52,6 @@ moved_view : (tid : ℕ) (o : Transition) (t : Thread) (live : Bool) → is_live
 moved_view tid o t live is =
     all_keep view named_after (named_keeps view (λ t j p d s. refl)) o.actions (cond (is_live_thread tid t) (moved o t) t) ∙ ap (λ (b : Bool). view (cond b (moved o t) t)) is
 
--- only a query for the last thread is answered so
-last_asked : (slots tid : ℕ) (threads : List Thread) (q : Query) → (answer_to slots tid threads q).is_last ≡ true → is_last tid threads ≡ true
-unfolding answer_to
-last_asked slots tid threads query.IsLast last = last
-last_asked slots tid threads _ last = absurd (false≢true last)
-
-among_by : (test pass : Thread → Bool) (u t : Thread) (rest : Option Thread) (here : Bool) → pass u ≡ true → (rest ≡ Some t → pass t ≡ true) → cond here (Some u) rest ≡ Some t → pass t ≡ true
-among_by test pass u t rest true passes later is = subst (λ (x : Thread). pass x ≡ true) (same_Some u t is) passes
-among_by test pass u t rest false passes later is = later is
-
--- a thread that is found among those that all pass
-found_among : (test pass : Thread → Bool) (threads : List Thread) (t : Thread) → list_all pass threads ≡ true → find test threads ≡ Some t → pass t ≡ true
-found_among test pass [] t all is = absurd (none-some t is)
-found_among test pass (u ∷ threads) t all is =
-    let parts = and_parts (pass u) (list_all pass threads) all in
-    among_by test pass u t (find test threads) (test u) parts.0 (found_among test pass threads t parts.1) is
-
 -- a thread that is not the one with an id that holds its slot has ended, if each thread that holds its slot has ended or has the id
 ended_by : (here is_end reclaimed ended same : Bool) → here ≡ true → (is_end ≡ true → ended ≡ true) → (same && (here && not (is_end && reclaimed))) ≡ false → (not (here && not (is_end && reclaimed)) || (ended || same)) ≡ true → ended ≡ true
 ended_by here true reclaimed ended same is by_status other last = by_status refl
@@ -92,11 +74,8 @@ module _ (script : Script) (config : Config) (p : Process) (e : Entry) (t : Thre
   abbrev next : Process
   next = changed e.tid o p
 
-  found : thread_with e.tid p ≡ Some t
-  found = mover_found script config p e t moves
-
-  here : t.gone ≡ false
-  here = mover_here script config p e t moves
+  it : IsLive p e.tid t
+  it = mover script config p e t moves
 
   -- ---- the threads after the transition
 
@@ -104,9 +83,9 @@ module _ (script : Script) (config : Config) (p : Process) (e : Entry) (t : Thre
   abbrev OthersEnded : Type 0
   OthersEnded = (id : ℕ) (u : Thread) → thread_with id p ≡ Some u → u.gone ≡ false → is_live_thread e.tid u ≡ false → u.ended ≡ true
 
-  module _ (others : OthersEnded) (it : (moved o t).ended ≡ true) (none : o.created ≡ None) where
+  module _ (others : OthersEnded) (ends : (moved o t).ended ≡ true) (none : o.created ≡ None) where
     moved_ended : (id : ℕ) (u : Thread) → thread_with id p ≡ Some u → (live : Bool) → is_live_thread e.tid u ≡ live → (thread_moved e.tid o u).gone ≡ false → (thread_moved e.tid o u).ended ≡ true
-    moved_ended id u is true live present = ap (λ (v : Bool × Bool × Status). v.1) (moved_view e.tid o u true live) ∙ ap (λ (x : Thread). (moved o x).ended) (is_mover script config p e t moves id u is live).0 ∙ it
+    moved_ended id u is true live present = ap (λ (v : Bool × Bool × Status). v.1) (moved_view e.tid o u true live) ∙ ap (λ (x : Thread). (moved o x).ended) (is_mover script config p e t moves id u is live).0 ∙ ends
     moved_ended id u is false live present =
         let same : view (thread_moved e.tid o u) ≡ view u = moved_view e.tid o u false live in
         ap (λ (v : Bool × Bool × Status). v.1) same ∙ others id u is (sym (ap (λ (v : Bool × Bool × Status). v.0) same) ∙ present) live
@@ -116,44 +95,49 @@ module _ (script : Script) (config : Config) (p : Process) (e : Entry) (t : Thre
 
   -- ---- the thread that moves
 
+  -- what it sees of the others
+  abbrev seen : Others
+  seen = others_of config.slots p.threads t.id
+
   -- its transition, by case
-  its_case : TransitionCase config.passes (body_at script t.frames) p.shared t (others_of script config p t) true (next_of script t.frames) t.status o
-  its_case = case_of config.passes (body_at script t.frames) p.shared t (others_of script config p t) true e.alt (next_of script t.frames) t.status (λ known. moves.offered)
+  its_case : TransitionCase config.passes (body_at script t.frames) p.shared t seen true (next_of script t.frames) t.status o
+  its_case = case_of config.passes (body_at script t.frames) p.shared t seen true e.alt (next_of script t.frames) t.status (λ known. moves.offered)
 
   -- if it has ended, it goes on, and creates nothing
   goes_on : t.ended ≡ true → GoesOn t.status o
   goes_on ended =
-      let rule : (s : ThreadSummary) × Fits script config.passes t s = of_threads e.tid t found here in
-      after_end config.passes (body_at script t.frames) p.shared t (others_of script config p t) script t.reason t.frames t.handlers rule.0 (rule.1.agrees.end ∙ ended) t.status rule.1.by_status its_case
+      let rule : (s : ThreadSummary) × Fits script config.passes t s = of_threads e.tid t it.found it.here in
+      after_end config.passes (body_at script t.frames) p.shared t seen script t.reason t.frames t.handlers rule.0 (rule.1.agrees.end ∙ ended) t.status rule.1.by_status its_case
 
   -- where each thread had ended, each has after the transition
   ended_stay : AllEnded p.threads → AllEnded next.threads
   ended_stay all =
-      let ended : t.ended ≡ true = all e.tid t found here in
+      let ended : t.ended ≡ true = all e.tid t it.found it.here in
       let goes = goes_on ended in
       all_ended (λ id u is present other. all id u is present) (moved_end o goes.never t ∙ ended) goes.none
 
   -- where it ends as the last thread, each other has ended
-  others_if_last : is_last t.id p.threads ≡ true → OthersEnded
+  others_if_last : seen.is_last ≡ true → OthersEnded
+  unfolding others_of
   others_if_last alone id u is present other =
-      let passes : (not (holds_slot u) || (u.ended || nat_eq u.id t.id)) ≡ true = found_among (λ (x : Thread). nat_eq x.id id) (λ (x : Thread). not (holds_slot x) || (x.ended || nat_eq x.id t.id)) p.threads u alone is in
+      let passes : (not (holds_slot u) || (u.ended || nat_eq u.id t.id)) ≡ true = item_passes (λ (x : Thread). not (holds_slot x) || (x.ended || nat_eq x.id t.id)) p.threads (position_or_len (λ (x : Thread). nat_eq x.id id) p.threads) u alone (found_at (λ (x : Thread). nat_eq x.id id) p.threads u is) in
       let rule : (s : ThreadSummary) × Fits script config.passes u s = of_threads id u is present in
       ended_by (not u.gone) (is_ended_status u.status) (u.joined || u.detached) u.ended (nat_eq u.id t.id) (ap not present)
       (λ is_end. sym rule.1.agrees.end ∙ ended_by_status script u.status u.reason u.frames u.handlers rule.0 is_end rule.1.by_status)
-      (ap (λ (n : ℕ). nat_eq u.id n && holds_slot u) (mover_id script config p e t moves) ∙ other) passes
+      (ap (λ (n : ℕ). nat_eq u.id n && holds_slot u) it.number ∙ other) passes
 
   ends_now : (t.ended ≡ false) → (moved o t).ended ≡ true → is_ended_status (moved o t).status ≡ false → AllEnded next.threads
-  ends_now alive ends status = by_end (ends_only config.passes (body_at script t.frames) p.shared t (others_of script config p t) its_case)
+  ends_now alive ends status = by_end (ends_only config.passes (body_at script t.frames) p.shared t seen its_case)
     where
-      by_end : NeverEnds o ⊎ EndsThread t (others_of script config p t) o → AllEnded next.threads
+      by_end : NeverEnds o ⊎ EndsThread t seen o → AllEnded next.threads
       by_end (inl never) = absurd (false≢true (sym alive ∙ sym (moved_end o never t) ∙ ends))
-      by_end (inr ends_it) = all_ended (others_if_last (last_asked config.slots t.id p.threads (query_at p.shared (next_of script t.frames) t.status) (ends_it.last status))) ends ends_it.none
+      by_end (inr ends_it) = all_ended (others_if_last (ends_it.last status)) ends ends_it.none
 
   -- ---- the process after the transition
 
   -- where the thread that moves exits after the transition
   it_exits : (ended : Bool) → t.ended ≡ ended → (moved o t).ended ≡ true → is_ended_status (moved o t).status ≡ false → AllEnded next.threads
-  it_exits true ended ends status = ended_stay (last e.tid t found (here, ended, (goes_on ended).alive))
+  it_exits true ended ends status = ended_stay (last e.tid t it.found (it.here, ended, (goes_on ended).alive))
   it_exits false alive ends status = ends_now alive ends status
 
   moved_exits : (id : ℕ) (u : Thread) → thread_with id p ≡ Some u → (live : Bool) → is_live_thread e.tid u ≡ live → ExitsAfterEnd (thread_moved e.tid o u) → AllEnded next.threads
@@ -169,12 +153,9 @@ module _ (script : Script) (config : Config) (p : Process) (e : Entry) (t : Thre
 
 -- ---- every run
 
-first_last : (script : Script) → LastExits (initial_thread script ∷ [])
-first_last script id t found exits = absurd (false≢true (ap (λ (u : Thread). u.ended) (cond_some (nat_eq 1 id) (initial_thread script) t found).1 ∙ exits.1))
-
 last_rule : (script : Script) (config : Config) → IsProcessRule unread (λ p k. KeepsLast p) script config (λ p e t. OfItsThreads summary (Fits script config.passes) p × Moves script config p e t)
 last_rule script config = record {
-  initial = first_last script;
+  initial = λ id t found exits. absurd (false≢true (ap (λ (u : Thread). u.ended) (cond_some (nat_eq 1 id) (initial_thread script) t found).1 ∙ exits.1));
   own = λ p e t k known last. last_after script config p e t known.0 known.1 last;
   other = λ pid o p k last. subst LastExits (sym (other_threads pid o p)) last;
 }

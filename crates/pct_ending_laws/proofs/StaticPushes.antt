@@ -23,10 +23,9 @@ use Rattle.pct_model.specs.Statements.{role_of}
 use Rattle.pct_model.specs.Static.{nests, returns_outside_pushes}
 use Rattle.pct_model.specs.World.{body_of, statement_at}
 use Rattle.pct_model.proofs.StaticFacts.{passes_all}
-use Rattle.pct_jumps.proofs.OpenBlocks.{close_within, is_opened}
+use Rattle.pct_jumps.proofs.OpenBlocks.{close_within, close_of-open_of, is_opened}
 use Rattle.pct_ending_laws.proofs.pushes.AfterStatements.{open_pushes-next}
 use Rattle.pct_ending_laws.proofs.pushes.PushBlocks.{Passes, At, at-pc, at-pop, at-return, at-last, at-ends}
-use Rattle.pct_ending_laws.proofs.pushes.ClosingStatements.{close_of-open_of}
 use Rattle.pct_ending_laws.proofs.pushes.ClosedBlocks.{same_around}
 
 -- the statement is an `if` or a `while`

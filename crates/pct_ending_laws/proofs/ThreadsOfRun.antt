@@ -1,5 +1,5 @@
 -- What every run keeps of each thread: the rule of the thread, and so the sentences of Kept.antt.
-use Rattle.std.proofs.Common.{◌≡◌, ℕ, Bool, true, false, not, ◌&&◌, cond, List, [], ◌∷◌, ◌++◌, map, reverse, Option, Some, option_and_then, refl, sym, ap, ◌∙◌, subst, eq-eqb}
+use Rattle.std.proofs.Common.{◌≡◌, ℕ, Bool, true, false, not, ◌&&◌, cond, List, [], ◌∷◌, ◌++◌, map, reverse, Some, option_and_then, refl, sym, ap, ◌∙◌, subst, eq-eqb}
 use Rattle.std.proofs.lemmas.Bool.{false≢true}
 use Rattle.pct_model.specs.declared.event.Event.{Event}
 use Rattle.pct_model.specs.declared.event.What.{What}
@@ -27,17 +27,16 @@ use Rattle.pct_model.specs.World.{Thread, Process, made_process, thread_with}
 use Rattle.pct_ending_laws.proofs.StaticPushes.{push_matches}
 use Rattle.pct_ending_laws.proofs.LastThreads.{last_exits}
 use Rattle.pct_ending_laws.proofs.lift.TakenSteps.{IsTaken, with_step, AfterEveryRun, every_run}
-use Rattle.pct_ending_laws.proofs.lift.ThreadsAfter.{Moves, mover_found, mover_here}
+use Rattle.pct_ending_laws.proofs.lift.ThreadsAfter.{Moves, mover}
 use Rattle.pct_ending_laws.proofs.lift.EveryProcess.{process_taken, moves_in}
 use Rattle.pct_ending_laws.proofs.lift.ReportedBy.{Reading, reported_by, own_after, of_thread, after_all, read_step}
-use Rattle.pct_ending_laws.proofs.lift.EveryThread.{OfThread, OfEveryThread, IsThreadRule, every_thread}
+use Rattle.pct_ending_laws.proofs.lift.EveryThread.{OfEveryThread, of_made_thread, IsThreadRule, every_thread}
 use Rattle.pct_ending_laws.proofs.keys.KeysOfProcesses.{KeysFit, keys_of_run}
-use Rattle.pct_ending_laws.proofs.thread.SummaryReading.{summary, summary_reading, AllMayCome}
 use Rattle.pct_ending_laws.proofs.thread.Passes.{leaves_pass}
-use Rattle.pct_ending_laws.proofs.thread.ThreadRule.{Fits, Keeps}
+use Rattle.pct_ending_laws.proofs.thread.ThreadRule.{summary, summary_reading, AllMayCome, Fits, Keeps}
 use Rattle.pct_ending_laws.proofs.thread.NamedFunctions.{names_functions}
 use Rattle.pct_ending_laws.proofs.thread.Statements.{new_fits}
-use Rattle.pct_ending_laws.proofs.thread.Transitions.{transition_keeps}
+use Rattle.pct_ending_laws.proofs.thread.Transitions.{transition_keeps, created_fits}
 use Rattle.pct_ending_laws.proofs.thread.KeptThreads.{kept_thread}
 
 -- ---- the rule of one thread
@@ -91,9 +90,9 @@ module _ (script : Script) (config : Config) where
   thread_rule : IsThreadRule summary (Fits script passes) script config (KeysFit script)
   thread_rule = record {
     initial = new_fits script passes (push_matches script) 1 (main_of (names_of script.funcs)) 0 false kind.Main (names_functions script).main (refl, refl);
-    created = λ p t s choice new keys offered fits is. (keeps p t s choice keys offered fits).created new is;
+    created = λ p t s choice new keys offered fits is. created_fits script (push_matches script) (names_functions script) config p t choice keys.keys offered new is;
     named = named_fits script passes;
-    kept = λ p t s choice keys offered fits. (keeps p t s choice keys offered fits).own.0;
+    kept = λ p t s choice keys offered fits. (keeps p t s choice keys offered fits).own;
   }
 
   -- ---- runs
@@ -102,18 +101,11 @@ module _ (script : Script) (config : Config) where
   pub threads_fit : AfterEveryRun script config (OfEveryThread summary (Fits script passes))
   threads_fit = every_thread summary (Fits script passes) script config (KeysFit script) thread_rule (keys_of_run script config)
 
-  -- a thread of a process that was made and is not gone
-  fits_of : (r : Run) → OfEveryThread summary (Fits script passes) r → (pid tid : ℕ) (p : Process) (t : Thread) → made_process pid r.world ≡ Some p → thread_with tid p ≡ Some t → t.gone ≡ false → Fits script passes t (reported_by (of_thread summary tid) pid r.events)
-  fits_of r fit pid tid p t made found here =
-      let s : ThreadSummary = reported_by (of_thread summary tid) pid r.events in
-      (subst (λ (o : Option Thread). OfThread summary (Fits script passes) o s) (ap (option_and_then (thread_with tid)) made ∙ found) (fit pid tid)).here here
-
   once_kept : (before : List Entry) (r : Run) → run script config before ≡ Some r → (e : Entry) (p : Process) (t : Thread) → IsTaken script config r.world e p t → Once passes r.events → Once passes (with_step e (transition_by script config p t e.alt) r).events
   once_kept before r is e p t taken once =
       let known : KeysFit script p × Moves script config p e t = moves_in script config (KeysFit script) (keys_of_run script config) before r is e p t taken in
-      let found : thread_with e.tid p ≡ Some t = mover_found script config p e t known.1 in
-      let fits : Fits script passes t (reported_by (of_thread summary e.tid) e.pid r.events) = fits_of r (threads_fit before r is) e.pid e.tid p t (process_taken script config before r is e p t taken) found (mover_here script config p e t known.1) in
-      once_later passes e r.events (reverse (transition_by script config p t e.alt).events) (keeps p t (reported_by (of_thread summary e.tid) e.pid r.events) e.alt known.0 taken.offered fits).own.1 once
+      let fits : Fits script passes t (reported_by (of_thread summary e.tid) e.pid r.events) = of_made_thread summary (Fits script passes) r (threads_fit before r is) e.pid e.tid t (ap (option_and_then (thread_with e.tid)) (process_taken script config before r is e p t taken) ∙ (mover script config p e t known.1).found) (mover script config p e t known.1).here in
+      once_later passes e r.events (reverse (transition_by script config p t e.alt).events) (keeps p t (reported_by (of_thread summary e.tid) e.pid r.events) e.alt known.0 taken.offered fits).lawful once
 
   -- the law of cleanup handlers and destructors
   pub once_of_run : AfterEveryRun script config (λ r. Once passes r.events)
@@ -127,7 +119,7 @@ module _ (script : Script) (config : Config) where
     -- a thread of a process that was made and is not gone
     pub threads_kept : (pid tid : ℕ) (p : Process) (t : Thread) → made_process pid r.world ≡ Some p → thread_with tid p ≡ Some t → t.gone ≡ false → ThreadKept script p.shared.keys t (summary_of pid tid r.events)
     threads_kept pid tid p t made found here =
-        let fits : Fits script passes t (summary_of pid tid r.events) = subst (Fits script passes t) (sym (summary_reading tid pid r.events)) (fits_of r (threads_fit entries r is) pid tid p t made found here) in
+        let fits : Fits script passes t (summary_of pid tid r.events) = subst (Fits script passes t) (sym (summary_reading tid pid r.events)) (of_made_thread summary (Fits script passes) r (threads_fit entries r is) pid tid t (ap (option_and_then (thread_with tid)) made ∙ found) here) in
         let keys : KeysFit script p = keys_of_run script config entries r is pid p made in
         kept_thread script passes p.shared.keys t (summary_of pid tid r.events) keys.keys (keys.empty tid t found) fits
 

@@ -6,4 +6,3 @@ pub mod ReportedFlags
 pub mod NewestEvents
 pub mod JoiningThreads
 pub mod LawfulJoins
-pub mod KeptJoins

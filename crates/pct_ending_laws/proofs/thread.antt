@@ -1,5 +1,4 @@
 -- What one thread keeps, beside what the events report of it: by each transition, and in the sentences of Kept.antt.
-pub mod SummaryReading
 pub mod Passes
 pub mod ThreadRule
 pub mod NamedFunctions
@@ -7,7 +6,6 @@ pub mod GoingOn
 pub mod Handlers
 pub mod Ends
 pub mod Statements
-pub mod ActingOnRequests
 pub mod Transitions
 pub mod KeptThreads
 pub mod EndingSteps

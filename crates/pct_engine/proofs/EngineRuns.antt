@@ -1,20 +1,27 @@
 -- Runs with one entry more, and what an engine represents.
-use Rattle.std.proofs.Common.{◌≡◌, ◌<◌, ◌≤◌, true, List, [], ◌∷◌, ◌++◌, length, map, reverse, Some, None, refl, sym, ap, ◌∙◌}
-use Rattle.std.specs.Prelude.{is_some}
-use Rattle.std.proofs.lemmas.Bool.{false≢true}
+use Rattle.std.proofs.Common.{◌≡◌, ◌<◌, Bool, true, false, cond, List, [], ◌∷◌, ◌++◌, length, map, reverse, Option, Some, None, refl, sym, ap, ◌∙◌, subst}
+use Rattle.std.specs.Prelude.{option_map}
 use Rattle.std.proofs.lemmas.List.{map-append, reverse-append}
 use Rattle.pct_model.specs.declared.script.Script.{Script}
 use Rattle.pct_model.specs.declared.schedule.Config.{Config}
 use Rattle.pct_model.specs.declared.schedule.Entry.{Entry}
 use Rattle.pct_model.specs.declared.event.Event.{Event}
-use Rattle.pct_model.specs.declared.event.What.{What}
+use Rattle.pct_model.specs.declared.transition.Transition.{Transition}
+use Rattle.pct_model.specs.World.{World, opening}
 use Rattle.pct_model.specs.Step.{step}
-use Rattle.pct_model.specs.Run.{Run, event_of, run}
-use Rattle.pct_engine_laws.proofs.LongerRuns.{run_more, run_full, run_after, run_step-is}
-use Rattle.pct_actions.specs.declared.machine.Machine.{Machine}
-use Rattle.pct_actions.specs.TableFits.{HasRows}
-use Rattle.pct_engine.specs.Steps.{IsStepOf}
+use Rattle.pct_model.specs.Run.{Run, event_of, is_config, run}
+use Rattle.pct_engine_laws.specs.Seen.{Seen, seen, seen_after}
+use Rattle.pct_engine_laws.specs.SeenSteps.{seen_transition}
+use Rattle.pct_engine_laws.proofs.AfterSeen.{after_is_seen}
+use Rattle.pct_engine_laws.proofs.LongerRuns.{run_parts, run_none, run_more, run_after, run_step-is}
+use Rattle.pct_engine_laws.proofs.StepSeen.{successor_of, may_step, step_is_seen}
+use Rattle.pct_transitions.specs.Programs.{ProgramValue}
+use Rattle.pct_machine.specs.MachineSteps.{legal_transition}
+use Rattle.pct_engine.specs.Traces.{TraceValue}
 use Rattle.pct_engine.specs.EngineStates.{StandsFor}
+use Rattle.pct_engine.proofs.ReachedStates.{slots_within}
+
+-- ---- lists
 
 reverse-map : {A B : Type 0} (f : A → B) (xs : List A) → reverse (map f xs) ≡ map f (reverse xs)
 reverse-map f [] = refl
@@ -24,33 +31,55 @@ reverse-map f (x ∷ xs) =
     ∙ sym (map-append f (reverse xs) (x ∷ []))
     ∙ ap (map f) (sym (reverse-append (x ∷ []) xs))
 
--- an engine after a step that it recorded
-pub stands-more : (script : Script) (config : Config) (history : List Entry) (events : List Event) (m new : Machine) (e : Entry) (whats : List What) → length history < config.budget → (stands : StandsFor script config history events m) → IsStepOf script config stands.after.world new e whats → HasRows new
-    → StandsFor script config (history ++ e ∷ []) (events ++ map (event_of e) whats) new
-stands-more script config history events m new e whats left stands made rows =
+-- ---- a step
+
+cond-map : {A B C : Type 0} (b : Bool) (g : B → C) (f : A → B) (o : Option A) → option_map g (cond b (option_map f o) None) ≡ option_map (λ a. g (f a)) (cond b o None)
+cond-map false g f o = refl
+cond-map true g f None = refl
+cond-map true g f (Some a) = refl
+
+-- the run after a transition of an entry
+abbrev pub run_moved : Run → Entry → Transition → Run
+run_moved r e o = run_after r e (successor_of r.world e o)
+
+-- the history with one entry more is a run exactly if the entry is legal
+pub next_run : (script : Script) (config : Config) (history : List Entry) (e : Entry) (r : Run) (v : Seen) → length history < config.budget → run script config history ≡ Some r → v ≡ seen config.slots r.world → run script config (history ++ e ∷ []) ≡ option_map (run_moved r e) (legal_transition script config v e)
+next_run script config history e r v left is view =
+    let w : World = r.world in
+    run_more script config history e r is left
+    ∙ run_step-is script config r e (step script config w e) refl
+    ∙ ap (option_map (run_after r e)) (step_is_seen script config w e (slots_within config (run_parts script config history r is).limits).0)
+    ∙ cond-map (may_step w e) (run_after r e) (successor_of w e) (seen_transition script config (seen config.slots w) e)
+    ∙ ap (λ (u : Seen). option_map (run_moved r e) (legal_transition script config u e)) (sym view)
+
+-- ---- what an engine represents
+
+-- before the first step
+pub stands-first : (program : ProgramValue) (trace : TraceValue) (machine : Seen) (script : Script) (config : Config) → is_config config ≡ true → program ≡ record { script = script; config = config } → trace ≡ record { budget = config.budget; history = []; events = [] } → machine ≡ seen config.slots (opening script)
+    → StandsFor program trace machine
+stands-first program trace machine script config limits program_is trace_is state_is =
+    subst (λ (p : ProgramValue). StandsFor p trace machine) (sym program_is)
+    (subst (λ (t : TraceValue). StandsFor (record { script = script; config = config }) t machine) (sym trace_is) (record {
+      after = record { world = opening script; events = [] };
+      is_run = run_none script config limits;
+      events_are = refl;
+      state_is = state_is;
+      budget_is = refl;
+    }))
+
+-- after a step that was recorded
+pub stands-more : (program : ProgramValue) (trace : TraceValue) (machine : Seen) (e : Entry) (o : Transition) → length trace.history < trace.budget → StandsFor program trace machine → legal_transition program.script program.config machine e ≡ Some o
+    → StandsFor program (record trace { history = trace.history ++ e ∷ []; events = trace.events ++ map (event_of e) o.events }) (seen_after program.config.slots e.pid e.tid o machine)
+stands-more program trace machine e o left stands legal =
     let r = stands.after in
-    let s = made.successor in
+    let limits = (run_parts program.script program.config trace.history r stands.is_run).limits in
     record {
-      after = run_after r e s;
-      is_run = run_more script config history e r stands.is_run left ∙ run_step-is script config r e (Some s) made.is_step;
+      after = run_moved r e o;
+      is_run = next_run program.script program.config trace.history e r machine (subst (λ n. length trace.history < n) stands.budget_is left) stands.is_run stands.state_is ∙ ap (option_map (run_moved r e)) legal;
       events_are =
-          reverse-append events (map (event_of e) whats)
-          ∙ ap (λ (es : List Event). es ++ reverse events) (reverse-map (event_of e) whats ∙ ap (λ (xs : List What). map (event_of e) (reverse xs)) made.events_are)
-          ∙ ap (λ (es : List Event). map (event_of e) (reverse s.events) ++ es) stands.events_are;
-      parts_are = made.view_is;
-      rows_are = rows;
+          reverse-append trace.events (map (event_of e) o.events)
+          ∙ ap (λ (es : List Event). es ++ reverse trace.events) (reverse-map (event_of e) o.events)
+          ∙ ap (λ (es : List Event). map (event_of e) (reverse o.events) ++ es) stands.events_are;
+      state_is = ap (seen_after program.config.slots e.pid e.tid o) stands.state_is ∙ sym (after_is_seen program.config.slots e.pid e.tid r.world o (slots_within program.config limits).0);
+      budget_is = stands.budget_is;
     }
-
--- the history with an entry that makes a step is a run
-pub legal-more : (script : Script) (config : Config) (history : List Entry) (events : List Event) (m new : Machine) (e : Entry) (whats : List What) → length history < config.budget → (stands : StandsFor script config history events m) → IsStepOf script config stands.after.world new e whats
-    → is_some (run script config (history ++ e ∷ [])) ≡ true
-legal-more script config history events m new e whats left stands made =
-    ap is_some (run_more script config history e stands.after stands.is_run left ∙ run_step-is script config stands.after e (Some made.successor) made.is_step)
-
--- with one that makes none it is not
-pub illegal-more : (script : Script) (config : Config) (history : List Entry) (e : Entry) (r : Run) → length history < config.budget → run script config history ≡ Some r → step script config r.world e ≡ None → is_some (run script config (history ++ e ∷ [])) ≡ true → ⊥
-illegal-more script config history e r left is none some =
-    false≢true (sym (ap is_some (run_more script config history e r is left ∙ run_step-is script config r e None none)) ∙ some)
-
-pub illegal-full : (script : Script) (config : Config) (history : List Entry) (e : Entry) → config.budget ≤ length history → is_some (run script config (history ++ e ∷ [])) ≡ true → ⊥
-illegal-full script config history e full some = false≢true (sym (ap is_some (run_full script config history e full)) ∙ some)

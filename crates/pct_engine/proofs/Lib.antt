@@ -1,21 +1,5 @@
-mod ChangedTables
-mod RowViews
-mod RowAnswers
-mod NamedThreads
-mod OpenTables
-mod MachineViews
-mod FoundThreads
-mod Readiness
-mod ReadySlots
-mod EnabledThreads
-mod LegalChoices
-mod StepViews
-mod JoinedThreads
-mod NewThreads
-mod FittingSteps
-mod FittingIds
+mod ReachedStates
+mod OpenChoices
 mod EngineRuns
-pub mod EngineLaws
 mod EngineChoices
-mod FirstStates
-mod UsedSlots
+pub mod EngineLaws

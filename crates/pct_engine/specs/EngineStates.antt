@@ -1,19 +1,17 @@
 -- What an engine represents: the run of its script under its history.
-use Rattle.std.specs.Prelude.{◌≡◌, ℕ, ◌*◌, ◌≤◌, true, List, [], ◌∷◌, ◌++◌, length, reverse, Option, Some, None, is_some, IsSomeAnd}
+use Rattle.std.specs.Prelude.{◌≡◌, ℕ, true, List, [], ◌∷◌, ◌++◌, length, reverse, Option, Some, None, is_some, IsSomeAnd}
 use Rattle.pct_model.specs.declared.script.Script.{Script}
 use Rattle.pct_model.specs.declared.schedule.Config.{Config}
 use Rattle.pct_model.specs.declared.schedule.Entry.{Entry}
-use Rattle.pct_model.specs.declared.event.Event.{Event}
 use Rattle.pct_model.specs.declared.stop.Verdict.TheVariants as verdict
 use Rattle.pct_model.specs.Chosen.{chosen}
 use Rattle.pct_model.specs.Kept.{Kept}
 use Rattle.pct_model.specs.Laws.{Laws}
 use Rattle.pct_model.specs.Run.{Run, run, verdict_of}
-use Rattle.pct_engine_laws.specs.Seen.{seen}
+use Rattle.pct_engine_laws.specs.Seen.{Seen, seen}
 use Rattle.pct_engine_laws.specs.RunLaws.{IsLegalWhileOpen}
-use Rattle.pct_actions.specs.declared.machine.Machine.{Machine}
-use Rattle.pct_actions.specs.TableFits.{HasRows}
-use Rattle.pct_engine.specs.Views.{machine_view}
+use Rattle.pct_transitions.specs.Programs.{ProgramValue}
+use Rattle.pct_engine.specs.Traces.{TraceValue}
 
 -- the value of an engine: a script, a configuration, and the entries of the run so far
 pub record EngineValue : Type 0 where
@@ -23,22 +21,13 @@ pub record EngineValue : Type 0 where
 
 -- ---- what its parts are
 
--- the run of the history is defined, the events are those of the run, the machine has what is kept of its state, and each slot has a
--- row of thread-specific data
-pub record StandsFor (script : Script) (config : Config) (history : List Entry) (events : List Event) (machine : Machine) : Type 0 where
+-- the run of the recorded entries is defined, the events are those of the run, and the machine has what is kept of its state
+pub record StandsFor (program : ProgramValue) (trace : TraceValue) (machine : Seen) : Type 0 where
   pub after : Run
-  pub is_run : run script config history ≡ Some after
-  pub events_are : reverse events ≡ after.events
-  pub parts_are : machine_view script machine ≡ seen config.slots after.world
-  pub rows_are : HasRows machine
-
--- the lengths and the capacities of the lists of entries and of events: there is room for `budget` entries, with three
--- events each
-pub record HasRoom (budget entries entries_capacity events events_capacity : ℕ) : Type 0 where
-  pub entries_within : entries ≤ budget
-  pub entries_room : budget ≤ entries_capacity
-  pub events_within : events ≤ 3 * entries
-  pub events_room : 3 * budget ≤ events_capacity
+  pub is_run : run program.script program.config trace.history ≡ Some after
+  pub events_are : reverse trace.events ≡ after.events
+  pub state_is : machine ≡ seen program.config.slots after.world
+  pub budget_is : trace.budget ≡ program.config.budget
 
 -- ---- what its calls promise
 

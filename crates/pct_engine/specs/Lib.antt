@@ -1,5 +1,2 @@
-pub mod Views
-pub mod ReadyThreads
-pub mod UsedSlots
-pub mod Steps
+pub mod Traces
 pub mod EngineStates

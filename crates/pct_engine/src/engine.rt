@@ -1,24 +1,13 @@
 //! The engine: a run of a script, step by step.
 
-ghost use Rattle.std.specs.Prelude.{◌≡◌, ◌↔◌, ◌*◌, ◌≤◌, true, [], ◌∷◌, ◌++◌, length, reverse, Some, IfOk, IsOk, OnOk, OnErr, IsTrue, is_some, vec_len, vec_capacity};
-ghost use Rattle.pct_model.specs.World.{opening};
-ghost use Rattle.pct_model.specs.Run.{is_config, run};
-ghost use Rattle.pct_engine_laws.specs.Seen.{seen};
-ghost use Rattle.pct_actions.specs.TableFits.{HasRows};
-ghost use Rattle.pct_engine.specs.Views.{machine_view};
-ghost use Rattle.pct_engine.specs.EngineStates.{StandsFor, HasRoom};
-ghost use Rattle.pct_engine.specs.UsedSlots.{Covers};
+ghost use Rattle.std.specs.Prelude.{◌≡◌, ◌↔◌, true, [], ◌∷◌, ◌++◌, IsOk, OnOk, OnErr, is_some};
+ghost use Rattle.pct_model.specs.Run.{run};
+ghost use Rattle.pct_engine.specs.EngineStates.{StandsFor};
 
-use crate::scheduler::{chosen, verdict_after};
-use crate::steps::step;
-use crate::trace::{record_entry, record_events};
-use crate::used_slots::{add_created, occupied_slots};
-use pct_actions::{Globals, Machine};
+use crate::trace::Trace;
 use pct_io::NoMemory;
-use pct_keys::Keys;
-use pct_model::{Config, Entry, Event, Script, Verdict, main_of};
-use pct_set::SlotSet;
-use pct_threads::Threads;
+use pct_machine::{Draw, Machine};
+use pct_model::{Config, Entry, Event, Script, Verdict};
 use pct_transitions::{Program, no_change};
 use std::alloc::Global;
 use std::marker::Model;
@@ -33,24 +22,17 @@ pub struct NotLegal;
 pub struct Engine {
     program: Program,
     machine: Machine,
-    /// Each slot that a thread holds is one of these.
-    used: SlotSet,
-    history: Vec<Entry>,
-    events: Vec<Event>,
+    trace: Trace,
 }
 
 impl Model for Engine {
-    ghost use Rattle.std.specs.Prelude.{vec_len, vec_capacity};
-    ghost use Rattle.pct_engine.specs.EngineStates.{EngineValue};
+    ghost use Rattle.pct_engine.specs.EngineStates.{EngineValue, StandsFor};
 
     ghost Value = { EngineValue };
 
-    ghost use Rattle.pct_engine.specs.EngineStates.{StandsFor, HasRoom};
-    ghost use Rattle.pct_engine.specs.UsedSlots.{Covers};
+    ghost view = { λ e. record { script = e.program.script; config = e.program.config; history = e.trace.history } };
 
-    ghost view = { λ e. record { script = e.program.script; config = e.program.config; history = e.history.items } };
-
-    ghost invariant = { λ e. StandsFor e.program.script e.program.config e.history.items e.events.items e.machine × HasRoom e.program.config.budget (vec_len e.history) (vec_capacity e.history) (vec_len e.events) (vec_capacity e.events) × Covers e.used e.machine.threads };
+    ghost invariant = { λ e. StandsFor e.program e.trace e.machine };
 }
 
 impl Engine {
@@ -65,18 +47,13 @@ impl Engine {
         requires { IsTrue (is_config config) }
         ensures { IfOk result (λ engine. engine ≡ record { script = script; config = config; history = [] }) }
     {
-        let budget = config.budget as usize;
-        let history = Vec::with_capacity(alloc, budget)?;
-        let events = Vec::with_capacity(alloc, 3 * budget)?;
-        let machine = opening(alloc, &script, config)?;
+        let trace = Trace::new(alloc, config.budget)?;
+        let machine = Machine::first(alloc, &script, config.slots)?;
         let program = Program::new(alloc, script, config)?;
-        let used = occupied_slots(&machine.threads);
         Ok(Engine {
             program,
             machine,
-            used,
-            history,
-            events,
+            trace,
         })
     }
 
@@ -91,14 +68,7 @@ impl Engine {
         // detaches, and the state keeps the invariant.
         ensures laws { (after : Run) → IsRunOf self.new after → KeepsLaws self.new after }
     {
-        step_with(
-            &self.program,
-            &mut self.machine,
-            &mut self.used,
-            &mut self.history,
-            &mut self.events,
-            entry,
-        )
+        step_with(&self.program, &mut self.machine, &mut self.trace, entry)
     }
 
     /// The entry that two numbers choose for a worker, at most `MAX_WORKER`. Of the threads that are ready, by rising process
@@ -109,15 +79,15 @@ impl Engine {
         requires { worker ≤ MAX_WORKER }
         ensures { (after : Run) → IsRunOf self.now after → IsChoice self.now after worker a b result }
     {
-        chosen(
-            &self.program,
-            &self.machine,
-            self.used,
-            self.history.len(),
+        if !self.trace.has_room() {
+            return None;
+        }
+        let draw = Draw {
             worker,
-            a,
-            b,
-        )
+            thread: a,
+            choice: b,
+        };
+        self.machine.chosen(&self.program, draw)
     }
 
     /// The verdict of the run so far: `Undefined` if the run was stopped, else `Complete` if all processes have ended, else
@@ -127,7 +97,8 @@ impl Engine {
         // The run of the entries is defined, for every engine.
         ensures runs { (after : Run) × IsRunOf self.now after }
     {
-        verdict_after(&self.program, &self.machine, self.used, self.history.len())
+        self.machine
+            .verdict(&self.program, self.trace.history().len())
     }
 
     /// The entries of the run so far, in order. There are at most as many as the budget allows.
@@ -135,7 +106,7 @@ impl Engine {
         ensures value { result.now ≡ self.now.history }
         ensures within { length self.now.history ≤ self.now.config.budget }
     {
-        &self.history
+        self.trace.history()
     }
 
     /// The events of the run so far, in order. There are at most three for each entry.
@@ -145,7 +116,7 @@ impl Engine {
         // The run of the entries is defined, for every engine.
         ensures runs { (after : Run) × IsRunOf self.now after }
     {
-        &self.events
+        self.trace.events()
     }
 
     /// The script that is run.
@@ -164,55 +135,26 @@ impl Engine {
     }
 }
 
-// The state before the first step.
-fn opening(alloc: Global, script: &Script, config: Config) -> Result<Machine, NoMemory>
-    requires { IsTrue (is_config config) }
-    ensures view { IfOk result (λ machine. machine_view script.now machine ≡ seen config.slots (opening script.now)) }
-    ensures rows { IfOk result (λ machine. HasRows machine) }
-{
-    let main = main_of(script.funcs.as_slice()) as u32;
-    let mut threads = Threads::new(alloc, config.slots)?;
-    threads.create(0, main, 0, false);
-    // Word 2 of a frame is the number of its kind; that of `Main` is 0.
-    threads.set_frame_word(0, 0, 2, 0);
-    Ok(Machine {
-        threads,
-        globals: Globals::new(alloc, script.globals.as_slice().len())?,
-        keys: Keys::new(alloc, config.slots)?,
-        exit_value: None,
-        has_ended: false,
-        stop: None,
-    })
-}
-
 // Makes the step of an entry, and records it with its events.
 fn step_with(
     program: &Program,
     machine: &mut Machine,
-    used: &mut SlotSet,
-    history: &mut Vec<Entry>,
-    events: &mut Vec<Event>,
+    trace: &mut Trace,
     entry: Entry,
 ) -> Result<(), NotLegal>
-    requires stands { StandsFor program.now.script program.now.config history.old.items events.old.items machine.old }
-    requires room { HasRoom program.now.config.budget (vec_len history.old) (vec_capacity history.old) (vec_len events.old) (vec_capacity events.old) }
-    requires used { Covers used.old machine.old.threads }
-    ensures made { OnOk result (history.new.items ≡ history.old.items ++ entry ∷ []) }
-    ensures legal { IsOk result ↔ (is_some (run program.now.script program.now.config (history.old.items ++ entry ∷ [])) ≡ true) }
-    ensures same { OnErr result (history.new.items ≡ history.old.items) }
-    ensures stands { StandsFor program.now.script program.now.config history.new.items events.new.items machine.new }
-    ensures room { HasRoom program.now.config.budget (vec_len history.new) (vec_capacity history.new) (vec_len events.new) (vec_capacity events.new) }
-    ensures used { Covers used.new machine.new.threads }
+    requires { StandsFor program.now trace.old machine.old }
+    ensures made { OnOk result (trace.new.history ≡ trace.old.history ++ entry ∷ []) }
+    ensures legal { IsOk result ↔ (is_some (run program.now.script program.now.config (trace.old.history ++ entry ∷ [])) ≡ true) }
+    ensures same { OnErr result (trace.new.history ≡ trace.old.history) }
+    ensures stands { StandsFor program.now trace.new machine.new }
 {
-    if history.len() >= program.config.budget as usize {
+    if !trace.has_room() {
         return Err(NotLegal);
     }
     let mut transition = no_change();
-    if !step(program, machine, entry, &mut transition) {
+    if !machine.step(program, &entry, &mut transition) {
         return Err(NotLegal);
     }
-    add_created(used, &machine.threads, transition.created);
-    record_events(events, &entry, &transition.events, 0);
-    record_entry(history, entry);
+    trace.record_step(&entry, &transition.events);
     Ok(())
 }

@@ -2,10 +2,6 @@
 #![tactic(auto)]
 
 mod engine;
-mod found_threads;
-mod scheduler;
-mod steps;
 mod trace;
-mod used_slots;
 
 pub use engine::{Engine, NotLegal};

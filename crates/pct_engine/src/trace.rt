@@ -1,26 +1,83 @@
-//! The entries and the events of a run, in vectors that have room for them.
+//! The record of a run, in vectors that have room for it.
 
 ghost use Rattle.std.specs.Prelude.{◌≡◌, ◌+◌, ◌-◌, ◌<◌, ◌≤◌, [], ◌∷◌, ◌++◌, drop, map, vec_len, vec_capacity};
 ghost use Rattle.pct_model.specs.Run.{event_of};
 
+use pct_io::NoMemory;
 use pct_model::{Entry, Event, UpToThree, What};
+use std::alloc::Global;
+use std::marker::Model;
 
-/// Records an entry.
-pub(crate) fn record_entry(history: &mut Vec<Entry>, entry: Entry)
-    requires { vec_len history.old < vec_capacity history.old }
-    ensures last { history.new.items ≡ history.old.items ++ entry ∷ [] }
-    ensures capacity { vec_capacity history.old ≤ vec_capacity history.new }
-{
-    history.push(entry).unwrap();
+/// The entries and the events of a run. There is room for `budget` entries, with three events each.
+#[derive(Drop)]
+pub(crate) struct Trace {
+    budget: u32,
+    history: Vec<Entry>,
+    events: Vec<Event>,
 }
 
-/// Records the events of the step of an entry, from an index on. There are at most three.
-pub(crate) fn record_events(
-    events: &mut Vec<Event>,
-    entry: &Entry,
-    new_events: &UpToThree<What>,
-    from: usize,
-)
+impl Model for Trace {
+    ghost use Rattle.std.specs.Prelude.{vec_len, vec_capacity};
+    ghost use Rattle.pct_engine.specs.Traces.{TraceValue, HasRoom};
+
+    ghost Value = { TraceValue };
+
+    ghost view = { λ t. record { budget = t.budget; history = t.history.items; events = t.events.items } };
+
+    ghost invariant = { λ t. HasRoom t.budget (vec_len t.history) (vec_capacity t.history) (vec_len t.events) (vec_capacity t.events) };
+}
+
+impl Trace {
+    ghost use Rattle.std.specs.Prelude.{◌≡◌, ◌<◌, ◌≤◌, ◌*◌, [], ◌∷◌, ◌++◌, length, map, nat_lt, IfOk};
+    ghost use Rattle.pct_model.specs.Run.{event_of};
+
+    /// The record of a run without entries. `NoMemory` is returned if there is no room for `budget` entries and their events.
+    pub fn new(alloc: Global, budget: u32) -> Result<Trace, NoMemory>
+        ensures { IfOk result (λ trace. trace ≡ record { budget = budget; history = []; events = [] }) }
+    {
+        let entries = budget as usize;
+        Ok(Trace {
+            budget,
+            history: Vec::with_capacity(alloc, entries)?,
+            events: Vec::with_capacity(alloc, 3 * entries)?,
+        })
+    }
+
+    /// Whether there can be one entry more.
+    pub fn has_room(&self) -> bool
+        ensures { result ≡ nat_lt (length self.now.history) self.now.budget }
+    {
+        self.history.len() < self.budget as usize
+    }
+
+    /// Records an entry and the events of its step.
+    pub fn record_step(&mut self, entry: &Entry, new_events: &UpToThree<What>)
+        requires { length self.old.history < self.old.budget }
+        ensures { self.new ≡ record self.old { history = self.old.history ++ entry.now ∷ []; events = self.old.events ++ map (event_of entry.now) new_events.now } }
+    {
+        record_events(&mut self.events, entry, new_events, 0);
+        self.history.push(*entry).unwrap();
+    }
+
+    /// The entries, in order.
+    pub fn history(&self) -> &[Entry]
+        ensures value { result.now ≡ self.now.history }
+        ensures within { length self.now.history ≤ self.now.budget }
+    {
+        &self.history
+    }
+
+    /// The events, in order. There are at most three for each entry.
+    pub fn events(&self) -> &[Event]
+        ensures value { result.now ≡ self.now.events }
+        ensures few { length self.now.events ≤ 3 * length self.now.history }
+    {
+        &self.events
+    }
+}
+
+// Records the events of the step of an entry, from an index on. There are at most three.
+fn record_events(events: &mut Vec<Event>, entry: &Entry, new_events: &UpToThree<What>, from: usize)
     requires { vec_len events.old + (3 - from) ≤ vec_capacity events.old }
     ensures last { events.new.items ≡ events.old.items ++ map (event_of entry.now) (drop from new_events.now) }
     ensures few { vec_len events.new ≤ vec_len events.old + (3 - from) }

@@ -1,20 +1,17 @@
 -- What a thread sees of the others depends only on what is kept of the state.
-use Rattle.std.proofs.Common.{◌≡◌, ℕ, zero, suc, ◌+◌, ◌<◌, Bool, true, false, not, ◌&&◌, ◌||◌, cond, List, [], ◌∷◌, ◌++◌, map, filter, flat_map, None, nat_eq, option_map, option_and_then, refl, sym, ap, ◌∙◌, eqb-true, eq-eqb}
+use Rattle.std.proofs.Common.{◌≡◌, ℕ, zero, suc, ◌+◌, ◌<◌, Bool, true, false, not, ◌&&◌, ◌||◌, cond, List, [], ◌∷◌, ◌++◌, map, filter, flat_map, nat_eq, option_and_then, refl, sym, ap, ◌∙◌, eqb-true, eq-eqb}
 use Rattle.std.specs.List.{list_any, list_all, range_with_len}
 use Rattle.std.proofs.lemmas.List.Folds.{flat_map-map}
 use Rattle.pct_model.specs.declared.script.Script.{Script}
 use Rattle.pct_model.specs.declared.schedule.Config.{Config}
-use Rattle.pct_model.specs.declared.other_threads.Query.{Query}
-use Rattle.pct_model.specs.declared.other_threads.Query.TheVariants as query
-use Rattle.pct_model.specs.declared.other_threads.Target.{Target}
 use Rattle.pct_model.specs.World.{Thread, Process}
 use Rattle.pct_model.specs.ThreadSlots.{holds_slot, slot_of, is_on, is_free, next_id, free_ids, is_live_thread, with_id}
 use Rattle.pct_model.specs.NextStatement.{next_of}
-use Rattle.pct_model.specs.OtherThreads.{query_at, Others, is_joining, exit_value_of, is_joined_by_one, target_with, is_last, answer_to, others_of}
+use Rattle.pct_model.specs.OtherThreads.{Others, is_joining, is_joined_by_one, is_last, others_of}
 use Rattle.pct_model.specs.ChoiceTable.{choices_at, choices_of}
 use Rattle.pct_model.specs.Chosen.{by_slot}
 use Rattle.pct_engine_laws.specs.Seen.{SeenSlot, seen_slot, seen_process}
-use Rattle.pct_engine_laws.specs.SeenSteps.{threads_on, thread_on, thread_with, target_in, is_empty, new_id_on, new_ids_from, answer_in, others_in, choices_in}
+use Rattle.pct_engine_laws.specs.SeenSteps.{threads_on, thread_on, thread_with, is_joined_in, is_empty, new_id_on, new_ids_from, is_last_in, others_in, choices_in}
 use Rattle.pct_engine_laws.proofs.ListFacts.{find_agree, find-filter, any_agree, any-filter, any-flat_map, any_swap, any_and, all_none, map-filter}
 use Rattle.pct_engine_laws.proofs.IndexedLists.{by_index, item_by_index, index_among}
 use Rattle.pct_engine_laws.proofs.ThreadChanges.{slot_below}
@@ -108,39 +105,21 @@ unfolding free_ids
 new_ids_seen slots threads =
     map-filter (next_id slots threads) (is_free slots threads) (range_with_len 0 slots) ∙ ids_from slots threads 0 slots
 
--- ---- the answer
+-- ---- what a thread sees of the others
 
--- a thread as a target
-abbrev target : Bool → Thread → Target
-target joining t = record { detached = t.detached; joining = joining; value = exit_value_of t.status }
-
-target_seen : (slots id : ℕ) (threads : List Thread) → 0 < slots → target_with id threads ≡ target_in slots id (by_index (seen_slot slots threads) slots)
-target_seen slots id threads some =
+-- what the thread with an id sees of the others
+pub others_seen : (slots tid : ℕ) (threads : List Thread) → 0 < slots → others_of slots threads tid ≡ others_in slots (by_index (seen_slot slots threads) slots) tid
+unfolding others_of others_in
+others_seen slots tid threads some =
     let rows : List SeenSlot = by_index (seen_slot slots threads) slots in
-    let joining : list_any (λ t. is_joining id t.status) (threads_on rows) ≡ is_joined_by_one id threads = ap (list_any (λ (t : Thread). is_joining id t.status)) (threads_seen slots threads) ∙ any_by_slot slots (λ t. is_joining id t.status) threads some in
-    ap (λ (b : Bool). option_map (target b) (with_id id threads)) (sym joining)
-    ∙ ap (option_map (target (list_any (λ t. is_joining id t.status) (threads_on rows)))) (sym (thread_seen slots id threads some))
-
--- the answer to a query
-pub answer_is_seen : (slots tid : ℕ) (threads : List Thread) (q : Query) → 0 < slots → answer_to slots tid threads q ≡ answer_in slots tid (by_index (seen_slot slots threads) slots) q
-unfolding answer_to answer_in
-answer_is_seen slots tid threads query.Nothing some = refl
-answer_is_seen slots tid threads (query.Thread id) some =
-    let e : target_with id threads ≡ target_in slots id (by_index (seen_slot slots threads) slots) = target_seen slots id threads some in
-    λ i. record { target = e i; new_ids = []; is_last = false }
-answer_is_seen slots tid threads query.NewIds some =
-    let e : free_ids slots threads ≡ new_ids_from slots 0 (by_index (seen_slot slots threads) slots) = new_ids_seen slots threads in
-    λ i. record { target = None; new_ids = e i; is_last = false }
-answer_is_seen slots tid threads query.IsLast some =
-    let rows : List SeenSlot = by_index (seen_slot slots threads) slots in
-    let e : is_last tid threads ≡ list_all (λ t. t.ended || nat_eq t.id tid) (threads_on rows) =
+    let named : (id : ℕ) → with_id id threads ≡ thread_with slots id rows = λ id. sym (thread_seen slots id threads some) in
+    let joined : (id : ℕ) → is_joined_by_one id threads ≡ is_joined_in id rows = λ id.
+    sym (ap (list_any (λ (t : Thread). is_joining id t.status)) (threads_seen slots threads) ∙ any_by_slot slots (λ t. is_joining id t.status) threads some) in
+    let ids : free_ids slots threads ≡ new_ids_from slots 0 rows = new_ids_seen slots threads in
+    let last : is_last tid threads ≡ is_last_in tid rows =
     sym (ap (list_all (λ (t : Thread). t.ended || nat_eq t.id tid)) (threads_seen slots threads) ∙ all_by_slot slots (λ t. t.ended || nat_eq t.id tid) threads some) in
-    λ i. record { target = None; new_ids = []; is_last = e i }
-
--- what the next step of a thread of a process depends on
-pub others_seen : (script : Script) (config : Config) (p : Process) (t : Thread) → 0 < config.slots → others_of script config p t ≡ others_in script config.slots (seen_process config.slots p) t
-others_seen script config p t some = answer_is_seen config.slots t.id p.threads (query_at p.shared (next_of script t.frames) t.status) some
+    λ i. record { named = λ id. named id i; another_joins = λ id. joined id i; new_ids = ids i; is_last = last i }
 
 -- the choices of a thread of a process
 pub choices_seen : (script : Script) (config : Config) (p : Process) (t : Thread) → 0 < config.slots → choices_of script config p t ≡ choices_in script config.slots (seen_process config.slots p) t
-choices_seen script config p t some = ap (λ (others : Others). choices_at p.shared.keys t others (next_of script t.frames) t.status) (others_seen script config p t some)
+choices_seen script config p t some = ap (λ (others : Others). choices_at p.shared.keys t others (next_of script t.frames) t.status) (others_seen config.slots t.id p.threads some)

@@ -1,11 +1,11 @@
 -- The choice of the scheduler depends only on what is kept of the state.
-use Rattle.std.proofs.Common.{◌≡◌, ℕ, ◌<◌, Bool, true, false, not, ◌||◌, cond, List, [], map, filter, None, is_some, is_none, option_and_then, refl, sym, ap, ◌∙◌}
+use Rattle.std.proofs.Common.{◌≡◌, ℕ, ◌<◌, Bool, true, false, not, cond, List, [], map, filter, Option, Some, None, is_some, is_none, option_map, option_and_then, refl, sym, ap, ◌∙◌}
 use Rattle.std.proofs.Math.Path.{fun_ext}
 use Rattle.std.proofs.lemmas.List.Folds.{flat_map-map}
 use Rattle.pct_model.specs.declared.script.Script.{Script}
 use Rattle.pct_model.specs.declared.schedule.Alt.{Alt}
 use Rattle.pct_model.specs.declared.schedule.Config.{Config}
-use Rattle.pct_model.specs.World.{Thread, Process, World}
+use Rattle.pct_model.specs.World.{Thread, ProcessEnd, Process, World, was_reaped}
 use Rattle.pct_model.specs.ChoiceTable.{choices_of, is_enabled}
 use Rattle.pct_model.specs.Chosen.{Candidate, by_slot, ready_of, candidate, candidates, item_at, entry_for, chosen}
 use Rattle.pct_engine_laws.specs.Seen.{SeenProcess, seen_process, seen}
@@ -13,30 +13,34 @@ use Rattle.pct_engine_laws.specs.SeenSteps.{threads_on, ready_in, candidate_in, 
 use Rattle.pct_engine_laws.proofs.ListFacts.{flat_map_agree, flat_map-filter}
 use Rattle.pct_engine_laws.proofs.AnswerSeen.{threads_seen, choices_seen}
 
-by_end : (f : Thread → Candidate) (reaped ended : Bool) (ready : List Thread) → cond (not reaped) (map f (cond ended [] ready)) [] ≡ map f (cond (reaped || ended) [] ready)
-by_end f true ended ready = refl
-by_end f false ended ready = refl
+none_either : (none : List Candidate) (b : Bool) → cond b none none ≡ none
+none_either none true = refl
+none_either none false = refl
+
+by_end : (f : Thread → Candidate) (end : Option ProcessEnd) (ready : List Thread) → cond (not (was_reaped end)) (map f (cond (is_some (option_map (λ x. x.status) end)) [] ready)) [] ≡ map f (cond (is_some end) [] ready)
+by_end f None ready = refl
+by_end f (Some end) ready = none_either [] (not end.reaped)
 
 -- the candidates among the threads of a process that are ready, by their choices
 abbrev candidates_by : ℕ → Bool → List Thread → (Thread → List Alt) → List Candidate
 candidates_by pid ended threads choices = map (λ t. record { pid = pid; tid = t.id; choices = choices t }) (cond ended [] (filter (λ t. is_enabled (choices t)) threads))
 
 -- the candidates of a process
-pub candidates_of_process : (script : Script) (config : Config) (p : Process) → 0 < config.slots → cond (not p.reaped) (map (candidate_in script config.slots (seen_process config.slots p)) (ready_in script config.slots (seen_process config.slots p))) [] ≡ map (candidate script config p) (ready_of script config p)
+pub candidates_of_process : (script : Script) (config : Config) (p : Process) → 0 < config.slots → cond (not (was_reaped p.ended)) (map (candidate_in script config.slots (seen_process config.slots p)) (ready_in script config.slots (seen_process config.slots p))) [] ≡ map (candidate script config p) (ready_of script config p)
 candidates_of_process script config p some =
     let kept : SeenProcess = seen_process config.slots p in
-    ap (λ (choices : Thread → List Alt). cond (not p.reaped) (candidates_by p.pid (is_some p.ended) (threads_on kept.slots) choices) []) (sym (fun_ext (λ (t : Thread). choices_seen script config p t some)))
-    ∙ ap (λ (threads : List Thread). cond (not p.reaped) (candidates_by p.pid (is_some p.ended) threads (choices_of script config p)) []) (threads_seen config.slots p.threads)
-    ∙ by_end (candidate script config p) p.reaped (is_some p.ended) (filter (λ t. is_enabled (choices_of script config p t)) (by_slot config.slots p.threads))
+    ap (λ (choices : Thread → List Alt). cond (not (was_reaped p.ended)) (candidates_by p.pid (is_some kept.ended) (threads_on kept.slots) choices) []) (sym (fun_ext (λ (t : Thread). choices_seen script config p t some)))
+    ∙ ap (λ (threads : List Thread). cond (not (was_reaped p.ended)) (candidates_by p.pid (is_some kept.ended) threads (choices_of script config p)) []) (threads_seen config.slots p.threads)
+    ∙ by_end (candidate script config p) p.ended (filter (λ t. is_enabled (choices_of script config p t)) (by_slot config.slots p.threads))
 
 -- the threads that are ready
 pub candidates_seen : (script : Script) (config : Config) (w : World) → 0 < config.slots → seen_candidates script config.slots (seen config.slots w) ≡ candidates script config w
 unfolding seen_candidates candidates
 candidates_seen script config w some =
     let of : SeenProcess → List Candidate = λ p. map (candidate_in script config.slots p) (ready_in script config.slots p) in
-    flat_map-map of (seen_process config.slots) (filter (λ p. not p.reaped) w.processes)
-    ∙ flat_map-filter (λ p. of (seen_process config.slots p)) (λ (p : Process). not p.reaped) w.processes
-    ∙ flat_map_agree (λ p. cond (not p.reaped) (of (seen_process config.slots p)) []) (λ p. map (candidate script config p) (ready_of script config p)) (λ p. candidates_of_process script config p some) w.processes
+    flat_map-map of (seen_process config.slots) (filter (λ p. not (was_reaped p.ended)) w.processes)
+    ∙ flat_map-filter (λ p. of (seen_process config.slots p)) (λ (p : Process). not (was_reaped p.ended)) w.processes
+    ∙ flat_map_agree (λ p. cond (not (was_reaped p.ended)) (of (seen_process config.slots p)) []) (λ p. map (candidate script config p) (ready_of script config p)) (λ p. candidates_of_process script config p some) w.processes
 
 -- the entry that a worker's two numbers choose
 pub chosen_is_seen : (script : Script) (config : Config) (w : World) (worker a b : ℕ) → 0 < config.slots → chosen script config w worker a b ≡ seen_chosen script config.slots (seen config.slots w) worker a b

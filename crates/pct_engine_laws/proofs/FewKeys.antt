@@ -6,7 +6,7 @@ use Rattle.pct_model.specs.declared.script.Script.{Script}
 use Rattle.pct_model.specs.declared.schedule.Config.{Config}
 use Rattle.pct_model.specs.declared.schedule.Entry.{Entry}
 use Rattle.pct_model.specs.Keys.{KeyPlace}
-use Rattle.pct_model.specs.World.{Process}
+use Rattle.pct_model.specs.World.{Process, was_reaped}
 use Rattle.pct_model.specs.Run.{Run, run}
 use Rattle.pct_engine_laws.specs.Seen.{SeenProcess, seen_process, seen}
 use Rattle.pct_engine_laws.specs.KeyCounts.{KeysAtMost}
@@ -18,7 +18,7 @@ pub few_keys_made : (script : Script) (config : Config) (entries : List Entry) (
 few_keys_made script config entries after is =
     let n = length entries in
     let m = 1 + length entries in
-    let left : List Process = filter (λ p. not p.reaped) after.world.processes in
-    let few : All (HasFewIn m) left = All-filter (λ (p : Process). not p.reaped) (HasFewIn m) after.world.processes (run_within script config entries after is).few in
+    let left : List Process = filter (λ p. not (was_reaped p.ended)) after.world.processes in
+    let few : All (HasFewIn m) left = All-filter (λ (p : Process). not (was_reaped p.ended)) (HasFewIn m) after.world.processes (run_within script config entries after is).few in
     All-map (λ (p : SeenProcess). KeysAtMost n p.shared.keys) (seen_process config.slots) left
     (All-weaker (HasFewIn m) (λ (p : Process). KeysAtMost n p.shared.keys) (λ p each. All-weaker (HasFewOn m) (λ (place : KeyPlace). place.made ≤ n) (λ place has. omega (arith, has.made)) p.shared.keys each.keys_few) left few)

@@ -7,7 +7,7 @@ use Rattle.std.proofs.lemmas.List.Sums.{count_by-le-length}
 use Rattle.pct_model.specs.declared.script.Script.{Script}
 use Rattle.pct_model.specs.declared.schedule.Config.{Config}
 use Rattle.pct_model.specs.declared.schedule.Entry.{Entry}
-use Rattle.pct_model.specs.World.{Thread, Process}
+use Rattle.pct_model.specs.World.{Thread, Process, was_reaped}
 use Rattle.pct_model.specs.ThreadSlots.{is_on}
 use Rattle.pct_model.specs.Run.{Run, run}
 use Rattle.pct_engine_laws.specs.Seen.{SeenSlot, SeenProcess, seen_slot, seen_process, seen}
@@ -23,7 +23,7 @@ made_few slots m threads (i ∷ indexes) few =
 pub few_made : (script : Script) (config : Config) (entries : List Entry) (after : Run) → run script config entries ≡ Some after → All (λ (p : SeenProcess). MadeAtMost (1 + length entries) p.slots) (seen config.slots after.world).processes
 few_made script config entries after is =
     let m : ℕ = 1 + length entries in
-    let left : List Process = filter (λ p. not p.reaped) after.world.processes in
-    let few : All (HasFewIn m) left = All-filter (λ (p : Process). not p.reaped) (HasFewIn m) after.world.processes (run_within script config entries after is).few in
+    let left : List Process = filter (λ p. not (was_reaped p.ended)) after.world.processes in
+    let few : All (HasFewIn m) left = All-filter (λ (p : Process). not (was_reaped p.ended)) (HasFewIn m) after.world.processes (run_within script config entries after is).few in
     All-map (λ (q : SeenProcess). MadeAtMost m q.slots) (seen_process config.slots) left
     (All-weaker (HasFewIn m) (λ p. MadeAtMost m (seen_process config.slots p).slots) (λ p each. made_few config.slots m p.threads (range_with_len 0 config.slots) each.few) left few)

@@ -1,8 +1,8 @@
 -- Lists that are filtered, mapped, joined and searched.
-use Rattle.std.proofs.Common.{◌≡◌, ℕ, ◌+◌, Bool, true, false, not, ◌&&◌, ◌||◌, cond, List, [], ◌∷◌, ◌++◌, Option, Some, None, map, filter, find, flat_map, count_by, option_map, option_and_then, ◌⊎◌, inl, inr, refl, sym, ap, ◌∙◌}
-use Rattle.std.specs.Prelude.{is_some}
+use Rattle.std.proofs.Common.{◌≡◌, ℕ, ◌+◌, Bool, true, false, not, ◌&&◌, ◌||◌, cond, List, [], ◌∷◌, ◌++◌, Option, Some, None, map, filter, find, flat_map, count_by, option_map, option_and_then, ◌⊎◌, inl, inr, refl, sym, ap, ◌∙◌, subst}
 use Rattle.std.specs.List.{list_any, list_all}
 use Rattle.std.proofs.lemmas.Bool.{and_left, and_right, or_left, or_right, false≢true}
+use Rattle.std.proofs.lemmas.Option.{none-some, same_Some}
 use Rattle.std.proofs.Math.Path.{fun_ext}
 use Rattle.std.proofs.lemmas.List.Folds.{fold-map, list_any-append}
 use Rattle.std.proofs.lemmas.List.Concat.{flat_map-append}
@@ -132,23 +132,15 @@ any_and p b (x ∷ xs) = ap (λ (rest : Bool). (p x && b) || rest) (any_and p b 
 
 -- ---- from one test to another
 
-found_cons : {A B : Type 0} (f : A → Option B) (x : A) (t : Bool) (o : Option A) (rest : Bool) → (is_some (option_and_then f o) ≡ true → rest ≡ true) → is_some (option_and_then f (cond t (Some x) o)) ≡ true → ((t && is_some (f x)) || rest) ≡ true
-found_cons f x true o rest later some = or_left (is_some (f x)) rest some
-found_cons f x false o rest later some = later some
+found_cons : {A : Type 0} (q : A → Bool) (x y : A) (t : Bool) (o : Option A) (rest : Bool) → (t ≡ true → x ≡ y → q x ≡ true) → (o ≡ Some y → rest ≡ true) → cond t (Some x) o ≡ Some y → (q x || rest) ≡ true
+found_cons q x y true o rest passes later is = or_left (q x) rest (passes refl (same_Some x y is))
+found_cons q x y false o rest passes later is = or_right (q x) rest (later is)
 
--- where the first item that passes a test has an image, some item passes the test and has one
-pub any_found : {A B : Type 0} (p : A → Bool) (f : A → Option B) (xs : List A) → is_some (option_and_then f (find p xs)) ≡ true → list_any (λ a. p a && is_some (f a)) xs ≡ true
-any_found p f [] some = absurd (false≢true some)
-any_found p f (x ∷ xs) some = found_cons f x (p x) (find p xs) (list_any (λ a. p a && is_some (f a)) xs) (any_found p f xs) some
-
-implied_cons : (p q rest next : Bool) → (p ≡ true → q ≡ true) → (rest ≡ true → next ≡ true) → (p || rest) ≡ true → (q || next) ≡ true
-implied_cons true q rest next passes later some = or_left q next (passes refl)
-implied_cons false q rest next passes later some = or_right q next (later some)
-
--- some item passes a test that follows from one that some item passes
-pub any_implied : {A : Type 0} (p q : A → Bool) → ((a : A) → p a ≡ true → q a ≡ true) → (xs : List A) → list_any p xs ≡ true → list_any q xs ≡ true
-any_implied p q passes [] some = some
-any_implied p q passes (x ∷ xs) some = implied_cons (p x) (q x) (list_any p xs) (list_any q xs) (passes x) (any_implied p q passes xs) some
+-- some item passes a test that the first one that passes another test passes
+pub any_found : {A : Type 0} (p q : A → Bool) (xs : List A) (y : A) → find p xs ≡ Some y → (p y ≡ true → q y ≡ true) → list_any q xs ≡ true
+any_found p q [] y is passes = absurd (none-some y is)
+any_found {A} p q (x ∷ xs) y is passes =
+    found_cons q x y (p x) (find p xs) (list_any q xs) (λ test same. subst (λ (a : A). p a ≡ true → q a ≡ true) (sym same) passes test) (λ later. any_found p q xs y later passes) is
 
 fails_cons : (p q rest next : Bool) → (p ≡ true → q ≡ false) → (rest ≡ true → next ≡ false) → (p || rest) ≡ true → (q && next) ≡ false
 fails_cons true q rest next fails later some = and_left q next (fails refl)

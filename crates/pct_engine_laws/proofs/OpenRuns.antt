@@ -1,60 +1,41 @@
 -- A run goes on by an entry exactly if its verdict is `Open` and the entry is legal: a legal entry needs a run that was not
 -- stopped, and a process that has not ended with a thread that is ready.
-use Rattle.std.proofs.Common.{◌≡◌, ◌↔◌, ℕ, ◌<◌, Bool, true, false, not, ◌&&◌, cond, List, [], ◌∷◌, ◌++◌, length, Option, Some, None, refl, sym, ap, ◌∙◌, inl, inr, arith}
-use Rattle.std.specs.Prelude.{nat_eq, nat_le, is_some, is_none, option_map, option_and_then}
+use Rattle.std.proofs.Common.{◌≡◌, ◌↔◌, ℕ, ◌<◌, Bool, true, false, not, cond, List, [], ◌∷◌, ◌++◌, length, Option, Some, None, refl, sym, ap, ◌∙◌, inl, inr, arith}
+use Rattle.std.specs.Prelude.{nat_eq, is_some, is_none}
 use Rattle.std.specs.List.{list_any, list_all}
 use Rattle.std.proofs.lemmas.Bool.{cases_Bool, and_parts, and_from, not-true, eqb-true, eqb-false, false≢true}
 use Rattle.pct_model.specs.declared.script.Script.{Script}
 use Rattle.pct_model.specs.declared.schedule.Alt.{Alt}
 use Rattle.pct_model.specs.declared.schedule.Config.{Config}
 use Rattle.pct_model.specs.declared.schedule.Entry.{Entry}
-use Rattle.pct_model.specs.declared.limits.TheConstants.{MAX_WORKER}
 use Rattle.pct_model.specs.declared.stop.Why.{Why}
 use Rattle.pct_model.specs.declared.stop.Verdict.{Verdict}
 use Rattle.pct_model.specs.declared.stop.Verdict.TheVariants.{Complete, Deadlock, Budget, Open}
-use Rattle.pct_model.specs.declared.transition.Transition.{Transition}
-use Rattle.pct_model.specs.World.{Thread, Process, World}
-use Rattle.pct_model.specs.ThreadSlots.{holds_slot, is_live_thread, with_id}
+use Rattle.pct_model.specs.World.{Process, World}
+use Rattle.pct_model.specs.ThreadSlots.{holds_slot, is_live_thread}
 use Rattle.pct_model.specs.ChoiceTable.{choices_of, offers, is_enabled}
-use Rattle.pct_model.specs.TransitionTable.{transition_by}
 use Rattle.pct_model.specs.Actions.{has_ended, is_live_process}
-use Rattle.pct_model.specs.Step.{if_offered, transition_of, step, is_legal}
+use Rattle.pct_model.specs.Step.{Legal, Successor, IsLegalStep, step}
 use Rattle.pct_model.specs.Run.{Run, run, is_ready, has_ready, verdict_by, verdict_of}
+use Rattle.pct_model.proofs.LegalSteps.{step_legal, some_step_legal, legal_steps}
 use Rattle.pct_engine_laws.specs.RunLaws.{IsLegalWhileOpen}
-use Rattle.pct_engine_laws.proofs.ListFacts.{any_found, any_implied, all_fails}
-use Rattle.pct_engine_laws.proofs.StepSeen.{successor_of, may_step}
+use Rattle.pct_engine_laws.proofs.ListFacts.{any_found, all_fails}
 use Rattle.pct_engine_laws.proofs.LongerRuns.{run_parts, run_more, run_full, run_step-some}
 
--- ---- a thread that takes a transition is ready
+-- ---- a legal entry names a thread that is ready
 
 offers_enabled : (choices : List Alt) (choice : Alt) → offers choices choice ≡ true → is_enabled choices ≡ true
 offers_enabled [] choice offered = absurd (false≢true offered)
 offers_enabled (c ∷ rest) choice offered = refl
 
-some_if : {T : Type 0} (b : Bool) (x : T) → is_some (cond b (Some x) None) ≡ true → b ≡ true
-some_if true x some = refl
-some_if false x some = absurd (false≢true some)
-
-thread_ready : (script : Script) (config : Config) (p : Process) (e : Entry) (t : Thread) → (is_live_thread e.tid t && is_some (if_offered script config p e t)) ≡ true → is_ready script config p t ≡ true
-thread_ready script config p e t taken =
-    let parts = and_parts (is_live_thread e.tid t) (is_some (if_offered script config p e t)) taken in
-    let named = and_parts (nat_eq t.id e.tid) (holds_slot t) parts.0 in
-    let choices : List Alt = choices_of script config p t in
-    and_from (holds_slot t) (is_enabled choices) named.1 (offers_enabled choices e.alt (some_if (offers choices e.alt) (transition_by script config p t e.alt) parts.1))
-
-process_ready : (script : Script) (config : Config) (e : Entry) (p : Process) → (is_live_process e.pid p && is_some (option_and_then (if_offered script config p e) (with_id e.tid p.threads))) ≡ true → has_ready script config p ≡ true
-process_ready script config e p taken =
-    let parts = and_parts (is_live_process e.pid p) (is_some (option_and_then (if_offered script config p e) (with_id e.tid p.threads))) taken in
-    let live = and_parts (nat_eq p.pid e.pid) (not (has_ended p)) parts.0 in
-    let some = any_found (is_live_thread e.tid) (if_offered script config p e) p.threads parts.1 in
-    and_from (not (has_ended p)) (list_any (is_ready script config p) p.threads) live.1
-    (any_implied (λ t. is_live_thread e.tid t && is_some (if_offered script config p e t)) (is_ready script config p) (thread_ready script config p e) p.threads some)
-
--- an entry that takes a transition names a process with a thread that is ready
-taken_ready : (script : Script) (config : Config) (w : World) (e : Entry) → is_some (transition_of script config w e) ≡ true → list_any (has_ready script config) w.processes ≡ true
-taken_ready script config w e taken =
-    let by : Process → Option Transition = λ p. option_and_then (if_offered script config p e) (with_id e.tid p.threads) in
-    any_implied (λ p. is_live_process e.pid p && is_some (by p)) (has_ready script config) (process_ready script config e) w.processes (any_found (is_live_process e.pid) by w.processes taken)
+legal_ready : (script : Script) (config : Config) (w : World) (e : Entry) → Legal script config w e → list_any (has_ready script config) w.processes ≡ true
+legal_ready script config w e legal =
+    let p = legal.process in
+    let t = legal.thread in
+    any_found (is_live_process e.pid) (has_ready script config) w.processes p legal.live
+    (λ live. and_from (not (has_ended p)) (list_any (is_ready script config p) p.threads) (and_parts (nat_eq p.pid e.pid) (not (has_ended p)) live).1
+    (any_found (is_live_thread e.tid) (is_ready script config p) p.threads t legal.holds
+    (λ named. and_from (holds_slot t) (is_enabled (choices_of script config p t)) (and_parts (nat_eq t.id e.tid) (holds_slot t) named).1 (offers_enabled (choices_of script config p t) e.alt legal.offered))))
 
 -- a process with a thread that is ready has not ended
 ready_live : (script : Script) (config : Config) (p : Process) → has_ready script config p ≡ true → has_ended p ≡ false
@@ -89,28 +70,20 @@ open_left script config w n is = left_after w.stop script config w n is
 
 -- ---- legal entries
 
-legal_by : {S T : Type 0} (f : S → T) (may : Bool) (o : Option S) → is_some (cond may (option_map f o) None) ≡ true → (may ≡ true) × (is_some o ≡ true)
-legal_by f true (Some s) some = (refl, refl)
-legal_by f true None some = absurd (false≢true some)
-legal_by f false o some = absurd (false≢true some)
-
-legal_parts : (script : Script) (config : Config) (w : World) (e : Entry) → is_legal script config w e ≡ true → (may_step w e ≡ true) × (is_some (transition_of script config w e) ≡ true)
-unfolding step
-legal_parts script config w e legal = legal_by (successor_of w e) (may_step w e) (transition_of script config w e) legal
+-- an entry makes a step exactly if it is legal, and its step is then that of the legal entry
+pub steps_if_legal : (script : Script) (config : Config) (w : World) (e : Entry) (s : Successor) → (step script config w e ≡ Some s) ↔ IsLegalStep script config w e s
+steps_if_legal script config w e s = (step_legal script config w e s, λ made. legal_steps script config w e made.0 ∙ ap (λ (x : Successor). Some x) made.1)
 
 -- a state in which an entry is legal has the verdict `Open`, unless the budget is used up
-pub legal_open : (script : Script) (config : Config) (w : World) (e : Entry) (n : ℕ) → is_legal script config w e ≡ true → nat_eq n config.budget ≡ false → verdict_of script config w n ≡ Open
+pub legal_open : (script : Script) (config : Config) (w : World) (e : Entry) (n : ℕ) → Legal script config w e → nat_eq n config.budget ≡ false → verdict_of script config w n ≡ Open
 unfolding verdict_of
-legal_open script config w e n legal left =
-    let parts = legal_parts script config w e legal in
-    let may = and_parts (is_none w.stop) (nat_le e.worker MAX_WORKER) parts.0 in
-    open_by w.stop script config w n may.0 (taken_ready script config w e parts.1) left
+legal_open script config w e n legal left = open_by w.stop script config w n (ap is_none legal.running) (legal_ready script config w e legal) left
 
 -- ---- runs
 
--- while the budget is not used up, a run goes on by the entries that are legal
-more_legal : (script : Script) (config : Config) (entries : List Entry) (after : Run) (e : Entry) → run script config entries ≡ Some after → nat_eq (length entries) config.budget ≡ false → is_some (run script config (entries ++ e ∷ [])) ≡ is_legal script config after.world e
-more_legal script config entries after e is left =
+-- while the budget is not used up, a run goes on by the entries that make a step
+more_steps : (script : Script) (config : Config) (entries : List Entry) (after : Run) (e : Entry) → run script config entries ≡ Some after → nat_eq (length entries) config.budget ≡ false → is_some (run script config (entries ++ e ∷ [])) ≡ is_some (step script config after.world e)
+more_steps script config entries after e is left =
     let within = run_parts script config entries after is in
     let differs = eqb-false (length entries) config.budget left in
     let shorter : length entries < config.budget = omega (arith, within.within, differs) in
@@ -123,7 +96,7 @@ goes_on script config entries after e is some =
           let used : length entries ≡ config.budget = eqb-true (length entries) config.budget full in
           absurd (false≢true (sym (ap is_some (run_full script config entries e (omega (arith, used)))) ∙ some))
       | inr left ↦
-          let legal : is_legal script config after.world e ≡ true = sym (more_legal script config entries after e is left) ∙ some in
+          let legal : Legal script config after.world e = some_step_legal script config after.world e (sym (more_steps script config entries after e is left) ∙ some) in
           (legal_open script config after.world e (length entries) legal left, legal)
     ]
 
@@ -131,5 +104,5 @@ goes_on script config entries after e is some =
 pub goes_on_while_open : (script : Script) (config : Config) (entries : List Entry) (after : Run) (e : Entry) → run script config entries ≡ Some after → (is_some (run script config (entries ++ e ∷ [])) ≡ true) ↔ IsLegalWhileOpen script config entries after e
 goes_on_while_open script config entries after e is = (
   goes_on script config entries after e is,
-  λ allowed. more_legal script config entries after e is (open_left script config after.world (length entries) allowed.0) ∙ allowed.1,
+  λ allowed. more_steps script config entries after e is (open_left script config after.world (length entries) allowed.0) ∙ ap is_some (legal_steps script config after.world e allowed.1),
 )

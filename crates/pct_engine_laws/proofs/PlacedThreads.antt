@@ -3,7 +3,7 @@ use Rattle.std.proofs.Common.{◌≡◌, ℕ, ◌<◌, true, not, ◌&&◌, List
 use Rattle.std.proofs.lemmas.Bool.{and_parts}
 use Rattle.std.proofs.lemmas.List.Elements.{filter_passes, All-weaker}
 use Rattle.std.proofs.lemmas.Option.{slice_get_within, slice_get-map, same_Some, none-some}
-use Rattle.pct_model.specs.World.{Thread, Process, World}
+use Rattle.pct_model.specs.World.{Thread, Process, World, was_reaped}
 use Rattle.pct_model.specs.ThreadSlots.{holds_slot, slot_of, is_on}
 use Rattle.pct_engine_laws.specs.Seen.{SeenSlot, SeenProcess, seen_slot, seen_process, seen}
 use Rattle.pct_engine_laws.proofs.IndexedLists.{length-by_index, item_by_index}
@@ -51,5 +51,5 @@ placed_from slots (Some p) q e = subst (IsPlaced slots) (same_Some (seen_process
 -- the threads on each slot of each process that is kept of a state hold it
 pub processes_are_placed : (slots : ℕ) (w : World) (i : ℕ) (q : SeenProcess) → slice_get (seen slots w).processes i ≡ Some q → IsPlaced slots q
 processes_are_placed slots w i q found =
-    let left : List Process = filter (λ p. not p.reaped) w.processes in
+    let left : List Process = filter (λ p. not (was_reaped p.ended)) w.processes in
     placed_from slots (slice_get left i) q (sym (slice_get-map (seen_process slots) left i) ∙ found)

@@ -1,6 +1,6 @@
 -- The numbers of a run that is limited in its entries: of its threads and keys, and those in its entries.
 use Rattle.std.proofs.Common.{◌≡◌, ℕ, ◌+◌, ◌*◌, ◌<◌, ◌≤◌, Bool, true, false, not, ◌&&◌, cond, List, [], ◌∷◌, length, map, filter, count_by, get_or, Option, Some, None, inl, inr, refl, sym, ap, ◌∙◌, subst, arith, length-append, zero-add, eqb-true}
-use Rattle.std.specs.Prelude.{All, nat_eq, nat_le, is_none, find, option_map, option_and_then}
+use Rattle.std.specs.Prelude.{All, nat_eq, nat_le, find, option_map, option_and_then}
 use Rattle.std.specs.List.{list_any, range_with_len}
 use Rattle.std.proofs.lemmas.Bool.{false≢true, and_parts, or_cases, leb-true}
 use Rattle.std.proofs.lemmas.List.{length-map}
@@ -9,9 +9,7 @@ use Rattle.std.proofs.lemmas.List.FromFn.{length-range_with_len, get_or-range_wi
 use Rattle.std.proofs.lemmas.List.Sums.{count_by-le-length}
 use Rattle.std.proofs.lemmas.Option.{none-some, same_Some}
 use Rattle.std.proofs.Math.Nat.{mul-le-mul}
-use Rattle.pct_model.specs.declared.limits.TheConstants.{MAX_BUDGET, MIN_PASSES, MAX_PASSES, MAX_SLOTS, MAX_WORKER}
-use Rattle.pct_model.specs.declared.other_threads.Query.{Query}
-use Rattle.pct_model.specs.declared.other_threads.Query.TheVariants as query
+use Rattle.pct_model.specs.declared.limits.TheConstants.{MAX_BUDGET, MIN_PASSES, MAX_PASSES, MAX_SLOTS}
 use Rattle.pct_model.specs.declared.script.Script.{Script}
 use Rattle.pct_model.specs.declared.schedule.Alt.{Alt}
 use Rattle.pct_model.specs.declared.schedule.Alt.TheVariants as alt
@@ -23,20 +21,20 @@ use Rattle.pct_model.specs.declared.transition.Action.TheVariants as action
 use Rattle.pct_model.specs.declared.transition.NewThread.{NewThread}
 use Rattle.pct_model.specs.declared.transition.Transition.{Transition}
 use Rattle.pct_model.specs.Keys.{KeyPlace, new_keys, left_keys}
-use Rattle.pct_model.specs.World.{Thread, Process, World, first_process, opening}
-use Rattle.pct_model.specs.Actions.{shared_after, process_after, has_ended, other_process_after, for_each, thread_moved, thread_created, threads_moved, changed, is_live_process, after_transition}
+use Rattle.pct_model.specs.World.{Thread, ProcessEnd, Process, World, first_process, opening}
+use Rattle.pct_model.specs.Actions.{shared_after, process_after, has_ended, orphaned, other_process_after, for_each, thread_moved, thread_created, threads_moved, changed, is_live_process, after_transition}
 use Rattle.pct_model.specs.ChoiceTable.{choices_of, offers}
 use Rattle.pct_model.specs.NextStatement.{NextStatement, next_of, body_at}
-use Rattle.pct_model.specs.OtherThreads.{Others, query_at, answer_to, others_of}
-use Rattle.pct_model.specs.ThreadSlots.{holds_slot, is_on, is_free, next_id, free_ids, is_live_thread, with_id}
+use Rattle.pct_model.specs.OtherThreads.{Others, others_of}
+use Rattle.pct_model.specs.ThreadSlots.{holds_slot, is_on, is_free, next_id, free_ids, is_live_thread}
 use Rattle.pct_model.specs.TransitionTable.{transition_by}
-use Rattle.pct_model.specs.Step.{Successor, if_offered, step, transition_of}
+use Rattle.pct_model.specs.Step.{Successor, step}
 use Rattle.pct_model.specs.Run.{Run, run_step, run_from, run}
+use Rattle.pct_model.proofs.LegalSteps.{step_legal}
 use Rattle.pct_engine_laws.specs.RunNumbers.{IsChoiceWithin, IsEntryWithin}
 use Rattle.pct_engine_laws.proofs.LongerRuns.{run_parts, run_step-is, run_after}
 use Rattle.pct_engine_laws.proofs.KeyNumbers.{HasFewOn, new_keys_within, left_keys_within, few_keys_more, few_keys_after, no_keys_few}
 use Rattle.pct_engine_laws.proofs.WhatTransitionsMake.{Creates, MakesWith, transition_makes}
-use Rattle.pct_engine_laws.proofs.StepSeen.{successor_of, may_step}
 use Rattle.pct_engine_laws.proofs.ThreadChanges.{transition_keeps}
 use Rattle.pct_transition_cases.proofs.OfferedChoices.{Offered, may_go, may_act, may_create, may_make_key, may_destroy, offered_of}
 
@@ -74,11 +72,6 @@ free_within slots n threads few within =
     subst (λ (s : ℕ). next_id slots threads s ≤ 64 + 64 * n) at
     (next_within slots (count_by (is_on slots i) threads) i (length threads) n few below (count_by-le-length (is_on slots i) threads) within))))
 
-asked_within : (slots tid n : ℕ) (threads : List Thread) (q : Query) → slots ≤ 64 → length threads ≤ n → All (λ (id : ℕ). id ≤ 64 + 64 * n) (answer_to slots tid threads q).new_ids
-unfolding answer_to
-asked_within slots tid n threads query.NewIds few within = free_within slots n threads few within
-asked_within slots tid n threads _ few within = All-nil (λ (id : ℕ). id ≤ 64 + 64 * n)
-
 -- ---- the numbers of a choice
 
 -- what all numbers have, one among them has
@@ -98,21 +91,26 @@ case_within limit keys t others ids made left (may_make_key frame result key des
 case_within limit keys t others ids made left (may_destroy next k none among) = all_among (λ (n : ℕ). n ≤ limit) k (left_keys keys t.specific) left among
 
 module _ (script : Script) (config : Config) (p : Process) (t : Thread) (choice : Alt) (n : ℕ) (slots : config.slots ≤ 64) (has : HasFew n p.pid p.threads p.shared.keys) (offered : offers (choices_of script config p t) choice ≡ true) where
-  ids_within : All (λ (id : ℕ). id ≤ 64 + 64 * n) (others_of script config p t).new_ids
-  ids_within = asked_within config.slots t.id n p.threads (query_at p.shared (next_of script t.frames) t.status) slots has.few
+  -- what it sees of the others
+  abbrev others : Others
+  others = others_of config.slots p.threads t.id
+
+  ids_within : All (λ (id : ℕ). id ≤ 64 + 64 * n) others.new_ids
+  unfolding others_of
+  ids_within = free_within config.slots n p.threads slots has.few
 
   -- a choice that the thread is offered
   choice_within : IsChoiceWithin (128 + 128 * n) choice
   choice_within =
-      let more : All (λ (id : ℕ). id ≤ 128 + 128 * n) (others_of script config p t).new_ids = All-weaker (λ (id : ℕ). id ≤ 64 + 64 * n) (λ id. id ≤ 128 + 128 * n) (λ id small. omega (arith, small)) (others_of script config p t).new_ids ids_within in
-      case_within (128 + 128 * n) p.shared.keys t (others_of script config p t) more (new_keys_within n p.shared.keys has.keys_few) (left_keys_within n p.shared.keys has.keys_few t.specific)
-      (offered_of p.shared.keys t (others_of script config p t) choice (next_of script t.frames) t.status offered)
+      let more : All (λ (id : ℕ). id ≤ 128 + 128 * n) others.new_ids = All-weaker (λ (id : ℕ). id ≤ 64 + 64 * n) (λ id. id ≤ 128 + 128 * n) (λ id small. omega (arith, small)) others.new_ids ids_within in
+      case_within (128 + 128 * n) p.shared.keys t others more (new_keys_within n p.shared.keys has.keys_few) (left_keys_within n p.shared.keys has.keys_few t.specific)
+      (offered_of p.shared.keys t others choice (next_of script t.frames) t.status offered)
 
   -- what its transition makes
   made_within : MakesWithin n (transition_by script config p t choice)
   made_within =
-      transition_makes (λ id. id ≤ 64 + 64 * n) (λ k. k ≤ 128 + 128 * n) config.passes (body_at script t.frames) p.shared t (others_of script config p t)
-      (λ id among. all_among (λ (i : ℕ). i ≤ 64 + 64 * n) id (others_of script config p t).new_ids ids_within among)
+      transition_makes (λ id. id ≤ 64 + 64 * n) (λ k. k ≤ 128 + 128 * n) config.passes (body_at script t.frames) p.shared t others
+      (λ id among. all_among (λ (i : ℕ). i ≤ 64 + 64 * n) id others.new_ids ids_within among)
       (λ k among. all_among (λ (i : ℕ). i ≤ 128 + 128 * n) k (new_keys p.shared.keys) (new_keys_within n p.shared.keys has.keys_few) among)
       choice (next_of script t.frames) t.status offered
 
@@ -138,14 +136,14 @@ own_same : (actions : List Action) (p : Process) → numbered (for_each process_
 own_same [] p = refl
 own_same (a ∷ actions) p = own_same actions (process_after a p) ∙ own_action_same a p
 
-same_if : (child ended : Bool) (p : Process) → numbered (cond child (cond ended (record p { reaped = true }) (record p { parent = 0 })) p) ≡ numbered p
-same_if true true p = refl
-same_if true false p = refl
-same_if false ended p = refl
+same_if : (child : Bool) (end : Option ProcessEnd) (p : Process) → numbered (cond child (orphaned end p) p) ≡ numbered p
+same_if true None p = refl
+same_if true (Some end) p = refl
+same_if false end p = refl
 
 other_action_same : (pid : ℕ) (a : Action) (p : Process) → numbered (other_process_after pid a p) ≡ numbered p
 unfolding other_process_after
-other_action_same pid (action.EndProcess n) p = same_if (nat_eq p.parent pid) (has_ended p) p
+other_action_same pid (action.EndProcess n) p = same_if (nat_eq p.parent pid) p.ended p
 other_action_same pid _ p = refl
 
 other_same : (pid : ℕ) (actions : List Action) (p : Process) → numbered (for_each (other_process_after pid) actions p) ≡ numbered p
@@ -220,41 +218,27 @@ record StepsWithin (n : ℕ) (e : Entry) (w : World) : Type 0 where
   numbers : IsEntryWithin (128 + 128 * n) e
   few : AllHaveFew (n + 1) w
 
-module _ (script : Script) (config : Config) (n : ℕ) (w : World) (e : Entry) (slots : config.slots ≤ 64) (has : AllHaveFew n w) (may : may_step w e ≡ true) where
-  offered_within : (p : Process) (t : Thread) (o : Transition) (b : Bool) → HasFewIn n p × (is_live_process e.pid p ≡ true) → (t.id ≤ 64 + 64 * n) × (is_live_thread e.tid t ≡ true) → offers (choices_of script config p t) e.alt ≡ b → cond b (Some (transition_by script config p t e.alt)) None ≡ Some o → StepsWithin n e (successor_of w e o).world
-  offered_within p t o true process thread offered is =
-      let makes : MakesWithin n o = subst (MakesWithin n) (same_Some (transition_by script config p t e.alt) o is) (made_within script config p t e.alt n slots process.0 offered) in
-      let pid : p.pid ≡ e.pid = eqb-true p.pid e.pid (and_parts (nat_eq p.pid e.pid) (not (has_ended p)) process.1).0 in
-      let tid : t.id ≡ e.tid = eqb-true t.id e.tid (and_parts (nat_eq t.id e.tid) (holds_slot t) thread.1).0 in
-      record {
-        numbers = record {
-          worker = leb-true e.worker MAX_WORKER (and_parts (is_none w.stop) (nat_le e.worker MAX_WORKER) may).1;
-          pid = omega (arith, pid, process.0.pid_few);
-          tid = omega (arith, tid, thread.0);
-          choice = choice_within script config p t e.alt n slots process.0 offered;
-        };
-        few = few_after n e.pid e.tid o w makes has;
-      }
-  offered_within p t o false process thread offered is = absurd (none-some o is)
-
-  thread_within : (p : Process) (t : Option Thread) (o : Transition) → HasFewIn n p × (is_live_process e.pid p ≡ true) → with_id e.tid p.threads ≡ t → option_and_then (if_offered script config p e) t ≡ Some o → StepsWithin n e (successor_of w e o).world
-  thread_within p (Some t) o process at is = offered_within p t o (offers (choices_of script config p t) e.alt) process (found_all (λ (x : Thread). x.id ≤ 64 + 64 * n) (is_live_thread e.tid) p.threads t at process.0.ids) refl is
-  thread_within p None o process at is = absurd (none-some o is)
-
-  process_within : (p : Option Process) (o : Transition) → find (is_live_process e.pid) w.processes ≡ p → option_and_then (λ (x : Process). option_and_then (if_offered script config x e) (with_id e.tid x.threads)) p ≡ Some o → StepsWithin n e (successor_of w e o).world
-  process_within (Some p) o at is = thread_within p (with_id e.tid p.threads) o (found_all (HasFewIn n) (is_live_process e.pid) w.processes p at has) refl is
-  process_within None o at is = absurd (none-some o is)
-
-step_by : (script : Script) (config : Config) (n : ℕ) (w : World) (e : Entry) (may : Bool) (o : Option Transition) (s : Successor) → config.slots ≤ 64 → may_step w e ≡ may → transition_of script config w e ≡ o → cond may (option_map (successor_of w e) o) None ≡ Some s → AllHaveFew n w → StepsWithin n e s.world
-step_by script config n w e true (Some o) s slots may taken is has =
-    subst (λ (x : Successor). StepsWithin n e x.world) (same_Some (successor_of w e o) s is) (process_within script config n w e slots has may (find (is_live_process e.pid) w.processes) o refl taken)
-step_by script config n w e true None s slots may taken is has = absurd (none-some s is)
-step_by script config n w e false o s slots may taken is has = absurd (none-some s is)
-
 -- a step
 step_within : (script : Script) (config : Config) (n : ℕ) (w : World) (e : Entry) (s : Successor) → config.slots ≤ 64 → step script config w e ≡ Some s → AllHaveFew n w → StepsWithin n e s.world
-unfolding step
-step_within script config n w e s slots is has = step_by script config n w e (may_step w e) (transition_of script config w e) s slots refl refl is has
+step_within script config n w e s slots is has =
+    let made = step_legal script config w e s is in
+    let legal = made.0 in
+    let p = legal.process in
+    let t = legal.thread in
+    let process = found_all (HasFewIn n) (is_live_process e.pid) w.processes p legal.live has in
+    let thread = found_all (λ (x : Thread). x.id ≤ 64 + 64 * n) (is_live_thread e.tid) p.threads t legal.holds process.0.ids in
+    let pid : p.pid ≡ e.pid = eqb-true p.pid e.pid (and_parts (nat_eq p.pid e.pid) (not (has_ended p)) process.1).0 in
+    let tid : t.id ≡ e.tid = eqb-true t.id e.tid (and_parts (nat_eq t.id e.tid) (holds_slot t) thread.1).0 in
+    subst (λ (x : Successor). StepsWithin n e x.world) made.1
+    (record {
+      numbers = record {
+        worker = legal.worker;
+        pid = omega (arith, pid, process.0.pid_few);
+        tid = omega (arith, tid, thread.0);
+        choice = choice_within script config p t e.alt n slots process.0 legal.offered;
+      };
+      few = few_after n e.pid e.tid (transition_by script config p t e.alt) w (made_within script config p t e.alt n slots process.0 legal.offered) has;
+    })
 
 -- ---- runs
 

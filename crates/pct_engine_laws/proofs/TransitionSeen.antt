@@ -1,12 +1,13 @@
 -- The transition of an entry depends only on what is kept of the state.
-use Rattle.std.proofs.Common.{◌≡◌, ℕ, ◌<◌, Bool, true, false, not, ◌&&◌, ◌||◌, List, map, filter, find, Option, Some, None, is_some, nat_eq, option_map, option_and_then, refl, sym, ap, ◌∙◌}
+use Rattle.std.proofs.Common.{◌≡◌, ℕ, ◌<◌, Bool, true, false, not, ◌&&◌, List, map, filter, find, Option, Some, None, is_some, nat_eq, option_map, option_and_then, refl, sym, ap, ◌∙◌}
+use mathlib.Core.Bool.{and-false}
 use Rattle.std.specs.Prelude.{if◌then◌else◌}
 use Rattle.std.proofs.Math.Path.{fun_ext}
 use Rattle.pct_model.specs.declared.script.Script.{Script}
 use Rattle.pct_model.specs.declared.schedule.Config.{Config}
 use Rattle.pct_model.specs.declared.schedule.Entry.{Entry}
 use Rattle.pct_model.specs.declared.transition.Transition.{Transition}
-use Rattle.pct_model.specs.World.{Thread, Process, World}
+use Rattle.pct_model.specs.World.{Thread, ProcessEnd, Process, World, was_reaped}
 use Rattle.pct_model.specs.ThreadSlots.{with_id}
 use Rattle.pct_model.specs.NextStatement.{next_of, body_at}
 use Rattle.pct_model.specs.OtherThreads.{Others}
@@ -24,7 +25,7 @@ use Rattle.pct_engine_laws.proofs.AnswerSeen.{thread_seen, others_seen}
 -- the transition of a thread by an entry
 pub offered_seen : (script : Script) (config : Config) (p : Process) (e : Entry) (t : Thread) → 0 < config.slots → if_offered script config p e t ≡ if_offered_in script config.slots config.passes (seen_process config.slots p) e t
 offered_seen script config p e t some =
-    ap (λ (others : Others). if offers (choices_at p.shared.keys t others (next_of script t.frames) t.status) e.alt then Some (acts_or e.alt t.status (transition_at config.passes (body_at script t.frames) p.shared t others e.alt (next_of script t.frames) t.status)) else None) (others_seen script config p t some)
+    ap (λ (others : Others). if offers (choices_at p.shared.keys t others (next_of script t.frames) t.status) e.alt then Some (acts_or e.alt t.status (transition_at config.passes (body_at script t.frames) p.shared t others e.alt (next_of script t.frames) t.status)) else None) (others_seen config.slots t.id p.threads some)
 
 -- the transition of an entry by a process
 pub taken_seen : (script : Script) (config : Config) (e : Entry) (p : Process) → 0 < config.slots → option_and_then (if_offered script config p e) (with_id e.tid p.threads) ≡ option_and_then (if_offered_in script config.slots config.passes (seen_process config.slots p) e) (thread_with config.slots e.tid (seen_process config.slots p).slots)
@@ -34,18 +35,18 @@ taken_seen script config e p some =
 
 -- ---- processes
 
-not_ended : (reaped named ended : Bool) → (not reaped && (named && not ended)) ≡ (named && not (reaped || ended))
-not_ended false named ended = refl
-not_ended true true ended = refl
-not_ended true false ended = refl
+not_ended : (named : Bool) (end : Option ProcessEnd) → (not (was_reaped end) && (named && not (is_some (option_map (λ x. x.status) end)))) ≡ (named && not (is_some end))
+not_ended named None = refl
+not_ended true (Some end) = and-false (not end.reaped)
+not_ended false (Some end) = and-false (not end.reaped)
 
 -- the process with an id that has not ended is found among those that are kept
-pub process_found : (slots pid : ℕ) (ps : List Process) → find (is_live_seen pid) (map (seen_process slots) (filter (λ p. not p.reaped) ps)) ≡ option_map (seen_process slots) (find (is_live_process pid) ps)
+pub process_found : (slots pid : ℕ) (ps : List Process) → find (is_live_seen pid) (map (seen_process slots) (filter (λ p. not (was_reaped p.ended)) ps)) ≡ option_map (seen_process slots) (find (is_live_process pid) ps)
 process_found slots pid ps =
-    find-map (is_live_seen pid) (seen_process slots) (filter (λ p. not p.reaped) ps)
+    find-map (is_live_seen pid) (seen_process slots) (filter (λ p. not (was_reaped p.ended)) ps)
     ∙ ap (option_map (seen_process slots))
-    (find-filter (λ (p : Process). nat_eq p.pid pid && not (is_some p.ended)) (λ p. not p.reaped) ps
-    ∙ find_agree (λ p. not p.reaped && (nat_eq p.pid pid && not (is_some p.ended))) (is_live_process pid) (λ p. not_ended p.reaped (nat_eq p.pid pid) (is_some p.ended)) ps)
+    (find-filter (λ (p : Process). is_live_seen pid (seen_process slots p)) (λ p. not (was_reaped p.ended)) ps
+    ∙ find_agree (λ p. not (was_reaped p.ended) && is_live_seen pid (seen_process slots p)) (is_live_process pid) (λ p. not_ended (nat_eq p.pid pid) p.ended) ps)
 
 -- ---- the transition
 

@@ -1,5 +1,6 @@
 -- The verdict depends only on what is kept of the state.
-use Rattle.std.proofs.Common.{◌≡◌, ℕ, ◌<◌, Bool, true, false, not, ◌&&◌, ◌||◌, cond, List, map, filter, Option, Some, None, is_some, nat_eq, refl, sym, ap, ◌∙◌}
+use Rattle.std.proofs.Common.{◌≡◌, ℕ, ◌<◌, Bool, not, ◌&&◌, ◌||◌, cond, List, map, filter, Option, Some, None, is_some, nat_eq, option_map, refl, sym, ap, ◌∙◌}
+use mathlib.Core.Bool.{and-false, or-true}
 use Rattle.std.specs.List.{list_any, list_all}
 use Rattle.std.proofs.lemmas.List.Folds.{list_all-map}
 use Rattle.pct_model.specs.declared.script.Script.{Script}
@@ -8,7 +9,7 @@ use Rattle.pct_model.specs.declared.schedule.Config.{Config}
 use Rattle.pct_model.specs.declared.stop.Why.{Why}
 use Rattle.pct_model.specs.declared.stop.Verdict.{Verdict}
 use Rattle.pct_model.specs.declared.stop.Verdict.TheVariants.{Complete, Deadlock, Budget, Open}
-use Rattle.pct_model.specs.World.{Thread, Process, World}
+use Rattle.pct_model.specs.World.{Thread, ProcessEnd, Process, World, was_reaped}
 use Rattle.pct_model.specs.ThreadSlots.{holds_slot}
 use Rattle.pct_model.specs.ChoiceTable.{is_enabled}
 use Rattle.pct_model.specs.Actions.{has_ended}
@@ -20,38 +21,37 @@ use Rattle.pct_engine_laws.proofs.AnswerSeen.{threads_seen, any_by_slot, choices
 
 -- ---- processes
 
-ready_by : (reaped ended : Bool) (ready ready_in : Bool) → ready_in ≡ ready → (not reaped && (not ended && ready_in)) ≡ (not (reaped || ended) && ready)
-ready_by true ended ready ready_in e = refl
-ready_by false true ready ready_in e = refl
-ready_by false false ready ready_in e = e
+ready_by : (end : Option ProcessEnd) (ready ready_in : Bool) → ready_in ≡ ready → (not (was_reaped end) && (not (is_some (option_map (λ x. x.status) end)) && ready_in)) ≡ (not (is_some end) && ready)
+ready_by None ready ready_in e = e
+ready_by (Some end) ready ready_in e = and-false (not end.reaped)
 
 -- a process has a thread that is ready
-pub ready_seen : (script : Script) (config : Config) (p : Process) → 0 < config.slots → (not p.reaped && has_ready_in script config.slots (seen_process config.slots p)) ≡ has_ready script config p
+pub ready_seen : (script : Script) (config : Config) (p : Process) → 0 < config.slots → (not (was_reaped p.ended) && has_ready_in script config.slots (seen_process config.slots p)) ≡ has_ready script config p
 ready_seen script config p some =
     let kept : SeenProcess = seen_process config.slots p in
     let ready : Thread → Bool = is_ready_in script config.slots kept in
-    ready_by p.reaped (is_some p.ended) (list_any (is_ready script config p) p.threads) (list_any ready (threads_on kept.slots))
+    ready_by p.ended (list_any (is_ready script config p) p.threads) (list_any ready (threads_on kept.slots))
     (ap (list_any ready) (threads_seen config.slots p.threads)
     ∙ any_by_slot config.slots ready p.threads some
     ∙ any_agree (λ t. holds_slot t && ready t) (is_ready script config p) (λ t. ap (λ (choices : List Alt). holds_slot t && is_enabled choices) (sym (choices_seen script config p t some))) p.threads)
 
 -- some process has a thread that is ready
-pub some_ready_seen : (script : Script) (config : Config) (ps : List Process) → 0 < config.slots → list_any (has_ready_in script config.slots) (map (seen_process config.slots) (filter (λ p. not p.reaped) ps)) ≡ list_any (has_ready script config) ps
+pub some_ready_seen : (script : Script) (config : Config) (ps : List Process) → 0 < config.slots → list_any (has_ready_in script config.slots) (map (seen_process config.slots) (filter (λ p. not (was_reaped p.ended)) ps)) ≡ list_any (has_ready script config) ps
 some_ready_seen script config ps some =
-    any-map (has_ready_in script config.slots) (seen_process config.slots) (filter (λ p. not p.reaped) ps)
-    ∙ any-filter (λ p. has_ready_in script config.slots (seen_process config.slots p)) (λ p. not p.reaped) ps
-    ∙ any_agree (λ p. not p.reaped && has_ready_in script config.slots (seen_process config.slots p)) (has_ready script config) (λ p. ready_seen script config p some) ps
+    any-map (has_ready_in script config.slots) (seen_process config.slots) (filter (λ p. not (was_reaped p.ended)) ps)
+    ∙ any-filter (λ p. has_ready_in script config.slots (seen_process config.slots p)) (λ p. not (was_reaped p.ended)) ps
+    ∙ any_agree (λ p. not (was_reaped p.ended) && has_ready_in script config.slots (seen_process config.slots p)) (has_ready script config) (λ p. ready_seen script config p some) ps
 
-ended_by : (reaped ended : Bool) → (not (not reaped) || ended) ≡ (reaped || ended)
-ended_by true ended = refl
-ended_by false ended = refl
+ended_by : (end : Option ProcessEnd) → (not (not (was_reaped end)) || is_some (option_map (λ x. x.status) end)) ≡ is_some end
+ended_by None = refl
+ended_by (Some end) = or-true (not (not end.reaped))
 
 -- each process has ended
-pub all_ended_seen : (slots : ℕ) (ps : List Process) → list_all (λ p. is_some p.ended) (map (seen_process slots) (filter (λ p. not p.reaped) ps)) ≡ list_all has_ended ps
+pub all_ended_seen : (slots : ℕ) (ps : List Process) → list_all (λ p. is_some p.ended) (map (seen_process slots) (filter (λ p. not (was_reaped p.ended)) ps)) ≡ list_all has_ended ps
 all_ended_seen slots ps =
-    list_all-map (λ (p : SeenProcess). is_some p.ended) (seen_process slots) (filter (λ p. not p.reaped) ps)
-    ∙ all-filter (λ (p : Process). is_some p.ended) (λ p. not p.reaped) ps
-    ∙ all_agree (λ p. not (not p.reaped) || is_some p.ended) has_ended (λ p. ended_by p.reaped (is_some p.ended)) ps
+    list_all-map (λ (p : SeenProcess). is_some p.ended) (seen_process slots) (filter (λ p. not (was_reaped p.ended)) ps)
+    ∙ all-filter (λ (p : Process). is_some (option_map (λ x. x.status) p.ended)) (λ p. not (was_reaped p.ended)) ps
+    ∙ all_agree (λ p. not (not (was_reaped p.ended)) || is_some (option_map (λ x. x.status) p.ended)) has_ended (λ p. ended_by p.ended) ps
 
 -- ---- the verdict
 

@@ -1,7 +1,7 @@
 -- What an engine keeps of a state of the machine: the processes that are not reaped and, of each, the threads that hold a
 -- slot, slot by slot. As long as no process forks, legality, transitions, verdicts and the choices of the scheduler depend on
 -- nothing else.
-use Rattle.std.specs.Prelude.{ℕ, ◌+◌, Bool, not, ◌&&◌, if◌then◌else◌, List, [], ◌∷◌, ◌++◌, map, filter, flat_map, count_by, Option, Some, None, is_some, nat_eq, slice_get, slice_set}
+use Rattle.std.specs.Prelude.{ℕ, ◌+◌, Bool, not, ◌&&◌, if◌then◌else◌, List, [], ◌∷◌, ◌++◌, length, map, filter, flat_map, count_by, Option, Some, None, is_some, nat_eq, slice_get, slice_set, option_map}
 use Rattle.std.specs.Option.{option_map_or}
 use Rattle.std.specs.List.{range_with_len}
 use Rattle.pct_model.specs.declared.stop.Why.{Why}
@@ -9,7 +9,7 @@ use Rattle.pct_model.specs.declared.transition.Action.{Action}
 use Rattle.pct_model.specs.declared.transition.Action.TheVariants as action
 use Rattle.pct_model.specs.declared.transition.NewThread.{NewThread}
 use Rattle.pct_model.specs.declared.transition.Transition.{Transition}
-use Rattle.pct_model.specs.World.{Thread, SharedState, Process, World}
+use Rattle.pct_model.specs.World.{Thread, SharedState, Process, World, was_reaped}
 use Rattle.pct_model.specs.ThreadSlots.{holds_slot, slot_of, is_on}
 use Rattle.pct_model.specs.Actions.{shared_after, stop_after, for_each, thread_moved, thread_created}
 
@@ -27,9 +27,10 @@ pub record SeenProcess : Type 0 where
   pub slots : List SeenSlot
   pub shared : SharedState
 
--- the part of a state that is kept
+-- the part of a state that is kept: these processes, the number of processes ever made, and the stop
 pub record Seen : Type 0 where
   pub processes : List SeenProcess
+  pub made : ℕ
   pub stop : Option Why
 
 -- ---- of a state
@@ -40,11 +41,11 @@ seen_slot slots threads s = record { made = count_by (is_on slots s) threads; he
 
 -- a process
 abbrev pub seen_process : ℕ → Process → SeenProcess
-seen_process slots p = record { pid = p.pid; parent = p.parent; restricted = p.restricted; ended = p.ended; slots = map (seen_slot slots p.threads) (range_with_len 0 slots); shared = p.shared }
+seen_process slots p = record { pid = p.pid; parent = p.parent; restricted = p.restricted; ended = option_map (λ end. end.status) p.ended; slots = map (seen_slot slots p.threads) (range_with_len 0 slots); shared = p.shared }
 
 -- a state
 abbrev pub seen : ℕ → World → Seen
-seen slots w = record { processes = map (seen_process slots) (filter (λ p. not p.reaped) w.processes); stop = w.stop }
+seen slots w = record { processes = map (seen_process slots) (filter (λ p. not (was_reaped p.ended)) w.processes); made = length w.processes; stop = w.stop }
 
 -- ---- after a transition
 
@@ -93,4 +94,4 @@ is_live_seen pid p = nat_eq p.pid pid && not (is_some p.ended)
 
 -- all after a transition of thread tid of process pid
 unfoldable pub seen_after : ℕ → ℕ → ℕ → Transition → Seen → Seen
-seen_after slots pid tid o v = record { processes = flat_map (λ p. if is_live_seen pid p then own_process_seen slots tid o p else other_process_seen pid o p) v.processes; stop = for_each stop_after o.actions v.stop }
+seen_after slots pid tid o v = record { processes = flat_map (λ p. if is_live_seen pid p then own_process_seen slots tid o p else other_process_seen pid o p) v.processes; made = v.made; stop = for_each stop_after o.actions v.stop }

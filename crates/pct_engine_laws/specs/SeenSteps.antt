@@ -5,9 +5,6 @@ use Rattle.pct_model.specs.declared.script.Script.{Script}
 use Rattle.pct_model.specs.declared.schedule.Alt.{Alt}
 use Rattle.pct_model.specs.declared.schedule.Config.{Config}
 use Rattle.pct_model.specs.declared.schedule.Entry.{Entry}
-use Rattle.pct_model.specs.declared.other_threads.Query.{Query}
-use Rattle.pct_model.specs.declared.other_threads.Query.TheVariants as query
-use Rattle.pct_model.specs.declared.other_threads.Target.{Target}
 use Rattle.pct_model.specs.declared.stop.Why.{Why}
 use Rattle.pct_model.specs.declared.stop.Verdict.{Verdict}
 use Rattle.pct_model.specs.declared.stop.Verdict.TheVariants.{Complete, Deadlock, Budget, Undefined, Open}
@@ -15,7 +12,7 @@ use Rattle.pct_model.specs.declared.transition.Transition.{Transition}
 use Rattle.pct_model.specs.World.{Thread}
 use Rattle.pct_model.specs.ThreadSlots.{slot_of}
 use Rattle.pct_model.specs.NextStatement.{next_of, body_at}
-use Rattle.pct_model.specs.OtherThreads.{query_at, Others, is_joining, exit_value_of, no_answer}
+use Rattle.pct_model.specs.OtherThreads.{Others, is_joining}
 use Rattle.pct_model.specs.ChoiceTable.{choices_at, offers, is_enabled}
 use Rattle.pct_model.specs.TransitionTable.{transition_at, acts_or}
 use Rattle.pct_model.specs.Chosen.{Candidate, item_at, entry_for}
@@ -37,9 +34,9 @@ thread_with slots tid rows = option_and_then (thread_on tid) (slice_get rows (sl
 
 -- ---- what a thread sees of the others
 
--- the thread with an id, as a thread that names it sees it
-abbrev pub target_in : ℕ → ℕ → List SeenSlot → Option Target
-target_in slots id rows = option_map (λ t. record { detached = t.detached; joining = list_any (λ x. is_joining id x.status) (threads_on rows); value = exit_value_of t.status }) (thread_with slots id rows)
+-- a thread is suspended in pthread_join for this id
+abbrev pub is_joined_in : ℕ → List SeenSlot → Bool
+is_joined_in id rows = list_any (λ t. is_joining id t.status) (threads_on rows)
 
 -- there is no thread
 abbrev pub is_empty : List Thread → Bool
@@ -55,26 +52,23 @@ abbrev pub new_ids_from : ℕ → ℕ → List SeenSlot → List ℕ
 new_ids_from slots s [] = []
 new_ids_from slots s (row ∷ rows) = new_id_on slots s row ++ new_ids_from slots (s + 1) rows
 
--- the answer to a query of the thread with an id
-unfoldable pub answer_in : ℕ → ℕ → List SeenSlot → Query → Others
-answer_in slots tid rows query.Nothing = no_answer
-answer_in slots tid rows (query.Thread id) = record no_answer { target = target_in slots id rows }
-answer_in slots tid rows query.NewIds = record no_answer { new_ids = new_ids_from slots 0 rows }
-answer_in slots tid rows query.IsLast = record no_answer { is_last = list_all (λ t. t.ended || nat_eq t.id tid) (threads_on rows) }
+-- each thread but the one with this id has ended
+abbrev pub is_last_in : ℕ → List SeenSlot → Bool
+is_last_in id rows = list_all (λ t. t.ended || nat_eq t.id id) (threads_on rows)
 
--- what the next step of a thread of a process depends on
-abbrev pub others_in : Script → ℕ → SeenProcess → Thread → Others
-others_in script slots p t = answer_in slots t.id p.slots (query_at p.shared (next_of script t.frames) t.status)
+-- what the thread with an id sees of the others
+unfoldable pub others_in : ℕ → List SeenSlot → ℕ → Others
+others_in slots rows tid = record { named = λ id. thread_with slots id rows; another_joins = λ id. is_joined_in id rows; new_ids = new_ids_from slots 0 rows; is_last = is_last_in tid rows }
 
 -- ---- one thread
 
 -- the choices of a thread of a process
 abbrev pub choices_in : Script → ℕ → SeenProcess → Thread → List Alt
-choices_in script slots p t = choices_at p.shared.keys t (others_in script slots p t) (next_of script t.frames) t.status
+choices_in script slots p t = choices_at p.shared.keys t (others_in slots p.slots t.id) (next_of script t.frames) t.status
 
 -- what a thread of a process does by a choice, with this limit on the passes over destructors
 abbrev pub transition_in : Script → ℕ → ℕ → SeenProcess → Thread → Alt → Transition
-transition_in script slots passes p t choice = acts_or choice t.status (transition_at passes (body_at script t.frames) p.shared t (others_in script slots p t) choice (next_of script t.frames) t.status)
+transition_in script slots passes p t choice = acts_or choice t.status (transition_at passes (body_at script t.frames) p.shared t (others_in slots p.slots t.id) choice (next_of script t.frames) t.status)
 
 -- ---- transitions
 

@@ -437,7 +437,7 @@ is_not_opened body pc nests last =
     if_none (holds body is_end pc) (find (closes_at body pc) (range_with_len 0 (length body)))
     (none_found (closes_at body pc) 0 (length body) (λ i low high. not_at pc (close_of body i) (λ close is same. let w = close_within body i close nests is in let before = w.1 in absurd (omega (arith, before, same, last)))))
 
-close_at : (pc : ℕ) (o : Option ℕ) → option_map_or (nat_eq pc) o false ≡ true → o ≡ Some pc
+pub close_at : (pc : ℕ) (o : Option ℕ) → option_map_or (nat_eq pc) o false ≡ true → o ≡ Some pc
 close_at pc None is = absurd (false≢true is)
 close_at pc (Some close) is = ap Some (sym (eqb-true pc close is))
 
@@ -453,12 +453,16 @@ if_some : (b : Bool) (o : Option ℕ) (found : ℕ) → cond b o None ≡ Some f
 if_some true o found is = is
 if_some false o found is = absurd cc
 
+-- the `end` at pc closes the block that it closes by the table of openings
+pub close_of-open_of : (body : List Stmt) (pc opening : ℕ) → open_of body pc ≡ Some opening → close_of body opening ≡ Some pc
+unfolding open_of
+close_of-open_of body pc opening is =
+    close_at pc (close_of body opening) (some_passes (closes_at body pc) 0 (length body) opening (if_some (holds body is_end pc) (find (closes_at body pc) (range_with_len 0 (length body))) opening is))
+
 -- an `end` closes the block of an earlier statement
 pub opened_before : (body : List Stmt) (pc opening : ℕ) → are_nested (block.Function ∷ []) (map role_of body) ≡ true → open_of body pc ≡ Some opening → (opening < pc) × (holds body opens_block opening ≡ true)
-unfolding open_of
 opened_before body pc opening nests is =
-    let found = if_some (holds body is_end pc) (find (closes_at body pc) (range_with_len 0 (length body))) opening is in
-    let close = close_at pc (close_of body opening) (some_passes (closes_at body pc) 0 (length body) opening found) in
+    let close = close_of-open_of body pc opening is in
     ((close_within body opening pc nests close).0, opens_if_closed body opening pc close)
 
 holds_if : (b : Bool) (o : Option ℕ) (found : ℕ) → cond b o None ≡ Some found → b ≡ true

@@ -1,4 +1,5 @@
 pub mod Bytes
 pub mod FnArgumentKinds
+pub mod LegalSteps
 pub mod Runs
 pub mod StaticFacts

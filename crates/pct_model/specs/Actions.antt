@@ -1,7 +1,7 @@
 -- What a transition changes: the thread that makes it, a thread that it names, the state that the threads of its process share,
 -- the process, the other processes, and the run. The thread that makes it and its process are looked up once, before the first
 -- action.
-use Rattle.std.specs.Prelude.{ℕ, suc, Bool, true, not, ◌&&◌, ◌||◌, if◌then◌else◌, List, [], ◌∷◌, ◌++◌, map, Option, Some, None, is_some, nat_eq, slice_set}
+use Rattle.std.specs.Prelude.{ℕ, suc, Bool, true, not, ◌&&◌, if◌then◌else◌, List, [], ◌∷◌, ◌++◌, map, Option, Some, None, is_some, nat_eq, slice_set}
 use Rattle.pct_model.specs.declared.frame.Frame.{Frame}
 use Rattle.pct_model.specs.declared.state.FrameKind.TheVariants.{Start}
 use Rattle.pct_model.specs.declared.state.Status.TheVariants.{Running, AtPoint, Joining, Ending, Exiting, Ended}
@@ -14,7 +14,7 @@ use Rattle.pct_model.specs.declared.transition.NewThread.{NewThread}
 use Rattle.pct_model.specs.declared.transition.Transition.{Transition}
 use Rattle.pct_model.specs.Cancelability.{ending_state, ending_mode}
 use Rattle.pct_model.specs.Keys.{key_place, with_key, without_key, with_value, without_value, with_pass}
-use Rattle.pct_model.specs.World.{Thread, SharedState, Process, World, new_frame, new_thread}
+use Rattle.pct_model.specs.World.{Thread, SharedState, ProcessEnd, Process, World, new_frame, new_thread}
 use Rattle.pct_model.specs.ThreadSlots.{is_live_thread}
 
 -- ---- the thread
@@ -56,7 +56,6 @@ thread_after (action.SetState state) t = record t { state = state }
 thread_after (action.SetMode mode) t = record t { mode = mode }
 thread_after (action.BeginPoint index) t = record t { status = AtPoint index }
 thread_after (action.BeginJoin id) t = record t { status = Joining id }
-thread_after (action.CancelJoin id) t = record t { status = Running }
 thread_after (action.SetSpecific k v) t = record t { specific = with_value (key_place k) v t.specific }
 thread_after action.BeginPass t = record t { pass = suc t.pass; specific = with_pass t.specific }
 thread_after (action.TakeKey k) t = record t { specific = without_value (key_place k) t.specific }
@@ -101,20 +100,24 @@ shared_after _ s = s
 -- the process after an action: EndProcess ends it with a status; one without a parent is reaped as it ends, which is this host's
 -- choice
 unfoldable pub process_after : Action → Process → Process
-process_after (action.EndProcess n) p = record p { ended = Some n; reaped = nat_eq p.parent 0 }
+process_after (action.EndProcess n) p = record p { ended = Some (record { status = n; reaped = nat_eq p.parent 0 }) }
 process_after _ p = p
 
 -- ---- the other processes
 
--- the process has ended. A process that was reaped counts as ended in every state, also in one that no run reaches: so the
--- processes that are not reaped decide what may happen.
+-- the process has ended
 abbrev pub has_ended : Process → Bool
-has_ended p = p.reaped || is_some p.ended
+has_ended p = is_some p.ended
 
--- another process after an action of a thread of process pid: the children of a process that ends get another parent (XSH _exit).
--- This host's choice: they have none from then on, since no process inherits them, and a child that has ended is reaped then
+-- a process with this end, if it has ended, after its parent ended: it gets another parent (XSH _exit). This host's choice: it has
+-- none from then on, since no process inherits it; and one that has ended is reaped
+abbrev pub orphaned : Option ProcessEnd → Process → Process
+orphaned None p = record p { parent = 0 }
+orphaned (Some end) p = record p { ended = Some (record end { reaped = true }) }
+
+-- another process after an action of a thread of process pid
 unfoldable pub other_process_after : ℕ → Action → Process → Process
-other_process_after pid (action.EndProcess n) p = if nat_eq p.parent pid then if has_ended p then record p { reaped = true } else record p { parent = 0 } else p
+other_process_after pid (action.EndProcess n) p = if nat_eq p.parent pid then orphaned p.ended p else p
 other_process_after pid _ p = p
 
 -- ---- the run

@@ -119,5 +119,5 @@ passes_point index next = no_change
 unfoldable pub acts_on_request : Status → Transition
 acts_on_request status.Running = acts (action.BeginEnd Canceled ∷ []) (what.EndingCanceled ∷ [])
 acts_on_request (status.AtPoint index) = acts (action.BeginEnd Canceled ∷ []) (what.EndingCanceled ∷ [])
-acts_on_request (status.Joining id) = acts (action.CancelJoin id ∷ action.BeginEnd Canceled ∷ []) (what.EndingCanceled ∷ [])
+acts_on_request (status.Joining id) = acts (action.BeginEnd Canceled ∷ []) (what.EndingCanceled ∷ [])
 acts_on_request _ = no_change

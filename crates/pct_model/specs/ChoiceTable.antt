@@ -1,7 +1,7 @@
 -- The choices of the scheduler for each thread: its enabled transitions, in the order `go`, then the others by the slot of the
 -- thread or the place of the key that they name. A thread is enabled if it has a choice. Legality (Step.antt), deadlock
 -- (Run.antt) and the scheduler's choice (Chosen.antt) derive from this table.
-use Rattle.std.specs.Prelude.{ℕ, Bool, true, false, not, ◌&&◌, List, [], ◌∷◌, ◌++◌, if◌then◌else◌, map, is_some, nat_eq}
+use Rattle.std.specs.Prelude.{ℕ, Bool, true, false, not, ◌&&◌, List, [], ◌∷◌, ◌++◌, if◌then◌else◌, map, nat_eq}
 use Rattle.std.specs.List.{list_any}
 use Rattle.pct_model.specs.declared.script.Script.{Script}
 use Rattle.pct_model.specs.declared.statement.Stmt.{Stmt}
@@ -16,7 +16,7 @@ use Rattle.pct_model.specs.CancelCalls.{called_kind, is_required, is_optional, m
 use Rattle.pct_model.specs.Keys.{KeyPlace, new_keys, left_keys}
 use Rattle.pct_model.specs.World.{Thread, Process}
 use Rattle.pct_model.specs.NextStatement.{NextStatement, NoStatement, StatementIn, next_of}
-use Rattle.pct_model.specs.OtherThreads.{Others, target_is, others_of}
+use Rattle.pct_model.specs.OtherThreads.{Others, is_ended_thread, others_of}
 use Rattle.pct_model.specs.StopTable.{is_built}
 
 -- ---- parts of the table
@@ -37,8 +37,18 @@ ChoiceRow = Bool × List Alt
 
 -- the choices of the first row whose test holds, or else these
 abbrev pub first_row : List ChoiceRow → List Alt → List Alt
-first_row [] others = others
-first_row (row ∷ rows) others = if row.0 then row.1 else first_row rows others
+first_row [] otherwise = otherwise
+first_row (row ∷ rows) otherwise = if row.0 then row.1 else first_row rows otherwise
+
+-- the statement is pthread_create
+abbrev pub is_create : Stmt → Bool
+is_create (statement.Create result id f v detached) = true
+is_create _ = false
+
+-- the statement is pthread_key_create
+abbrev pub is_key_create : Stmt → Bool
+is_key_create (statement.KeyCreate result key destructor) = true
+is_key_create _ = false
 
 -- one of these ids for a new thread, or `go` if there is none
 abbrev pub new_or_go : List ℕ → List Alt
@@ -50,33 +60,32 @@ abbrev pub dtor_or_go : List ℕ → List Alt
 dtor_or_go [] = alt.Go ∷ []
 dtor_or_go (key ∷ keys) = alt.Dtor key ∷ map (λ n. alt.Dtor n) keys
 
--- the choices that a statement gives a running thread; a stop is a step too
-unfoldable pub statement_choices : List KeyPlace → Others → Stmt → List Alt
-statement_choices keys others (statement.Create result id f v detached) = new_or_go others.new_ids
-statement_choices keys others (statement.KeyCreate result key destructor) = new_or_go (new_keys keys)
-statement_choices keys others s = alt.Go ∷ []
-
 -- ---- the table
 
 module _ (keys : List KeyPlace) (t : Thread) (others : Others) where
-  -- what comes before the statement of a running thread: whether it is implemented, and what the thread's cancelability decides. The
-  -- first row whose test holds
-  unfoldable pub cancel_rows : Stmt → List ChoiceRow
-  cancel_rows s =
+  -- the rows of a running thread at a statement: the first one whose test holds decides. A statement that stops needs no row: a stop is
+  -- made by `go`, and pthread_create and pthread_key_create, the only statements whose choices are others, have no stop of their own
+  unfoldable pub running_rows : Stmt → List ChoiceRow
+  running_rows s =
       -- a statement that is not implemented is a stop
       (not (is_built s), alt.Go ∷ [])
       -- XSH 2.9.5.1: with asynchronous cancelability a pending request may be acted upon at any time; `go` is a stop at a call of a
       -- function that is not async-cancel-safe
       ∷ (is_asynchronous t.state t.mode, alt.Go ∷ act_if t.pending)
-      -- XSH 2.9.5.2: a function that shall be a cancellation point: a pending request is acted upon
+      -- XSH 2.9.5.2: a function that shall be a cancellation point: a pending request is acted upon before the function returns. That
+      -- this is at the call, before the thread is suspended, is a choice of this host
       ∷ (is_deliverable t.state t.pending && is_required (called_kind s), alt.Act 0 ∷ [])
       -- XSH 2.9.5.2: a function that may be a cancellation point
       ∷ (is_deliverable t.state t.pending && is_optional (called_kind s), alt.Go ∷ alt.Act 0 ∷ [])
+      -- XSH pthread_create: the new thread gets one of the ids that are free, or the call fails
+      ∷ (is_create s, new_or_go others.new_ids)
+      -- XSH pthread_key_create: the new key gets one of the places that are free, or the call fails
+      ∷ (is_key_create s, new_or_go (new_keys keys))
       ∷ []
 
   -- the choices of a running thread at a statement
   unfoldable pub running_choices : Stmt → List Alt
-  running_choices s = first_row (cancel_rows s) (statement_choices keys others s)
+  running_choices s = first_row (running_rows s) (alt.Go ∷ [])
 
   -- the choices of an ending thread, by its cleanup handlers: without one, the order in which the destructors of a pass are called
   -- is left to the scheduler (XSH 2.9.5.3, pthread_key_create)
@@ -90,7 +99,7 @@ module _ (keys : List KeyPlace) (t : Thread) (others : Others) where
   choices_at (StatementIn frame s) status.Running = running_choices s
   choices_at NoStatement status.Running = []
   choices_at next (status.AtPoint index) = go_if (may_pass index) ++ act_if (is_deliverable t.state t.pending)
-  choices_at next (status.Joining id) = go_if (target_is (λ target. is_some target.value) others.target) ++ act_if (is_deliverable t.state t.pending)
+  choices_at next (status.Joining id) = go_if (is_ended_thread id others) ++ act_if (is_deliverable t.state t.pending)
   choices_at next status.Ending = ending_choices t.handlers
   choices_at next status.Exiting = alt.Go ∷ []
   choices_at next (status.Ended v) = []
@@ -99,7 +108,7 @@ module _ (keys : List KeyPlace) (t : Thread) (others : Others) where
 
 -- the choices of a thread of a process
 abbrev pub choices_of : Script → Config → Process → Thread → List Alt
-choices_of script config p t = choices_at p.shared.keys t (others_of script config p t) (next_of script t.frames) t.status
+choices_of script config p t = choices_at p.shared.keys t (others_of config.slots p.threads t.id) (next_of script t.frames) t.status
 
 -- ---- membership
 

@@ -1,5 +1,6 @@
 -- The invariant of reachable states: what each state that a run reaches keeps, beside the events that led to it.
-use Rattle.std.specs.Prelude.{◌≡◌, ◌≢◌, ℕ, ◌+◌, ◌*◌, ◌<◌, Bool, true, false, not, ◌&&◌, ◌||◌, List, [], ◌∷◌, ◌++◌, length, map, Option, Some, None, is_some, nat_eq, slice_get, All}
+use Rattle.std.specs.Prelude.{◌≡◌, ◌≢◌, ℕ, ◌+◌, ◌*◌, ◌<◌, nat_eq, Bool, true, false, not, ◌&&◌, ◌||◌, Option, Some, None, is_some}
+use Rattle.std.specs.Prelude.{List, [], ◌∷◌, ◌++◌, length, map, slice_get, All}
 use Rattle.std.specs.List.{list_any}
 use Rattle.std.specs.Option.{option_map_or}
 use Rattle.pct_model.specs.declared.event.Event.{Event}
@@ -123,8 +124,9 @@ abbrev pub IsInPass : ℕ → Thread → Type 0
 IsInPass place t = slice_get t.specific.in_pass place ≡ Some true
 
 -- a thread has no value at a place, and the place is not in its pass
-abbrev pub IsEmptyAt : ℕ → Thread → Type 0
-IsEmptyAt place t = (value_at place t.specific ≡ 0) × ¬ (IsInPass place t)
+pub record IsEmptyAt (place : ℕ) (t : Thread) : Type 0 where
+  pub no_value : value_at place t.specific ≡ 0
+  pub not_in_pass : ¬ (IsInPass place t)
 
 -- the destructor of a key was called in a pass of a thread
 abbrev pub was_destroyed : ℕ → Key → ThreadSummary → Bool
@@ -183,16 +185,18 @@ pub record ThreadKept (script : Script) (keys : List KeyPlace) (t : Thread) (s :
 
 -- ---- keys
 
--- the key has the number of the last key that was made on its place
-abbrev pub HasLastNumber : ℕ → KeyPlace → Key → Type 0
-HasLastNumber place p key = (0 < p.made) × (1 + place + MAX_KEYS * p.made ≡ key.number + MAX_KEYS)
+-- the key on a place is the last one that was made there: the first one has the number 1 + place, and each other one MAX_KEYS more
+-- than the one before
+pub record IsLastMade (place : ℕ) (p : KeyPlace) (key : Key) : Type 0 where
+  pub was_made : 0 < p.made
+  pub number : 1 + place + MAX_KEYS * p.made ≡ key.number + MAX_KEYS
 
 -- the keys of a process
 pub record KeysKept (script : Script) (keys : List KeyPlace) : Type 0 where
   -- a process has MAX_KEYS places for keys
   pub places : length keys ≡ MAX_KEYS
   -- the key on a place is the last one that was made there
-  pub numbers : (place : ℕ) (p : KeyPlace) (key : Key) → slice_get keys place ≡ Some p → p.key ≡ Some key → HasLastNumber place p key
+  pub numbers : (place : ℕ) (p : KeyPlace) (key : Key) → slice_get keys place ≡ Some p → p.key ≡ Some key → IsLastMade place p key
   -- its destructor is a function of the script
   pub destructors : (place : ℕ) (key : Key) (f : ℕ) → IsOn keys place key → key.destructor ≡ Some f → IsFunction script f
 
@@ -217,7 +221,7 @@ EachThread w Is = (pid : ℕ) → EachThreadIn pid w (Is pid)
 -- ---- joins
 
 -- thread tid of process pid is suspended in pthread_join for thread id of the process
-pub record Joins (pid tid id : ℕ) (w : World) (events : List Event) : Type 0 where
+pub record IsSuspendedInJoin (pid tid id : ℕ) (w : World) (events : List Event) : Type 0 where
   -- its newest event is that of the call
   pub newest : newest_event pid tid events ≡ Some (Called join_point)
   -- the thread that it joins was made, is not gone, is another one, and is neither joined nor detached
@@ -255,6 +259,6 @@ pub record Kept (script : Script) (config : Config) (w : World) (events : List E
   pub joined : EachThread w (λ pid tid t. t.joined ≡ is_joined pid tid events)
   pub detached : EachThread w (λ pid tid t. t.detached ≡ is_detached pid tid events)
   -- each thread that is suspended in pthread_join
-  pub joins : EachThread w (λ pid tid t. (id : ℕ) → t.status ≡ status.Joining id → Joins pid tid id w events)
+  pub joins : EachThread w (λ pid tid t. (id : ℕ) → t.status ≡ status.Joining id → IsSuspendedInJoin pid tid id w events)
   -- if a thread exits its process after its own end, each thread of the process has ended (XSH pthread_exit)
   pub last : EachProcess w (λ pid p. EachThreadOf p (λ tid t. ExitsAfterItsEnd t (summary_of pid tid events) → HasOnlyEnded p))

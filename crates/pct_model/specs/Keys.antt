@@ -102,8 +102,8 @@ is_due places own place = option_map_or (λ key. is_some key.destructor) (key_at
 unfoldable pub due_places : List KeyPlace → KeyValues → List ℕ
 due_places places own = filter (is_due places own) (range_with_len 0 MAX_KEYS)
 
--- the data as a pass begins, which takes the places that have a value now; a key of the pass that has no destructor is never due. That
--- a pass takes no key that gets a value later is a choice of this host
+-- the data as a pass begins. It takes the places that have a value now, and of their keys those with a destructor are due. That a
+-- pass takes no key that gets a value later is a choice of this host
 abbrev pub with_pass : KeyValues → KeyValues
 with_pass own = record own { in_pass = map (λ value. not (nat_eq value 0)) own.values }
 

@@ -7,26 +7,41 @@ use Rattle.pct_model.specs.declared.event.Event.{Event}
 use Rattle.pct_model.specs.declared.event.What.{What}
 use Rattle.pct_model.specs.declared.event.What.TheVariants as what
 
--- ---- threads that are known
+-- ---- the events of a process and of a thread
+
+-- the event is one of process pid
+abbrev pub is_in : ℕ → Event → Bool
+is_in pid e = nat_eq e.pid pid
+
+-- the event is one of thread tid of process pid
+abbrev pub is_own : ℕ → ℕ → Event → Bool
+is_own pid tid e = nat_eq e.pid pid && nat_eq e.tid tid
 
 -- the event is a fork that makes the process with an id
 abbrev pub makes_process : ℕ → What → Bool
 makes_process pid (what.Forked child) = nat_eq child pid
 makes_process pid _ = false
 
+-- the event is the fork that makes process pid, by the thread of this id in the parent: thread tid of process pid is the replica of
+-- the thread that called fork, and has its id
+abbrev pub is_fork_of : ℕ → ℕ → Event → Bool
+is_fork_of pid tid e = nat_eq e.tid tid && makes_process pid e.what
+
+-- ---- threads that are known
+
 -- the event creates the thread with an id
 abbrev pub creates_id : ℕ → What → Bool
 creates_id tid (what.Created id detached) = nat_eq id tid
 creates_id tid _ = false
 
--- the event makes thread tid of process pid: it creates the thread, or is the fork of which the thread is the replica
-abbrev pub makes_thread : ℕ → ℕ → Event → Bool
-makes_thread pid tid e = (nat_eq e.pid pid && creates_id tid e.what) || (makes_process pid e.what && nat_eq e.tid tid)
-
--- thread tid of process pid is known: it is the initial thread, or an event makes it
+-- thread tid of process pid is known: it is the initial thread, an event of its process created it, or it is the replica of a thread
+-- that called fork
 abbrev pub is_known : ℕ → ℕ → List Event → Bool
 is_known pid tid [] = nat_eq 1 pid && nat_eq 1 tid
-is_known pid tid (e ∷ earlier) = makes_thread pid tid e || is_known pid tid earlier
+is_known pid tid (e ∷ earlier) =
+    if is_in pid e then creates_id tid e.what || is_known pid tid earlier
+    else if is_fork_of pid tid e then true
+    else is_known pid tid earlier
 
 -- ---- the end of their lifetimes
 
@@ -41,16 +56,18 @@ detaches_id tid _ = false
 abbrev pub is_detached : ℕ → ℕ → List Event → Bool
 is_detached pid tid [] = false
 is_detached pid tid (e ∷ earlier) =
-    (nat_eq e.pid pid && detaches_id tid e.what) || ((makes_process pid e.what && nat_eq e.tid tid && is_detached e.pid tid earlier) || is_detached pid tid earlier)
+    if is_in pid e then detaches_id tid e.what || is_detached pid tid earlier
+    else if is_fork_of pid tid e then is_detached e.pid tid earlier || is_detached pid tid earlier
+    else is_detached pid tid earlier
 
 -- the event is that of a join of the thread with an id
 abbrev pub joins_id : ℕ → What → Bool
 joins_id tid (what.Joined id v) = nat_eq id tid
 joins_id tid _ = false
 
--- thread tid of process pid was joined
+-- thread tid of process pid was joined by a thread of its process
 abbrev pub is_joined : ℕ → ℕ → List Event → Bool
-is_joined pid tid events = list_any (λ e. nat_eq e.pid pid && joins_id tid e.what) events
+is_joined pid tid events = list_any (λ e. is_in pid e && joins_id tid e.what) events
 
 -- the event is that of the end of a thread with a value
 abbrev pub ends_with : ℕ → What → Bool
@@ -64,7 +81,7 @@ reports_end _ = false
 
 -- thread tid of process pid has an event that passes a test
 abbrev pub has_own : (What → Bool) → ℕ → ℕ → List Event → Bool
-has_own test pid tid events = list_any (λ e. nat_eq e.pid pid && nat_eq e.tid tid && test e.what) events
+has_own test pid tid events = list_any (λ e. is_own pid tid e && test e.what) events
 
 -- the lifetime of the id of thread tid of process pid is over: the thread has ended, and was joined or is detached (XSH 2.9.2)
 abbrev pub is_reclaimed : ℕ → ℕ → List Event → Bool
@@ -75,4 +92,4 @@ is_reclaimed pid tid events = has_own reports_end pid tid events && (is_joined p
 -- the newest event of thread tid of process pid, if it has one
 abbrev pub newest_event : ℕ → ℕ → List Event → Option What
 newest_event pid tid [] = None
-newest_event pid tid (e ∷ earlier) = if nat_eq e.pid pid && nat_eq e.tid tid then Some e.what else newest_event pid tid earlier
+newest_event pid tid (e ∷ earlier) = if is_own pid tid e then Some e.what else newest_event pid tid earlier

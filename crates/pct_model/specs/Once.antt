@@ -44,7 +44,8 @@ module _ (passes : ℕ) where
   -- up to their limit (XSH pthread_key_create)
   MayCome (what.PassBegun n) s = HasBegunToEnd s × (s.handlers ≡ []) × (n ≡ suc s.passes) × (n ≤ passes)
   -- the destructor of a key is called in the current pass, with no open handler, and once in it (XSH pthread_key_create)
-  MayCome (what.DtorRun pass key f v) s = (pass ≡ s.passes) × (0 < pass) × (s.handlers ≡ []) × (list_any (is_pair pass key) s.destroyed ≡ false)
+  MayCome (what.DtorRun pass key f v) s =
+      (pass ≡ s.passes) × (0 < pass) × (s.handlers ≡ []) × (list_any (is_pair pass key) s.destroyed ≡ false)
   -- values with destructors are left only after the last pass (XSH pthread_key_create)
   MayCome (what.Leftover n) s = (0 < n) × (s.passes ≡ passes)
   -- the law asks nothing of the other events

@@ -16,7 +16,7 @@ use Rattle.pct_model.specs.Cancelability.{is_asynchronous}
 use Rattle.pct_model.specs.Jumps.{open_of}
 use Rattle.pct_model.specs.Keys.{key_with}
 use Rattle.pct_model.specs.World.{Thread, SharedState, value_of}
-use Rattle.pct_model.specs.OtherThreads.{Others, target_is}
+use Rattle.pct_model.specs.OtherThreads.{Others, no_live_thread, is_detached_thread}
 
 -- a test: whether a stop applies, and the stop
 abbrev pub StopTest : Type 0
@@ -109,19 +109,19 @@ module _ (body : List Stmt) (shared : SharedState) (t : Thread) (others : Others
   -- XSH 2.9.2: the lifetime of the thread id is over; an id that no thread ever had is treated alike. XSH pthread_join: a join of the
   -- calling thread, of a thread that is not joinable, or of one that another thread is joining is undefined
   stops_of frame (statement.Join id d) =
-      (is_none others.target, ThreadId)
+      (no_live_thread (value_of shared.globals frame id) others, ThreadId)
       ∷ (nat_eq (value_of shared.globals frame id) t.id, JoinSelf)
-      ∷ (target_is (λ target. target.detached) others.target, NotJoinable)
-      ∷ (target_is (λ target. target.joining) others.target, JoinTwice)
+      ∷ (is_detached_thread (value_of shared.globals frame id) others, NotJoinable)
+      ∷ (others.another_joins (value_of shared.globals frame id), JoinTwice)
       ∷ []
   -- XSH 2.9.2, pthread_detach; that a thread which another is joining may not be detached is a choice of this host
   stops_of frame (statement.Detach id) =
-      (is_none others.target, ThreadId)
-      ∷ (target_is (λ target. target.detached) others.target, NotJoinable)
-      ∷ (target_is (λ target. target.joining) others.target, DetachJoined)
+      (no_live_thread (value_of shared.globals frame id) others, ThreadId)
+      ∷ (is_detached_thread (value_of shared.globals frame id) others, NotJoinable)
+      ∷ (others.another_joins (value_of shared.globals frame id), DetachJoined)
       ∷ []
   -- XSH 2.9.2
-  stops_of frame (statement.CancelThread id) = (is_none others.target, ThreadId) ∷ []
+  stops_of frame (statement.CancelThread id) = (no_live_thread (value_of shared.globals frame id) others, ThreadId) ∷ []
   -- XSH 2.9.5.3: a cleanup handler or a destructor may not enable cancelability; that this includes a handler which
   -- pthread_cleanup_pop called is a choice of this host
   stops_of frame (statement.SetState enable old) = (enable && is_in_handler t.frames, EnableInHandler) ∷ []

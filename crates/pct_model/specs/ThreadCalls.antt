@@ -1,13 +1,12 @@
 -- Creation, joining and detaching of threads (XSH pthread_create, pthread_join, pthread_detach, pthread_self). `next` is the
 -- pc of the next statement.
-use Rattle.std.specs.Prelude.{ℕ, suc, Bool, [], ◌∷◌, Option, Some, None}
+use Rattle.std.specs.Prelude.{ℕ, suc, Bool, [], ◌∷◌, Option, Some}
 use Rattle.pct_model.specs.declared.statement.Dest.{Dest}
 use Rattle.pct_model.specs.declared.statement.Stmt.TheVariants as statement
 use Rattle.pct_model.specs.declared.schedule.Alt.{Alt}
 use Rattle.pct_model.specs.declared.schedule.Alt.TheVariants as alt
 use Rattle.pct_model.specs.declared.event.Caller.TheVariants as caller
 use Rattle.pct_model.specs.declared.event.What.TheVariants as what
-use Rattle.pct_model.specs.declared.other_threads.Target.{Target}
 use Rattle.pct_model.specs.declared.point.TheConstants.{JOIN_POINT}
 use Rattle.pct_model.specs.declared.transition.Action.TheVariants as action
 use Rattle.pct_model.specs.declared.transition.Transition.{Transition}
@@ -46,14 +45,9 @@ unfoldable pub ends_join : ℕ → Dest → ℕ → ℕ → Transition
 ends_join next d id v = goes_on next (action.EndJoin id ∷ action.Write d v ∷ []) (what.Joined id v ∷ [])
 
 -- a thread that is suspended in pthread_join returns once its target has ended with a value
-abbrev pub joins_with : Option ℕ → ℕ → NextStatement → Transition
-joins_with (Some v) id (StatementIn frame (statement.Join operand d)) = ends_join (suc frame.pc) d id v
-joins_with value id next = no_change
-
--- the same, by what it sees of its target
-abbrev pub joins_at : Option Target → ℕ → NextStatement → Transition
-joins_at (Some target) id next = joins_with target.value id next
-joins_at None id next = no_change
+abbrev pub joins_at : Option ℕ → ℕ → NextStatement → Transition
+joins_at (Some v) id (StatementIn frame (statement.Join operand d)) = ends_join (suc frame.pc) d id v
+joins_at value id next = no_change
 
 -- ---- pthread_detach, pthread_self
 

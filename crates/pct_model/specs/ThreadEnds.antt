@@ -40,22 +40,20 @@ unfoldable pub calls_destructor : ℕ → ℕ → ℕ → Option ℕ → Transit
 calls_destructor pass k value (Some f) = acts (action.TakeKey k ∷ action.CallAlone f value kind.Destructor ∷ []) (what.DtorRun pass k f value ∷ [])
 calls_destructor pass k value None = no_change
 
--- without a key that is left in its pass, a thread begins the next pass if keys are due and the limit on passes allows it, and else
--- it ends (XSH pthread_key_create)
-unfoldable pub begins_pass_or_ends : Bool → ℕ → ℕ → ℕ → Reason → Transition
-begins_pass_or_ends is_last passes pass due why =
-    if not (nat_eq due 0) && nat_lt pass passes
-    then acts (action.BeginPass ∷ []) (what.PassBegun (suc pass) ∷ [])
-    else ends_thread is_last due (end_value why)
+-- the number of keys of which the destructor is due in a thread: the thread has a value of the key that is not NULL
+abbrev pub due_keys : List KeyPlace → Thread → ℕ
+due_keys keys t = length (due_places keys t.specific)
 
 module _ (is_last : Bool) (passes : ℕ) (keys : List KeyPlace) (t : Thread) where
-  -- an ending thread without cleanup handlers, by the choice of the scheduler: it calls the destructor of a key, or goes on
-  abbrev pub without_handlers : Alt → Transition
-  without_handlers (alt.Dtor k) = calls_destructor t.pass k (value_at (key_place k) t.specific) (option_and_then (λ key. key.destructor) (key_with k keys))
-  without_handlers _ = begins_pass_or_ends is_last passes t.pass (length (due_places keys t.specific)) t.reason
-
-  -- a thread that is ending, and so has no frame, removes its newest cleanup handler and calls it; without a handler it calls the
-  -- destructors of its thread-specific data and then ends (XSH 2.9.5.3)
+  -- what a thread that is ending, and so has no frame, does by the choice of the scheduler and its cleanup handlers (XSH 2.9.5.3,
+  -- pthread_key_create)
   unfoldable pub goes_on_ending : Alt → List (ℕ × ℕ) → Transition
+  -- a cleanup handler is left: the newest is removed and called
   goes_on_ending choice ((f, a) ∷ handlers) = acts (action.PopHandler ∷ action.CallAlone f a kind.Handler ∷ []) (what.HandlerRun f a ∷ [])
-  goes_on_ending choice [] = without_handlers choice
+  -- a key is left in the pass: its destructor is called, in an order that the scheduler chooses
+  goes_on_ending (alt.Dtor k) [] = calls_destructor t.pass k (value_at (key_place k) t.specific) (option_and_then (λ key. key.destructor) (key_with k keys))
+  -- keys are due and a pass is left: the next pass begins; else the thread ends
+  goes_on_ending _ [] =
+      if not (nat_eq (due_keys keys t) 0) && nat_lt t.pass passes
+      then acts (action.BeginPass ∷ []) (what.PassBegun (suc t.pass) ∷ [])
+      else ends_thread is_last (due_keys keys t) (end_value t.reason)

@@ -15,7 +15,8 @@ HasProcessNumbers w = (k : ℕ) (p : Process) → slice_get w.processes k ≡ So
 -- of the threads of a process, the one made on slot s after k others has the id 1 + s + slots * k; threads that the process did
 -- not inherit count too
 abbrev pub HasThreadNumbers : ℕ → List Thread → Type 0
-HasThreadNumbers slots threads = (s k : ℕ) (t : Thread) → s < slots → slice_get (filter (is_on slots s) threads) k ≡ Some t → t.id ≡ 1 + s + slots * k
+HasThreadNumbers slots threads =
+    (s k : ℕ) (t : Thread) → s < slots → slice_get (filter (is_on slots s) threads) k ≡ Some t → t.id ≡ 1 + s + slots * k
 
 -- the event is one of a thread that was made, and that its process inherited if it was made before the process
 abbrev pub IsOfThread : World → Event → Type 0

@@ -14,12 +14,16 @@ abbrev pub is_ended_status : Status → Bool
 is_ended_status (status.Ended v) = true
 is_ended_status _ = false
 
--- the thread was not reclaimed: its process inherited it, and it has not ended or was neither joined nor detached
+-- the thread is unreclaimed: its process inherited it, and it has not ended or is neither joined nor detached
 abbrev pub is_unreclaimed : Thread → Bool
 is_unreclaimed t = not t.gone && (not t.ended || not (t.joined || t.detached))
 
--- the thread holds its slot: it was not reclaimed, or it is the last thread of its process, which keeps its slot while it
--- exits the process after its own end
+-- the thread exits its process after its own end, as the last thread of a process does: it has ended, and its status is Ended no longer
+abbrev pub exits_after_its_end : Thread → Bool
+exits_after_its_end t = not t.gone && t.ended && not (is_ended_status t.status)
+
+-- the thread holds its slot: in every state that a run reaches, it is unreclaimed or exits its process after its own end. The status
+-- decides both at once
 abbrev pub holds_slot : Thread → Bool
 holds_slot t = not t.gone && not (is_ended_status t.status && (t.joined || t.detached))
 

@@ -1,5 +1,5 @@
--- What the events of a run report of a thread: its cleanup handlers, the destructors that it called, and its end. A thread is given by the id of its process and
--- its own. The events are listed newest first, as in the trace of a run.
+-- What the events of a run report of a thread: its cleanup handlers, the destructors that it called, and its end. A thread is given by
+-- the id of its process and its own. The events are listed newest first, as in the trace of a run.
 use Rattle.std.specs.Prelude.{ℕ, suc, Bool, true, false, if◌then◌else◌, List, [], ◌∷◌, Option, Some, None, nat_eq}
 use Rattle.pct_model.specs.declared.event.Event.{Event}
 use Rattle.pct_model.specs.declared.event.What.{What}
@@ -7,7 +7,7 @@ use Rattle.pct_model.specs.declared.event.What.TheVariants as what
 use Rattle.pct_model.specs.declared.state.Reason.{Reason}
 use Rattle.pct_model.specs.declared.state.Reason.TheVariants as reason
 use Rattle.pct_model.specs.Actions.{without_first}
-use Rattle.pct_model.specs.KnownThreads.{makes_process}
+use Rattle.pct_model.specs.KnownThreads.{is_own, is_fork_of}
 
 -- what the events so far report of a thread
 pub record ThreadSummary : Type 0 where
@@ -47,20 +47,11 @@ with_event (what.PassBegun n) s = record s { passes = suc s.passes }
 with_event (what.DtorRun pass key f v) s = record s { destroyed = (pass, key) ∷ s.destroyed }
 with_event _ s = s
 
--- the summary of a thread that fork replicates if the event makes its process: it inherits the open handlers of the thread that
--- called fork (XSH fork); `of_process` gives the summary of the thread with its id in each process
-abbrev pub replicated : Bool → ℕ → (ℕ → ThreadSummary) → ThreadSummary → ThreadSummary
-replicated true parent of_process s = record s { handlers = (of_process parent).handlers }
-replicated false parent of_process s = s
-
--- the summary of a thread after an event of any thread, from those of the threads with its id
-abbrev pub summary_after : ℕ → ℕ → Event → (ℕ → ThreadSummary) → ThreadSummary → ThreadSummary
-summary_after pid tid e of_process s =
-    if nat_eq e.tid tid
-    then (if nat_eq e.pid pid then with_event e.what s else replicated (makes_process pid e.what) e.pid of_process s)
-    else s
-
--- the summary of thread tid of process pid
+-- the summary of thread tid of process pid: an event of its own changes it; a fork of which it is the replica gives it the open
+-- handlers of the thread that called fork, and nothing else (XSH fork); no other event changes it
 abbrev pub summary_of : ℕ → ℕ → List Event → ThreadSummary
 summary_of pid tid [] = no_events
-summary_of pid tid (e ∷ earlier) = summary_after pid tid e (λ process. summary_of process tid earlier) (summary_of pid tid earlier)
+summary_of pid tid (e ∷ earlier) =
+    if is_own pid tid e then with_event e.what (summary_of pid tid earlier)
+    else if is_fork_of pid tid e then record (summary_of pid tid earlier) { handlers = (summary_of e.pid tid earlier).handlers }
+    else summary_of pid tid earlier

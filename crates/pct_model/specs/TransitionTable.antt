@@ -15,7 +15,7 @@ use Rattle.pct_model.specs.declared.transition.Transition.{Transition}
 use Rattle.pct_model.specs.Jumps.{open_of}
 use Rattle.pct_model.specs.World.{Thread, SharedState, Process, value_of}
 use Rattle.pct_model.specs.NextStatement.{NextStatement, StatementIn, next_of, body_at}
-use Rattle.pct_model.specs.OtherThreads.{Others, others_of}
+use Rattle.pct_model.specs.OtherThreads.{Others, exit_value_with, others_of}
 use Rattle.pct_model.specs.Transitions.{no_change, stops}
 use Rattle.pct_model.specs.ScriptStatements.{jumps, emits, sets, adds, variable_value, calls, after_block, after_test, after_end}
 use Rattle.pct_model.specs.CleanupHandlers.{pushes, pops}
@@ -74,7 +74,7 @@ module _ (passes : ℕ) (body : List Stmt) (shared : SharedState) (t : Thread) (
   unfoldable pub transition_at : NextStatement → Status → Transition
   transition_at (StatementIn frame s) status.Running = stops_or (stop_at body shared t others frame s) (runs frame s)
   transition_at next (status.AtPoint index) = passes_point index next
-  transition_at next (status.Joining id) = joins_at others.target id next
+  transition_at next (status.Joining id) = joins_at (exit_value_with id others) id next
   transition_at next status.Ending = goes_on_ending others.is_last passes shared.keys t choice t.handlers
   transition_at next status.Exiting = ends_process shared.exit_functions shared.exit_value
   transition_at next _ = no_change
@@ -86,4 +86,4 @@ acts_or _ s goes = goes
 
 -- what a thread of a process does by a choice
 abbrev pub transition_by : Script → Config → Process → Thread → Alt → Transition
-transition_by script config p t choice = acts_or choice t.status (transition_at config.passes (body_at script t.frames) p.shared t (others_of script config p t) choice (next_of script t.frames) t.status)
+transition_by script config p t choice = acts_or choice t.status (transition_at config.passes (body_at script t.frames) p.shared t (others_of config.slots p.threads t.id) choice (next_of script t.frames) t.status)

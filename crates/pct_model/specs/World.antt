@@ -1,7 +1,7 @@
 -- The state of the machine: processes, their threads, and the state of each (XSH 2.9, pthread_create, fork). Frames,
 -- cleanup handlers and exit functions are listed newest first; processes, threads and fork handlers in the order
 -- in which they were created or registered. Entries are never removed from the lists of processes and threads.
-use Rattle.std.specs.Prelude.{ℕ, Bool, false, List, [], ◌∷◌, length, map, replicate, Option, None, find, nat_eq, slice_get, slice_index, option_and_then}
+use Rattle.std.specs.Prelude.{ℕ, Bool, false, List, [], ◌∷◌, length, map, replicate, Option, Some, None, find, nat_eq, slice_get, slice_index, option_and_then}
 use Rattle.std.specs.Option.{option_map_or}
 use Rattle.pct_model.specs.declared.script.Script.{Script}
 use Rattle.pct_model.specs.declared.statement.Stmt.{Stmt}
@@ -67,6 +67,12 @@ pub record SharedState : Type 0 where
   -- the value with which exit began
   pub exit_value : Option ℕ
 
+-- the end of a process (XSH _exit)
+pub record ProcessEnd : Type 0 where
+  pub status : ℕ
+  -- the status was collected by waitpid, or the process has no parent that could
+  pub reaped : Bool
+
 -- a process (XSH fork)
 pub record Process : Type 0 where
   pub pid : ℕ
@@ -74,10 +80,8 @@ pub record Process : Type 0 where
   pub parent : ℕ
   -- the child of a multi-threaded process: it may execute async-signal-safe operations only (XSH fork)
   pub restricted : Bool
-  -- the exit status of a process that has ended
-  pub ended : Option ℕ
-  -- the process has ended, and its status was collected by waitpid, or it has no parent that could
-  pub reaped : Bool
+  -- its end, if it has ended
+  pub ended : Option ProcessEnd
   pub threads : List Thread
   pub shared : SharedState
 
@@ -86,6 +90,11 @@ pub record World : Type 0 where
   pub processes : List Process
   -- the reason of the stop, if the run was stopped
   pub stop : Option Why
+
+-- the process with this end, if it has ended, was reaped
+abbrev pub was_reaped : Option ProcessEnd → Bool
+was_reaped None = false
+was_reaped (Some end) = end.reaped
 
 -- ---- lookup
 
@@ -131,7 +140,7 @@ new_shared script = record { globals = replicate (length script.globals) 0; owne
 
 -- process 1, with thread 1 in `main`
 abbrev pub first_process : Script → Process
-first_process script = record { pid = 1; parent = 0; restricted = false; ended = None; reaped = false; threads = new_thread 1 false (new_frame (main_of (names_of script.funcs)) 0 kind.Main) ∷ []; shared = new_shared script }
+first_process script = record { pid = 1; parent = 0; restricted = false; ended = None; threads = new_thread 1 false (new_frame (main_of (names_of script.funcs)) 0 kind.Main) ∷ []; shared = new_shared script }
 
 -- the initial state of a script
 unfoldable pub opening : Script → World

@@ -10,7 +10,6 @@ mod keyword;
 mod limits;
 mod line_kind;
 mod name;
-mod other_threads;
 mod parsed_line;
 mod point;
 mod refusal;
@@ -34,7 +33,6 @@ pub use limits::{
 };
 pub use line_kind::{ArgumentKind, LINE_KINDS, LineKind, SymbolKind};
 pub use name::{MAX_NAME, Name};
-pub use other_threads::{Query, Target};
 pub use parsed_line::{Argument, ParsedLine, Token, Tokens};
 pub use point::{JOIN_POINT, Point, PointKind, PointWait, TESTCANCEL_POINT};
 pub use refusal::{ParseWhy, ScheduleWhy};

@@ -40,8 +40,6 @@ pub enum Action {
     BeginJoin(u32),
     /// The thread with this id was joined.
     EndJoin(u32),
-    /// The thread leaves pthread_join for the thread with this id, which stays joinable.
-    CancelJoin(u32),
     /// A cancellation request for the thread with this id is pending, unless that thread has ended. It may be the thread itself.
     Request(u32),
     /// The thread with this id becomes detached. It may be the thread itself.

@@ -14,7 +14,7 @@ use Rattle.pct_model.specs.declared.stop.Why.TheVariants as why
 use Rattle.pct_model.specs.Keys.{KeyPlace, no_keys}
 use Rattle.pct_model.specs.World.{Thread, Process, World, first_process, new_frame, new_thread}
 use Rattle.pct_model.specs.ThreadSlots.{slot_of}
-use Rattle.pct_model.specs.OtherThreads.{no_answer}
+use Rattle.pct_model.specs.OtherThreads.{Others, others_of}
 use Rattle.pct_model.specs.ChoiceTable.{running_choices}
 use Rattle.pct_model.specs.Chosen.{by_slot, Candidate, candidates, chosen}
 use Rattle.pct_rows.proofs.OnLiterals.{runs_on_literals}
@@ -58,7 +58,7 @@ ended_and_gone = refl
 
 -- two processes that have not ended, with one between them that has
 abbrev world : World
-world = record { processes = process 1 (ready 1 ∷ ready 3 ∷ ready 2 ∷ in_status 4 (status.Ended 0) ∷ []) ∷ record (process 2 (ready 1 ∷ [])) { ended = Some 0 } ∷ process 3 (ready 6 ∷ in_status 5 status.Exiting ∷ []) ∷ []; stop = None }
+world = record { processes = process 1 (ready 1 ∷ ready 3 ∷ ready 2 ∷ in_status 4 (status.Ended 0) ∷ []) ∷ record (process 2 (ready 1 ∷ [])) { ended = Some (record { status = 0; reaped = false }) } ∷ process 3 (ready 6 ∷ in_status 5 status.Exiting ∷ []) ∷ []; stop = None }
 
 abbrev fields_of : Candidate → ℕ × ℕ × List Alt
 fields_of c = (c.pid, c.tid, c.choices)
@@ -80,8 +80,12 @@ nobody_ready = (refl, refl, refl)
 
 -- ---- creations
 
+-- a thread sees no others
+abbrev nobody : Others
+nobody = others_of 0 [] 1
+
 -- a new thread gets one of the ids of the free slots, by rising slot; without one the call fails
-new_thread_ids : map (λ ids. running_choices no_keys (ready 1) (record no_answer { new_ids = ids }) (statement.Create destination.Drop destination.Drop 0 (operand.Num 0) false)) ((5 ∷ 2 ∷ []) ∷ [] ∷ []) ≡ (alt.New 5 ∷ alt.New 2 ∷ []) ∷ (alt.Go ∷ []) ∷ []
+new_thread_ids : map (λ ids. running_choices no_keys (ready 1) (record nobody { new_ids = ids }) (statement.Create destination.Drop destination.Drop 0 (operand.Num 0) false)) ((5 ∷ 2 ∷ []) ∷ [] ∷ []) ≡ (alt.New 5 ∷ alt.New 2 ∷ []) ∷ (alt.Go ∷ []) ∷ []
 unfolding runs_on_literals
 new_thread_ids = refl
 
@@ -93,6 +97,6 @@ abbrev all_but_the_last : List KeyPlace
 all_but_the_last = replicate 127 (place_with 1) ++ record { made = 2; key = None } ∷ []
 
 -- a new key is on the last place, with its third number; with no place left the call fails
-creates_the_last_key : (running_choices all_but_the_last (ready 1) no_answer (statement.KeyCreate destination.Drop destination.Drop None) ≡ alt.New 384 ∷ []) × (running_choices (replicate 128 (place_with 1)) (ready 1) no_answer (statement.KeyCreate destination.Drop destination.Drop None) ≡ alt.Go ∷ [])
+creates_the_last_key : (running_choices all_but_the_last (ready 1) nobody (statement.KeyCreate destination.Drop destination.Drop None) ≡ alt.New 384 ∷ []) × (running_choices (replicate 128 (place_with 1)) (ready 1) nobody (statement.KeyCreate destination.Drop destination.Drop None) ≡ alt.Go ∷ [])
 unfolding runs_on_literals
 creates_the_last_key = (refl, refl)

@@ -19,8 +19,8 @@ use Rattle.pct_model.specs.declared.transition.Transition.{Transition}
 use Rattle.pct_model.specs.Keywords.{keyword_text}
 use Rattle.pct_model.specs.Names.{main_of}
 use Rattle.pct_model.specs.Jumps.{close_of, open_of}
-use Rattle.pct_model.specs.World.{Thread, SharedState, Process, World, value_of, new_frame, new_thread, new_shared, first_process}
-use Rattle.pct_model.specs.OtherThreads.{no_answer}
+use Rattle.pct_model.specs.World.{Thread, SharedState, ProcessEnd, Process, World, was_reaped, value_of, new_frame, new_thread, new_shared, first_process}
+use Rattle.pct_model.specs.OtherThreads.{others_of}
 use Rattle.pct_model.specs.StopTable.{stops_of, stop_at}
 use Rattle.pct_model.specs.Transitions.{acts}
 use Rattle.pct_model.specs.Actions.{thread_at, thread_after, named_after, shared_after, process_after, other_process_after, stop_after, after_transition}
@@ -34,7 +34,7 @@ use Rattle.pct_rows.specs.Examples.{first_goes}
 
 -- a process with this id, parent and exit status
 abbrev child : ℕ → ℕ → Option ℕ → Process
-child pid parent status = record (first_process smallest) { pid = pid; parent = parent; ended = status }
+child pid parent status = record (first_process smallest) { pid = pid; parent = parent; ended = option_map (λ (n : ℕ). record { status = n; reaped = false }) status }
 
 abbrev family : World
 family = record { processes = child 1 0 None ∷ child 2 1 None ∷ child 3 2 (Some 5) ∷ child 4 2 None ∷ child 5 1 (Some 6) ∷ []; stop = None }
@@ -44,7 +44,7 @@ ends_with_7 = acts (EndProcess 7 ∷ []) []
 
 -- the parent and the exit status of a process, and whether it was reaped
 abbrev parent_and_end : Process → ℕ × Option ℕ × Bool
-parent_and_end p = (p.parent, p.ended, p.reaped)
+parent_and_end p = (p.parent, option_map (λ (end : ProcessEnd). end.status) p.ended, was_reaped p.ended)
 
 -- as a process ends, its ended children are reaped, its other children lose their parent, and other processes are unchanged
 end_of_a_process : map parent_and_end (after_transition 2 1 ends_with_7 family).processes ≡ (0, None, false) ∷ (1, Some 7, false) ∷ (2, Some 5, true) ∷ (0, None, false) ∷ (1, Some 6, false) ∷ []
@@ -82,7 +82,7 @@ exit_begun = record (new_shared smallest) { exit_value = Some 3 }
 
 -- the stop of a statement that is the only one in a frame of this kind
 abbrev stop_in : FrameKind → SharedState → Stmt → Option Why
-stop_in k shared s = stop_at (s ∷ []) shared (new_thread 1 false (new_frame 0 0 k)) no_answer (new_frame 0 0 k) s
+stop_in k shared s = stop_at (s ∷ []) shared (new_thread 1 false (new_frame 0 0 k)) (others_of 0 [] 1) (new_frame 0 0 k) s
 
 abbrev returns_0 : Stmt
 returns_0 = statement.Return (operand.Num 0)

@@ -1,18 +1,33 @@
 -- Thread slots and thread ids: when a thread holds its slot, and the ids of new threads where a process did not inherit a thread.
-use Rattle.std.proofs.Common.{◌≡◌, ℕ, Bool, true, false, not, ◌&&◌, ◌||◌, List, [], ◌∷◌, map, refl, ap}
+use Rattle.std.proofs.Common.{◌≡◌, ℕ, Bool, true, false, not, ◌&&◌, ◌||◌, List, [], ◌∷◌, map, is_some, Option, Some, refl, sym, ap, ◌∙◌}
+use Rattle.std.proofs.lemmas.Bool.{false≢true}
 use Rattle.pct_model.specs.declared.state.FrameKind.TheVariants as kind
+use Rattle.pct_model.specs.declared.script.Script.{Script}
+use Rattle.pct_model.specs.declared.state.Status.{Status}
 use Rattle.pct_model.specs.declared.state.Status.TheVariants as status
+use Rattle.pct_model.specs.Kept.{ThreadKept}
+use Rattle.pct_model.specs.Keys.{KeyPlace}
+use Rattle.pct_model.specs.ThreadSummary.{ThreadSummary}
 use Rattle.pct_model.specs.World.{Thread, new_frame, new_thread}
-use Rattle.pct_model.specs.ThreadSlots.{is_ended_status, is_unreclaimed, holds_slot, next_id, free_ids}
+use Rattle.pct_model.specs.ThreadSlots.{is_ended_status, is_unreclaimed, exits_after_its_end, holds_slot, next_id, free_ids}
 
-by_its_fields : (gone ended over : Bool) (kept : Bool) → ended ≡ over → (not gone && (not ended || not kept)) ≡ (not gone && not (over && kept))
-by_its_fields true ended over kept e = refl
-by_its_fields false ended true kept e = ap (λ (b : Bool). not b || not kept) e
-by_its_fields false ended false kept e = ap (λ (b : Bool). not b || not kept) e
+by_its_fields : (gone over ended released : Bool) → (over ≡ true → ended ≡ true) → (not gone && not (over && released)) ≡ ((not gone && (not ended || not released)) || (not gone && ended && not over))
+by_its_fields true over ended released has = refl
+by_its_fields false true true true has = refl
+by_its_fields false true true false has = refl
+by_its_fields false true false released has = absurd (false≢true (has refl))
+by_its_fields false false true true has = refl
+by_its_fields false false true false has = refl
+by_its_fields false false false released has = refl
 
--- a thread holds its slot exactly until it is reclaimed, if it has ended by its status alone
-pub holds_until_reclaimed : (t : Thread) → t.ended ≡ is_ended_status t.status → is_unreclaimed t ≡ holds_slot t
-holds_until_reclaimed t e = by_its_fields t.gone t.ended (is_ended_status t.status) (t.joined || t.detached) e
+by_status : (st : Status) (value : Option ℕ) → ((v : ℕ) → st ≡ status.Ended v → value ≡ Some v) → is_ended_status st ≡ true → is_some value ≡ true
+by_status (status.Ended v) value is over = ap is_some (is v refl)
+by_status _ value is over = absurd (false≢true over)
+
+-- in every state that a run reaches, a thread holds its slot exactly if it is unreclaimed or exits its process after its own end
+pub holds_until_reclaimed : (script : Script) (keys : List KeyPlace) (t : Thread) (s : ThreadSummary) → ThreadKept script keys t s → holds_slot t ≡ (is_unreclaimed t || exits_after_its_end t)
+holds_until_reclaimed script keys t s kept =
+    by_its_fields t.gone (is_ended_status t.status) t.ended (t.joined || t.detached) (λ over. sym kept.ended ∙ by_status t.status s.ended kept.value over)
 
 -- a new thread, at its first statement
 abbrev ready : ℕ → Thread

@@ -1,6 +1,7 @@
 //! The lines of a schedule: its header, its entries and its last line.
 
-ghost use Rattle.std.specs.Prelude.{◌≡◌};
+ghost use Rattle.std.specs.Prelude.{◌≡◌, bytes_eq};
+ghost use Rattle.pct_model.specs.declared.keyword.Keyword.TheVariants as keyword;
 ghost use Rattle.pct_model.specs.Keywords.{keyword_text};
 ghost use Rattle.pct_model.specs.Lines.{words_of, number_of};
 ghost use Rattle.pct_model.specs.Run.{is_config};
@@ -81,12 +82,24 @@ fn numbered_choice(kind: &[u8], number: u32) -> Option<Alt>
     }
 }
 
+// Whether the words are `go`, the choice of nearly every entry.
+#[tactic(auto, unfolding(pct_model::specs::Keywords::keyword_text))]
+#[inline(always)]
+fn is_go(words: &[u8]) -> bool
+    ensures { result ≡ bytes_eq words.now (keyword_text keyword.Go) }
+{
+    match words {
+        [first, second] => *first == b'g' && *second == b'o',
+        _ => false,
+    }
+}
+
 // An alternative: `go`, or a keyword and a number.
 #[tactic(auto, using(crate::proofs::BySplits::choice_by_splits), unfolding(crate::proofs::Splits::choice_in))]
 fn choice_of(words: &[u8]) -> Option<Alt>
     ensures { result ≡ choice_of (words_of words.now) }
 {
-    if words == Keyword::Go.text() {
+    if is_go(words) {
         return Some(Alt::Go);
     }
     let (kind, number) = split_once(words, b' ')?;

@@ -1,3 +1,4 @@
 mod FrameLemmas
 pub mod TableLemmas
 mod FreeSlots
+mod OccupiedSlots

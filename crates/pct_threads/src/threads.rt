@@ -1,7 +1,8 @@
 //! The table of the threads of one process.
 
-ghost use Rattle.std.specs.Prelude.{◌≡◌, ◌<◌, ◌&&◌, not, true, nat_lt, if◌then◌else◌};
-ghost use Rattle.pct_set.specs.Slots.{with_slot};
+ghost use Rattle.std.specs.Prelude.{◌≡◌, ◌<◌, ◌&&◌, not, true, nat_lt, length, map, if◌then◌else◌};
+ghost use Rattle.pct_threads.specs.Slots.{freed};
+ghost use Rattle.pct_set.specs.Slots.{with_slot, without_slot};
 
 use crate::row::Row;
 use crate::{Place, Thread};
@@ -19,18 +20,22 @@ use std::marker::Model;
 #[derive(Debug, Drop)]
 pub struct Threads {
     rows: Vec<Row>,
+    /// The slots that are occupied.
+    occupied: SlotSet,
 }
 
 impl Model for Threads {
-    ghost use Rattle.std.specs.Prelude.{List, length, ◌≤◌};
+    ghost use Rattle.std.specs.Prelude.{List, length, ◌≡◌, ◌≤◌};
     ghost use Rattle.pct_model.specs.declared.limits.TheConstants.{MAX_SLOTS};
+    ghost use Rattle.pct_set.specs.Slots.{slots_where};
     ghost use Rattle.pct_threads.specs.Slots.{Slot};
+    ghost use Rattle.pct_threads.specs.Tables.{is_occupied_at};
 
     ghost Value = { List Slot };
 
     ghost view = { λ t. t.rows.items };
 
-    ghost invariant = { λ t. (1 ≤ length t.rows.items) × (length t.rows.items ≤ MAX_SLOTS) };
+    ghost invariant = { λ t. (1 ≤ length t.rows.items) × (length t.rows.items ≤ MAX_SLOTS) × (t.occupied ≡ slots_where (is_occupied_at t.rows.items)) };
 }
 
 impl Threads {
@@ -43,7 +48,7 @@ impl Threads {
     ghost use Rattle.pct_threads.specs.FrameWords.{frame_word_of};
     ghost use Rattle.pct_threads.specs.Slots.{unused, has_id, frame_at, with_frame, without_frame, without_frames, with_frame_word, freed};
     ghost use Rattle.pct_threads.specs.Tables.{slot_at, is_occupied_at, is_free_at, place_at, thread_at, frames_at, is_reclaimable_at, next_id_at, on_slot, on_held, with_created, with_end, with_detach, replica_of};
-    ghost use Rattle.pct_threads.specs.Lends.{LendsSlot, LendsThread};
+    ghost use Rattle.pct_threads.specs.Lends.{LendsThread};
 
     /// A table of 1 to 64 slots, none of them occupied. `NoMemory` is returned if the table does not fit into memory.
     pub fn new(alloc: Global, slots: u32) -> Result<Threads, NoMemory>
@@ -55,7 +60,10 @@ impl Threads {
         for _ in 0..slots {
             rows.push(Row::new())?;
         }
-        Ok(Threads { rows })
+        Ok(Threads {
+            rows,
+            occupied: SlotSet::new(),
+        })
     }
 
     /// The number of slots, 1 to 64.
@@ -104,9 +112,17 @@ impl Threads {
         }
     }
 
+    /// The slots that are occupied.
+    pub fn occupied(&self) -> SlotSet
+        ensures { result ≡ slots_where (is_occupied_at self.now) }
+    {
+        self.occupied
+    }
+
     /// The slots that are not occupied.
     pub fn free(&self) -> SlotSet
-        ensures { result ≡ slots_where (is_free_at self.now) }
+        ensures value { result ≡ slots_where (is_free_at self.now) }
+        ensures few { length self.now ≤ MAX_SLOTS }
     {
         let mut free = SlotSet::new();
         for slot in 0..self.slot_count() {
@@ -144,7 +160,8 @@ impl Threads {
         ensures table { self.new ≡ with_created slot func arg detached self.old }
     {
         let id = self.next_id(slot);
-        self.row_mut(slot).create(id, func, arg, detached);
+        self.rows[slot as usize].create(id, func, arg, detached);
+        self.occupied.insert(slot);
         id
     }
 
@@ -162,7 +179,7 @@ impl Threads {
         ensures* lends { sem 𝓛 (LendsThread self.entry slot result) }
         ensures value { thread_at self.old slot ≡ Some result.now }
     {
-        self.row_mut(slot).thread_mut()
+        self.rows[slot as usize].thread_mut()
     }
 
     /// Ends the thread: its status becomes `Ended` with this value. A detached thread gives back its slot.
@@ -170,7 +187,9 @@ impl Threads {
         requires { is_occupied_at self.old slot ≡ true }
         ensures { self.new ≡ with_end slot value self.old }
     {
-        self.row_mut(slot).end(value);
+        let row = &mut self.rows[slot as usize];
+        row.end(value);
+        retain_if(&mut self.occupied, slot, row.is_occupied());
     }
 
     /// Gives back the slot of a thread that was joined (pthread_join): it has ended, and is not detached.
@@ -178,7 +197,8 @@ impl Threads {
         requires { is_reclaimable_at self.old slot ≡ true }
         ensures { self.new ≡ on_slot slot freed self.old }
     {
-        self.row_mut(slot).free();
+        self.rows[slot as usize].free();
+        self.occupied.remove(slot);
     }
 
     /// Detaches the thread (pthread_detach). One that has ended gives back its slot.
@@ -186,7 +206,9 @@ impl Threads {
         requires { is_occupied_at self.old slot ≡ true }
         ensures { self.new ≡ with_detach slot self.old }
     {
-        self.row_mut(slot).detach();
+        let row = &mut self.rows[slot as usize];
+        row.detach();
+        retain_if(&mut self.occupied, slot, row.is_occupied());
     }
 
     /// Makes this the table of the child process of a thread (fork). The other table is that of the parent; both have the same
@@ -197,8 +219,10 @@ impl Threads {
         requires occupied { is_occupied_at other.now slot ≡ true }
         ensures { self.new ≡ replica_of slot other.now }
     {
-        self.free_as(other);
-        self.row_mut(slot).copy_from(other.row(slot));
+        free_as(&mut self.rows, other);
+        self.rows[slot as usize].copy_from(other.row(slot));
+        self.occupied = SlotSet::new();
+        self.occupied.insert(slot);
     }
 
     /// The newest frame of the thread. It is `None` exactly if the thread has no frame.
@@ -234,7 +258,7 @@ impl Threads {
         requires kind { kind < 8 }
         ensures { self.new ≡ on_held slot (with_frame func arg kind) self.old }
     {
-        self.row_mut(slot).push_frame(func, arg, kind);
+        self.rows[slot as usize].push_frame(func, arg, kind);
     }
 
     /// Removes the newest frame of a thread that has a frame.
@@ -242,7 +266,7 @@ impl Threads {
         requires { 0 < length (frames_at self.old slot) }
         ensures { self.new ≡ on_held slot without_frame self.old }
     {
-        self.row_mut(slot).pop_frame();
+        self.rows[slot as usize].pop_frame();
     }
 
     /// Removes all frames of the thread.
@@ -250,7 +274,7 @@ impl Threads {
         requires { is_occupied_at self.old slot ≡ true }
         ensures { self.new ≡ on_held slot without_frames self.old }
     {
-        self.row_mut(slot).drop_frames();
+        self.rows[slot as usize].drop_frames();
     }
 
     /// A word of a frame. Frames are counted from the oldest, which is 0. The words are the function, the program counter,
@@ -270,7 +294,7 @@ impl Threads {
         requires kind { i ≡ 2 → value < 8 }
         ensures { self.new ≡ on_held slot (with_frame_word frame i value) self.old }
     {
-        self.row_mut(slot).set_frame_word(frame, i, value);
+        self.rows[slot as usize].set_frame_word(frame, i, value);
     }
 
     // The slot with this index.
@@ -281,15 +305,6 @@ impl Threads {
         &self.rows[slot as usize]
     }
 
-    // The slot with this index, for changes.
-    fn row_mut(&mut self, slot: u32) -> &mut Row
-        requires { slot < length self.old }
-        ensures* lends { sem 𝓛 (LendsSlot self.entry slot result) }
-        ensures value { result.now ≡ slot_at self.old slot }
-    {
-        &mut self.rows[slot as usize]
-    }
-
     // The index of the first slot whose thread has this id.
     fn index_of(&self, id: u32) -> Option<usize>
         ensures value { result ≡ position (has_id id) self.now }
@@ -297,15 +312,15 @@ impl Threads {
     {
         self.rows.iter().position(|row| row.has_id(id))
     }
+}
 
-    // Gives back every slot, and makes the number of threads ever created on each that of the other table.
-    fn free_as(&mut self, other: &Threads)
-        requires { length self.old ≡ length other.now }
-        ensures { self.new ≡ map freed other.now }
-    {
-        for slot in 0..self.slot_count() {
-            self.row_mut(slot).free_as(other.row(slot));
-        }
+// Gives back every slot, and makes the number of threads ever created on each that of the other table.
+fn free_as(rows: &mut Vec<Row>, other: &Threads)
+    requires { length rows.old.items ≡ length other.now }
+    ensures { rows.new.items ≡ map freed other.now }
+{
+    for slot in 0..other.slot_count() {
+        rows[slot as usize].free_as(other.row(slot));
     }
 }
 
@@ -316,5 +331,15 @@ fn insert_if(set: &mut SlotSet, slot: u32, test: bool)
 {
     if test {
         set.insert(slot);
+    }
+}
+
+// Removes the slot unless the test holds.
+fn retain_if(set: &mut SlotSet, slot: u32, test: bool)
+    requires { slot < 64 }
+    ensures { set.new ≡ (if test then set.old else without_slot slot set.old) }
+{
+    if !test {
+        set.remove(slot);
     }
 }

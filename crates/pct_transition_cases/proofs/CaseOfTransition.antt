@@ -1,12 +1,12 @@
 -- Each transition of the table is one of the cases.
 use Rattle.std.proofs.Common.{◌≡◌, ℕ, suc, ◌<◌, ◌≤◌, Bool, true, false, cond, not, ◌&&◌, ◌||◌, List, [], ◌∷◌, ◌++◌, length, nat_eq, nat_lt, find, is_none, Option, Some, None, option_map, option_and_then, inl, inr, refl, sym, ap, ◌∙◌, eqb-true, pos_of_ne-zero, arith}
 use Rattle.std.specs.List.{list_any}
+use Rattle.std.specs.Option.{option_map_or}
 use Rattle.std.proofs.lemmas.Bool.{true≢false, or_parts, not-false, ltb-true, ltb-false, eqb-false}
 use Rattle.std.proofs.lemmas.Option.{none-some}
 use Rattle.pct_model.specs.declared.event.What.TheVariants as what
 use Rattle.pct_model.specs.declared.frame.Frame.{Frame}
 use Rattle.pct_model.specs.declared.limits.TheConstants.{MAX_FRAMES, MAX_HANDLERS}
-use Rattle.pct_model.specs.declared.other_threads.Target.{Target}
 use Rattle.pct_model.specs.declared.point.PointKind.{PointKind}
 use Rattle.pct_model.specs.declared.point.PointKind.TheVariants.{Required, Optional}
 use Rattle.pct_model.specs.declared.schedule.Alt.{Alt}
@@ -29,14 +29,14 @@ use Rattle.pct_model.specs.ChoiceTable.{choices_at, offers}
 use Rattle.pct_model.specs.CleanupHandlers.{pushes, pops}
 use Rattle.pct_model.specs.Jumps.{open_of}
 use Rattle.pct_model.specs.KeyCalls.{creates_key, fails_to_create_key, creates_key_by, deletes_key, sets_specific, gets_specific}
-use Rattle.pct_model.specs.Keys.{Key, key_place, key_with, left_keys, value_at, due_places}
+use Rattle.pct_model.specs.Keys.{Key, key_place, key_with, left_keys, value_at}
 use Rattle.pct_model.specs.NextStatement.{NextStatement, StatementIn}
-use Rattle.pct_model.specs.OtherThreads.{Others, target_is}
+use Rattle.pct_model.specs.OtherThreads.{Others, exit_value_of}
 use Rattle.pct_model.specs.ProcessExit.{exits, returns_by, ends_process}
 use Rattle.pct_model.specs.ScriptStatements.{jumps, emits, sets, adds, calls, after_block, after_test, after_end}
 use Rattle.pct_model.specs.StopTable.{StopTest, first_stop, is_stack_full, has_begun_to_end, is_in_handler, is_async_safe, is_built, stops_of, stop_at}
-use Rattle.pct_model.specs.ThreadCalls.{creates, fails_to_create, creates_by, begins_join, ends_join, joins_with, joins_at, detaches, gets_self}
-use Rattle.pct_model.specs.ThreadEnds.{end_value, ends_by_exit, ends_thread, calls_destructor, begins_pass_or_ends, without_handlers, goes_on_ending}
+use Rattle.pct_model.specs.ThreadCalls.{creates, fails_to_create, creates_by, begins_join, ends_join, joins_at, detaches, gets_self}
+use Rattle.pct_model.specs.ThreadEnds.{end_value, ends_by_exit, ends_thread, calls_destructor, due_keys, goes_on_ending}
 use Rattle.pct_model.specs.Transitions.{goes_on, acts}
 use Rattle.pct_model.specs.TransitionTable.{ends_block, stops_or, runs, transition_at, acts_or}
 use Rattle.pct_model.specs.World.{Thread, SharedState, value_of}
@@ -98,25 +98,27 @@ module _ (passes : ℕ) (body : List Stmt) (shared : SharedState) (t : Thread) (
   end_case frame (Some opened) is = jumped frame statement.End (after_end body frame.pc opened) (past_end opened is)
   end_case frame None is = return_case frame statement.End 0 (by_end is) frame.kind refl
 
-  join_case : (frame : Frame) (id : Operand) (d : Dest) (found : Option Target) → others.target ≡ found
-      → (is_none found || (nat_eq (value frame id) t.id || (target_is (λ target. target.detached) found || (target_is (λ target. target.joining) found || false)))) ≡ false
+  join_case : (frame : Frame) (id : Operand) (d : Dest) (found : Option Thread) → others.named (value frame id) ≡ found
+      → (is_none found || (nat_eq (value frame id) t.id || (option_map_or (λ u. u.detached) found false || (others.another_joins (value frame id) || false)))) ≡ false
       → Case (StatementIn frame (statement.Join id d)) status.Running (begins_join (value frame id))
   unfolding begins_join
   join_case frame id d None is none = absurd (true≢false none)
   join_case frame id d (Some target) is none =
-      let other : (nat_eq (value frame id) t.id ≡ false) × ((target.detached || (target.joining || false)) ≡ false) = or_parts (nat_eq (value frame id) t.id) (target.detached || (target.joining || false)) none in
-      let joinable : (target.detached ≡ false) × ((target.joining || false) ≡ false) = or_parts target.detached (target.joining || false) other.1 in
-      join_begun frame id d target is other.0 joinable.0 (alone target.joining joinable.1)
+      let joined : Bool = others.another_joins (value frame id) in
+      let other : (nat_eq (value frame id) t.id ≡ false) × ((target.detached || (joined || false)) ≡ false) = or_parts (nat_eq (value frame id) t.id) (target.detached || (joined || false)) none in
+      let joinable : (target.detached ≡ false) × ((joined || false) ≡ false) = or_parts target.detached (joined || false) other.1 in
+      join_begun frame id d target is other.0 joinable.0 (alone joined joinable.1)
 
-  detach_case : (frame : Frame) (id : Operand) (found : Option Target) → others.target ≡ found → (is_none found || (target_is (λ target. target.detached) found || (target_is (λ target. target.joining) found || false))) ≡ false
+  detach_case : (frame : Frame) (id : Operand) (found : Option Thread) → others.named (value frame id) ≡ found → (is_none found || (option_map_or (λ u. u.detached) found false || (others.another_joins (value frame id) || false))) ≡ false
       → Case (StatementIn frame (statement.Detach id)) status.Running (detaches (suc frame.pc) (value frame id))
   unfolding detaches
   detach_case frame id None is none = absurd (true≢false none)
   detach_case frame id (Some target) is none =
-      let joinable : (target.detached ≡ false) × ((target.joining || false) ≡ false) = or_parts target.detached (target.joining || false) none in
-      thread_detached frame id target is joinable.0 (alone target.joining joinable.1)
+      let joined : Bool = others.another_joins (value frame id) in
+      let joinable : (target.detached ≡ false) × ((joined || false) ≡ false) = or_parts target.detached (joined || false) none in
+      thread_detached frame id target is joinable.0 (alone joined joinable.1)
 
-  request_case : (frame : Frame) (id : Operand) (found : Option Target) → others.target ≡ found → (is_none found || false) ≡ false → Case (StatementIn frame (statement.CancelThread id)) status.Running (requests (suc frame.pc) (value frame id))
+  request_case : (frame : Frame) (id : Operand) (found : Option Thread) → others.named (value frame id) ≡ found → (is_none found || false) ≡ false → Case (StatementIn frame (statement.CancelThread id)) status.Running (requests (suc frame.pc) (value frame id))
   unfolding requests
   request_case frame id None is none = absurd (true≢false none)
   request_case frame id (Some target) is none = request_sent frame id target is
@@ -166,9 +168,9 @@ module _ (passes : ℕ) (body : List Stmt) (shared : SharedState) (t : Thread) (
   running_case choice frame (statement.Do f v) may none = function_called frame f v (below_limit (length t.frames) MAX_FRAMES (alone (is_stack_full t.frames) (none_applies body shared t others frame (statement.Do f v) none)))
   running_case choice frame (statement.Return v) may none = return_case frame (statement.Return v) (value frame v) (by_return v) frame.kind refl
   running_case choice frame (statement.Create result id f v detached) may none = create_case choice frame result id f v detached may
-  running_case choice frame (statement.Join id d) may none = join_case frame id d others.target refl (none_applies body shared t others frame (statement.Join id d) none)
-  running_case choice frame (statement.Detach id) may none = detach_case frame id others.target refl (none_applies body shared t others frame (statement.Detach id) none)
-  running_case choice frame (statement.CancelThread id) may none = request_case frame id others.target refl (none_applies body shared t others frame (statement.CancelThread id) none)
+  running_case choice frame (statement.Join id d) may none = join_case frame id d (others.named (value frame id)) refl (none_applies body shared t others frame (statement.Join id d) none)
+  running_case choice frame (statement.Detach id) may none = detach_case frame id (others.named (value frame id)) refl (none_applies body shared t others frame (statement.Detach id) none)
+  running_case choice frame (statement.CancelThread id) may none = request_case frame id (others.named (value frame id)) refl (none_applies body shared t others frame (statement.CancelThread id) none)
   running_case choice frame (statement.SelfId d) may none = self_got frame d
   running_case choice frame statement.TestCancel may none = cancel_tested frame
   running_case choice frame (statement.SetState enable old) may none = state_set frame enable old (alone (enable && is_in_handler t.frames) (none_applies body shared t others frame (statement.SetState enable old) none))
@@ -194,13 +196,13 @@ module _ (passes : ℕ) (body : List Stmt) (shared : SharedState) (t : Thread) (
   point_passed_case index (StatementIn frame (statement.PointCall i)) = point_passed frame index i
   point_passed_case index next = rests next (status.AtPoint index) (λ known. refl)
 
-  join_value_case : (id : ℕ) (target : Target) → others.target ≡ Some target → (ended : Option ℕ) → target.value ≡ ended → (next : NextStatement) → Case next (status.Joining id) (joins_with ended id next)
+  join_value_case : (id : ℕ) (target : Thread) → others.named id ≡ Some target → (s : Status) → target.status ≡ s → (next : NextStatement) → Case next (status.Joining id) (joins_at (exit_value_of s) id next)
   unfolding ends_join
-  join_value_case id target is (Some v) ended_is (StatementIn frame (statement.Join operand d)) = join_ended frame operand d id v target is ended_is
-  join_value_case id target is ended ended_is next = rests next (status.Joining id) (λ known. refl)
+  join_value_case id target is (status.Ended v) ended (StatementIn frame (statement.Join operand d)) = join_ended frame operand d id v target is ended
+  join_value_case id target is s ended next = rests next (status.Joining id) (λ known. refl)
 
-  join_ended_case : (id : ℕ) (next : NextStatement) (found : Option Target) → others.target ≡ found → Case next (status.Joining id) (joins_at found id next)
-  join_ended_case id next (Some target) is = join_value_case id target is target.value refl next
+  join_ended_case : (id : ℕ) (next : NextStatement) (found : Option Thread) → others.named id ≡ found → Case next (status.Joining id) (joins_at (option_and_then (λ u. exit_value_of u.status) found) id next)
+  join_ended_case id next (Some target) is = join_value_case id target is target.status refl next
   join_ended_case id next None is = rests next (status.Joining id) (λ known. refl)
 
   -- ---- threads that end
@@ -239,18 +241,14 @@ module _ (passes : ℕ) (body : List Stmt) (shared : SharedState) (t : Thread) (
     pass_by due true false is past = ended_case due (λ some. ltb-false t.pass passes past) others.is_last refl
     pass_by due false more is limit = let nothing : due ≡ 0 = eqb-true due 0 (not-false (nat_eq due 0) is) in ended_case due (λ some. absurd (omega (arith, some, nothing))) others.is_last refl
 
-    without_handlers_case : (choice : Alt) → (offered ≡ true → Offered shared.keys t others next status.Ending choice) → Case next status.Ending (without_handlers others.is_last passes shared.keys t choice)
-    unfolding begins_pass_or_ends
-    without_handlers_case (alt.Dtor k) may = destructor_case k (λ known. left_among (may known)) (key_with k shared.keys) refl
-    without_handlers_case _ may =
-        let due : ℕ = length (due_places shared.keys t.specific) in
-        pass_by due (not (nat_eq due 0)) (nat_lt t.pass passes) refl refl
-
   ending_case : (choice : Alt) (next : NextStatement) → (offered ≡ true → Offered shared.keys t others next status.Ending choice) → (handlers : List (ℕ × ℕ)) → t.handlers ≡ handlers
       → Case next status.Ending (goes_on_ending others.is_last passes shared.keys t choice handlers)
   unfolding goes_on_ending
-  ending_case choice next may [] is = without_handlers_case next is choice may
   ending_case choice next may ((f, a) ∷ handlers) is = handler_run next f a handlers is
+  ending_case (alt.Dtor k) next may [] is = destructor_case next is k (λ known. left_among (may known)) (key_with k shared.keys) refl
+  ending_case _ next may [] is =
+      let due : ℕ = due_keys shared.keys t in
+      pass_by next is due (not (nat_eq due 0)) (nat_lt t.pass passes) refl refl
 
   exit_case : (next : NextStatement) (functions : List ℕ) (exit_value : Option ℕ) → Case next status.Exiting (ends_process functions exit_value)
   unfolding ends_process
@@ -264,7 +262,7 @@ module _ (passes : ℕ) (body : List Stmt) (shared : SharedState) (t : Thread) (
   unfolding transition_at
   going_case choice (StatementIn frame s) status.Running may = stop_case frame s (stop_at body shared t others frame s) (runs passes body shared t others choice frame s) (running_case choice frame s may)
   going_case choice next (status.AtPoint index) may = point_passed_case index next
-  going_case choice next (status.Joining id) may = join_ended_case id next others.target refl
+  going_case choice next (status.Joining id) may = join_ended_case id next (others.named id) refl
   going_case choice next status.Ending may = ending_case choice next may t.handlers refl
   going_case choice next status.Exiting may = exit_case next shared.exit_functions shared.exit_value
   going_case choice next s may = rests next s (λ known. offered_alive (may known))

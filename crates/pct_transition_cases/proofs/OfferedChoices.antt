@@ -1,5 +1,5 @@
 -- The choices that a thread is offered, by case.
-use Rattle.std.proofs.Common.{◌≡◌, ℕ, Bool, true, false, ◌&&◌, List, [], ◌∷◌, ◌++◌, map, nat_eq, Option, is_some, inl, inr, refl, sym, ap, subst, eqb-true, eq-eqb}
+use Rattle.std.proofs.Common.{◌≡◌, ℕ, Bool, true, false, ◌&&◌, List, [], ◌∷◌, ◌++◌, map, nat_eq, Option, inl, inr, refl, sym, ap, subst, eqb-true, eq-eqb}
 use Rattle.std.specs.List.{AllByRecursion, list_any}
 use Rattle.std.proofs.lemmas.Bool.{false≢true, and_parts, or_cases, or_left, or_right}
 use Rattle.pct_model.specs.declared.frame.Frame.{Frame}
@@ -16,10 +16,10 @@ use Rattle.pct_model.specs.declared.statement.Stmt.{Stmt}
 use Rattle.pct_model.specs.declared.statement.Stmt.TheVariants as statement
 use Rattle.pct_model.specs.Cancelability.{is_deliverable, is_asynchronous}
 use Rattle.pct_model.specs.CancelCalls.{called_kind, is_required, is_optional, may_pass}
-use Rattle.pct_model.specs.ChoiceTable.{ChoiceRow, first_row, go_if, act_if, new_or_go, dtor_or_go, statement_choices, cancel_rows, running_choices, ending_choices, choices_at, same_choice, offers}
+use Rattle.pct_model.specs.ChoiceTable.{ChoiceRow, first_row, go_if, act_if, new_or_go, dtor_or_go, is_create, is_key_create, running_rows, running_choices, ending_choices, choices_at, same_choice, offers}
 use Rattle.pct_model.specs.Keys.{KeyPlace, new_keys, left_keys}
 use Rattle.pct_model.specs.NextStatement.{NextStatement, StatementIn}
-use Rattle.pct_model.specs.OtherThreads.{Others, target_is}
+use Rattle.pct_model.specs.OtherThreads.{Others, is_ended_thread}
 use Rattle.pct_model.specs.ThreadSlots.{is_ended_status}
 use Rattle.pct_model.specs.World.{Thread}
 
@@ -124,34 +124,35 @@ asynchronous_enabled Disable mode is = absurd (false≢true is)
 
 module _ (keys : List KeyPlace) (t : Thread) (others : Others) (choice : Alt) where
   -- a running thread
-  statement_offered : (frame : Frame) (s : Stmt) → offers (statement_choices keys others s) choice ≡ true → Offered keys t others (StatementIn frame s) status.Running choice
-  unfolding statement_choices
-  statement_offered frame (statement.Create result id f v detached) offered =
-      let next : NextStatement = StatementIn frame (statement.Create result id f v detached) in
-      new_or_go_has (Offered keys t others next status.Running) choice others.new_ids (may_go next status.Running refl) (λ n among. may_create frame result id f v detached n among) offered
-  statement_offered frame (statement.KeyCreate result key destructor) offered =
-      let next : NextStatement = StatementIn frame (statement.KeyCreate result key destructor) in
-      new_or_go_has (Offered keys t others next status.Running) choice (new_keys keys) (may_go next status.Running refl) (λ n among. may_make_key frame result key destructor n among) offered
-  statement_offered frame s offered = each_has (Offered keys t others (StatementIn frame s) status.Running) choice (alt.Go ∷ []) (may_go (StatementIn frame s) status.Running refl, tt) offered
+  id_offered : (frame : Frame) (s : Stmt) → is_create s ≡ true → (n : ℕ) → list_any (nat_eq n) others.new_ids ≡ true → Offered keys t others (StatementIn frame s) status.Running (alt.New n)
+  id_offered frame (statement.Create result id f v detached) is n among = may_create frame result id f v detached n among
+  id_offered frame _ is n among = absurd (false≢true is)
+
+  key_offered : (frame : Frame) (s : Stmt) → is_key_create s ≡ true → (n : ℕ) → list_any (nat_eq n) (new_keys keys) ≡ true → Offered keys t others (StatementIn frame s) status.Running (alt.New n)
+  key_offered frame (statement.KeyCreate result key destructor) is n among = may_make_key frame result key destructor n among
+  key_offered frame _ is n among = absurd (false≢true is)
 
   running_offered : (frame : Frame) (s : Stmt) → offers (running_choices keys t others s) choice ≡ true → Offered keys t others (StatementIn frame s) status.Running choice
-  unfolding running_choices cancel_rows
+  unfolding running_choices running_rows
   running_offered frame s =
       let P : Alt → Type 0 = Offered keys t others (StatementIn frame s) status.Running in
       let go : P alt.Go = may_go (StatementIn frame s) status.Running refl in
       let act : t.state ≡ Enable → P (alt.Act 0) = λ enabled. may_act (StatementIn frame s) status.Running refl enabled in
       let delivered : (kind : Bool) → is_deliverable t.state t.pending && kind ≡ true → P (alt.Act 0) = λ kind both. act (deliverable_enabled t.state t.pending (and_parts (is_deliverable t.state t.pending) kind both).0) in
-      first_row_has (λ choices. offers choices choice ≡ true → P choice) (cancel_rows keys t others s) (statement_choices keys others s) (
+      first_row_has (λ choices. offers choices choice ≡ true → P choice) (running_rows keys t others s) (alt.Go ∷ []) (
         λ unbuilt. each_has P choice (alt.Go ∷ []) (go, tt),
         (
           λ asynchronous. go_or_act_has P choice true t.pending go (λ pending. act (asynchronous_enabled t.state t.mode asynchronous)),
           (
             λ required. each_has P choice (alt.Act 0 ∷ []) (delivered (is_required (called_kind s)) required, tt),
-            (λ optional. each_has P choice (alt.Go ∷ alt.Act 0 ∷ []) (go, (delivered (is_optional (called_kind s)) optional, tt)), tt),
+            (
+              λ optional. each_has P choice (alt.Go ∷ alt.Act 0 ∷ []) (go, (delivered (is_optional (called_kind s)) optional, tt)),
+              (λ creates. new_or_go_has P choice others.new_ids go (id_offered frame s creates), (λ creates. new_or_go_has P choice (new_keys keys) go (key_offered frame s creates), tt)),
+            ),
           ),
         ),
       )
-      (statement_offered frame s)
+      (each_has P choice (alt.Go ∷ []) (go, tt))
 
   -- a thread that is suspended at a cancellation point
   suspended_offered : (next : NextStatement) (s : Status) → is_ended_status s ≡ false → (passes : Bool) → offers (go_if passes ++ act_if (is_deliverable t.state t.pending)) choice ≡ true → Offered keys t others next s choice
@@ -169,7 +170,7 @@ module _ (keys : List KeyPlace) (t : Thread) (others : Others) (choice : Alt) wh
   unfolding choices_at
   offered_of (StatementIn frame s) status.Running offered = running_offered frame s offered
   offered_of next (status.AtPoint index) offered = suspended_offered next (status.AtPoint index) refl (may_pass index) offered
-  offered_of next (status.Joining id) offered = suspended_offered next (status.Joining id) refl (target_is (λ target. is_some target.value) others.target) offered
+  offered_of next (status.Joining id) offered = suspended_offered next (status.Joining id) refl (is_ended_thread id others) offered
   offered_of next status.Ending offered = ending_offered next t.handlers refl offered
   offered_of next status.Exiting offered = each_has (Offered keys t others next status.Exiting) choice (alt.Go ∷ []) (may_go next status.Exiting refl, tt) offered
   offered_of next _ offered = absurd (false≢true offered)

@@ -7,7 +7,6 @@ use Rattle.pct_model.specs.declared.event.Caller.TheVariants as caller
 use Rattle.pct_model.specs.declared.event.What.TheVariants as what
 use Rattle.pct_model.specs.declared.frame.Frame.{Frame}
 use Rattle.pct_model.specs.declared.limits.TheConstants.{MAX_FRAMES, MAX_HANDLERS}
-use Rattle.pct_model.specs.declared.other_threads.Target.{Target}
 use Rattle.pct_model.specs.declared.point.PointKind.TheVariants.{Required}
 use Rattle.pct_model.specs.declared.state.FrameKind.TheVariants as kind
 use Rattle.pct_model.specs.declared.state.Reason.TheVariants as reason
@@ -88,15 +87,15 @@ module _ (passes : ℕ) (body : List Stmt) (shared : SharedState) (t : Thread) (
         (creates_thread (suc frame.pc) (record { id = new; detached = detached; func = f; arg = value frame v }) (action.Write result 0 ∷ action.Write id new ∷ []) (what.Created new detached ∷ []))
     thread_not_made : (frame : Frame) (result id : Dest) (f : ℕ) (v : Operand) (detached : Bool)
         → TransitionCase (StatementIn frame (statement.Create result id f v detached)) status.Running (goes_on (suc frame.pc) (action.Write result 1 ∷ []) (what.Answer caller.Create 1 ∷ []))
-    join_begun : (frame : Frame) (id : Operand) (d : Dest) (target : Target) → others.target ≡ Some target → nat_eq (value frame id) t.id ≡ false → target.detached ≡ false → target.joining ≡ false
+    join_begun : (frame : Frame) (id : Operand) (d : Dest) (target : Thread) → others.named (value frame id) ≡ Some target → nat_eq (value frame id) t.id ≡ false → target.detached ≡ false → others.another_joins (value frame id) ≡ false
         → TransitionCase (StatementIn frame (statement.Join id d)) status.Running (acts (action.BeginJoin (value frame id) ∷ []) (what.Called join_point ∷ []))
-    join_ended : (frame : Frame) (operand : Operand) (d : Dest) (id v : ℕ) (target : Target) → others.target ≡ Some target → target.value ≡ Some v
+    join_ended : (frame : Frame) (operand : Operand) (d : Dest) (id v : ℕ) (target : Thread) → others.named id ≡ Some target → target.status ≡ status.Ended v
         → TransitionCase (StatementIn frame (statement.Join operand d)) (status.Joining id) (goes_on (suc frame.pc) (action.EndJoin id ∷ action.Write d v ∷ []) (what.Joined id v ∷ []))
-    thread_detached : (frame : Frame) (id : Operand) (target : Target) → others.target ≡ Some target → target.detached ≡ false → target.joining ≡ false
+    thread_detached : (frame : Frame) (id : Operand) (target : Thread) → others.named (value frame id) ≡ Some target → target.detached ≡ false → others.another_joins (value frame id) ≡ false
         → TransitionCase (StatementIn frame (statement.Detach id)) status.Running (goes_on (suc frame.pc) (action.Detach (value frame id) ∷ []) (what.Detached (value frame id) ∷ []))
     self_got : (frame : Frame) (d : Dest) → TransitionCase (StatementIn frame (statement.SelfId d)) status.Running (goes_on (suc frame.pc) (action.Write d t.id ∷ []) [])
     -- cancellation
-    request_sent : (frame : Frame) (id : Operand) (target : Target) → others.target ≡ Some target
+    request_sent : (frame : Frame) (id : Operand) (target : Thread) → others.named (value frame id) ≡ Some target
         → TransitionCase (StatementIn frame (statement.CancelThread id)) status.Running (goes_on (suc frame.pc) (action.Request (value frame id) ∷ []) (what.Request (value frame id) ∷ []))
     state_set : (frame : Frame) (enable : Bool) (old : Dest) → enable && is_in_handler t.frames ≡ false
         → TransitionCase (StatementIn frame (statement.SetState enable old)) status.Running (goes_on (suc frame.pc) (action.SetState (state_if enable) ∷ action.Write old (state_number t.state) ∷ []) (what.StateSet enable ∷ []))
@@ -111,7 +110,7 @@ module _ (passes : ℕ) (body : List Stmt) (shared : SharedState) (t : Thread) (
     canceled_at_point : (next : NextStatement) (index : ℕ) → (offered ≡ true → t.state ≡ Enable)
         → TransitionCase next (status.AtPoint index) (acts (action.BeginEnd reason.Canceled ∷ []) (what.EndingCanceled ∷ []))
     canceled_in_join : (next : NextStatement) (id : ℕ) → (offered ≡ true → t.state ≡ Enable)
-        → TransitionCase next (status.Joining id) (acts (action.CancelJoin id ∷ action.BeginEnd reason.Canceled ∷ []) (what.EndingCanceled ∷ []))
+        → TransitionCase next (status.Joining id) (acts (action.BeginEnd reason.Canceled ∷ []) (what.EndingCanceled ∷ []))
     -- keys
     key_made : (frame : Frame) (result key : Dest) (destructor : Option ℕ) (k : ℕ) → (offered ≡ true → list_any (nat_eq k) (new_keys shared.keys) ≡ true)
         → TransitionCase (StatementIn frame (statement.KeyCreate result key destructor)) status.Running (goes_on (suc frame.pc) (action.MakeKey k destructor ∷ action.Write result 0 ∷ action.Write key k ∷ []) (what.KeyMade k ∷ []))

@@ -57,7 +57,7 @@ pub acting_fits : (depth handlers pass : ℕ) (s : Status) → TransitionFits de
 unfolding acts_on_request
 acting_fits depth handlers pass status.Running = record { next = tt; actions = (tt, tt) }
 acting_fits depth handlers pass (status.AtPoint index) = record { next = tt; actions = (tt, tt) }
-acting_fits depth handlers pass (status.Joining id) = record { next = tt; actions = (tt, (tt, tt)) }
+acting_fits depth handlers pass (status.Joining id) = record { next = tt; actions = (tt, tt) }
 acting_fits depth handlers pass _ = record { next = tt; actions = tt }
 
 -- ---- the table

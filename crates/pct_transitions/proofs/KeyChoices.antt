@@ -17,7 +17,7 @@ use Rattle.pct_model.specs.ChoiceTable.{new_or_go, dtor_or_go, same_choice, offe
 use Rattle.pct_model.specs.Keys.{Key, KeyPlace, KeyValues, key_place, key_at, next_key, if_number, key_with, number_at, free_places, new_keys, value_at, is_left, left_places, left_keys}
 use Rattle.pct_engine_laws.proofs.ListFacts.{any-map, any-filter, map-map}
 use Rattle.pct_keys.specs.Tables.{Table, IsSound}
-use Rattle.pct_transitions.specs.Answers.{AreOnPlaces}
+use Rattle.pct_transitions.specs.Numbers.{AreOnPlaces}
 use Rattle.pct_transitions.proofs.ListedChoices.{IsNoNew, swapped}
 
 -- ---- the places

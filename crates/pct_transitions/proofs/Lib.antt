@@ -3,4 +3,6 @@ pub mod Fits
 pub mod ListedChoices
 pub mod KeyChoices
 pub mod CancelRows
-pub mod SlotAnswers
+pub mod OthersRead
+pub mod ProcessReads
+mod OfferedLists

@@ -1,5 +1,7 @@
 pub mod Programs
-pub mod ThreadViews
 pub mod Positions
-pub mod Answers
+pub mod Numbers
+pub mod OtherThreads
+pub mod Contexts
 pub mod Listed
+pub mod ProcessSteps

@@ -1,23 +1,25 @@
 -- What a step reads of a thread, and of the state that the threads of its process share.
-use denote.Ref.{Bor}
 use Rattle.std.specs.Prelude.{◌≡◌, ℕ, ◌<◌, List, [], length, reverse, Option, Some, None, IfSome}
 use Rattle.pct_model.specs.declared.script.Script.{Script}
-use Rattle.pct_model.specs.declared.statement.Stmt.{Stmt}
-use Rattle.pct_model.specs.declared.frame.Frame.{Frame}
 use Rattle.pct_model.specs.Keys.{KeyPlace}
 use Rattle.pct_model.specs.World.{Thread, SharedState, statement_at}
 use Rattle.pct_model.specs.NextStatement.{NextStatement, NoStatement, StatementIn, next_of}
 use Rattle.pct_keys.specs.Tables.{row_at}
+use Rattle.pct_transitions.specs.declared.current.At.{At}
 use Rattle.pct_transitions.specs.declared.position.Position.{Position}
 
--- a frame and a statement as the next statement of a thread
-abbrev pub next_at : Option (Bor Frame × Bor Stmt) → NextStatement
+-- the next statement of a thread
+abbrev pub next_at : Option At → NextStatement
 next_at None = NoStatement
-next_at (Some (frame, s)) = StatementIn frame.now s.now
+next_at (Some at) = StatementIn at.frame.now at.statement.now
 
 -- the statement is the one at the frame's pc
-abbrev pub IsDecoded : Script → Option (Bor Frame × Bor Stmt) → Type 0
-IsDecoded script next = IfSome next (λ n. statement_at script n.0.now ≡ Some n.1.now)
+abbrev pub IsAt : Script → At → Type 0
+IsAt script at = statement_at script at.frame.now ≡ Some at.statement.now
+
+-- the next statement is decoded
+abbrev pub IsDecoded : Script → Option At → Type 0
+IsDecoded script next = IfSome next (IsAt script)
 
 -- this is the position of the thread
 pub record IsPosition (script : Script) (position : Position) (t : Thread) : Type 0 where

@@ -1,20 +1,20 @@
 //! The transitions of pthread_cancel, pthread_setcancelstate, pthread_setcanceltype and pthread_testcancel, of the calls of
 //! cancellation points, and of a thread that acts upon a request. `next` is the program counter of the next statement.
 
-ghost use Rattle.std.specs.Prelude.{◌≡◌, [], ◌∷◌, Some};
+ghost use Rattle.std.specs.Prelude.{◌≡◌, [], ◌∷◌};
 ghost use Rattle.pct_model.specs.declared.event.What.TheVariants.{Done};
-ghost use Rattle.pct_model.specs.World.{statement_at};
 ghost use Rattle.pct_model.specs.NextStatement.{StatementIn};
 ghost use Rattle.pct_model.specs.Transitions.{goes_on};
 ghost use Rattle.pct_model.specs.CancelCalls.{requests, state_number, mode_number, state_if, mode_if, sets_state, sets_mode, tests_cancel, point_kind, called_kind, calls_point, is_outside, may_pass, passes_point, acts_on_request};
-ghost use Rattle.pct_transitions.specs.Positions.{next_at, IsDecoded};
+ghost use Rattle.pct_transitions.specs.Contexts.{IsWhole};
+ghost use Rattle.pct_transitions.specs.Positions.{next_at, IsAt};
 
-use crate::current::next_pc;
-use crate::program::Program;
-use crate::transitions::{acts, goes_on, no_change, no_next};
+use crate::context::Context;
+use crate::current::{At, next_pc};
+use crate::transitions::{acts, goes_on, no_change};
 use pct_cancel::point_at;
 use pct_model::{
-    Action, Dest, Frame, JOIN_POINT, Mode, PointKind, PointWait, Reason, State, Status, Stmt,
+    Action, Dest, JOIN_POINT, Mode, PointKind, PointWait, Reason, State, Status, Stmt,
     TESTCANCEL_POINT, Transition, UpToThree, What,
 };
 
@@ -179,30 +179,25 @@ fn is_outside(wait: PointWait) -> bool
 
 /// A thread that is suspended at the point with this index goes on.
 #[tactic(auto, unfolding(pct_model::specs::CancelCalls::passes_point))]
-#[inline(never)]
-pub(crate) fn passes_point(
-    program: &Program,
-    index: u32,
-    next: Option<(&Frame, &Stmt)>,
-    transition: &mut Transition,
-)
-    requires { IsDecoded program.now.script next }
-    ensures { transition.new ≡ passes_point index (next_at next.entry) }
+#[inline(always)]
+pub(crate) fn passes_point(context: &Context, index: u32, transition: &mut Transition)
+    requires { IsWhole context.now }
+    ensures { transition.new ≡ passes_point index (next_at context.now.position.next) }
 {
-    match next {
+    match &context.position.next {
         None => *transition = no_change(),
-        Some((frame, statement)) => *transition = passes_in(program, index, frame, statement),
+        Some(at) => *transition = passes_in(context, at, index),
     }
 }
 
 // The same, at a statement of its top frame.
 #[tactic(auto, using(crate::proofs::Bodies::pc_within), unfolding(pct_model::specs::CancelCalls::passes_point))]
-fn passes_in(program: &Program, index: u32, frame: &Frame, statement: &Stmt) -> Transition
-    requires { statement_at program.now.script frame.now ≡ Some statement.now }
-    ensures { result ≡ passes_point index (StatementIn frame.now statement.now) }
+fn passes_in(context: &Context, at: &At, index: u32) -> Transition
+    requires { IsAt context.now.program.now.script at.now }
+    ensures { result ≡ passes_point index (StatementIn at.now.frame.now at.now.statement.now) }
 {
-    match statement {
-        Stmt::PointCall(_) => passes(next_pc(frame), index),
+    match at.statement {
+        Stmt::PointCall(_) => passes(next_pc(at.frame), index),
         _ => no_change(),
     }
 }
@@ -216,22 +211,16 @@ fn passes(next: u32, index: u32) -> Transition
 
 // ---- acting upon a request
 
-/// A thread with this status acts upon a request: it begins to end. One that is suspended in pthread_join leaves it, and its
-/// target stays joinable (XSH 2.9.5.3, pthread_join).
+/// A thread with this status acts upon a request: it begins to end. The thread that it was to join, if it is suspended in
+/// pthread_join, stays joinable (XSH 2.9.5.3, pthread_join).
 #[tactic(auto, unfolding(pct_model::specs::CancelCalls::acts_on_request))]
 #[inline(never)]
 pub(crate) fn acts_on_request(status: Status, transition: &mut Transition)
     ensures { transition.new ≡ acts_on_request status }
 {
-    let begin_end = Action::BeginEnd(Reason::Canceled);
     match status {
-        Status::Running => *transition = acts(begin_end, What::EndingCanceled),
-        Status::AtPoint(_) => *transition = acts(begin_end, What::EndingCanceled),
-        Status::Joining(id) => {
-            *transition = no_next(
-                UpToThree::two(Action::CancelJoin(id), begin_end),
-                UpToThree::one(What::EndingCanceled),
-            );
+        Status::Running | Status::AtPoint(_) | Status::Joining(_) => {
+            *transition = acts(Action::BeginEnd(Reason::Canceled), What::EndingCanceled);
         }
         _ => *transition = no_change(),
     }

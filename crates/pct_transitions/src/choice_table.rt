@@ -4,26 +4,27 @@ ghost use Rattle.std.specs.Prelude.{◌≡◌, ◌<◌, ◌++◌, ℕ, true, fal
 ghost use Rattle.pct_model.specs.declared.script.Script.{Script};
 ghost use Rattle.pct_model.specs.declared.schedule.Alt.TheVariants as alt;
 ghost use Rattle.pct_model.specs.declared.state.Status.TheVariants as status;
-ghost use Rattle.pct_model.specs.World.{Thread};
+ghost use Rattle.pct_model.specs.World.{Thread, SharedState};
 ghost use Rattle.pct_model.specs.NextStatement.{next_of};
-ghost use Rattle.pct_model.specs.OtherThreads.{Others as SeenOthers, target_is};
+ghost use Rattle.pct_model.specs.OtherThreads.{Others};
 ghost use Rattle.pct_model.specs.Cancelability.{is_deliverable, is_asynchronous};
 ghost use Rattle.pct_model.specs.Keys.{new_keys, left_keys};
-ghost use Rattle.pct_model.specs.ChoiceTable.{choices_at, statement_choices, running_choices, ending_choices, new_or_go, dtor_or_go, go_if, act_if, offers};
+ghost use Rattle.pct_model.specs.ChoiceTable.{choices_at, running_choices, ending_choices, new_or_go, dtor_or_go, go_if, act_if, offers};
 ghost use Rattle.pct_keys.specs.Tables.{Table, row_at};
 ghost use Rattle.pct_threads.specs.Slots.{Slot};
 ghost use Rattle.pct_threads.specs.Tables.{next_id_at};
-ghost use Rattle.pct_transitions.specs.Answers.{IsAnswer, IdsFit, NextKeysFit, NumbersFit};
-ghost use Rattle.pct_transitions.specs.Listed.{listed, AreWithin};
+ghost use Rattle.pct_transitions.specs.Numbers.{IdsFit, NextKeysFit, NumbersFit};
+ghost use Rattle.pct_transitions.specs.Contexts.{IsContext, IsWhole};
+ghost use Rattle.pct_transitions.specs.Listed.{listed, statement_choices, AreWithin};
 ghost use Rattle.pct_transitions.specs.declared.choice_table.Choices.TheVariants as choices;
 ghost use Rattle.pct_transitions.specs.Positions.{next_at, HasRow, IsPosition};
 
 use crate::cancel_calls::{called_kind, may_pass};
-use crate::other_threads::Others;
+use crate::context::Context;
 use crate::position::Position;
 use crate::stop_table::is_built;
 use pct_keys::{Keys, key_place};
-use pct_model::{Alt, MAX_KEYS, PointKind, Status, Stmt, Target};
+use pct_model::{Alt, MAX_KEYS, PointKind, Status, Stmt};
 use pct_set::SlotSet;
 use pct_threads::Threads;
 
@@ -191,7 +192,7 @@ fn nth_dtor(keys: &Keys, slot: u32, n: usize) -> Option<Alt>
     }
 }
 
-/// The choices of a thread in this position, with this answer to its query. A running thread with a next statement has `go`, or
+/// The choices of a thread in this context. A running thread with a next statement has `go`, or
 /// at pthread_create an id for a new thread, where a slot is free; where it may act upon a pending request it has `go` and
 /// `act`, and where it must, `act` alone. One that is suspended at a cancellation point has `go`, if what it waits for may occur
 /// at any time, and one that joins another, once that has ended; both have `act`, if a request is pending and cancelability is
@@ -199,18 +200,21 @@ fn nth_dtor(keys: &Keys, slot: u32, n: usize) -> Option<Alt>
 /// process has `go`. A thread that has ended has none.
 #[tactic(auto, unfolding(pct_model::specs::ChoiceTable::choices_at))]
 #[inline(always)]
-pub fn choices_at(others: &Others, position: &Position) -> Choices
-    requires { HasRow position.now }
-    ensures value { (script : Script) (t : Thread) (threads : List Slot) (seen : SeenOthers) → IsPosition script position.now t → IsAnswer threads others.now seen
-        → listed threads position.now.keys.now result ≡ choices_at position.now.keys.now.places t seen (next_of script t.frames) t.status }
-    ensures within { (slots : ℕ) → All (λ s. s < slots) others.now.free → position.now.slot < slots → AreWithin slots result }
+pub(crate) fn choices_at(context: &Context) -> Choices
+    requires { IsWhole context.now }
+    ensures value { (shared : SharedState) (t : Thread) (others : Others) → IsContext shared t others context.now
+        → listed context.now.threads.now context.now.position.keys.now result ≡ choices_at context.now.position.keys.now.places t others (next_of context.now.program.now.script t.frames) t.status }
+    ensures within { AreWithin (length context.now.threads.now) result }
 {
-    let cancel = &position.thread.cancel;
-    match position.thread.status {
-        Status::Running => at_next(others, position),
+    let cancel = &context.position.thread.cancel;
+    match context.position.thread.status {
+        Status::Running => at_next(context),
         Status::AtPoint(index) => go_or_act(may_pass(index), cancel.deliverable()),
-        Status::Joining(_) => go_or_act(has_ended(others.target), cancel.deliverable()),
-        Status::Ending => ending_choices(position),
+        Status::Joining(id) => go_or_act(
+            context.exit_value_with(id).is_some(),
+            cancel.deliverable(),
+        ),
+        Status::Ending => ending_choices(&context.position),
         Status::Exiting => Choices::Go,
         _ => Choices::None,
     }
@@ -218,14 +222,16 @@ pub fn choices_at(others: &Others, position: &Position) -> Choices
 
 // The choices of a running thread: none without a next statement.
 #[tactic(auto, unfolding(pct_model::specs::ChoiceTable::choices_at))]
-fn at_next(others: &Others, position: &Position) -> Choices
-    ensures value { (script : Script) (t : Thread) (threads : List Slot) (seen : SeenOthers) → IsPosition script position.now t → IsAnswer threads others.now seen
-        → listed threads position.now.keys.now result ≡ choices_at position.now.keys.now.places t seen (next_at position.now.next) status.Running }
-    ensures within { (slots : ℕ) → All (λ s. s < slots) others.now.free → AreWithin slots result }
+#[inline(always)]
+fn at_next(context: &Context) -> Choices
+    requires { IsWhole context.now }
+    ensures value { (shared : SharedState) (t : Thread) (others : Others) → IsContext shared t others context.now
+        → listed context.now.threads.now context.now.position.keys.now result ≡ choices_at context.now.position.keys.now.places t others (next_at context.now.position.next) status.Running }
+    ensures within { AreWithin (length context.now.threads.now) result }
 {
-    match position.next {
+    match &context.position.next {
         None => Choices::None,
-        Some((_, statement)) => running_choices(others, position, statement),
+        Some(at) => running_choices(context, at.statement),
     }
 }
 
@@ -233,8 +239,8 @@ fn at_next(others: &Others, position: &Position) -> Choices
 #[tactic(auto, unfolding(pct_model::specs::ChoiceTable::ending_choices))]
 fn ending_choices(position: &Position) -> Choices
     requires { HasRow position.now }
-    ensures value { (script : Script) (t : Thread) (threads : List Slot) (seen : SeenOthers) → IsPosition script position.now t
-        → listed threads position.now.keys.now result ≡ ending_choices position.now.keys.now.places t seen t.handlers }
+    ensures value { (script : Script) (t : Thread) (threads : List Slot) (others : Others) → IsPosition script position.now t
+        → listed threads position.now.keys.now result ≡ ending_choices position.now.keys.now.places t others t.handlers }
     ensures within { (slots : ℕ) → position.now.slot < slots → AreWithin slots result }
 {
     if position.thread.handlers.len() == 0 {
@@ -245,45 +251,51 @@ fn ending_choices(position: &Position) -> Choices
 }
 
 // The choices of a running thread at a statement: what its cancelability decides comes first.
-fn running_choices(others: &Others, position: &Position, statement: &Stmt) -> Choices
-    ensures value { (script : Script) (t : Thread) (threads : List Slot) (seen : SeenOthers) → IsPosition script position.now t → IsAnswer threads others.now seen
-        → listed threads position.now.keys.now result ≡ running_choices position.now.keys.now.places t seen statement.now }
-    ensures within { (slots : ℕ) → All (λ s. s < slots) others.now.free → AreWithin slots result }
+#[inline(always)]
+fn running_choices(context: &Context, statement: &Stmt) -> Choices
+    requires { IsWhole context.now }
+    ensures value { (shared : SharedState) (t : Thread) (others : Others) → IsContext shared t others context.now
+        → listed context.now.threads.now context.now.position.keys.now result ≡ running_choices context.now.position.keys.now.places t others statement.now }
+    ensures within { AreWithin (length context.now.threads.now) result }
 {
-    let cancel = &position.thread.cancel;
+    let cancel = &context.position.thread.cancel;
     if cancel.async_on() {
         // A statement that is not implemented is a stop.
         go_or_act(true, cancel.pending && is_built(statement))
     } else if cancel.deliverable() {
-        requested_choices(others, position.keys, statement)
+        requested_choices(context, statement)
     } else {
-        statement_choices(others, position.keys, statement)
+        statement_choices(context, statement)
     }
 }
 
 // The choices of a running thread at a statement, where a request is pending that is acted upon at cancellation points: the
 // thread does so at a required one, and may do so at an optional one.
-fn requested_choices(others: &Others, keys: &Keys, statement: &Stmt) -> Choices
-    ensures value { (t : Thread) (threads : List Slot) (seen : SeenOthers) → is_asynchronous t.state t.mode ≡ false → is_deliverable t.state t.pending ≡ true → IsAnswer threads others.now seen
-        → listed threads keys.now result ≡ running_choices keys.now.places t seen statement.now }
-    ensures within { (slots : ℕ) → All (λ s. s < slots) others.now.free → AreWithin slots result }
+#[inline(always)]
+fn requested_choices(context: &Context, statement: &Stmt) -> Choices
+    requires { IsWhole context.now }
+    ensures value { (shared : SharedState) (t : Thread) (others : Others) → is_asynchronous t.state t.mode ≡ false → is_deliverable t.state t.pending ≡ true → IsContext shared t others context.now
+        → listed context.now.threads.now context.now.position.keys.now result ≡ running_choices context.now.position.keys.now.places t others statement.now }
+    ensures within { AreWithin (length context.now.threads.now) result }
 {
     match called_kind(statement) {
         Some(PointKind::Required) => Choices::Act,
         Some(PointKind::Optional) => Choices::GoOrAct,
-        None => statement_choices(others, keys, statement),
+        None => statement_choices(context, statement),
     }
 }
 
 // The choices of a running thread at a statement, whatever its cancelability.
-#[tactic(auto, unfolding(pct_model::specs::ChoiceTable::statement_choices))]
-fn statement_choices(others: &Others, keys: &Keys, statement: &Stmt) -> Choices
-    ensures value { (threads : List Slot) (seen : SeenOthers) → IsAnswer threads others.now seen → listed threads keys.now result ≡ statement_choices keys.now.places seen statement.now }
-    ensures within { (slots : ℕ) → All (λ s. s < slots) others.now.free → AreWithin slots result }
+#[inline(always)]
+fn statement_choices(context: &Context, statement: &Stmt) -> Choices
+    requires { IsWhole context.now }
+    ensures value { (shared : SharedState) (t : Thread) (others : Others) → IsContext shared t others context.now
+        → listed context.now.threads.now context.now.position.keys.now result ≡ statement_choices context.now.position.keys.now.places others statement.now }
+    ensures within { AreWithin (length context.now.threads.now) result }
 {
     match statement {
-        Stmt::Create { .. } => new_or_go(&others.free),
-        Stmt::KeyCreate { .. } => new_key_or_go(keys),
+        Stmt::Create { .. } => new_or_go(&context.free_slots()),
+        Stmt::KeyCreate { .. } => new_key_or_go(context.position.keys),
         _ => Choices::Go,
     }
 }
@@ -335,15 +347,5 @@ fn go_or_act(go: bool, act: bool) -> Choices
         (true, false) => Choices::Go,
         (false, true) => Choices::Act,
         (false, false) => Choices::None,
-    }
-}
-
-// The thread that was named has ended.
-fn has_ended(target: Option<Target>) -> bool
-    ensures { result ≡ target_is (λ target. is_some target.value) target }
-{
-    match target {
-        None => false,
-        Some(target) => target.value.is_some(),
     }
 }

@@ -10,9 +10,15 @@ ghost use Rattle.pct_transitions.specs.Positions.{next_at, IsDecoded};
 
 use pct_model::{Dest, Frame, Operand, Script, Stmt};
 
-/// The next statement of a thread with this top frame, and the frame. `None` if there is no frame, or no statement at its
-/// program counter.
-pub fn next_of<'a>(script: &'a Script, top: Option<&'a Frame>) -> Option<(&'a Frame, &'a Stmt)>
+/// The statement at the program counter of a frame.
+#[derive(Clone, Copy)]
+pub struct At<'a> {
+    pub frame: &'a Frame,
+    pub statement: &'a Stmt,
+}
+
+/// The next statement of a thread with this top frame. `None` if there is no frame, or no statement at its program counter.
+pub fn next_of<'a>(script: &'a Script, top: Option<&'a Frame>) -> Option<At<'a>>
     ensures next { (frames : List FrameRecord) → option_map (λ frame. frame.now) top.entry ≡ slice_get frames 0 → next_at result ≡ next_of script.now frames }
     ensures decoded { IsDecoded script.now result }
 {
@@ -20,7 +26,7 @@ pub fn next_of<'a>(script: &'a Script, top: Option<&'a Frame>) -> Option<(&'a Fr
         None => None,
         Some(frame) => match statement_at(script, frame) {
             None => None,
-            Some(statement) => Some((frame, statement)),
+            Some(statement) => Some(At { frame, statement }),
         },
     }
 }

@@ -9,35 +9,43 @@ use pct_model::{Action, Alt, Caller, Dest, Transition, UpToThree, What};
 
 // ---- pthread_key_create
 
+/// A call of pthread_key_create: the variables that get the result and the key, and the destructor.
+#[derive(Clone, Copy)]
+pub(crate) struct KeyCreateCall {
+    pub answer: Dest,
+    pub key: Dest,
+    pub dtor: Option<u32>,
+}
+
 /// pthread_key_create, by the choice of the scheduler: with a number, a key is made with it; with `go`, no place is free and no key
 /// is made.
-#[inline(never)]
+#[inline(always)]
 pub(crate) fn creates_key_by(
-    choice: Alt,
+    call: &KeyCreateCall,
     next: u32,
-    answer: Dest,
-    key: Dest,
-    dtor: Option<u32>,
+    choice: Alt,
     transition: &mut Transition,
 )
-    ensures { transition.new ≡ creates_key_by choice next answer key dtor }
+    ensures { let c = call.now in transition.new ≡ creates_key_by choice next c.answer c.key c.dtor }
 {
     match choice {
-        Alt::New(number) => *transition = creates_key(next, answer, key, dtor, number),
-        Alt::Go => *transition = fails_to_create_key(next, answer),
+        Alt::New(number) => *transition = creates_key(call, next, number),
+        Alt::Go => *transition = fails_to_create_key(next, call.answer),
         _ => *transition = no_change(),
     }
 }
 
 // A key is made with a number: the result is 0.
 #[tactic(auto, unfolding(pct_model::specs::KeyCalls::creates_key))]
-fn creates_key(next: u32, answer: Dest, key: Dest, dtor: Option<u32>, number: u32) -> Transition
-    ensures { result ≡ creates_key next answer key dtor number }
+#[inline(always)]
+fn creates_key(call: &KeyCreateCall, next: u32, number: u32) -> Transition
+    ensures { let c = call.now in result ≡ creates_key next c.answer c.key c.dtor number }
 {
-    let make = Action::MakeKey(number, dtor);
+    let make = Action::MakeKey(number, call.dtor);
+    let answer = Action::Write(call.answer, 0);
     goes_on(
         next,
-        UpToThree::three(make, Action::Write(answer, 0), Action::Write(key, number)),
+        UpToThree::three(make, answer, Action::Write(call.key, number)),
         UpToThree::one(What::KeyMade(number)),
     )
 }

@@ -5,11 +5,13 @@
 mod cancel_calls;
 mod choice_table;
 mod cleanup_handlers;
+mod context;
 mod current;
 mod key_calls;
 mod other_threads;
 mod position;
 mod process_exit;
+mod process_steps;
 mod program;
 mod script_statements;
 mod stop_table;
@@ -18,11 +20,6 @@ mod thread_ends;
 mod transition_table;
 mod transitions;
 
-pub use cancel_calls::may_pass;
-pub use choice_table::{Choices, choices_at};
-pub use current::next_of;
-pub use other_threads::{Others, answer_to, exit_value_of, query_at};
-pub use position::{Position, position_of};
+pub use process_steps::{choice_by, has_choice, takes};
 pub use program::Program;
-pub use transition_table::transition_by;
 pub use transitions::no_change;

@@ -5,12 +5,12 @@ ghost use Rattle.pct_keys.specs.Tables.{row_at};
 ghost use Rattle.pct_threads.specs.Slots.{Held};
 ghost use Rattle.pct_threads.specs.Tables.{held_at, is_occupied_at};
 ghost use Rattle.pct_transitions.specs.Positions.{HasRow, IsDecoded, IsPosition};
-ghost use Rattle.pct_transitions.specs.ThreadViews.{thread_of, with_specific};
+ghost use Rattle.pct_process.specs.ThreadViews.{thread_of, with_specific};
 
-use crate::current::next_of;
+use crate::current::{At, next_of};
 use crate::program::Program;
 use pct_keys::Keys;
-use pct_model::{Frame, Stmt};
+use pct_model::Frame;
 use pct_threads::{Thread, Threads};
 
 /// What a step reads of a thread; its next statement is decoded. In a contract, `IsPosition` says of which threads this is
@@ -20,7 +20,7 @@ pub struct Position<'a> {
     /// The id of the thread.
     pub id: u32,
     /// The top frame, and the statement at its program counter, if there is one.
-    pub next: Option<(&'a Frame, &'a Stmt)>,
+    pub next: Option<At<'a>>,
     /// The number of frames.
     pub depth: u32,
     /// The frames, the oldest first.

@@ -4,12 +4,13 @@
 ghost use Rattle.std.specs.Prelude.{◌≡◌, ◌+◌, ◌%◌, ◌<◌, [], ◌∷◌, Some, true};
 ghost use Rattle.pct_model.specs.declared.limits.TheConstants.{MAX_STATEMENTS};
 ghost use Rattle.pct_model.specs.Jumps.{holds, is_while, open_of};
-ghost use Rattle.pct_model.specs.World.{body_of, statement_at};
+ghost use Rattle.pct_model.specs.World.{body_of};
 ghost use Rattle.pct_model.specs.ScriptStatements.{jumps, emits, sets, adds, calls, after_block, after_test, after_end};
 ghost use Rattle.pct_model.specs.TransitionTable.{ends_block};
 ghost use Rattle.pct_jumps.specs.JumpTable.{opens_block};
+ghost use Rattle.pct_transitions.specs.Positions.{IsAt};
 
-use crate::current::next_pc;
+use crate::current::{At, next_pc};
 use crate::process_exit::returns_by;
 use crate::program::Program;
 use crate::transitions::goes_on;
@@ -75,25 +76,25 @@ pub(crate) fn ends_block(program: &Program, frame: &Frame, transition: &mut Tran
 // ---- jumps
 
 /// The program counter after the end of the block that a frame's statement opens.
-pub(crate) fn after_block(program: &Program, frame: &Frame, statement: &Stmt) -> u32
-    requires at { statement_at program.now.script frame.now ≡ Some statement.now }
-    requires opens { opens_block statement.now ≡ true }
-    ensures { result ≡ after_block (body_of program.now.script frame.now.func) frame.now.pc }
+pub(crate) fn after_block(program: &Program, at: &At) -> u32
+    requires at { IsAt program.now.script at.now }
+    requires opens { opens_block at.now.statement.now ≡ true }
+    ensures { result ≡ after_block (body_of program.now.script at.now.frame.now.func) at.now.frame.now.pc }
 {
-    program.jumps.close_of(frame.func, frame.pc) + 1
+    program.jumps.close_of(at.frame.func, at.frame.pc) + 1
 }
 
 /// The program counter after a frame's `if` or `while` with this value.
-pub(crate) fn after_test(program: &Program, frame: &Frame, statement: &Stmt, value: u32) -> u32
-    requires at { statement_at program.now.script frame.now ≡ Some statement.now }
-    requires opens { opens_block statement.now ≡ true }
-    requires pc { frame.now.pc < MAX_STATEMENTS }
-    ensures { result ≡ after_test (body_of program.now.script frame.now.func) frame.now.pc value }
+pub(crate) fn after_test(program: &Program, at: &At, value: u32) -> u32
+    requires at { IsAt program.now.script at.now }
+    requires opens { opens_block at.now.statement.now ≡ true }
+    requires pc { at.now.frame.now.pc < MAX_STATEMENTS }
+    ensures { result ≡ after_test (body_of program.now.script at.now.frame.now.func) at.now.frame.now.pc value }
 {
     if value == 0 {
-        after_block(program, frame, statement)
+        after_block(program, at)
     } else {
-        next_pc(frame)
+        next_pc(at.frame)
     }
 }
 

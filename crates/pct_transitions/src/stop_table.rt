@@ -6,62 +6,48 @@ ghost use Rattle.pct_model.specs.declared.frame.Frame.{Frame as FrameRecord};
 ghost use Rattle.pct_model.specs.declared.limits.TheConstants.{MAX_HANDLERS};
 ghost use Rattle.pct_model.specs.Jumps.{open_of};
 ghost use Rattle.pct_model.specs.World.{Thread, SharedState, body_of};
-ghost use Rattle.pct_model.specs.OtherThreads.{Others, target_is};
+ghost use Rattle.pct_model.specs.OtherThreads.{Others, no_live_thread, is_detached_thread};
 ghost use Rattle.pct_model.specs.Keys.{key_with};
 ghost use Rattle.pct_model.specs.StopTable.{stop_at, stops_of, first_stop, is_stack_full, has_begun_to_end, exits_twice, is_handler_kind, is_in_handler, is_async_safe, is_built};
-ghost use Rattle.pct_transitions.specs.Positions.{AreShared, IsPosition};
+ghost use Rattle.pct_transitions.specs.Contexts.{IsContext, IsWhole, SeesOthers};
 
-use crate::current::value_of;
-use crate::position::Position;
+use crate::context::Context;
+use crate::current::{At, value_of};
 use crate::program::Program;
 use pct_keys::Keys;
-use pct_model::{Frame, FrameKind, MAX_FRAMES, MAX_HANDLERS, Reason, Stmt, Target, Why};
+use pct_model::{Frame, FrameKind, MAX_FRAMES, MAX_HANDLERS, Reason, Stmt, Why};
 
-/// The stop of a running thread at this statement of its top frame, in a process with these globals and this value of exit, where the
-/// thread that it names, if it names one that holds its slot, is this target: whether the statement is implemented is tested first,
-/// and then the statement's own stops in their order. `None` if the statement does not stop.
+/// The stop of a running thread at this statement of its top frame: whether the statement is implemented is tested first, and then
+/// the statement's own stops in their order. `None` if the statement does not stop.
 #[tactic(auto, unfolding(pct_model::specs::StopTable::stop_at))]
-pub(crate) fn stop_at(
-    program: &Program,
-    globals: &[u32],
-    exit_value: Option<u32>,
-    position: &Position,
-    target: Option<Target>,
-    frame: &Frame,
-    statement: &Stmt,
-) -> Option<Why>
-    ensures { (shared : SharedState) (t : Thread) (others : Others) → AreShared globals.now position.now.keys.now.places exit_value shared → IsPosition program.now.script position.now t → target ≡ others.target
-        → result ≡ stop_at (body_of program.now.script frame.now.func) shared t others frame.now statement.now }
+pub(crate) fn stop_at(context: &Context, at: &At) -> Option<Why>
+    requires { IsWhole context.now }
+    ensures { (shared : SharedState) (t : Thread) (others : Others) → IsContext shared t others context.now
+        → result ≡ stop_at (body_of context.now.program.now.script at.now.frame.now.func) shared t others at.now.frame.now at.now.statement.now }
 {
-    if !is_built(statement) {
+    if !is_built(at.statement) {
         Some(Why::Unbuilt)
-    } else if position.thread.cancel.async_on() && !is_async_safe(statement) {
+    } else if context.position.thread.cancel.async_on() && !is_async_safe(at.statement) {
         Some(Why::AsyncCall)
     } else {
-        own_stop(
-            program, globals, exit_value, position, target, frame, statement,
-        )
+        own_stop(context, at)
     }
 }
 
 // The first of a statement's own stops that applies.
 #[tactic(auto, unfolding(pct_model::specs::StopTable::stops_of))]
-fn own_stop(
-    program: &Program,
-    globals: &[u32],
-    exit_value: Option<u32>,
-    position: &Position,
-    target: Option<Target>,
-    frame: &Frame,
-    statement: &Stmt,
-) -> Option<Why>
-    ensures { (shared : SharedState) (t : Thread) (others : Others) → AreShared globals.now position.now.keys.now.places exit_value shared → IsPosition program.now.script position.now t → target ≡ others.target
-        → result ≡ first_stop (stops_of (body_of program.now.script frame.now.func) shared t others frame.now statement.now) }
+fn own_stop(context: &Context, at: &At) -> Option<Why>
+    requires { IsWhole context.now }
+    ensures { (shared : SharedState) (t : Thread) (others : Others) → IsContext shared t others context.now
+        → result ≡ first_stop (stops_of (body_of context.now.program.now.script at.now.frame.now.func) shared t others at.now.frame.now at.now.statement.now) }
 {
-    match statement {
-        Stmt::Join { id, .. } => stop_of_join(target, position.id, value_of(globals, frame, *id)),
-        Stmt::Detach(_) => stop_of_detach(target),
-        Stmt::CancelThread(_) => first_stop(&[(target.is_none(), Why::ThreadId)]),
+    let position = &context.position;
+    let globals = context.globals;
+    let frame = at.frame;
+    match at.statement {
+        Stmt::Join { id, .. } => stop_of_join(context, value_of(globals, frame, *id)),
+        Stmt::Detach(id) => stop_of_detach(context, value_of(globals, frame, *id)),
+        Stmt::CancelThread(id) => stop_of_request(context, value_of(globals, frame, *id)),
         Stmt::SetState { enable, .. } => first_stop(&[(
             *enable && is_in_handler(position.frames),
             Why::EnableInHandler,
@@ -73,9 +59,12 @@ fn own_stop(
             has_begun_to_end(position.thread.reason),
             Why::ExitInEnding,
         )]),
-        Stmt::Return(_) => first_stop(&[(exits_twice(frame.kind, exit_value), Why::ExitTwice)]),
+        Stmt::Return(_) => first_stop(&[(
+            exits_twice(frame.kind, context.exit_value),
+            Why::ExitTwice,
+        )]),
         Stmt::End => first_stop(&[(
-            closes_function(program, frame) && exits_twice(frame.kind, exit_value),
+            exits_twice(frame.kind, context.exit_value) && closes_function(context.program, frame),
             Why::ExitTwice,
         )]),
         Stmt::Do(_, _) => first_stop(&[(is_stack_full(position.depth), Why::StackFull)]),
@@ -91,28 +80,42 @@ fn own_stop(
     }
 }
 
-// The stop of pthread_join by the thread with the id `tid`, for the thread with an id.
-fn stop_of_join(target: Option<Target>, tid: u32, id: u32) -> Option<Why>
-    ensures { result ≡ first_stop ((is_none target, why.ThreadId) ∷ (nat_eq id tid, why.JoinSelf)
-        ∷ (target_is (λ t. t.detached) target, why.NotJoinable) ∷ (target_is (λ t. t.joining) target, why.JoinTwice) ∷ []) }
+// The stop of pthread_join for the thread with an id.
+#[inline(always)]
+fn stop_of_join(context: &Context, id: u32) -> Option<Why>
+    requires { IsWhole context.now }
+    ensures { (others : Others) → SeesOthers context.now others
+        → result ≡ first_stop ((no_live_thread id others, why.ThreadId) ∷ (nat_eq id context.now.position.id, why.JoinSelf) ∷ (is_detached_thread id others, why.NotJoinable) ∷ (others.another_joins id, why.JoinTwice) ∷ []) }
 {
     first_stop(&[
-        (target.is_none(), Why::ThreadId),
-        (id == tid, Why::JoinSelf),
-        (is_detached(target), Why::NotJoinable),
-        (is_joined(target), Why::JoinTwice),
+        (context.no_live_thread(id), Why::ThreadId),
+        (id == context.position.id, Why::JoinSelf),
+        (context.is_detached_thread(id), Why::NotJoinable),
+        (context.another_joins(id), Why::JoinTwice),
     ])
 }
 
-// The stop of pthread_detach.
-fn stop_of_detach(target: Option<Target>) -> Option<Why>
-    ensures { result ≡ first_stop ((is_none target, why.ThreadId) ∷ (target_is (λ t. t.detached) target, why.NotJoinable) ∷ (target_is (λ t. t.joining) target, why.DetachJoined) ∷ []) }
+// The stop of pthread_detach of the thread with an id.
+#[inline(always)]
+fn stop_of_detach(context: &Context, id: u32) -> Option<Why>
+    requires { IsWhole context.now }
+    ensures { (others : Others) → SeesOthers context.now others
+        → result ≡ first_stop ((no_live_thread id others, why.ThreadId) ∷ (is_detached_thread id others, why.NotJoinable) ∷ (others.another_joins id, why.DetachJoined) ∷ []) }
 {
     first_stop(&[
-        (target.is_none(), Why::ThreadId),
-        (is_detached(target), Why::NotJoinable),
-        (is_joined(target), Why::DetachJoined),
+        (context.no_live_thread(id), Why::ThreadId),
+        (context.is_detached_thread(id), Why::NotJoinable),
+        (context.another_joins(id), Why::DetachJoined),
     ])
+}
+
+// The stop of a call that names the thread with an id.
+#[inline(always)]
+fn stop_of_request(context: &Context, id: u32) -> Option<Why>
+    requires { IsWhole context.now }
+    ensures { (others : Others) → SeesOthers context.now others → result ≡ first_stop ((no_live_thread id others, why.ThreadId) ∷ []) }
+{
+    first_stop(&[(context.no_live_thread(id), Why::ThreadId)])
 }
 
 // The stop of a call that names the key with a number: it was not made, or was deleted.
@@ -130,26 +133,6 @@ fn first_stop(guards: &[(bool, Why)]) -> Option<Why>
 }
 
 // ---- conditions
-
-// The thread that was named is detached.
-fn is_detached(target: Option<Target>) -> bool
-    ensures { result ≡ target_is (λ t. t.detached) target }
-{
-    match target {
-        None => false,
-        Some(target) => target.detached,
-    }
-}
-
-// Another thread is suspended in pthread_join for the thread that was named.
-fn is_joined(target: Option<Target>) -> bool
-    ensures { result ≡ target_is (λ t. t.joining) target }
-{
-    match target {
-        None => false,
-        Some(target) => target.joining,
-    }
-}
 
 // Whether a call in a thread with this number of frames would need one frame more than the limit.
 fn is_stack_full(depth: u32) -> bool

@@ -2,67 +2,62 @@
 //! statement.
 
 ghost use Rattle.std.specs.Prelude.{◌≡◌, Some};
-ghost use Rattle.pct_model.specs.World.{statement_at};
 ghost use Rattle.pct_model.specs.NextStatement.{StatementIn};
-ghost use Rattle.pct_model.specs.ThreadCalls.{creates, fails_to_create, creates_by, begins_join, ends_join, joins_with, joins_at, detaches, gets_self};
-ghost use Rattle.pct_transitions.specs.Positions.{next_at, IsDecoded};
+ghost use Rattle.pct_model.specs.OtherThreads.{Others, exit_value_with};
+ghost use Rattle.pct_model.specs.ThreadCalls.{creates, fails_to_create, creates_by, begins_join, ends_join, joins_at, detaches, gets_self};
+ghost use Rattle.pct_transitions.specs.Contexts.{IsWhole, SeesOthers};
+ghost use Rattle.pct_transitions.specs.Positions.{next_at, IsAt};
 
-use crate::current::next_pc;
-use crate::program::Program;
+use crate::context::Context;
+use crate::current::{At, next_pc};
 use crate::transitions::{acts, goes_on, no_change};
 use pct_model::{
-    Action, Alt, Caller, Dest, Frame, JOIN_POINT, NewThread, Stmt, Target, Transition, UpToThree,
-    What,
+    Action, Alt, Caller, Dest, JOIN_POINT, NewThread, Stmt, Transition, UpToThree, What,
 };
 
 // ---- pthread_create
 
+/// A call of pthread_create: the variables that get the result and the id, and what the new thread calls.
+#[derive(Clone, Copy)]
+pub(crate) struct CreateCall {
+    pub answer: Dest,
+    pub id: Dest,
+    pub func: u32,
+    pub arg: u32,
+    pub detached: bool,
+}
+
 /// pthread_create, by the choice of the scheduler: with an id, a thread is created with it; with `go`, no slot is free and no
 /// thread is created.
-#[inline(never)]
-pub(crate) fn creates_by(
-    choice: Alt,
-    next: u32,
-    answer: Dest,
-    id: Dest,
-    func: u32,
-    arg: u32,
-    detached: bool,
-    transition: &mut Transition,
-)
-    ensures { transition.new ≡ creates_by choice next answer id func arg detached }
+#[inline(always)]
+pub(crate) fn creates_by(call: &CreateCall, next: u32, choice: Alt, transition: &mut Transition)
+    ensures { let c = call.now in transition.new ≡ creates_by choice next c.answer c.id c.func c.arg c.detached }
 {
     match choice {
-        Alt::New(new) => *transition = creates(next, answer, id, new, func, arg, detached),
-        Alt::Go => *transition = fails_to_create(next, answer),
+        Alt::New(new) => *transition = creates(call, next, new),
+        Alt::Go => *transition = fails_to_create(next, call.answer),
         _ => *transition = no_change(),
     }
 }
 
 // A thread is created with an id: the result is 0.
 #[tactic(auto, unfolding(pct_model::specs::ThreadCalls::creates))]
-fn creates(
-    next: u32,
-    answer: Dest,
-    id: Dest,
-    new: u32,
-    func: u32,
-    arg: u32,
-    detached: bool,
-) -> Transition
-    ensures { result ≡ creates next answer id new func arg detached }
+#[inline(always)]
+fn creates(call: &CreateCall, next: u32, id: u32) -> Transition
+    ensures { let c = call.now in result ≡ creates next c.answer c.id id c.func c.arg c.detached }
 {
+    let detached = call.detached;
     let created = NewThread {
-        id: new,
+        id,
         detached,
-        func,
-        arg,
+        func: call.func,
+        arg: call.arg,
     };
     Transition {
         next: Some(next),
         created: Some(created),
-        actions: UpToThree::two(Action::Write(answer, 0), Action::Write(id, new)),
-        events: UpToThree::one(What::Created { id: new, detached }),
+        actions: UpToThree::two(Action::Write(call.answer, 0), Action::Write(call.id, id)),
+        events: UpToThree::one(What::Created { id, detached }),
     }
 }
 
@@ -94,46 +89,36 @@ pub(crate) fn begins_join(id: u32) -> Transition
 
 /// A thread that is suspended in pthread_join for the thread with this id returns from it, once its target has ended with a
 /// value.
-#[tactic(auto, using(crate::proofs::Bodies::pc_within))]
-#[inline(never)]
-pub(crate) fn joins_at(
-    program: &Program,
-    target: Option<Target>,
-    id: u32,
-    next: Option<(&Frame, &Stmt)>,
-    transition: &mut Transition,
-)
-    requires { IsDecoded program.now.script next }
-    ensures { transition.new ≡ joins_at target id (next_at next.entry) }
+#[inline(always)]
+pub(crate) fn joins_at(context: &Context, id: u32, transition: &mut Transition)
+    requires { IsWhole context.now }
+    ensures { (others : Others) → SeesOthers context.now others → transition.new ≡ joins_at (exit_value_with id others) id (next_at context.now.position.next) }
 {
-    match target {
+    match context.exit_value_with(id) {
         None => *transition = no_change(),
-        Some(target) => match target.value {
-            None => *transition = no_change(),
-            Some(value) => *transition = joins_with(program, value, id, next),
-        },
+        Some(value) => *transition = joins_with(context, id, value),
     }
 }
 
 // It returns from it with the exit value of its target.
-fn joins_with(program: &Program, value: u32, id: u32, next: Option<(&Frame, &Stmt)>) -> Transition
-    requires { IsDecoded program.now.script next }
-    ensures { result ≡ joins_with (Some value) id (next_at next.entry) }
+fn joins_with(context: &Context, id: u32, value: u32) -> Transition
+    requires { IsWhole context.now }
+    ensures { result ≡ joins_at (Some value) id (next_at context.now.position.next) }
 {
-    match next {
+    match &context.position.next {
         None => no_change(),
-        Some((frame, statement)) => joins_in(program, value, id, frame, statement),
+        Some(at) => joins_in(context, at, id, value),
     }
 }
 
 // The same, at a statement of its top frame.
 #[tactic(auto, using(crate::proofs::Bodies::pc_within))]
-fn joins_in(program: &Program, value: u32, id: u32, frame: &Frame, statement: &Stmt) -> Transition
-    requires { statement_at program.now.script frame.now ≡ Some statement.now }
-    ensures { result ≡ joins_with (Some value) id (StatementIn frame.now statement.now) }
+fn joins_in(context: &Context, at: &At, id: u32, value: u32) -> Transition
+    requires { IsAt context.now.program.now.script at.now }
+    ensures { result ≡ joins_at (Some value) id (StatementIn at.now.frame.now at.now.statement.now) }
 {
-    match statement {
-        Stmt::Join { value: dest, .. } => ends_join(next_pc(frame), *dest, id, value),
+    match at.statement {
+        Stmt::Join { value: dest, .. } => ends_join(next_pc(at.frame), *dest, id, value),
         _ => no_change(),
     }
 }

@@ -6,10 +6,13 @@ ghost use Rattle.pct_model.specs.declared.event.What.TheVariants.{EndedWith, Exi
 ghost use Rattle.pct_model.specs.declared.script.Script.{Script};
 ghost use Rattle.pct_model.specs.declared.schedule.Alt.{Alt as Choice};
 ghost use Rattle.pct_model.specs.Keys.{KeyPlace, key_place, key_with, value_at};
-ghost use Rattle.pct_model.specs.World.{Thread};
-ghost use Rattle.pct_model.specs.ThreadEnds.{ends_by_exit, end_value, leftover, ends_thread, calls_destructor, begins_pass_or_ends, without_handlers, goes_on_ending};
+ghost use Rattle.pct_model.specs.OtherThreads.{Others};
+ghost use Rattle.pct_model.specs.World.{Thread, SharedState};
+ghost use Rattle.pct_model.specs.ThreadEnds.{ends_by_exit, end_value, leftover, ends_thread, calls_destructor, goes_on_ending};
+ghost use Rattle.pct_transitions.specs.Contexts.{IsContext, IsWhole};
 ghost use Rattle.pct_transitions.specs.Positions.{HasRow, IsPosition};
 
+use crate::context::Context;
 use crate::position::Position;
 use crate::transitions::{acts, no_change, no_next};
 use pct_model::{Action, Alt, FrameKind, Reason, Transition, UpToThree, What};
@@ -26,24 +29,24 @@ pub(crate) fn ends_by_exit(value: u32) -> Transition
     )
 }
 
-/// A thread in this position that is ending, and so has no frame, removes its newest cleanup handler and calls it. Without a handler
+/// A thread in this context that is ending, and so has no frame, removes its newest cleanup handler and calls it. Without a handler
 /// it calls the destructor of the key that the choice names; by every other choice it begins the next pass over the destructors, if
 /// keys are due and the limit on passes allows it, and else it ends (XSH 2.9.5.3, pthread_key_create). The last thread of a process
 /// begins to exit it with 0.
 #[tactic(auto, unfolding(pct_model::specs::ThreadEnds::goes_on_ending))]
 #[inline(always)]
 pub(crate) fn goes_on_ending(
-    is_last: bool,
+    context: &Context,
     passes: u32,
-    position: &Position,
     choice: Alt,
     transition: &mut Transition,
 )
-    requires { HasRow position.now }
-    ensures { (script : Script) (t : Thread) → IsPosition script position.now t → transition.new ≡ goes_on_ending is_last passes position.now.keys.now.places t choice t.handlers }
+    requires { IsWhole context.now }
+    ensures { (shared : SharedState) (t : Thread) (others : Others) → IsContext shared t others context.now
+        → transition.new ≡ goes_on_ending others.is_last passes shared.keys t choice t.handlers }
 {
-    match position.thread.handlers.newest() {
-        None => without_handlers(is_last, passes, position, choice, transition),
+    match context.position.thread.handlers.newest() {
+        None => without_handlers(context, passes, choice, transition),
         Some((func, arg)) => *transition = runs_handler(func, arg),
     }
 }
@@ -64,23 +67,26 @@ fn runs_handler(func: u32, arg: u32) -> Transition
     )
 }
 
-// The thread has no cleanup handler: it calls a destructor, or goes on to the next pass or its end.
-fn without_handlers(
-    is_last: bool,
-    passes: u32,
-    position: &Position,
-    choice: Alt,
-    transition: &mut Transition,
-)
-    requires { HasRow position.now }
-    ensures { (script : Script) (t : Thread) → IsPosition script position.now t → transition.new ≡ without_handlers is_last passes position.now.keys.now.places t choice }
+// The thread has no cleanup handler: it calls the destructor that the choice names, or begins the next pass if keys are due and the
+// limit on passes allows it, and else it ends.
+#[tactic(auto, unfolding(pct_model::specs::ThreadEnds::goes_on_ending))]
+#[inline(always)]
+fn without_handlers(context: &Context, passes: u32, choice: Alt, transition: &mut Transition)
+    requires { IsWhole context.now }
+    ensures { (shared : SharedState) (t : Thread) (others : Others) → IsContext shared t others context.now
+        → transition.new ≡ goes_on_ending others.is_last passes shared.keys t choice [] }
 {
+    let position = &context.position;
     match choice {
         Alt::Dtor(key) => calls_destructor(position, key, transition),
         _ => {
             let due = position.keys.due(position.slot);
             let thread = position.thread;
-            *transition = begins_pass_or_ends(is_last, passes, thread.pass, due, thread.reason);
+            *transition = if due != 0 && thread.pass < passes {
+                acts(Action::BeginPass, What::PassBegun(thread.pass + 1))
+            } else {
+                ends_thread(context.is_last(), due, end_value(thread.reason))
+            };
         }
     }
 }
@@ -127,18 +133,6 @@ fn runs_destructor(pass: u32, key: u32, value: u32, dtor: Option<u32>) -> Transi
             v: value,
         }),
     )
-}
-
-// The thread begins the next pass if keys are due and the limit on passes allows it, and else it ends.
-#[tactic(auto, unfolding(pct_model::specs::ThreadEnds::begins_pass_or_ends))]
-fn begins_pass_or_ends(is_last: bool, passes: u32, pass: u32, due: u32, why: Reason) -> Transition
-    ensures { result ≡ begins_pass_or_ends is_last passes pass due why }
-{
-    if due != 0 && pass < passes {
-        acts(Action::BeginPass, What::PassBegun(pass + 1))
-    } else {
-        ends_thread(is_last, due, end_value(why))
-    }
 }
 
 // The thread ends with a value, and a number of due keys left; the last thread of a process begins to exit it with 0, as if exit was

@@ -1,171 +1,115 @@
 //! The transition that a choice makes.
 
-ghost use Rattle.std.specs.Prelude.{◌≡◌, ◌≤◌, Some, length};
+ghost use Rattle.std.specs.Prelude.{◌≡◌, ◌≤◌, length};
 ghost use Rattle.pct_model.specs.declared.limits.TheConstants.{MAX_PASSES};
 ghost use Rattle.pct_model.specs.declared.state.Status.TheVariants as status;
-ghost use Rattle.pct_model.specs.World.{Thread, SharedState, body_of, statement_at};
-ghost use Rattle.pct_model.specs.OtherThreads.{Others as SeenOthers};
+ghost use Rattle.pct_model.specs.World.{Thread, SharedState, body_of};
+ghost use Rattle.pct_model.specs.OtherThreads.{Others};
 ghost use Rattle.pct_model.specs.StopTable.{stop_at};
 ghost use Rattle.pct_model.specs.NextStatement.{next_of, body_at};
 ghost use Rattle.pct_model.specs.TransitionTable.{acts_or, transition_at, stops_or, runs};
-ghost use Rattle.pct_transitions.specs.Answers.{SeesAlike};
-ghost use Rattle.pct_transitions.specs.Positions.{AreShared, HasRow, IsDecoded, IsPosition};
+ghost use Rattle.pct_transitions.specs.Contexts.{IsContext, IsWhole};
+ghost use Rattle.pct_transitions.specs.Positions.{IsAt};
 ghost use Rattle.pct_engine_laws.specs.Fitting.{TransitionFits};
 
 use crate::cancel_calls::{
     acts_on_request, calls_point, passes_point, requests, sets_mode, sets_state, tests_cancel,
 };
 use crate::cleanup_handlers::{pops, pushes};
-use crate::current::{next_pc, value_of, variable_value};
-use crate::key_calls::{creates_key_by, deletes_key, gets_specific, sets_specific};
-use crate::other_threads::Others;
-use crate::position::Position;
+use crate::context::Context;
+use crate::current::{At, next_pc, value_of, variable_value};
+use crate::key_calls::{KeyCreateCall, creates_key_by, deletes_key, gets_specific, sets_specific};
 use crate::process_exit::{ends_process, returns_by};
-use crate::program::Program;
 use crate::script_statements::{
     adds, after_block, after_test, calls, emits, ends_block, jumps, sets,
 };
 use crate::stop_table::stop_at;
-use crate::thread_calls::{begins_join, creates_by, detaches, gets_self, joins_at};
+use crate::thread_calls::{CreateCall, begins_join, creates_by, detaches, gets_self, joins_at};
 use crate::thread_ends::{ends_by_exit, goes_on_ending};
 use crate::transitions::{no_change, stops};
 use pct_keys::key_place;
-use pct_model::{Alt, Frame, Status, Stmt, Target, Transition};
+use pct_model::{Alt, Status, Stmt, Transition};
 
-/// Writes to `transition` what a thread in this position does by a choice, with this answer to its query, in a process with
-/// these globals and this value of exit (`None` before exit has begun), in which no function is registered with atexit. By
-/// `act` it acts upon a request. By every other choice it goes on: a running thread stops the run, or makes the transition of its
-/// next statement; one that is suspended at a cancellation point goes on; one that joins another returns, once that has ended;
-/// one that is ending runs its handlers and destructors and ends; one that exits its process ends it; every other thread changes
-/// nothing. The program counter and the actions, one after another, keep the limits.
-pub fn transition_by(
-    program: &Program,
-    globals: &[u32],
-    exit_value: Option<u32>,
-    position: &Position,
-    others: &Others,
-    choice: Alt,
-    transition: &mut Transition,
-)
-    requires decoded { IsDecoded program.now.script position.now.next }
-    requires row { HasRow position.now }
-    ensures value { (shared : SharedState) (t : Thread) (seen : SeenOthers) → AreShared globals.now position.now.keys.now.places exit_value shared → IsPosition program.now.script position.now t → SeesAlike others.now seen
-        → transition.new ≡ acts_or choice t.status (transition_at program.now.config.passes (body_at program.now.script t.frames) shared t seen choice (next_of program.now.script t.frames) t.status) }
-    ensures fits { (t : Thread) → IsPosition program.now.script position.now t → TransitionFits (length t.frames) (length t.handlers) t.pass transition.new }
+/// Writes to `transition` what a thread in this context does by a choice. By `act` it acts upon a request. By every other choice it
+/// goes on: a running thread stops the run, or makes the transition of its next statement; one that is suspended at a cancellation
+/// point goes on; one that joins another returns, once that has ended; one that is ending runs its handlers and destructors and
+/// ends; one that exits its process ends it; every other thread changes nothing. The program counter and the actions, one after
+/// another, keep the limits.
+pub(crate) fn transition_by(context: &Context, choice: Alt, transition: &mut Transition)
+    requires { IsWhole context.now }
+    ensures value { (shared : SharedState) (t : Thread) (others : Others) → IsContext shared t others context.now
+        → let script = context.now.program.now.script in
+        transition.new ≡ acts_or choice t.status (transition_at context.now.program.now.config.passes (body_at script t.frames) shared t others choice (next_of script t.frames) t.status) }
+    ensures fits { (shared : SharedState) (t : Thread) (others : Others) → IsContext shared t others context.now → TransitionFits (length t.frames) (length t.handlers) t.pass transition.new }
 {
     match choice {
-        Alt::Act(_) => acts_on_request(position.thread.status, transition),
-        _ => transition_at(
-            program, globals, exit_value, position, others, choice, transition,
-        ),
+        Alt::Act(_) => acts_on_request(context.position.thread.status, transition),
+        _ => transition_at(context, choice, transition),
     }
 }
 
 // What the thread does as it goes on, by its status.
 #[tactic(auto, unfolding(pct_model::specs::TransitionTable::transition_at))]
-fn transition_at(
-    program: &Program,
-    globals: &[u32],
-    exit_value: Option<u32>,
-    position: &Position,
-    others: &Others,
-    choice: Alt,
-    transition: &mut Transition,
-)
-    requires decoded { IsDecoded program.now.script position.now.next }
-    requires row { HasRow position.now }
-    ensures value { (shared : SharedState) (t : Thread) (seen : SeenOthers) → AreShared globals.now position.now.keys.now.places exit_value shared → IsPosition program.now.script position.now t → SeesAlike others.now seen
-        → transition.new ≡ transition_at program.now.config.passes (body_at program.now.script t.frames) shared t seen choice (next_of program.now.script t.frames) t.status }
-    ensures limit { program.now.config.passes ≤ MAX_PASSES }
+fn transition_at(context: &Context, choice: Alt, transition: &mut Transition)
+    requires { IsWhole context.now }
+    ensures value { (shared : SharedState) (t : Thread) (others : Others) → IsContext shared t others context.now
+        → let script = context.now.program.now.script in
+        transition.new ≡ transition_at context.now.program.now.config.passes (body_at script t.frames) shared t others choice (next_of script t.frames) t.status }
+    ensures limit { context.now.program.now.config.passes ≤ MAX_PASSES }
 {
+    let program = context.program;
     let passes = program.config.passes;
-    match position.thread.status {
-        Status::Running => running(
-            program,
-            globals,
-            exit_value,
-            position,
-            others.target,
-            choice,
-            transition,
-        ),
-        Status::AtPoint(index) => passes_point(program, index, position.next, transition),
-        Status::Joining(id) => joins_at(program, others.target, id, position.next, transition),
-        Status::Ending => goes_on_ending(others.is_last, passes, position, choice, transition),
-        Status::Exiting => ends_process(exit_value, transition),
+    match context.position.thread.status {
+        Status::Running => running(context, choice, transition),
+        Status::AtPoint(index) => passes_point(context, index, transition),
+        Status::Joining(id) => joins_at(context, id, transition),
+        Status::Ending => goes_on_ending(context, passes, choice, transition),
+        Status::Exiting => ends_process(context.exit_value, transition),
         _ => *transition = no_change(),
     }
 }
 
 // What a running thread does: nothing, if it has no next statement.
 #[tactic(auto, unfolding(pct_model::specs::TransitionTable::transition_at))]
-fn running(
-    program: &Program,
-    globals: &[u32],
-    exit_value: Option<u32>,
-    position: &Position,
-    target: Option<Target>,
-    choice: Alt,
-    transition: &mut Transition,
-)
-    requires decoded { IsDecoded program.now.script position.now.next }
-    requires row { HasRow position.now }
-    ensures { (shared : SharedState) (t : Thread) (seen : SeenOthers) → AreShared globals.now position.now.keys.now.places exit_value shared → IsPosition program.now.script position.now t → target ≡ seen.target
-        → transition.new ≡ transition_at program.now.config.passes (body_at program.now.script t.frames) shared t seen choice (next_of program.now.script t.frames) status.Running }
+fn running(context: &Context, choice: Alt, transition: &mut Transition)
+    requires { IsWhole context.now }
+    ensures { (shared : SharedState) (t : Thread) (others : Others) → IsContext shared t others context.now
+        → let script = context.now.program.now.script in
+        transition.new ≡ transition_at context.now.program.now.config.passes (body_at script t.frames) shared t others choice (next_of script t.frames) status.Running }
 {
-    match position.next {
+    match &context.position.next {
         None => *transition = no_change(),
-        Some((frame, statement)) => stops_or_runs(
-            program, globals, exit_value, position, target, choice, frame, statement, transition,
-        ),
+        Some(at) => stops_or_runs(context, at, choice, transition),
     }
 }
 
 // What a running thread does at this statement: the stop, if there is one.
-fn stops_or_runs(
-    program: &Program,
-    globals: &[u32],
-    exit_value: Option<u32>,
-    position: &Position,
-    target: Option<Target>,
-    choice: Alt,
-    frame: &Frame,
-    statement: &Stmt,
-    transition: &mut Transition,
-)
-    requires at { statement_at program.now.script frame.now ≡ Some statement.now }
-    requires row { HasRow position.now }
-    ensures { (shared : SharedState) (t : Thread) (seen : SeenOthers) → AreShared globals.now position.now.keys.now.places exit_value shared → IsPosition program.now.script position.now t → target ≡ seen.target
-        → let body = body_of program.now.script frame.now.func in
-        transition.new ≡ stops_or (stop_at body shared t seen frame.now statement.now) (runs program.now.config.passes body shared t seen choice frame.now statement.now) }
+fn stops_or_runs(context: &Context, at: &At, choice: Alt, transition: &mut Transition)
+    requires whole { IsWhole context.now }
+    requires at { IsAt context.now.program.now.script at.now }
+    ensures { (shared : SharedState) (t : Thread) (others : Others) → IsContext shared t others context.now
+        → let body = body_of context.now.program.now.script at.now.frame.now.func in
+        transition.new ≡ stops_or (stop_at body shared t others at.now.frame.now at.now.statement.now) (runs context.now.program.now.config.passes body shared t others choice at.now.frame.now at.now.statement.now) }
 {
-    match stop_at(
-        program, globals, exit_value, position, target, frame, statement,
-    ) {
+    match stop_at(context, at) {
         Some(why) => *transition = stops(why),
-        None => runs(
-            program, globals, position, choice, frame, statement, transition,
-        ),
+        None => runs(context, at, choice, transition),
     }
 }
 
 // What a running thread does at a statement that does not stop.
 #[tactic(auto, using(crate::proofs::Bodies::pc_within), unfolding(pct_model::specs::TransitionTable::runs))]
-fn runs(
-    program: &Program,
-    globals: &[u32],
-    position: &Position,
-    choice: Alt,
-    frame: &Frame,
-    statement: &Stmt,
-    transition: &mut Transition,
-)
-    requires at { statement_at program.now.script frame.now ≡ Some statement.now }
-    requires row { HasRow position.now }
-    ensures { (shared : SharedState) (t : Thread) (seen : SeenOthers) → globals.now ≡ shared.globals → IsPosition program.now.script position.now t
-        → transition.new ≡ runs program.now.config.passes (body_of program.now.script frame.now.func) shared t seen choice frame.now statement.now }
+fn runs(context: &Context, at: &At, choice: Alt, transition: &mut Transition)
+    requires whole { IsWhole context.now }
+    requires at { IsAt context.now.program.now.script at.now }
+    ensures { (shared : SharedState) (t : Thread) (others : Others) → IsContext shared t others context.now
+        → transition.new ≡ runs context.now.program.now.config.passes (body_of context.now.program.now.script at.now.frame.now.func) shared t others choice at.now.frame.now at.now.statement.now }
 {
-    match statement {
+    let program = context.program;
+    let globals = context.globals;
+    let position = &context.position;
+    let frame = at.frame;
+    match at.statement {
         Stmt::Emit(operand) => {
             *transition = emits(next_pc(frame), value_of(globals, frame, *operand));
         }
@@ -180,12 +124,12 @@ fn runs(
         Stmt::Nop => *transition = jumps(next_pc(frame)),
         Stmt::If(operand) => {
             let value = value_of(globals, frame, *operand);
-            *transition = jumps(after_test(program, frame, statement, value));
+            *transition = jumps(after_test(program, at, value));
         }
-        Stmt::Else => *transition = jumps(after_block(program, frame, statement)),
+        Stmt::Else => *transition = jumps(after_block(program, at)),
         Stmt::While(operand) => {
             let value = value_of(globals, frame, *operand);
-            *transition = jumps(after_test(program, frame, statement, value));
+            *transition = jumps(after_test(program, at, value));
         }
         Stmt::End => ends_block(program, frame, transition),
         Stmt::Do(func, operand) => {
@@ -202,16 +146,16 @@ fn runs(
             func,
             arg,
             detached,
-        } => creates_by(
-            choice,
-            next_pc(frame),
-            *answer,
-            *id,
-            *func,
-            value_of(globals, frame, *arg),
-            *detached,
-            transition,
-        ),
+        } => {
+            let call = CreateCall {
+                answer: *answer,
+                id: *id,
+                func: *func,
+                arg: value_of(globals, frame, *arg),
+                detached: *detached,
+            };
+            creates_by(&call, next_pc(frame), choice, transition);
+        }
         Stmt::Join { id, .. } => *transition = begins_join(value_of(globals, frame, *id)),
         Stmt::Detach(operand) => {
             *transition = detaches(next_pc(frame), value_of(globals, frame, *operand));
@@ -234,7 +178,14 @@ fn runs(
             result: answer,
             key,
             dtor,
-        } => creates_key_by(choice, next_pc(frame), *answer, *key, *dtor, transition),
+        } => {
+            let call = KeyCreateCall {
+                answer: *answer,
+                key: *key,
+                dtor: *dtor,
+            };
+            creates_key_by(&call, next_pc(frame), choice, transition);
+        }
         Stmt::KeyDelete(key) => {
             *transition = deletes_key(next_pc(frame), value_of(globals, frame, *key));
         }

@@ -1,12 +1,11 @@
 -- What each transition does with the threads that it names, by the tables: at most one action names a thread, which holds its slot,
 -- and an event reports it.
-use Rattle.std.proofs.Common.{◌≡◌, ℕ, suc, Bool, true, false, not, List, [], reverse, nat_eq, Option, Some, None, option_map, refl, sym, ap, ◌∙◌}
+use Rattle.std.proofs.Common.{◌≡◌, ℕ, suc, Bool, true, false, not, List, [], reverse, nat_eq, Option, Some, None, option_map, refl, ap, ◌∙◌}
 use Rattle.std.specs.List.{list_all}
 use Rattle.std.proofs.lemmas.Bool.{false≢true}
 use Rattle.std.proofs.lemmas.Option.{none-some, same_Some}
 use Rattle.pct_model.specs.declared.event.What.{What}
 use Rattle.pct_model.specs.declared.event.What.TheVariants as what
-use Rattle.pct_model.specs.declared.other_threads.Target.{Target}
 use Rattle.pct_model.specs.declared.schedule.Alt.{Alt}
 use Rattle.pct_model.specs.declared.schedule.Config.{Config}
 use Rattle.pct_model.specs.declared.script.Script.{Script}
@@ -20,7 +19,7 @@ use Rattle.pct_model.specs.declared.transition.Transition.{Transition}
 use Rattle.pct_model.specs.CancelCalls.{requests, acts_on_request}
 use Rattle.pct_model.specs.ChoiceTable.{choices_of, offers}
 use Rattle.pct_model.specs.NextStatement.{NextStatement, next_of, body_at}
-use Rattle.pct_model.specs.OtherThreads.{Others, exit_value_of, is_joined_by_one, target_with, query_at, statement_query, answer_to, others_of}
+use Rattle.pct_model.specs.OtherThreads.{is_joined_by_one, others_of}
 use Rattle.pct_model.specs.ThreadCalls.{creates, begins_join, ends_join, detaches}
 use Rattle.pct_model.specs.ThreadSlots.{is_ended_status, with_id}
 use Rattle.pct_model.specs.TransitionTable.{transition_by}
@@ -41,7 +40,6 @@ abbrev pub is_quiet : Action → Bool
 is_quiet (action.Leave s) = not (is_in_join s)
 is_quiet (action.BeginJoin id) = false
 is_quiet (action.EndJoin id) = false
-is_quiet (action.CancelJoin id) = false
 is_quiet (action.Request id) = false
 is_quiet (action.Detach id) = false
 is_quiet _ = true
@@ -86,63 +84,29 @@ pub data Kind (tid : ℕ) (threads : List Thread) (s : Status) : Transition → 
   -- it leaves pthread_join to end
   cancels : (id : ℕ) → s ≡ status.Joining id → Kind tid threads s (acts_on_request (status.Joining id))
 
--- ---- the thread that is seen
-
--- a thread with an id, of these threads, as it is seen
-abbrev seen_as : List Thread → ℕ → Thread → Target
-seen_as threads id t = record { detached = t.detached; joining = is_joined_by_one id threads; value = exit_value_of t.status }
-
--- the thread with an id that is seen so
-record IsSeen (threads : List Thread) (id : ℕ) (x : Target) : Type 0 where
-  thread : Thread
-  is : with_id id threads ≡ Some thread
-  same : seen_as threads id thread ≡ x
-
-seen_by : (threads : List Thread) (id : ℕ) (x : Target) (found : Option Thread) → with_id id threads ≡ found → option_map (seen_as threads id) found ≡ Some x → IsSeen threads id x
-seen_by threads id x None is seen = absurd (none-some x seen)
-seen_by threads id x (Some u) is seen = record { thread = u; is = is; same = same_Some (seen_as threads id u) x seen }
-
-seen_thread : (threads : List Thread) (id : ℕ) (x : Target) → target_with id threads ≡ Some x → IsSeen threads id x
-seen_thread threads id x seen = seen_by threads id x (with_id id threads) refl seen
-
-ended_with : (s : Status) (v : ℕ) → exit_value_of s ≡ Some v → s ≡ status.Ended v
-ended_with (status.Ended w) v is = ap (λ (n : ℕ). status.Ended n) (same_Some w v is)
-ended_with _ v is = absurd (none-some v is)
-
 -- ---- the table
 
 module _ (slots : ℕ) (threads : List Thread) (passes : ℕ) (body : List Stmt) (shared : SharedState) (t : Thread) where
-  case_kind : {others : Others} {next : NextStatement} {s : Status} {o : Transition} → others ≡ answer_to slots t.id threads (query_at shared next s) → TransitionCase passes body shared t others false next s o → Kind t.id threads s o
-  unfolding query_at statement_query answer_to creates begins_join ends_join detaches requests acts_on_request
-  case_kind asked (rests next s alive) = quiet (record { actions = refl; events = refl; none = refl }) (λ joins. refl)
-  case_kind asked (thread_made frame result id f v detached new among) = creates_one (suc frame.pc) result id new f (value_of shared.globals frame v) detached refl
-  case_kind asked (join_begun frame id d x seen other joinable unjoined) =
-      let n : ℕ = value_of shared.globals frame id in
-      let it : IsSeen threads n x = seen_thread threads n x (sym (ap (λ (all : Others). all.target) asked) ∙ seen) in
-      begins n refl (record { target = it.thread; is_target = it.is; other = other; joinable = ap (λ (y : Target). y.detached) it.same ∙ joinable; alone = ap (λ (y : Target). y.joining) it.same ∙ unjoined })
-  case_kind asked (join_ended frame operand d id v x seen value) =
-      let it : IsSeen threads id x = seen_thread threads id x (sym (ap (λ (all : Others). all.target) asked) ∙ seen) in
-      ends (suc frame.pc) d id v it.thread refl it.is (ended_with it.thread.status v (ap (λ (y : Target). y.value) it.same ∙ value))
-  case_kind asked (thread_detached frame id x seen joinable unjoined) =
-      let n : ℕ = value_of shared.globals frame id in
-      let it : IsSeen threads n x = seen_thread threads n x (sym (ap (λ (all : Others). all.target) asked) ∙ seen) in
-      detaches_one (suc frame.pc) n it.thread refl it.is (ap (λ (y : Target). y.joining) it.same ∙ unjoined)
-  case_kind asked (request_sent frame id x seen) =
-      let n : ℕ = value_of shared.globals frame id in
-      let it : IsSeen threads n x = seen_thread threads n x (sym (ap (λ (all : Others). all.target) asked) ∙ seen) in
-      requests_one (suc frame.pc) n it.thread refl it.is
-  case_kind asked (canceled_in_join next id enabled) = cancels id refl
-  case_kind asked _ = quiet (record { actions = refl; events = refl; none = refl }) (λ joins. absurd (false≢true joins))
+  case_kind : {next : NextStatement} {s : Status} {o : Transition} → TransitionCase passes body shared t (others_of slots threads t.id) false next s o → Kind t.id threads s o
+  unfolding others_of creates begins_join ends_join detaches requests acts_on_request
+  case_kind (rests next s alive) = quiet (record { actions = refl; events = refl; none = refl }) (λ joins. refl)
+  case_kind (thread_made frame result id f v detached new among) = creates_one (suc frame.pc) result id new f (value_of shared.globals frame v) detached refl
+  case_kind (join_begun frame id d target is other joinable alone) = begins (value_of shared.globals frame id) refl (record { target = target; is_target = is; other = other; joinable = joinable; alone = alone })
+  case_kind (join_ended frame operand d id v target is ended) = ends (suc frame.pc) d id v target refl is ended
+  case_kind (thread_detached frame id target is joinable alone) = detaches_one (suc frame.pc) (value_of shared.globals frame id) target refl is alone
+  case_kind (request_sent frame id target is) = requests_one (suc frame.pc) (value_of shared.globals frame id) target refl is
+  case_kind (canceled_in_join next id enabled) = cancels id refl
+  case_kind _ = quiet (record { actions = refl; events = refl; none = refl }) (λ joins. absurd (false≢true joins))
 
 -- the kind of each transition of a thread of a process
 pub kind_of : (script : Script) (config : Config) (p : Process) (t : Thread) (choice : Alt) → Kind t.id p.threads t.status (transition_by script config p t choice)
 kind_of script config p t choice =
     let next : NextStatement = next_of script t.frames in
     let body : List Stmt = body_at script t.frames in
-    case_kind config.slots p.threads config.passes body p.shared t refl (case_of config.passes body p.shared t (others_of script config p t) false choice next t.status (λ known. absurd (false≢true known)))
+    case_kind config.slots p.threads config.passes body p.shared t (case_of config.passes body p.shared t (others_of config.slots p.threads t.id) false choice next t.status (λ known. absurd (false≢true known)))
 
 -- ---- a thread that moves
 
 -- a thread that has a choice does not have the status of its end
 pub moves_alive : (script : Script) (config : Config) (p : Process) (t : Thread) (choice : Alt) → offers (choices_of script config p t) choice ≡ true → is_ended_status t.status ≡ false
-moves_alive script config p t choice offered = offered_alive (offered_of p.shared.keys t (others_of script config p t) choice (next_of script t.frames) t.status offered)
+moves_alive script config p t choice offered = offered_alive (offered_of p.shared.keys t (others_of config.slots p.threads t.id) choice (next_of script t.frames) t.status offered)

@@ -1,11 +1,12 @@
 -- Each thread that is suspended in pthread_join joins another thread of its process, which is neither joined nor detached, and it is
 -- the only one that joins it.
 use mathlib.Core.Bool.{or-false}
-use Rattle.std.proofs.Common.{◌≡◌, ◌≢◌, ℕ, Bool, true, false, not, ◌&&◌, ◌||◌, cond, List, [], ◌∷◌, find, nat_eq, Option, Some, option_map, inl, inr, refl, sym, ap, ◌∙◌, subst, eqb-true, eq-eqb}
-use Rattle.std.specs.List.{list_any}
+use Rattle.std.proofs.Common.{◌≡◌, ◌≢◌, ℕ, Bool, true, false, not, ◌&&◌, ◌||◌, cond, List, find, nat_eq, Option, Some, option_map, inl, inr, refl, sym, ap, ◌∙◌, subst, eqb-true, eq-eqb}
+use Rattle.std.specs.List.{position_or_len}
 use Rattle.std.specs.Option.{option_or}
-use Rattle.std.proofs.lemmas.Bool.{false≢true, and_parts, or_cases, or_parts, or_right, eqb-false, false_from_ne_true}
-use Rattle.std.proofs.lemmas.Option.{none-some, same_Some, cond_some}
+use Rattle.std.proofs.lemmas.Bool.{false≢true, and_parts, or_cases, or_parts, eqb-false, false_from_ne_true}
+use Rattle.std.proofs.lemmas.Map.Keys.{any_passes_from_place}
+use Rattle.std.proofs.lemmas.Option.{same_Some, cond_some}
 use Rattle.pct_model.specs.declared.script.Script.{Script}
 use Rattle.pct_model.specs.declared.schedule.Config.{Config}
 use Rattle.pct_model.specs.declared.schedule.Entry.{Entry}
@@ -17,11 +18,11 @@ use Rattle.pct_model.specs.OtherThreads.{is_joining, is_joined_by_one}
 use Rattle.pct_model.specs.ThreadSlots.{is_ended_status, holds_slot, is_live_thread}
 use Rattle.pct_model.specs.TransitionTable.{transition_by}
 use Rattle.pct_model.specs.World.{Thread, Process, first_process}
-use Rattle.pct_ending_laws.proofs.lift.KeyedLists.{found_passes}
+use Rattle.pct_ending_laws.proofs.lift.KeyedLists.{found_at, found_passes}
 use Rattle.pct_ending_laws.proofs.lift.TakenSteps.{AfterEveryRun}
 use Rattle.pct_ending_laws.proofs.lift.ChangedThreads.{all_keep, named_keeps, other_threads}
-use Rattle.pct_ending_laws.proofs.lift.MadeThreads.{own_thread_with, is_here, thread_is_made}
-use Rattle.pct_ending_laws.proofs.lift.ThreadsAfter.{initial_thread, Moves, mover_live, mover_found, mover_here, mover_id, is_mover, each_after, same_gone}
+use Rattle.pct_ending_laws.proofs.lift.MadeThreads.{own_thread_with, IsLive, live_thread}
+use Rattle.pct_ending_laws.proofs.lift.ThreadsAfter.{initial_thread, Moves, mover, is_mover, each_after, same_gone}
 use Rattle.pct_ending_laws.proofs.lift.EveryProcess.{OfEveryProcess, IsProcessRule, unread, every_process_keeps, moves_of_run}
 use Rattle.pct_ending_laws.proofs.joins.JoinTransitions.{is_in_join, MayJoin, Kind, ends, detaches_one, kind_of, moves_alive}
 use Rattle.pct_ending_laws.proofs.joins.NamedThreads.{names_join, names_detach, releases, naming, unnamed, joined_after, detached_after}
@@ -56,14 +57,6 @@ abbrev joined_id : Status → ℕ
 joined_id (status.Joining id) = id
 joined_id _ = 0
 
-found_any : {A : Type 0} (named test : A → Bool) (xs : List A) (y : A) → find named xs ≡ Some y → test y ≡ true → list_any test xs ≡ true
-found_any named test [] y is passes = absurd (none-some y is)
-found_any {A} named test (x ∷ xs) y is passes = by_name (named x) is (found_any named test xs y)
-  where
-    by_name : (here : Bool) → cond here (Some x) (find named xs) ≡ Some y → (find named xs ≡ Some y → test y ≡ true → list_any test xs ≡ true) → (test x || list_any test xs) ≡ true
-    by_name true first later = ap (λ (b : Bool). b || list_any test xs) (ap test (same_Some x y first) ∙ passes)
-    by_name false rest later = or_right (test x) (list_any test xs) (later rest passes)
-
 -- a thread that holds its slot, and has ended if it was joined, was not joined
 unjoined : (gone ended joined detached : Bool) → (not gone && not (ended && (joined || detached))) ≡ true → (joined ≡ true → ended ≡ true) → joined ≡ false
 unjoined gone ended false detached holds has_ended = refl
@@ -74,7 +67,7 @@ unjoined false false true detached holds has_ended = absurd (false≢true (has_e
 -- a thread in pthread_join is seen to join its target
 is_seen : (threads : List Thread) (tid : ℕ) (t : Thread) (id : ℕ) → with tid threads ≡ Some t → t.gone ≡ false → t.status ≡ status.Joining id → is_joined_by_one id threads ≡ true
 is_seen threads tid t id is here joins =
-    found_any (λ (u : Thread). nat_eq u.id tid) (λ (u : Thread). holds_slot u && is_joining id u.status) threads t is
+    any_passes_from_place (λ (u : Thread). holds_slot u && is_joining id u.status) threads (position_or_len (λ (u : Thread). nat_eq u.id tid) threads) t (found_at (λ (u : Thread). nat_eq u.id tid) threads t is)
     (ap (λ (gone : Bool). (not gone && not (is_ended_status t.status && (t.joined || t.detached))) && is_joining id t.status) here
     ∙ ap (λ (s : Status). not (is_ended_status s && (t.joined || t.detached)) && is_joining id s) joins ∙ eq-eqb id id refl)
 
@@ -91,11 +84,8 @@ module _ (script : Script) (config : Config) (p : Process) (e : Entry) (t : Thre
   k : Kind t.id p.threads t.status o
   k = kind_of script config p t e.alt
 
-  found : with e.tid p.threads ≡ Some t
-  found = mover_found script config p e t moves
-
-  here : t.gone ≡ false
-  here = mover_here script config p e t moves
+  it : IsLive p e.tid t
+  it = mover script config p e t moves
 
   status_after : (u : Thread) (live : Bool) → is_live_thread e.tid u ≡ live → (thread_moved e.tid o u).status ≡ (cond live (moved o u) u).status
   status_after u live is = all_keep (λ (x : Thread). x.status) named_after (named_keeps (λ (x : Thread). x.status) (λ t j p d s. refl)) o.actions (unnamed e.tid o u) ∙ ap (λ (b : Bool). (cond b (moved o u) u).status) is
@@ -116,10 +106,10 @@ module _ (script : Script) (config : Config) (p : Process) (e : Entry) (t : Thre
   not_released : {x : Transition} (j : Kind t.id p.threads t.status x) (second id : ℕ) (u : Thread) → with second p.threads ≡ Some u → u.gone ≡ false → u.status ≡ status.Joining id → is_live_thread e.tid u ≡ false → releases id (naming j) ≡ true → ⊥
   not_released (ends pc d n v target s is_target ended) second id u is_u present joins other names =
       let same : id ≡ n = eqb-true id n (sym (or-false (nat_eq id n)) ∙ names) in
-      let its = rule.joins e.tid t found here n s in
+      let its = rule.joins e.tid t it.found it.here n s in
       let second_is : second ≡ e.tid = its.alone second u is_u present (joins ∙ ap (λ (i : ℕ). status.Joining i) same) in
-      let it : u ≡ t = same_Some u t (sym is_u ∙ ap (λ (i : ℕ). with i p.threads) second_is ∙ found) in
-      false≢true (sym other ∙ ap (is_live_thread e.tid) it ∙ mover_live script config p e t moves)
+      let same_thread : u ≡ t = same_Some u t (sym is_u ∙ ap (λ (i : ℕ). with i p.threads) second_is ∙ it.found) in
+      false≢true (sym other ∙ ap (is_live_thread e.tid) same_thread ∙ it.live)
   not_released (detaches_one pc n target s is_target alone) second id u is_u present joins other names =
       let same : id ≡ n = eqb-true id n names in
       false≢true (sym alone ∙ ap (λ (i : ℕ). is_joined_by_one i p.threads) (sym same) ∙ is_seen p.threads second u id is_u present joins)
@@ -141,14 +131,13 @@ module _ (script : Script) (config : Config) (p : Process) (e : Entry) (t : Thre
   -- the one that a thread begins to join
   begins_one : (id : ℕ) → MayJoin t.id p.threads id → JoinsOne p.threads e.tid id
   begins_one id may =
-      let live : is_live_thread id may.target ≡ true = found_passes (is_live_thread id) p.threads may.target may.is_target in
-      let is_made : with id p.threads ≡ Some may.target = thread_is_made id p may.target moves.ids.distinct may.is_target in
+      let live : IsLive p id may.target = live_thread id p may.target moves.ids.distinct may.is_target in
       record {
         target = may.target;
-        made = is_made;
-        here = is_here id may.target live;
-        other = λ same. eqb-false id t.id may.other (same ∙ sym (mover_id script config p e t moves));
-        not_joined = unjoined may.target.gone (is_ended_status may.target.status) may.target.joined may.target.detached (and_parts (nat_eq may.target.id id) (holds_slot may.target) live).1 (rule.ended id may.target is_made);
+        made = live.found;
+        here = live.here;
+        other = λ same. eqb-false id t.id may.other (same ∙ sym it.number);
+        not_joined = unjoined may.target.gone (is_ended_status may.target.status) may.target.joined may.target.detached live.holds (rule.ended id may.target live.found);
         joinable = may.joinable;
         alone = λ second u is_u present joins. absurd (false≢true (sym may.alone ∙ is_seen p.threads second u id is_u present joins));
       }
@@ -206,7 +195,7 @@ module _ (script : Script) (config : Config) (p : Process) (e : Entry) (t : Thre
   target_ended : {x : Transition} (j : Kind t.id p.threads t.status x) (id : ℕ) (u : Thread) → with id p.threads ≡ Some u → names_join u.id (naming j) ≡ true → is_ended_status u.status ≡ true
   target_ended (ends pc d n v target s is_target ended) id u is_u names =
       let u_id : u.id ≡ id = eqb-true u.id id (found_passes (λ (x : Thread). nat_eq x.id id) p.threads u is_u) in
-      let same : u ≡ target = same_Some u target (sym is_u ∙ ap (λ (i : ℕ). with i p.threads) (sym u_id ∙ eqb-true u.id n names) ∙ thread_is_made n p target moves.ids.distinct is_target) in
+      let same : u ≡ target = same_Some u target (sym is_u ∙ ap (λ (i : ℕ). with i p.threads) (sym u_id ∙ eqb-true u.id n names) ∙ (live_thread n p target moves.ids.distinct is_target).found) in
       ap (λ (x : Thread). is_ended_status x.status) same ∙ ap is_ended_status ended
   target_ended j id u is_u names = absurd (false≢true names)
 
@@ -230,17 +219,14 @@ module _ (script : Script) (config : Config) (p : Process) (e : Entry) (t : Thre
 abbrev JoinsKept : Process → Type 0
 JoinsKept p = HaveJoins p.threads
 
-first_joins : (script : Script) → HaveJoins (first_process script).threads
-first_joins script =
-    let initial : (id : ℕ) (t : Thread) → with id (first_process script).threads ≡ Some t → initial_thread script ≡ t = λ id t is. (cond_some (nat_eq 1 id) (initial_thread script) t is).1 in
-    record {
-      ended = λ id t is joined. absurd (false≢true (ap (λ (x : Thread). x.joined) (initial id t is) ∙ joined));
-      joins = λ tid t is here id joins. absurd (false≢true (ap (λ (x : Thread). is_in_join x.status) (initial tid t is) ∙ ap is_in_join joins));
-    }
-
 joins_rule : (script : Script) (config : Config) → IsProcessRule unread (λ p k. JoinsKept p) script config (Moves script config)
 joins_rule script config = record {
-  initial = first_joins script;
+  initial =
+      let initial : (id : ℕ) (t : Thread) → with id (first_process script).threads ≡ Some t → initial_thread script ≡ t = λ id t is. (cond_some (nat_eq 1 id) (initial_thread script) t is).1 in
+      record {
+        ended = λ id t is joined. absurd (false≢true (ap (λ (x : Thread). x.joined) (initial id t is) ∙ joined));
+        joins = λ tid t is here id joins. absurd (false≢true (ap (λ (x : Thread). is_in_join x.status) (initial tid t is) ∙ ap is_in_join joins));
+      };
   own = λ p e t k moves rule. joins_after script config p e t moves rule;
   other = λ pid o p k rule. subst HaveJoins (sym (other_threads pid o p)) rule;
 }

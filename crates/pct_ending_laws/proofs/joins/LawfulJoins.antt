@@ -1,5 +1,5 @@
 -- The law of joins holds of the events of every run.
-use Rattle.std.proofs.Common.{◌≡◌, ℕ, Bool, true, false, not, ◌&&◌, ◌||◌, List, [], ◌∷◌, ◌++◌, map, reverse, nat_eq, is_some, Option, Some, option_and_then, refl, sym, ap, ◌∙◌, subst, eq-eqb}
+use Rattle.std.proofs.Common.{◌≡◌, ℕ, Bool, true, false, not, ◌&&◌, ◌||◌, cond, List, [], ◌∷◌, ◌++◌, map, reverse, nat_eq, is_some, Option, Some, None, option_and_then, refl, sym, ap, ◌∙◌, subst, eq-eqb}
 use Rattle.std.specs.List.{list_all}
 use Rattle.std.specs.Option.{option_map_or}
 use Rattle.std.proofs.lemmas.Bool.{false≢true, true≢false, and_parts, or_left, true_from_ne_false}
@@ -16,23 +16,21 @@ use Rattle.pct_model.specs.declared.transition.Transition.{Transition}
 use Rattle.pct_model.specs.CancelCalls.{requests, acts_on_request}
 use Rattle.pct_model.specs.JoinLaw.{NamesLive, JoinsEnded, MayName, JoinLaw}
 use Rattle.pct_model.specs.Kept.{ThreadKept}
-use Rattle.pct_model.specs.KnownThreads.{is_joined, is_detached, ends_with, reports_end, has_own}
+use Rattle.pct_model.specs.KnownThreads.{is_own, is_fork_of, is_joined, is_detached, ends_with, reports_end, has_own}
 use Rattle.pct_model.specs.World.{made_process, thread_with, made_thread, Thread, Process}
 use Rattle.pct_model.specs.Run.{Run, event_of, run}
 use Rattle.pct_model.specs.ThreadCalls.{creates, begins_join, ends_join, detaches}
-use Rattle.pct_model.specs.ThreadSlots.{is_ended_status, holds_slot, is_live_thread, with_id}
+use Rattle.pct_model.specs.ThreadSlots.{is_ended_status, with_id}
 use Rattle.pct_model.specs.ThreadSummary.{ThreadSummary, with_event, summary_of}
 use Rattle.pct_model.specs.TransitionTable.{transition_by}
 use Rattle.pct_ending_laws.proofs.ThreadsOfRun.{threads_fit, threads_kept}
 use Rattle.pct_ending_laws.proofs.LastThreads.{last_exits}
-use Rattle.pct_ending_laws.proofs.lift.KeyedLists.{found_passes}
 use Rattle.pct_ending_laws.proofs.lift.TakenSteps.{IsTaken, every_run}
-use Rattle.pct_ending_laws.proofs.lift.ReportedBy.{reported_by, of_thread, related, has_event, own_reading}
-use Rattle.pct_ending_laws.proofs.lift.EveryThread.{OfMade, OfThread}
-use Rattle.pct_ending_laws.proofs.lift.MadeThreads.{is_here, thread_is_made}
+use Rattle.pct_ending_laws.proofs.lift.ReportedBy.{reported_by, of_thread}
+use Rattle.pct_ending_laws.proofs.lift.EveryThread.{of_made_thread}
+use Rattle.pct_ending_laws.proofs.lift.MadeThreads.{IsLive, live_thread}
 use Rattle.pct_ending_laws.proofs.lift.EveryProcess.{process_taken, ids_of_run}
-use Rattle.pct_ending_laws.proofs.thread.SummaryReading.{summary, summary_reading}
-use Rattle.pct_ending_laws.proofs.thread.ThreadRule.{ByStatus, Fits}
+use Rattle.pct_ending_laws.proofs.thread.ThreadRule.{summary, ByStatus, Fits}
 use Rattle.pct_ending_laws.proofs.joins.JoinTransitions.{is_in_join, names_none, Kind, quiet, ends, detaches_one, requests_one, kind_of}
 use Rattle.pct_ending_laws.proofs.joins.ReportedFlags.{known_of_run, joined_of_run, detached_of_run}
 use Rattle.pct_ending_laws.proofs.joins.NewestEvents.{newest_of_run}
@@ -40,27 +38,32 @@ use Rattle.pct_ending_laws.proofs.joins.JoiningThreads.{JoinsOne, joins_of_proce
 
 -- ---- the event of the end of a thread
 
-after_event : (w : What) (s : ThreadSummary) → is_some (with_event w s).ended ≡ (reports_end w || is_some s.ended)
-after_event (what.EndedWith v) s = refl
-after_event w s = refl
+-- what each event of the thread keeps of its summary and of whether it has an event that passes a test, holds of them after every event
+module _ (test : What → Bool) (Q : Option ℕ → Bool → Type 0) (start : Q None false) (next : (w : What) (s : ThreadSummary) (k : Bool) → Q s.ended k → Q (with_event w s).ended (test w || k)) where
+  end_by : (own fork : Bool) (w : What) (s parent : ThreadSummary) (k : Bool) → Q s.ended k → Q (cond own (with_event w s) (cond fork (record s { handlers = parent.handlers }) s)).ended ((own && test w) || k)
+  end_by true fork w s parent k holds = next w s k holds
+  end_by false true w s parent k holds = holds
+  end_by false false w s parent k holds = holds
 
+  end_after : (pid tid : ℕ) (events : List Event) → Q (summary_of pid tid events).ended (has_own test pid tid events)
+  end_after pid tid [] = start
+  end_after pid tid (e ∷ earlier) = end_by (is_own pid tid e) (is_fork_of pid tid e) e.what (summary_of pid tid earlier) (summary_of e.pid tid earlier) (has_own test pid tid earlier) (end_after pid tid earlier)
+
+-- the summary of a thread has a value exactly if the thread has an event of its end
+reported_after : (w : What) (s : ThreadSummary) (earlier : Bool) → is_some s.ended ≡ earlier → is_some (with_event w s).ended ≡ (reports_end w || earlier)
+reported_after (what.EndedWith v) s earlier same = refl
+reported_after w s earlier same = same
+
+end_reported : (pid tid : ℕ) (events : List Event) → is_some (summary_of pid tid events).ended ≡ has_own reports_end pid tid events
+end_reported = end_after reports_end (λ value k. is_some value ≡ k) refl reported_after
+
+-- it has an event of its end with this value
 value_after : (v : ℕ) (w : What) (s : ThreadSummary) (earlier : Bool) → (s.ended ≡ Some v → earlier ≡ true) → (with_event w s).ended ≡ Some v → (ends_with v w || earlier) ≡ true
 value_after v (what.EndedWith n) s earlier before is = or_left (nat_eq n v) earlier (eq-eqb n v (same_Some n v is))
 value_after v w s earlier before is = before is
 
--- the summary of a thread has a value exactly if the thread has an event of its end
-end_reported : (pid tid : ℕ) (events : List Event) → is_some (summary_of pid tid events).ended ≡ has_own reports_end pid tid events
-end_reported pid tid events =
-    ap (λ (s : ThreadSummary). is_some s.ended) (summary_reading tid pid events)
-    ∙ related summary (has_event reports_end) (λ s b. is_some s.ended ≡ b) refl (λ w s b same. after_event w s ∙ ap (λ (x : Bool). reports_end w || x) same) (λ w a c b d parent same. same) (λ s b same. same) tid pid events
-    ∙ sym (own_reading reports_end tid pid events)
-
--- it has an event of its end with this value
-value_reported : (pid tid v : ℕ) (events : List Event) → (summary_of pid tid events).ended ≡ Some v → has_own (ends_with v) pid tid events ≡ true
-value_reported pid tid v events is =
-    own_reading (ends_with v) tid pid events
-    ∙ related summary (has_event (ends_with v)) (λ s b. s.ended ≡ Some v → b ≡ true) (λ none. absurd (none-some v none)) (λ w s b before ended. value_after v w s b before ended) (λ w a c b d parent before. before) (λ s b before. before) tid pid events
-    (ap (λ (s : ThreadSummary). s.ended) (sym (summary_reading tid pid events)) ∙ is)
+value_reported : (v pid tid : ℕ) (events : List Event) → (summary_of pid tid events).ended ≡ Some v → has_own (ends_with v) pid tid events ≡ true
+value_reported v = end_after (ends_with v) (λ value k. value ≡ Some v → k ≡ true) (λ none. absurd (none-some v none)) (value_after v)
 
 -- ---- one thread
 
@@ -97,53 +100,49 @@ module _ (script : Script) (config : Config) (before : List Entry) (r : Run) (is
   process_is : made_process e.pid r.world ≡ Some p
   process_is = process_taken script config before r is e p t taken
 
-  -- a thread of the process that holds its slot
-  record IsLive (id : ℕ) (u : Thread) : Type 0 where
-    of_process : thread_with id p ≡ Some u
-    made : made_thread e.pid id r.world ≡ Some u
-    here : u.gone ≡ false
-    holds : holds_slot u ≡ true
+  live : (id : ℕ) (u : Thread) → with_id id p.threads ≡ Some u → IsLive p id u
+  live id u is_u = live_thread id p u (ids_of_run script config before r is e.pid p process_is).distinct is_u
 
-  live : (id : ℕ) (u : Thread) → with_id id p.threads ≡ Some u → IsLive id u
-  live id u is_u =
-      let passes : is_live_thread id u ≡ true = found_passes (is_live_thread id) p.threads u is_u in
-      let of_process : thread_with id p ≡ Some u = thread_is_made id p u (ids_of_run script config before r is e.pid p process_is).distinct is_u in
-      record { of_process = of_process; made = ap (option_and_then (thread_with id)) process_is ∙ of_process; here = is_here id u passes; holds = (and_parts (nat_eq u.id id) (holds_slot u) passes).1 }
+  made : (id : ℕ) (u : Thread) → with_id id p.threads ≡ Some u → made_thread e.pid id r.world ≡ Some u
+  made id u is_u = ap (option_and_then (thread_with id)) process_is ∙ (live id u is_u).found
 
-  it : IsLive e.tid t
+  it : IsLive p e.tid t
   it = live e.tid t taken.is_thread
+
+  it_made : made_thread e.pid e.tid r.world ≡ Some t
+  it_made = made e.tid t taken.is_thread
 
   -- a thread that a running one names
   names_live : (id : ℕ) (u : Thread) → t.status ≡ status.Running → with_id id p.threads ≡ Some u → NamesLive e.pid id r.events
   names_live id u runs is_u =
-      let target : IsLive id u = live id u is_u in
-      let kept : ThreadKept script p.shared.keys u (summary_of e.pid id r.events) = threads_kept script config before r is e.pid id p u process_is target.of_process target.here in
+      let target : IsLive p id u = live id u is_u in
+      let kept : ThreadKept script p.shared.keys u (summary_of e.pid id r.events) = threads_kept script config before r is e.pid id p u process_is target.found target.here in
       let reported : ThreadSummary = reported_by (of_thread summary e.tid) e.pid r.events in
-      let own : OfMade summary (Fits script config.passes) t reported = subst (λ (found : Option Thread). OfThread summary (Fits script config.passes) found reported) it.made (threads_fit script config before r is e.pid e.tid) in
-      let alive : t.ended ≡ false = running_alive script config.passes t reported runs (own.here it.here) in
+      let own : Fits script config.passes t reported = of_made_thread summary (Fits script config.passes) r (threads_fit script config before r is) e.pid e.tid t it_made it.here in
+      let alive : t.ended ≡ false = running_alive script config.passes t reported runs own in
       let has_status : u.ended ≡ true → is_ended_status u.status ≡ true = λ ended. true_from_ne_false (is_ended_status u.status) (λ exits.
-      true≢false (sym (last_exits script config (threads_fit script config) before r is e.pid p process_is id u target.of_process (target.here, ended, exits) e.tid t it.of_process it.here) ∙ alive)) in
+      true≢false (sym (last_exits script config (threads_fit script config) before r is e.pid p process_is id u target.found (target.here, ended, exits) e.tid t it.found it.here) ∙ alive)) in
       record {
-        known = known_of_run script config before r is e.pid id ∙ ap (λ (found : Option Thread). option_map_or (λ x. not x.gone) found false) target.made ∙ ap not target.here;
+        known = known_of_run script config before r is e.pid id ∙ ap (λ (found : Option Thread). option_map_or (λ x. not x.gone) found false) (made id u is_u) ∙ ap not target.here;
         unreclaimed =
             ap (λ (b : Bool). b && (is_joined e.pid id r.events || is_detached e.pid id r.events)) (sym (end_reported e.pid id r.events) ∙ kept.ended)
-            ∙ ap (λ (b : Bool). u.ended && (b || is_detached e.pid id r.events)) (sym (joined_of_run script config before r is e.pid id u target.made target.here))
-            ∙ ap (λ (b : Bool). u.ended && (u.joined || b)) (sym (detached_of_run script config before r is e.pid id u target.made target.here))
+            ∙ ap (λ (b : Bool). u.ended && (b || is_detached e.pid id r.events)) (sym (joined_of_run script config before r is e.pid id u (made id u is_u) target.here))
+            ∙ ap (λ (b : Bool). u.ended && (u.joined || b)) (sym (detached_of_run script config before r is e.pid id u (made id u is_u) target.here))
             ∙ unreclaimed_by u.gone u.ended (is_ended_status u.status) (u.joined || u.detached) target.holds has_status;
       }
 
   -- a thread that is joined
   joins_ended : (id v : ℕ) (u : Thread) → t.status ≡ status.Joining id → with_id id p.threads ≡ Some u → u.status ≡ status.Ended v → JoinsEnded e.pid e.tid id v r.events
   joins_ended id v u joins is_u ended =
-      let target : IsLive id u = live id u is_u in
-      let kept : ThreadKept script p.shared.keys u (summary_of e.pid id r.events) = threads_kept script config before r is e.pid id p u process_is target.of_process target.here in
-      let one : JoinsOne p.threads e.tid id = (joins_of_processes script config before r is e.pid p process_is).joins e.tid t it.of_process it.here id joins in
-      let same : one.target ≡ u = same_Some one.target u (sym one.made ∙ target.of_process) in
+      let target : IsLive p id u = live id u is_u in
+      let kept : ThreadKept script p.shared.keys u (summary_of e.pid id r.events) = threads_kept script config before r is e.pid id p u process_is target.found target.here in
+      let one : JoinsOne p.threads e.tid id = (joins_of_processes script config before r is e.pid p process_is).joins e.tid t it.found it.here id joins in
+      let same : one.target ≡ u = same_Some one.target u (sym one.made ∙ target.found) in
       record {
-        ended = value_reported e.pid id v r.events (kept.value v ended);
-        not_joined = sym (joined_of_run script config before r is e.pid id u target.made target.here) ∙ ap (λ (x : Thread). x.joined) (sym same) ∙ one.not_joined;
-        joinable = sym (detached_of_run script config before r is e.pid id u target.made target.here) ∙ ap (λ (x : Thread). x.detached) (sym same) ∙ one.joinable;
-        suspended = newest_of_run script config before r is e.pid e.tid t it.made it.here (ap is_in_join joins);
+        ended = value_reported v e.pid id r.events (kept.value v ended);
+        not_joined = sym (joined_of_run script config before r is e.pid id u (made id u is_u) target.here) ∙ ap (λ (x : Thread). x.joined) (sym same) ∙ one.not_joined;
+        joinable = sym (detached_of_run script config before r is e.pid id u (made id u is_u) target.here) ∙ ap (λ (x : Thread). x.detached) (sym same) ∙ one.joinable;
+        suspended = newest_of_run script config before r is e.pid e.tid t it_made it.here (ap is_in_join joins);
       }
 
   -- the events of the step

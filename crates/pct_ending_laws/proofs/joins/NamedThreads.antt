@@ -18,10 +18,10 @@ use Rattle.pct_model.specs.KnownThreads.{detaches_id, joins_id}
 use Rattle.pct_model.specs.ThreadCalls.{creates, begins_join, ends_join, detaches}
 use Rattle.pct_model.specs.ThreadSlots.{is_ended_status, holds_slot, is_live_thread, with_id}
 use Rattle.pct_model.specs.World.{Thread, Process, thread_with}
-use Rattle.pct_ending_laws.proofs.lift.KeyedLists.{AreDistinct, found_passes}
+use Rattle.pct_ending_laws.proofs.lift.KeyedLists.{AreDistinct}
 use Rattle.pct_ending_laws.proofs.lift.ThreadIds.{ids_of}
 use Rattle.pct_ending_laws.proofs.lift.ChangedThreads.{either_keeps, all_keep_if, flags, moved_flags}
-use Rattle.pct_ending_laws.proofs.lift.MadeThreads.{is_here, thread_is_made}
+use Rattle.pct_ending_laws.proofs.lift.MadeThreads.{IsLive, live_thread}
 use Rattle.pct_ending_laws.proofs.joins.JoinTransitions.{is_quiet, names_none, Kind, quiet, creates_one, ends, detaches_one, requests_one}
 
 -- ---- the action that names a thread
@@ -173,13 +173,12 @@ module _ (p : Process) (tid : ℕ) (t : Thread) (distinct : AreDistinct (ids_of 
 
   named_by : (o : Transition) (n id : ℕ) (target : Thread) → with_id n p.threads ≡ Some target → nat_eq id n ≡ true → (moved o target).status ≡ status.Running → IsNamed o id
   named_by o n id target is_target same runs =
-      let live : is_live_thread n target ≡ true = found_passes (is_live_thread n) p.threads target is_target in
-      let here : target.gone ≡ false = is_here n target live in
+      let live : IsLive p n target = live_thread n p target distinct is_target in
       record {
         target = target;
-        made = ap (λ (i : ℕ). thread_with i p) (eqb-true id n same) ∙ thread_is_made n p target distinct is_target;
-        here = here;
-        holds = unnamed_holds o target (is_live_thread tid target) refl here (and_parts (nat_eq target.id n) (holds_slot target) live).1 runs;
+        made = ap (λ (i : ℕ). thread_with i p) (eqb-true id n same) ∙ live.found;
+        here = live.here;
+        holds = unnamed_holds o target (is_live_thread tid target) refl live.here live.holds runs;
       }
 
   -- the thread that is joined or detached

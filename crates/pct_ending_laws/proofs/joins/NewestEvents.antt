@@ -1,5 +1,5 @@
 -- The newest event of a thread that is suspended in pthread_join is that of the call.
-use Rattle.std.proofs.Common.{◌≡◌, ℕ, Bool, true, false, ◌&&◌, cond, List, [], ◌∷◌, reverse, nat_eq, Option, Some, None, refl, sym, ap, ◌∙◌, subst}
+use Rattle.std.proofs.Common.{◌≡◌, ℕ, true, false, List, [], ◌∷◌, reverse, Option, Some, None, refl, sym, ap, ◌∙◌}
 use Rattle.std.specs.List.{list_all}
 use Rattle.std.proofs.lemmas.Bool.{false≢true, true≢false, and_parts, not-true}
 use Rattle.pct_model.specs.declared.script.Script.{Script}
@@ -15,14 +15,14 @@ use Rattle.pct_model.specs.declared.transition.Action.TheVariants as action
 use Rattle.pct_model.specs.declared.transition.Transition.{Transition}
 use Rattle.pct_model.specs.Actions.{thread_at, thread_after, for_each, moved}
 use Rattle.pct_model.specs.CancelCalls.{requests, acts_on_request}
-use Rattle.pct_model.specs.KnownThreads.{newest_event, makes_process}
+use Rattle.pct_model.specs.KnownThreads.{newest_event}
 use Rattle.pct_model.specs.Run.{Run, run}
 use Rattle.pct_model.specs.ThreadCalls.{creates, join_point, begins_join, ends_join, detaches}
 use Rattle.pct_model.specs.TransitionTable.{transition_by}
 use Rattle.pct_model.specs.World.{Thread, made_thread}
 use Rattle.pct_ending_laws.proofs.lift.ChangedThreads.{named_keeps}
-use Rattle.pct_ending_laws.proofs.lift.ReportedBy.{reported_by, is_reading, ThreadReading, of_thread, after_all}
-use Rattle.pct_ending_laws.proofs.lift.EveryThread.{OfMade, OfThread, IsThreadRule, every_thread}
+use Rattle.pct_ending_laws.proofs.lift.ReportedBy.{reported_by, ThreadReading, of_thread, is_thread_reading, after_all}
+use Rattle.pct_ending_laws.proofs.lift.EveryThread.{of_made_thread, IsThreadRule, every_thread}
 use Rattle.pct_ending_laws.proofs.joins.JoinTransitions.{is_in_join, is_quiet, MayJoin, Kind, quiet, begins, kind_of}
 use Rattle.pct_ending_laws.proofs.joins.NamedThreads.{releases, naming}
 
@@ -35,7 +35,6 @@ quiet_stays (action.CallAlone f v kind) is t in_join = absurd (false≢true in_j
 quiet_stays (action.Leave s) is t in_join = absurd (true≢false (sym in_join ∙ not-true (is_in_join s) is))
 quiet_stays (action.BeginPoint index) is t in_join = absurd (false≢true in_join)
 quiet_stays (action.BeginJoin id) is t in_join = absurd (false≢true is)
-quiet_stays (action.CancelJoin id) is t in_join = absurd (false≢true is)
 quiet_stays (action.BeginEnd why) is t in_join = absurd (false≢true in_join)
 quiet_stays (action.EndThread v) is t in_join = absurd (false≢true in_join)
 quiet_stays (action.BeginExit v) is t in_join = absurd (false≢true in_join)
@@ -78,16 +77,10 @@ in_join_after t _ in_join = absurd (false≢true in_join)
 
 -- the reading of the newest event of a thread
 abbrev newest : ThreadReading (Option What)
-newest = record { start = None; next = λ w k. Some w; replica = λ w parent k. k; others = λ k. k }
-
-one_event : (own makes same : Bool) (w : What) (k : Option What) → cond (own && same) (Some w) k ≡ cond own (cond same (Some w) k) (cond makes (cond same k k) k)
-one_event true makes same w k = refl
-one_event false true true w k = refl
-one_event false true false w k = refl
-one_event false false same w k = refl
+newest = record { start = None; next = λ w k. Some w; inherits = false; replica = λ parent k. k }
 
 newest_reading : (tid pid : ℕ) (events : List Event) → newest_event pid tid events ≡ reported_by (of_thread newest tid) pid events
-newest_reading tid = is_reading (of_thread newest tid) (λ pid events. newest_event pid tid events) (λ pid. refl) (λ pid e earlier. one_event (nat_eq e.pid pid) (makes_process pid e.what) (nat_eq e.tid tid) e.what (newest_event pid tid earlier))
+newest_reading tid = is_thread_reading newest tid (λ pid events. newest_event pid tid events) (λ pid. refl) (λ pid e earlier. refl)
 
 -- the newest event of a thread in pthread_join is that of the call
 abbrev NewestIsCall : Thread → Option What → Type 0
@@ -112,6 +105,5 @@ newest_rule script config = record {
 -- after every run, the newest event of a thread that is suspended in pthread_join is that of the call
 pub newest_of_run : (script : Script) (config : Config) (entries : List Entry) (r : Run) → run script config entries ≡ Some r → (pid tid : ℕ) (t : Thread) → made_thread pid tid r.world ≡ Some t → t.gone ≡ false → is_in_join t.status ≡ true → newest_event pid tid r.events ≡ Some (Called join_point)
 newest_of_run script config entries r is pid tid t made here in_join =
-    let k : Option What = reported_by (of_thread newest tid) pid r.events in
-    let rule : OfMade newest NewestIsCall t k = subst (λ (found : Option Thread). OfThread newest NewestIsCall found k) made (every_thread newest NewestIsCall script config (λ p. Unit {0}) (newest_rule script config) (λ entries r is pid p made. tt) entries r is pid tid) in
-    newest_reading tid pid r.events ∙ rule.here here in_join
+    newest_reading tid pid r.events
+    ∙ of_made_thread newest NewestIsCall r (every_thread newest NewestIsCall script config (λ p. Unit {0}) (newest_rule script config) (λ entries r is pid p made. tt) entries r is) pid tid t made here in_join

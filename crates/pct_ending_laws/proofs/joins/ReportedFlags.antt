@@ -18,7 +18,7 @@ use Rattle.pct_model.specs.ChoiceTable.{choices_of, offers}
 use Rattle.pct_model.specs.TransitionTable.{transition_by}
 use Rattle.pct_model.specs.Actions.{thread_moved, changed}
 use Rattle.pct_model.specs.Run.{Run, event_of, run}
-use Rattle.pct_model.specs.KnownThreads.{creates_id, is_known, detaches_id, is_detached, joins_id, is_joined, makes_process}
+use Rattle.pct_model.specs.KnownThreads.{is_in, creates_id, is_known, detaches_id, is_detached, joins_id, is_joined}
 use Rattle.pct_model.specs.ThreadSlots.{holds_slot}
 use Rattle.pct_ending_laws.proofs.lift.KeyedLists.{found_passes}
 use Rattle.pct_ending_laws.proofs.lift.TakenSteps.{AfterEveryRun}
@@ -32,20 +32,21 @@ use Rattle.pct_ending_laws.proofs.joins.NamedThreads.{names_join, names_detach, 
 
 -- ---- a flag of threads
 
--- a flag of threads, and its value for a new one; the events that report that it is set, the actions that set it, and what is reported
--- of a thread where an event makes its process, by what was reported of the one with its id in the other process, and of this one
+-- a flag of threads, and its value for a new one; the events that report that it is set, the actions that set it, and whether it is
+-- set of the replica of a thread that forks, by what was reported of that thread, and of this one
 pub record Flag : Type 0 where
   of : Thread → Bool
   new : NewThread → Bool
-  sets : ℕ → Event → Bool
+  sets : ℕ → What → Bool
   names : ℕ → Action → Bool
-  born : ℕ → Event → Bool → Bool → Bool
+  inherits : Bool
+  replica : Bool → Bool → Bool
   -- what is reported of the initial thread, or of another one, before any event
   start : Bool → Bool
   none : start false ≡ false
   initial : (script : Script) → start true ≡ of (initial_thread script)
   created : (n : NewThread) → of (created_thread n) ≡ new n
-  reports : (script : Script) (config : Config) (p : Process) (e : Entry) (t : Thread) → offers (choices_of script config p t) e.alt ≡ true → (id : ℕ) → list_any (λ w. sets id (event_of e w)) (reverse (transition_by script config p t e.alt).events)
+  reports : (script : Script) (config : Config) (p : Process) (e : Entry) (t : Thread) → offers (choices_of script config p t) e.alt ≡ true → (id : ℕ) → list_any (sets id) (reverse (transition_by script config p t e.alt).events)
       ≡ (names id (naming (kind_of script config p t e.alt)) || option_map_or (λ n. nat_eq n.id id && new n) (transition_by script config p t e.alt).created false)
   changes : (script : Script) (config : Config) (p : Process) (e : Entry) (t u : Thread) → of (thread_moved e.tid (transition_by script config p t e.alt) u) ≡ ((names u.id (naming (kind_of script config p t e.alt)) && holds_slot (unnamed e.tid (transition_by script config p t e.alt) u)) || of u)
   named : (id : ℕ) (a : Action) → names id a ≡ true → releases id a ≡ true
@@ -53,13 +54,13 @@ pub record Flag : Type 0 where
 module _ (flag : Flag) where
   -- what the events report
   abbrev pub reading : ℕ → Reading Bool
-  reading id = record { start = λ initial. flag.start (initial && nat_eq 1 id); next = λ e k. flag.sets id e || k; born = flag.born id }
+  reading id = record { start = λ initial. flag.start (initial && nat_eq 1 id); next = λ e k. flag.sets id e.what || k; inherits = λ e. flag.inherits && nat_eq e.tid id; born = flag.replica }
 
   -- after the events of a step
-  set_later : (e : Entry) (id : ℕ) (added : List What) (k : Bool) → after_own (reading id) (map (event_of e) added) k ≡ (list_any (λ w. flag.sets id (event_of e w)) added || k)
+  set_later : (e : Entry) (id : ℕ) (added : List What) (k : Bool) → after_own (reading id) (map (event_of e) added) k ≡ (list_any (flag.sets id) added || k)
   set_later e id [] k = refl
   set_later e id (w ∷ added) k =
-      ap (λ (rest : Bool). flag.sets id (event_of e w) || rest) (set_later e id added k) ∙ sym (or_assoc (flag.sets id (event_of e w)) (list_any (λ x. flag.sets id (event_of e x)) added) k)
+      ap (λ (rest : Bool). flag.sets id w || rest) (set_later e id added k) ∙ sym (or_assoc (flag.sets id w) (list_any (flag.sets id) added) k)
 
   -- the thread was made, its process inherited it, and the flag is set
   abbrev pub is_set : Option Thread → Bool
@@ -94,9 +95,9 @@ module _ (flag : Flag) where
 
     -- what the events of the step report, and those before it
     abbrev later : ℕ → Bool
-    later id = list_any (λ w. flag.sets id (event_of e w)) (reverse o.events) || k id
+    later id = list_any (flag.sets id) (reverse o.events) || k id
 
-    reports : (id : ℕ) → list_any (λ w. flag.sets id (event_of e w)) (reverse o.events) ≡ (names id || creates id)
+    reports : (id : ℕ) → list_any (flag.sets id) (reverse o.events) ≡ (names id || creates id)
     reports = flag.reports script config p e t moves.offered
 
     -- of a thread that was not made
@@ -151,26 +152,21 @@ abbrev known_flag : Flag
 known_flag = record {
   of = λ t. true;
   new = λ n. true;
-  sets = λ id e. creates_id id e.what || (makes_process e.pid e.what && nat_eq e.tid id);
+  sets = creates_id;
   names = λ id a. false;
-  born = λ id e parent k. nat_eq e.tid id || k;
+  inherits = true;
+  replica = λ parent k. true;
   start = λ initial. initial;
   none = refl;
   initial = λ script. refl;
   created = λ n. refl;
-  reports = λ script config p e t offered id. reports_created script config p t e.alt offered e.pid id (nat_eq e.tid id);
+  reports = λ script config p e t offered id. reports_created script config p t e.alt offered id;
   changes = λ script config p e t u. refl;
   named = λ id a is. absurd (false≢true is);
 }
 
-known_event : (own makes own_makes creates same k : Bool) → (own ≡ true → makes ≡ own_makes) → (((own && creates) || (makes && same)) || k) ≡ cond own ((creates || (own_makes && same)) || k) (cond makes (same || k) k)
-known_event true makes own_makes creates same k is = ap (λ (b : Bool). (creates || (b && same)) || k) (is refl)
-known_event false true own_makes creates same k is = refl
-known_event false false own_makes creates same k is = refl
-
 known_reading : (tid pid : ℕ) (events : List Event) → is_known pid tid events ≡ reported_by (reading known_flag tid) pid events
-known_reading tid = is_reading (reading known_flag tid) (λ pid events. is_known pid tid events) (λ pid. refl) (λ pid e earlier. known_event (nat_eq e.pid pid) (makes_process pid e.what) (makes_process e.pid e.what) (creates_id tid e.what) (nat_eq e.tid tid) (is_known pid tid earlier)
-    (λ same. ap (λ n. makes_process n e.what) (sym (eqb-true e.pid pid same))))
+known_reading tid = is_reading (reading known_flag tid) (λ pid events. is_known pid tid events) (λ pid. refl) (λ pid e earlier. refl)
 
 known_here : (found : Option Thread) → is_set known_flag found ≡ option_map_or (λ t. not t.gone) found false
 known_here None = refl
@@ -190,9 +186,10 @@ abbrev joined_flag : Flag
 joined_flag = record {
   of = λ t. t.joined;
   new = λ n. false;
-  sets = λ id e. joins_id id e.what;
+  sets = joins_id;
   names = names_join;
-  born = λ id e parent k. k;
+  inherits = false;
+  replica = λ parent k. k;
   start = λ initial. false;
   none = refl;
   initial = λ script. refl;
@@ -204,13 +201,12 @@ joined_flag = record {
   named = λ id a names. or_left (names_join id a) (names_detach id a) names;
 }
 
-joined_event : (own makes joins k : Bool) → ((own && joins) || k) ≡ cond own (joins || k) (cond makes k k)
-joined_event true makes joins k = refl
-joined_event false true joins k = refl
-joined_event false false joins k = refl
+joined_event : (own joins k : Bool) → ((own && joins) || k) ≡ cond own (joins || k) k
+joined_event true joins k = refl
+joined_event false joins k = refl
 
 joined_reading : (tid pid : ℕ) (events : List Event) → is_joined pid tid events ≡ reported_by (reading joined_flag tid) pid events
-joined_reading tid = is_reading (reading joined_flag tid) (λ pid events. is_joined pid tid events) (λ pid. refl) (λ pid e earlier. joined_event (nat_eq e.pid pid) (makes_process pid e.what) (joins_id tid e.what) (is_joined pid tid earlier))
+joined_reading tid = is_reading (reading joined_flag tid) (λ pid events. is_joined pid tid events) (λ pid. refl) (λ pid e earlier. joined_event (is_in pid e) (joins_id tid e.what) (is_joined pid tid earlier))
 
 -- ---- detached threads
 
@@ -218,9 +214,10 @@ abbrev detached_flag : Flag
 detached_flag = record {
   of = λ t. t.detached;
   new = λ n. n.detached;
-  sets = λ id e. detaches_id id e.what;
+  sets = detaches_id;
   names = names_detach;
-  born = λ id e parent k. (nat_eq e.tid id && parent) || k;
+  inherits = true;
+  replica = λ parent k. parent || k;
   start = λ initial. false;
   none = refl;
   initial = λ script. refl;
@@ -230,21 +227,8 @@ detached_flag = record {
   named = λ id a names. or_right (names_join id a) (names_detach id a) names;
 }
 
--- a thread that is detached twice stays so
-absorbed : (makes same k : Bool) → ((makes && same && k) || k) ≡ k
-absorbed false same k = refl
-absorbed true false k = refl
-absorbed true true true = refl
-absorbed true true false = refl
-
-detached_event : (own makes detaches same parent k : Bool) → (own ≡ true → parent ≡ k) → ((own && detaches) || ((makes && same && parent) || k)) ≡ cond own (detaches || k) (cond makes ((same && parent) || k) k)
-detached_event true makes detaches same parent k is = ap (λ (b : Bool). detaches || b) (ap (λ (b : Bool). (makes && same && b) || k) (is refl) ∙ absorbed makes same k)
-detached_event false true detaches same parent k is = refl
-detached_event false false detaches same parent k is = refl
-
 detached_reading : (tid pid : ℕ) (events : List Event) → is_detached pid tid events ≡ reported_by (reading detached_flag tid) pid events
-detached_reading tid = is_reading (reading detached_flag tid) (λ pid events. is_detached pid tid events) (λ pid. refl) (λ pid e earlier. detached_event (nat_eq e.pid pid) (makes_process pid e.what) (detaches_id tid e.what) (nat_eq e.tid tid) (is_detached e.pid tid earlier) (is_detached pid tid earlier)
-    (λ same. ap (λ n. is_detached n tid earlier) (eqb-true e.pid pid same)))
+detached_reading tid = is_reading (reading detached_flag tid) (λ pid events. is_detached pid tid events) (λ pid. refl) (λ pid e earlier. refl)
 
 -- ---- joined and detached threads, after every run
 

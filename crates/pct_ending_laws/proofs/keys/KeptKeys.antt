@@ -10,7 +10,7 @@ use Rattle.pct_model.specs.declared.limits.TheConstants.{MAX_KEYS}
 use Rattle.pct_model.specs.declared.script.Script.{Script}
 use Rattle.pct_model.specs.declared.transition.Action.{Action}
 use Rattle.pct_model.specs.declared.transition.Action.TheVariants as action
-use Rattle.pct_model.specs.Kept.{KeysKept}
+use Rattle.pct_model.specs.Kept.{KeysKept, IsLastMade}
 use Rattle.pct_model.specs.Keys.{Key, KeyPlace, no_keys, KeyValues, no_values, key_place, key_at, next_key, new_keys, with_key, without_key, value_at, with_value, without_value, with_pass}
 use Rattle.pct_ending_laws.proofs.lift.OfferedNumbers.{IsNumberOf, new_key_of}
 use Rattle.pct_ending_laws.proofs.keys.KeyPlaces.{default_set, default_stays, default_of_replicate, item_of_replicate, item_set, place_of_next}
@@ -41,8 +41,7 @@ named_data _ own = own
 module _ (script : Script) where
   -- what is kept of a key on a place
   record IsKept (place : ℕ) (p : KeyPlace) (key : Key) : Type 0 where
-    some : 0 < p.made
-    number : 1 + place + MAX_KEYS * p.made ≡ key.number + MAX_KEYS
+    last : IsLastMade place p key
     destructor : (f : ℕ) → key.destructor ≡ Some f → f < length script.funcs
 
   module _ (keys : List KeyPlace) (kept : KeysKept script keys) where
@@ -52,7 +51,7 @@ module _ (script : Script) where
       places = length-set keys place q ∙ kept.places;
       numbers = λ j p key at is. elim (item_set keys place j q p at) [
         | inl before ↦ kept.numbers j p key before is
-        | inr it ↦ let it_is : IsKept j p key = changed j p key it.0 it.1 is in (it_is.some, it_is.number)
+        | inr it ↦ (changed j p key it.0 it.1 is).last
       ];
       destructors = λ j key f at named. option_and_then_some (λ (x : KeyPlace). x.key) (slice_get (set keys place q) j) key at (λ p found is. elim (item_set keys place j q p found) [
         | inl before ↦ kept.destructors j key f (ap (option_and_then (λ (x : KeyPlace). x.key)) before ∙ is) named
@@ -70,7 +69,7 @@ module _ (script : Script) where
     made_at place k destructor (Some p) is named =
         let made : Key = record { number = k; destructor = destructor } in
         let q : KeyPlace = record { made = p.made + 1; key = Some made } in
-        kept_set place q (λ key same. subst (λ (x : Key). IsKept place q x) (same_Some made key same) (record { some = omega arith; number = omega (arith, is); destructor = named }))
+        kept_set place q (λ key same. subst (λ (x : Key). IsKept place q x) (same_Some made key same) (record { last = record { was_made = omega arith; number = omega (arith, is) }; destructor = named }))
 
     deleted_at : (place : ℕ) (found : Option KeyPlace) → KeysKept script (option_map_or (λ p. set keys place (record p { key = None })) found keys)
     deleted_at place None = kept

@@ -80,7 +80,7 @@ module _ (script : Script) (names : NamesFunctions script) (passes : ℕ) (share
 -- only the first action of a transition may change keys
 pub key_actions : (script : Script) (config : Config) (p : Process) (t : Thread) (choice : Alt) → offers (choices_of script config p t) choice ≡ true → OnlyFirst script p.shared.keys (transition_by script config p t choice).actions
 key_actions script config p t choice offered =
-    let others : Others = others_of script config p t in
+    let others : Others = others_of config.slots p.threads t.id in
     let body : List Stmt = body_at script t.frames in
     let next : NextStatement = next_of script t.frames in
     case_first script (names_functions script) config.passes p.shared t others (is_placed script t.frames) (case_of config.passes body p.shared t others true choice next t.status (λ known. offered))

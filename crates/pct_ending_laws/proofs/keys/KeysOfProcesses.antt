@@ -10,7 +10,7 @@ use Rattle.pct_model.specs.declared.schedule.Entry.{Entry}
 use Rattle.pct_model.specs.declared.transition.Action.{Action}
 use Rattle.pct_model.specs.declared.transition.Action.TheVariants as action
 use Rattle.pct_model.specs.declared.transition.Transition.{Transition}
-use Rattle.pct_model.specs.Actions.{without_first, thread_at, thread_after, named_after, shared_after, other_process_after, for_each, moved, thread_moved, changed}
+use Rattle.pct_model.specs.Actions.{without_first, thread_at, thread_after, named_after, shared_after, for_each, moved, thread_moved, changed}
 use Rattle.pct_model.specs.Kept.{KeysKept}
 use Rattle.pct_model.specs.Keys.{KeyPlace, KeyValues}
 use Rattle.pct_model.specs.ThreadSlots.{is_live_thread}
@@ -90,12 +90,6 @@ pub record KeysFit (script : Script) (p : Process) : Type 0 where
   pub keys : KeysKept script p.shared.keys
   pub empty : (tid : ℕ) (t : Thread) → thread_with tid p ≡ Some t → AreEmpty p.shared.keys t.specific
 
-first_fits : (script : Script) → KeysFit script (first_process script)
-first_fits script = record {
-  keys = no_keys_kept script;
-  empty = λ tid t is. subst (λ (u : Thread). AreEmpty (first_process script).shared.keys u.specific) (cond_some (nat_eq 1 tid) (initial_thread script) t is).1 (new_empty (first_process script).shared.keys);
-}
-
 module _ (script : Script) (config : Config) (p : Process) (e : Entry) (t : Thread) (moves : Moves script config p e t) (fits : KeysFit script p) where
   abbrev o : Transition
   o = transition_by script config p t e.alt
@@ -120,18 +114,17 @@ module _ (script : Script) (config : Config) (p : Process) (e : Entry) (t : Thre
     empty = λ id w is. subst (λ (keys : List KeyPlace). AreEmpty keys w.specific) (sym next_is) (empty_next id w is);
   }
 
--- a transition of another process
-other_fits : (script : Script) (pid : ℕ) (o : Transition) (p : Process) → KeysFit script p → KeysFit script (for_each (other_process_after pid) o.actions p)
-other_fits script pid o p fits = record {
-  keys = subst (λ (s : SharedState). KeysKept script s.keys) (sym (other_shared pid o p)) fits.keys;
-  empty = λ tid t is. subst (λ (s : SharedState). AreEmpty s.keys t.specific) (sym (other_shared pid o p)) (fits.empty tid t (ap (λ (threads : List Thread). find (λ u. nat_eq u.id tid) threads) (sym (other_threads pid o p)) ∙ is));
-}
-
 keys_rule : (script : Script) (config : Config) → IsProcessRule unread (λ p k. KeysFit script p) script config (Moves script config)
 keys_rule script config = record {
-  initial = first_fits script;
+  initial = record {
+    keys = no_keys_kept script;
+    empty = λ tid t is. subst (λ (u : Thread). AreEmpty (first_process script).shared.keys u.specific) (cond_some (nat_eq 1 tid) (initial_thread script) t is).1 (new_empty (first_process script).shared.keys);
+  };
   own = λ p e t k moves fits. fits_after script config p e t moves fits;
-  other = λ pid o p k fits. other_fits script pid o p fits;
+  other = λ pid o p k fits. record {
+    keys = subst (λ (s : SharedState). KeysKept script s.keys) (sym (other_shared pid o p)) fits.keys;
+    empty = λ tid t is. subst (λ (s : SharedState). AreEmpty s.keys t.specific) (sym (other_shared pid o p)) (fits.empty tid t (ap (λ (threads : List Thread). find (λ u. nat_eq u.id tid) threads) (sym (other_threads pid o p)) ∙ is));
+  };
 }
 
 -- after every run

@@ -5,7 +5,7 @@ use Rattle.std.proofs.lemmas.Bool.{false≢true, and_parts}
 use Rattle.std.proofs.lemmas.Option.{none-some, slice_get_within, get_or_from_slice_get, option_and_then_some}
 use Rattle.pct_model.specs.declared.limits.TheConstants.{MAX_KEYS}
 use Rattle.pct_model.specs.declared.script.Script.{Script}
-use Rattle.pct_model.specs.Kept.{KeysKept}
+use Rattle.pct_model.specs.Kept.{KeysKept, IsLastMade}
 use Rattle.pct_model.specs.Keys.{Key, KeyPlace, KeyValues, key_place, key_at, if_number, key_with, number_at, value_at, is_left}
 use Rattle.pct_ending_laws.proofs.lift.OfferedNumbers.{IsNumberOf}
 use Rattle.pct_ending_laws.proofs.keys.KeyPlaces.{place_of_last}
@@ -28,8 +28,8 @@ module _ (script : Script) (keys : List KeyPlace) (kept : KeysKept script keys) 
   -- a key is on its own place
   pub on_own_place : (place : ℕ) (key : Key) → key_at keys place ≡ Some key → key_place key.number ≡ place
   on_own_place place key at = option_and_then_some (λ (p : KeyPlace). p.key) (slice_get keys place) key at (λ p found is.
-      let numbers = kept.numbers place p key found is in
-      place_of_last place p.made key.number (subst (λ (n : ℕ). place < n) kept.places (slice_get_within keys place p found)) numbers.0 numbers.1)
+      let last : IsLastMade place p key = kept.numbers place p key found is in
+      place_of_last place p.made key.number (subst (λ (n : ℕ). place < n) kept.places (slice_get_within keys place p found)) last.was_made last.number)
 
   -- the destructor of a key is a function of the script
   pub destructor_in_script : (k : ℕ) (key : Key) (f : ℕ) → key_with k keys ≡ Some key → key.destructor ≡ Some f → f < length script.funcs

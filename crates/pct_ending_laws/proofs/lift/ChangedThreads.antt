@@ -9,9 +9,9 @@ use Rattle.pct_model.specs.declared.transition.Action.{Action}
 use Rattle.pct_model.specs.declared.transition.Action.TheVariants as action
 use Rattle.pct_model.specs.declared.transition.Transition.{Transition}
 use Rattle.pct_model.specs.Keys.{KeyValues, key_place, without_value}
-use Rattle.pct_model.specs.World.{Thread, SharedState, Process}
+use Rattle.pct_model.specs.World.{Thread, SharedState, ProcessEnd, Process}
 use Rattle.pct_model.specs.ThreadSlots.{is_live_thread}
-use Rattle.pct_model.specs.Actions.{at_pc, thread_at, thread_after, named_after, shared_after, process_after, has_ended, other_process_after, for_each, moved, thread_moved, threads_moved, changed, is_live_process}
+use Rattle.pct_model.specs.Actions.{at_pc, thread_at, thread_after, named_after, shared_after, process_after, orphaned, other_process_after, for_each, moved, thread_moved, threads_moved, changed, is_live_process}
 
 -- ---- any change
 
@@ -87,11 +87,13 @@ unfolding process_after
 own_action_keeps (action.EndProcess n) p = refl
 own_action_keeps _ p = refl
 
+orphan_keeps : (end : Option ProcessEnd) (p : Process) → contents (orphaned end p) ≡ contents p
+orphan_keeps None p = refl
+orphan_keeps (Some end) p = refl
+
 other_action_keeps : (pid : ℕ) (a : Action) (p : Process) → contents (other_process_after pid a p) ≡ contents p
 unfolding other_process_after
-other_action_keeps pid (action.EndProcess n) p =
-    either_keeps contents (nat_eq p.parent pid) (cond (has_ended p) (record p { reaped = true }) (record p { parent = 0 })) p p
-    (either_keeps contents (has_ended p) (record p { reaped = true }) (record p { parent = 0 }) p refl refl) refl
+other_action_keeps pid (action.EndProcess n) p = either_keeps contents (nat_eq p.parent pid) (orphaned p.ended p) p p (orphan_keeps p.ended p) refl
 other_action_keeps pid _ p = refl
 
 -- a process after a transition of a thread of the one with an id

@@ -27,7 +27,7 @@ use Rattle.pct_ending_laws.proofs.lift.ChangedThreads.{thread_moved_keeps, proce
 use Rattle.pct_ending_laws.proofs.lift.ThreadIds.{HaveIds, ids_pushed, ids_after}
 use Rattle.pct_ending_laws.proofs.lift.MadeThreads.{Makes, makes_none, forks, process_made, IsStep, is_step, process_after_step, other_process_is, process_is_made, own_process_is}
 use Rattle.pct_ending_laws.proofs.lift.ProcessIds.{HavePids, next_is_new, have_pids}
-use Rattle.pct_ending_laws.proofs.lift.ReportedBy.{Reading, reported_by, after_own, own_after, other_after, born_after}
+use Rattle.pct_ending_laws.proofs.lift.ReportedBy.{Reading, reported_by, after_own, own_after, other_after, at_birth, born_after}
 use Rattle.pct_ending_laws.proofs.lift.ThreadsAfter.{initial_thread, Moves}
 
 -- the rule holds of every process that was made
@@ -112,7 +112,7 @@ module _ {T : Type 0} (f : ℕ → Reading T) (R : Process → (ℕ → T) → T
 
         -- what is reported of the process that a fork makes
         abbrev born : ℕ → ℕ → T
-        born pid n = (f n).born (event_of e (Forked pid)) (reported_by (f n) e.pid r.events) ((f n).start false)
+        born pid n = at_birth (f n) e r.events pid ((f n).start false)
 
         fit_by : (pid : ℕ) (found : Option Process) {child : Option Process} → made_process pid r.world ≡ found → FitsReports found (reported pid r.events) → Makes r.world added child → IfSome child (λ c. R c (born c.pid))
             → FitsReports (option_or (option_map (process_moved e.pid e.tid o) found) (find (λ q. nat_eq q.pid pid) (process_made child))) (later pid)
@@ -133,7 +133,7 @@ module _ {T : Type 0} (f : ℕ → Reading T) (R : Process → (ℕ → T) → T
             forked c only leaf true same =
                 let it : c.pid ≡ pid = eqb-true c.pid pid same in
                 let event : added ≡ Forked pid ∷ [] = only ∙ ap (λ m. Forked m ∷ []) it in
-                let is_born : (n : ℕ) → later pid n ≡ born pid n = λ n. ap (λ (events : List What). reported_by (f n) pid (map (event_of e) events ++ r.events)) event ∙ born_after (f n) e r.events pid differs ∙ ap ((f n).born (event_of e (Forked pid)) (reported_by (f n) e.pid r.events)) (holds n) in
+                let is_born : (n : ℕ) → later pid n ≡ born pid n = λ n. ap (λ (events : List What). reported_by (f n) pid (map (event_of e) events ++ r.events)) event ∙ born_after (f n) e r.events pid differs ∙ ap (at_birth (f n) e r.events pid) (holds n) in
                 subst (R c) (fun_ext (λ n. sym (is_born n))) (subst (λ (m : ℕ). R c (born m)) it leaf)
             forked c only leaf false other = unmade (ap (list_any (makes_process pid)) only ∙ or_from (nat_eq c.pid pid) false other refl)
 
@@ -159,7 +159,7 @@ module _ {T : Type 0} (f : ℕ → Reading T) (R : Process → (ℕ → T) → T
 
 -- no event reports anything
 abbrev pub unread : ℕ → Reading (Unit {0})
-unread n = record { start = λ initial. tt; next = λ e k. tt; born = λ e parent k. tt }
+unread n = record { start = λ initial. tt; next = λ e k. tt; inherits = λ e. false; born = λ parent k. tt }
 
 module _ (script : Script) (config : Config) where
   -- after every run, a rule of processes holds of every process, if each step keeps it, where something is known of the step

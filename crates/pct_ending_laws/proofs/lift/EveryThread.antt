@@ -1,13 +1,13 @@
 -- A relation between a thread and what the events report of it, that each transition keeps where a rule of its process holds, holds of
 -- every thread after every run.
-use Rattle.std.proofs.Common.{◌≡◌, ℕ, Bool, true, false, cond, List, [], ◌∷◌, map, reverse, find, nat_eq, Option, Some, None, option_and_then, refl, sym, ap, ◌∙◌, subst, ne_eqb, eqb-true}
+use mathlib.Core.Bool.{and-true, and-false}
+use Rattle.std.proofs.Common.{◌≡◌, ℕ, Bool, true, false, ◌&&◌, cond, List, [], ◌∷◌, map, reverse, find, nat_eq, Option, Some, None, option_and_then, refl, sym, ap, ◌∙◌, subst, subst₂, ne_eqb, eqb-true}
 use Rattle.std.proofs.lemmas.Bool.{true≢false, and_left, eqb-false}
 use Rattle.std.proofs.lemmas.Option.{none-some, same_Some}
 use Rattle.pct_model.specs.declared.script.Script.{Script}
 use Rattle.pct_model.specs.declared.schedule.Alt.{Alt}
 use Rattle.pct_model.specs.declared.schedule.Config.{Config}
 use Rattle.pct_model.specs.declared.schedule.Entry.{Entry}
-use Rattle.pct_model.specs.declared.event.What.{What}
 use Rattle.pct_model.specs.declared.transition.Action.{Action}
 use Rattle.pct_model.specs.declared.transition.NewThread.{NewThread}
 use Rattle.pct_model.specs.declared.transition.Transition.{Transition}
@@ -21,7 +21,7 @@ use Rattle.pct_ending_laws.proofs.lift.KeyedLists.{found_passes}
 use Rattle.pct_ending_laws.proofs.lift.TakenSteps.{AfterEveryRun}
 use Rattle.pct_ending_laws.proofs.lift.ChangedThreads.{other_threads}
 use Rattle.pct_ending_laws.proofs.lift.ReportedBy.{ThreadReading, reported_by, of_thread, after_own, after_all, read_step}
-use Rattle.pct_ending_laws.proofs.lift.ThreadsAfter.{initial_thread, created_thread, Moves, mover_live, mover_found, mover_here, After, was_made, is_new, is_absent, after, same_gone}
+use Rattle.pct_ending_laws.proofs.lift.ThreadsAfter.{initial_thread, created_thread, Moves, mover, After, was_made, is_new, is_absent, after, same_gone}
 use Rattle.pct_ending_laws.proofs.lift.EveryProcess.{OfEveryProcess, FitsReports, IsProcessRule, every_process, moves_in}
 
 module _ {T : Type 0} (g : ThreadReading T) (L : Thread → T → Type 0) where
@@ -38,6 +38,9 @@ module _ {T : Type 0} (g : ThreadReading T) (L : Thread → T → Type 0) where
   abbrev pub OfEveryThread : Run → Type 0
   OfEveryThread r = (pid tid : ℕ) → OfThread (made_thread pid tid r.world) (reported_by (of_thread g tid) pid r.events)
 
+  pub of_made_thread : (r : Run) → OfEveryThread r → (pid tid : ℕ) (t : Thread) → made_thread pid tid r.world ≡ Some t → t.gone ≡ false → L t (reported_by (of_thread g tid) pid r.events)
+  of_made_thread r of pid tid t made here = (subst (λ (found : Option Thread). OfThread found (reported_by (of_thread g tid) pid r.events)) made (of pid tid)).here here
+
   -- the relation holds of each thread of a process, beside some report
   abbrev pub OfItsThreads : Process → Type 0
   OfItsThreads p = (tid : ℕ) (t : Thread) → thread_with tid p ≡ Some t → t.gone ≡ false → (k : T) × L t k
@@ -45,8 +48,7 @@ module _ {T : Type 0} (g : ThreadReading T) (L : Thread → T → Type 0) where
   -- a relation of every thread, as a rule of every process
   pub of_its_threads : (r : Run) → OfEveryThread r → OfEveryProcess OfItsThreads r
   of_its_threads r of pid p made tid t is here =
-      let k : T = reported_by (of_thread g tid) pid r.events in
-      (k, (subst (λ (found : Option Thread). OfThread found k) (ap (option_and_then (thread_with tid)) made ∙ is) (of pid tid)).here here)
+      (reported_by (of_thread g tid) pid r.events, of_made_thread r of pid tid t (ap (option_and_then (thread_with tid)) made ∙ is) here)
 
   -- ---- the threads of a process that a fork makes; no transition makes one yet
 
@@ -56,17 +58,24 @@ module _ {T : Type 0} (g : ThreadReading T) (L : Thread → T → Type 0) where
     pub here : replica.gone ≡ false
     pub others : (tid : ℕ) (u : Thread) → nat_eq e.tid tid ≡ false → thread_with tid child ≡ Some u → u.gone ≡ true
 
-  module _ (e : Entry) (w : What) (replica : Thread) (child : Process) (inherits : Inherits e replica child) (k : ℕ → T) (leaf : L replica (g.replica w (k e.tid) g.start)) (nothing : g.others g.start ≡ g.start) where
-    born_by : (tid : ℕ) (same : Bool) (found : Option Thread) → nat_eq e.tid tid ≡ same → thread_with tid child ≡ found → OfThread found (cond same (g.replica w (k tid) g.start) (g.others g.start))
+  module _ (e : Entry) (replica : Thread) (child : Process) (inherits : Inherits e replica child) (k : ℕ → T) (leaf : L replica (cond g.inherits (g.replica (k e.tid) g.start) g.start)) where
+    -- what is reported of a thread of the process as it is made
+    abbrev pub at_birth : ℕ → Bool → T
+    at_birth tid same = cond (g.inherits && same) (g.replica (k tid) g.start) g.start
+
+    nothing : (tid : ℕ) → at_birth tid false ≡ g.start
+    nothing tid = ap (λ b. cond b (g.replica (k tid) g.start) g.start) (and-false g.inherits)
+
+    born_by : (tid : ℕ) (same : Bool) (found : Option Thread) → nat_eq e.tid tid ≡ same → thread_with tid child ≡ found → OfThread found (at_birth tid same)
     born_by tid true found same is =
         let it : e.tid ≡ tid = eqb-true e.tid tid same in
-        subst (λ (x : Option Thread). OfThread x (g.replica w (k tid) g.start)) (sym inherits.own ∙ ap (λ id. thread_with id child) it ∙ is)
-        (record { here = λ here. subst (λ n. L replica (g.replica w (k n) g.start)) it leaf; gone = λ gone. absurd (true≢false (sym gone ∙ inherits.here)) })
-    born_by tid false None differs is = nothing
-    born_by tid false (Some u) differs is = record { here = λ here. absurd (true≢false (sym (inherits.others tid u differs is) ∙ here)); gone = λ gone. nothing }
+        subst (λ (x : Option Thread). OfThread x (at_birth tid true)) (sym inherits.own ∙ ap (λ id. thread_with id child) it ∙ is)
+        (record { here = λ here. subst₂ (λ n b. L replica (cond b (g.replica (k n) g.start) g.start)) it (sym (and-true g.inherits)) leaf; gone = λ gone. absurd (true≢false (sym gone ∙ inherits.here)) })
+    born_by tid false None differs is = nothing tid
+    born_by tid false (Some u) differs is = record { here = λ here. absurd (true≢false (sym (inherits.others tid u differs is) ∙ here)); gone = λ gone. nothing tid }
 
-    -- the relation holds of each of its threads, if it holds of the replica, and nothing is reported of the others
-    pub born_fit : (tid : ℕ) → OfThread (thread_with tid child) ((of_thread g tid).born (event_of e w) (k tid) g.start)
+    -- the relation holds of each of its threads, if it holds of the replica
+    pub born_fit : (tid : ℕ) → OfThread (thread_with tid child) (at_birth tid (nat_eq e.tid tid))
     born_fit tid = born_by tid (nat_eq e.tid tid) (thread_with tid child) refl refl
 
   module _ (script : Script) (config : Config) (K : Process → Type 0) where
@@ -98,10 +107,10 @@ module _ {T : Type 0} (g : ThreadReading T) (L : Thread → T → Type 0) where
         -- the thread itself
         own_moved : (k : T) → OfMade t k → OfMade (thread_moved e.tid o t) (after_all g (reverse o.events) k)
         own_moved k of =
-            let present : t.gone ≡ false = mover_here script config p e t moves in
+            let present : t.gone ≡ false = (mover script config p e t moves).here in
             record {
               here = λ here. named_all o.actions (cond (is_live_thread e.tid t) (moved o t) t) (after_all g (reverse o.events) k)
-                  (subst (λ b. L (cond b (moved o t) t) (after_all g (reverse o.events) k)) (sym (mover_live script config p e t moves)) (rule.kept p t k e.alt in_process moves.offered (of.here present)));
+                  (subst (λ b. L (cond b (moved o t) t) (after_all g (reverse o.events) k)) (sym (mover script config p e t moves).live) (rule.kept p t k e.alt in_process moves.offered (of.here present)));
               gone = λ gone. absurd (true≢false (sym gone ∙ same_gone e.tid o t ∙ present));
             }
 
@@ -117,7 +126,7 @@ module _ {T : Type 0} (g : ThreadReading T) (L : Thread → T → Type 0) where
           of_found tid before is = subst (λ (x : Option Thread). OfThread x (k tid)) is (of tid)
 
           it_is_made : thread_with e.tid p ≡ Some t
-          it_is_made = mover_found script config p e t moves
+          it_is_made = (mover script config p e t moves).found
 
           -- the thread with an id after the step
           moved_by : (tid : ℕ) (same : Bool) {w : Option Thread} → nat_eq e.tid tid ≡ same → After script config p e t moves tid w → OfThread w (cond same (after_all g (reverse o.events) (k tid)) (k tid))
@@ -129,7 +138,7 @@ module _ {T : Type 0} (g : ThreadReading T) (L : Thread → T → Type 0) where
               other_moved u (k tid) (and_left (nat_eq u.id e.tid) (holds_slot u) (ne_eqb u.id e.tid (λ same. eqb-false e.tid tid differs (sym same ∙ named)))) (of_found tid (Some u) is)
           moved_by tid false differs (is_new new is makes named) =
               let nothing : k tid ≡ g.start = of_found tid None is in
-              let it : L t (k e.tid) = (of_found e.tid (Some t) it_is_made).here (mover_here script config p e t moves) in
+              let it : L t (k e.tid) = (of_found e.tid (Some t) it_is_made).here (mover script config p e t moves).here in
               record { here = λ here. subst (L (created_thread new)) (sym nothing) (rule.created p t (k e.tid) e.alt new in_process moves.offered it makes); gone = λ gone. nothing }
           moved_by tid false differs (is_absent is none) = of_found tid None is
           moved_by tid true same (is_new new is makes named) = absurd (none-some t (sym is ∙ ap (λ id. thread_with id p) (sym (eqb-true e.tid tid same)) ∙ it_is_made))

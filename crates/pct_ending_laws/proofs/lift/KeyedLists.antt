@@ -1,10 +1,11 @@
 -- Lists whose items have numbers: look-up by number, and changes that keep the numbers.
 use Rattle.std.proofs.Common.{◌≡◌, ℕ, zero, suc, Bool, true, false, ◌&&◌, ◌||◌, cond, List, [], ◌∷◌, ◌++◌, length, map, filter, find, Option, Some, None, nat_eq, option_map, slice_get, ◌⊎◌, inl, inr, refl, sym, ap, ◌∙◌, subst, eqb-true, ne_eqb}
 use Rattle.std.specs.Prelude.{⊤}
-use Rattle.std.specs.List.{list_any}
-use Rattle.std.proofs.lemmas.Bool.{false≢true, eqb-false, or_parts, or_from}
-use Rattle.std.proofs.lemmas.List.Folds.{list_any-append}
-use Rattle.std.proofs.lemmas.Option.{none-some, same_Some}
+use Rattle.std.specs.List.{list_all, list_any, position_or_len}
+use Rattle.std.proofs.lemmas.Bool.{false≢true, true≢false, true_from_ne_false, eqb-false, or_parts, or_from}
+use Rattle.std.proofs.lemmas.List.Folds.{find_at, list_all_at, list_any-append}
+use Rattle.std.proofs.lemmas.List.Sums.{passes_at_first}
+use Rattle.std.proofs.lemmas.Option.{none-some, same_Some, slice_get_within, get_or_from_slice_get}
 
 -- ---- numbers
 
@@ -25,14 +26,20 @@ distinct_push (m ∷ ns) n absent distinct =
 
 -- ---- look-up
 
-found_passes_by : {A : Type 0} (test : A → Bool) (x y : A) (b : Bool) (rest : Option A) → test x ≡ b → (rest ≡ Some y → test y ≡ true) → cond b (Some x) rest ≡ Some y → test y ≡ true
-found_passes_by {A} test x y true rest passes later is = subst (λ (z : A). test z ≡ true) (same_Some x y is) passes
-found_passes_by test x y false rest passes later is = later is
+-- the item that is found, at its index
+pub found_at : {A : Type 0} (test : A → Bool) (xs : List A) (y : A) → find test xs ≡ Some y → slice_get xs (position_or_len test xs) ≡ Some y
+found_at test xs y is = sym (find_at test xs) ∙ is
 
--- the item that is found passes the test
+-- it passes the test
 pub found_passes : {A : Type 0} (test : A → Bool) (xs : List A) (y : A) → find test xs ≡ Some y → test y ≡ true
-found_passes test [] y is = absurd (none-some y is)
-found_passes test (x ∷ xs) y is = found_passes_by test x y (test x) (find test xs) refl (found_passes test xs y) is
+found_passes test xs y is =
+    let at = found_at test xs y is in
+    subst (λ z. test z ≡ true) (get_or_from_slice_get xs (position_or_len test xs) y y at) (passes_at_first test xs y (slice_get_within xs (position_or_len test xs) y at))
+
+-- an item of a list in which all pass
+pub item_passes : {A : Type 0} (p : A → Bool) (xs : List A) (i : ℕ) (x : A) → list_all p xs ≡ true → slice_get xs i ≡ Some x → p x ≡ true
+item_passes p xs i x all at =
+    true_from_ne_false (p x) (λ fails. true≢false (sym all ∙ list_all_at p xs i x (slice_get_within xs i x at) (ap p (get_or_from_slice_get xs i x x at) ∙ fails)))
 
 module _ {A : Type 0} (key : A → ℕ) where
   -- the first item with a number

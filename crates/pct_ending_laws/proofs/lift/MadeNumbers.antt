@@ -1,63 +1,64 @@
 -- The numbers of processes and threads, and the threads and forks of a run's events, after every run.
-use Rattle.std.proofs.Common.{◌≡◌, ℕ, Bool, true, false, ◌&&◌, ◌||◌, cond, List, nat_eq, slice_index_or, is_some, Option, Some, None, refl, sym, ap₂, ◌∙◌, eq-eqb}
+use Rattle.std.proofs.Common.{◌≡◌, ℕ, Bool, true, false, ◌&&◌, ◌||◌, cond, List, slice_index_or, is_some, option_and_then, Option, Some, None, refl, sym, ap₂, ◌∙◌, eq-eqb}
 use Rattle.std.specs.List.{list_any}
 use Rattle.std.specs.Option.{IsSomeAnd}
-use Rattle.std.proofs.lemmas.Bool.{false≢true, false_from_ne_true, or_right}
+use Rattle.std.proofs.lemmas.Bool.{false≢true, false_from_ne_true, or_left, or_right}
 use Rattle.std.proofs.lemmas.List.Folds.{list_any_at}
 use Rattle.pct_model.specs.declared.script.Script.{Script}
 use Rattle.pct_model.specs.declared.schedule.Config.{Config}
 use Rattle.pct_model.specs.declared.event.Event.{Event}
 use Rattle.pct_model.specs.declared.event.What.{What}
 use Rattle.pct_model.specs.declared.event.What.TheVariants as what
-use Rattle.pct_model.specs.World.{Thread, Process, World, made_process, made_thread}
-use Rattle.pct_model.specs.KnownThreads.{has_own, makes_process}
+use Rattle.pct_model.specs.World.{Thread, Process, World, made_process, thread_with, made_thread}
+use Rattle.pct_model.specs.KnownThreads.{is_own, is_fork_of, makes_process}
 use Rattle.pct_model.specs.ThreadNumbers.{ForksMade, NumbersThreads}
 use Rattle.pct_ending_laws.proofs.lift.TakenSteps.{AfterEveryRun}
 use Rattle.pct_ending_laws.proofs.lift.ProcessIds.{have_pids}
-use Rattle.pct_ending_laws.proofs.lift.ReportedBy.{Reading, reported_by, is_reading, ThreadReading, of_thread, has_event, own_reading}
-use Rattle.pct_ending_laws.proofs.lift.ThreadsAfter.{Moves}
-use Rattle.pct_ending_laws.proofs.lift.EveryProcess.{FitsReports, IsProcessRule, every_process, ids_of_run, moves_of_run}
+use Rattle.pct_ending_laws.proofs.lift.ReportedBy.{reported_by, ThreadReading, of_thread, is_thread_reading}
+use Rattle.pct_ending_laws.proofs.lift.EveryProcess.{ids_of_run}
 use Rattle.pct_ending_laws.proofs.lift.EveryThread.{OfThread, IsThreadRule, every_thread}
 
 -- ---- the threads of events
 
--- whether a thread has an event
-abbrev any_event : ThreadReading Bool
-any_event = has_event (λ w. true)
+-- a thread has an event, or is the replica of a thread that forks
+abbrev is_mentioned : ℕ → ℕ → List Event → Bool
+is_mentioned pid tid events = list_any (λ e. is_own pid tid e || is_fork_of pid tid e) events
 
-event_rule : (script : Script) (config : Config) → IsThreadRule any_event (λ t k. Unit {0}) script config (λ p. Unit {0})
-event_rule script config = record { initial = tt; created = λ p t k choice new nothing offered holds makes. tt; named = λ a t k holds. tt; kept = λ p t k choice nothing offered holds. tt }
+abbrev mentioned : ThreadReading Bool
+mentioned = record { start = false; next = λ w k. true; inherits = true; replica = λ parent k. true }
 
-here_by : (found : Option Thread) (k : Bool) → OfThread any_event (λ t k. Unit {0}) found k → k ≡ true → IsSomeAnd found (λ t. t.gone ≡ false)
+one_mention : (own fork k : Bool) → ((own || fork) || k) ≡ cond own true (cond fork true k)
+one_mention true fork k = refl
+one_mention false true k = refl
+one_mention false false k = refl
+
+mentioned_reading : (tid pid : ℕ) (events : List Event) → is_mentioned pid tid events ≡ reported_by (of_thread mentioned tid) pid events
+mentioned_reading tid = is_thread_reading mentioned tid (λ pid events. is_mentioned pid tid events) (λ pid. refl) (λ pid e earlier. one_mention (is_own pid tid e) (is_fork_of pid tid e) (is_mentioned pid tid earlier))
+
+mentioned_rule : (script : Script) (config : Config) → IsThreadRule mentioned (λ t k. Unit {0}) script config (λ p. Unit {0})
+mentioned_rule script config = record { initial = tt; created = λ p t k choice new nothing offered holds makes. tt; named = λ a t k holds. tt; kept = λ p t k choice nothing offered holds. tt }
+
+here_by : (found : Option Thread) (k : Bool) → OfThread mentioned (λ t k. Unit {0}) found k → k ≡ true → IsSomeAnd found (λ t. t.gone ≡ false)
 here_by None k none is = absurd (false≢true (sym none ∙ is))
 here_by (Some t) k of is = false_from_ne_true t.gone (λ gone. false≢true (sym (of.gone gone) ∙ is))
 
 -- ---- forks
 
--- a process has an event, or a fork makes it
-abbrev mentioned : Reading Bool
-mentioned = record { start = λ initial. false; next = λ e k. true; born = λ e parent k. true }
+with_thread : (tid : ℕ) (found : Option Process) → IsSomeAnd (option_and_then (thread_with tid) found) (λ t. t.gone ≡ false) → is_some found ≡ true
+with_thread tid None none = absurd none
+with_thread tid (Some p) here = refl
 
-one_mention : (own makes k : Bool) → ((own || makes) || k) ≡ cond own true (cond makes true k)
-one_mention true makes k = refl
-one_mention false true k = refl
-one_mention false false k = refl
-
-mentioned_reading : (pid : ℕ) (events : List Event) → list_any (λ e. nat_eq e.pid pid || makes_process pid e.what) events ≡ reported_by mentioned pid events
-mentioned_reading = is_reading mentioned (λ pid events. list_any (λ e. nat_eq e.pid pid || makes_process pid e.what) events) (λ pid. refl) (λ pid e earlier. one_mention (nat_eq e.pid pid) (makes_process pid e.what) (list_any (λ x. nat_eq x.pid pid || makes_process pid x.what) earlier))
-
-mentioned_rule : (script : Script) (config : Config) → IsProcessRule (λ n. mentioned) (λ p k. Unit {0}) script config (Moves script config)
-mentioned_rule script config = record { initial = tt; own = λ p e t k moves holds. tt; other = λ pid o p k holds. tt }
-
-made_by : (found : Option Process) (k : ℕ → Bool) → FitsReports (λ n. mentioned) (λ p k. Unit {0}) found k → k 0 ≡ true → is_some found ≡ true
-made_by None k none is = absurd (false≢true (sym (none 0) ∙ is))
-made_by (Some p) k fits is = refl
-
-fork_made : (w : World) (x : What) → ((pid : ℕ) → makes_process pid x ≡ true → is_some (made_process pid w) ≡ true) → ForksMade w x
-fork_made w (what.Forked child) made = made child (eq-eqb child child refl)
-fork_made w _ made = tt
+fork_made : (w : World) (tid : ℕ) (x : What) → ((pid : ℕ) → makes_process pid x ≡ true → IsSomeAnd (made_thread pid tid w) (λ t. t.gone ≡ false)) → ForksMade w x
+fork_made w tid (what.Forked child) made = with_thread tid (made_process child w) (made child (eq-eqb child child refl))
+fork_made w tid _ made = tt
 
 -- ---- every run
+
+-- after every run, a thread that is mentioned was made, and its process inherited it
+mentioned_of_run : (script : Script) (config : Config) → AfterEveryRun script config (λ r. (pid tid : ℕ) → is_mentioned pid tid r.events ≡ true → IsSomeAnd (made_thread pid tid r.world) (λ t. t.gone ≡ false))
+mentioned_of_run script config entries r is pid tid mentions =
+    here_by (made_thread pid tid r.world) (reported_by (of_thread mentioned tid) pid r.events) (every_thread mentioned (λ t k. Unit {0}) script config (λ p. Unit {0}) (mentioned_rule script config) (λ entries r is pid p made. tt) entries r is pid tid)
+    (sym (mentioned_reading tid pid r.events) ∙ mentions)
 
 -- the numbers after every run, and the threads and forks of its events
 pub numbers_of_run : (script : Script) (config : Config) → AfterEveryRun script config (λ r. NumbersThreads config.slots r.world r.events)
@@ -66,11 +67,10 @@ numbers_of_run script config entries r is = record {
   threads = λ pid p made. (ids_of_run script config entries r is pid p made).numbers;
   of_threads = λ k d low.
       let x : Event = slice_index_or r.events k d in
-      let own : has_own (λ w. true) x.pid x.tid r.events ≡ true = list_any_at (λ e. nat_eq e.pid x.pid && nat_eq e.tid x.tid && true) r.events k d low (ap₂ (λ (a b : Bool). a && b && true) (eq-eqb x.pid x.pid refl) (eq-eqb x.tid x.tid refl)) in
-      here_by (made_thread x.pid x.tid r.world) (reported_by (of_thread any_event x.tid) x.pid r.events) (every_thread any_event (λ t k. Unit {0}) script config (λ p. Unit {0}) (event_rule script config) (λ entries r is pid p made. tt) entries r is x.pid x.tid)
-      (sym (own_reading (λ w. true) x.tid x.pid r.events) ∙ own);
+      mentioned_of_run script config entries r is x.pid x.tid (list_any_at (λ e. is_own x.pid x.tid e || is_fork_of x.pid x.tid e) r.events k d low
+      (or_left (is_own x.pid x.tid x) (is_fork_of x.pid x.tid x) (ap₂ (λ (a b : Bool). a && b) (eq-eqb x.pid x.pid refl) (eq-eqb x.tid x.tid refl))));
   forks = λ k d low.
       let x : Event = slice_index_or r.events k d in
-      fork_made r.world x.what (λ pid makes. made_by (made_process pid r.world) (λ n. reported_by mentioned pid r.events) (every_process (λ n. mentioned) (λ p k. Unit {0}) script config (Moves script config) (mentioned_rule script config) (moves_of_run script config) entries r is pid)
-      (sym (mentioned_reading pid r.events) ∙ list_any_at (λ e. nat_eq e.pid pid || makes_process pid e.what) r.events k d low (or_right (nat_eq x.pid pid) (makes_process pid x.what) makes)));
+      fork_made r.world x.tid x.what (λ pid makes. mentioned_of_run script config entries r is pid x.tid (list_any_at (λ e. is_own pid x.tid e || is_fork_of pid x.tid e) r.events k d low
+      (or_right (is_own pid x.tid x) (is_fork_of pid x.tid x) (ap₂ (λ (a b : Bool). a && b) (eq-eqb x.tid x.tid refl) makes))));
 }

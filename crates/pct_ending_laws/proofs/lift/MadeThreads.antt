@@ -68,16 +68,26 @@ module _ (pid tid : ℕ) (o : Transition) where
       ∙ ap (λ (found : Option Thread). option_or found (find (λ t. nat_eq t.id id) (thread_created o.created)))
       (item_changed (λ (t : Thread). t.id) (thread_moved tid o) (λ t. ap (λ (i : ℕ × Bool). i.0) (thread_moved_keeps tid o t)) id p.threads)
 
--- a thread that holds its slot was inherited by its process, if it was made before it
-pub is_here : (tid : ℕ) (t : Thread) → is_live_thread tid t ≡ true → t.gone ≡ false
-is_here tid t is_live =
-    let live = and_parts (nat_eq t.id tid) (holds_slot t) is_live in
-    let here = and_parts (not t.gone) (not (is_ended_status t.status && (t.joined || t.detached))) live.1 in
-    not-true t.gone here.0
+-- a thread that is found by its id among those that hold a slot
+pub record IsLive (p : Process) (id : ℕ) (t : Thread) : Type 0 where
+  pub live : is_live_thread id t ≡ true
+  pub found : thread_with id p ≡ Some t
+  pub number : t.id ≡ id
+  pub holds : holds_slot t ≡ true
+  pub here : t.gone ≡ false
 
--- the thread that moves, where no two threads of its process have one id
-pub thread_is_made : (tid : ℕ) (p : Process) (t : Thread) → AreDistinct (ids_of p.threads) → with_id tid p.threads ≡ Some t → thread_with tid p ≡ Some t
-thread_is_made tid p t distinct is = only_one (λ (u : Thread). u.id) holds_slot tid p.threads t distinct is
+-- the thread that is looked up, where no two threads of its process have one id
+pub live_thread : (id : ℕ) (p : Process) (t : Thread) → AreDistinct (ids_of p.threads) → with_id id p.threads ≡ Some t → IsLive p id t
+live_thread id p t distinct is =
+    let live : is_live_thread id t ≡ true = found_passes (is_live_thread id) p.threads t is in
+    let parts = and_parts (nat_eq t.id id) (holds_slot t) live in
+    record {
+      live = live;
+      found = only_one (λ (u : Thread). u.id) holds_slot id p.threads t distinct is;
+      number = eqb-true t.id id parts.0;
+      holds = parts.1;
+      here = not-true t.gone (and_parts (not t.gone) (not (is_ended_status t.status && (t.joined || t.detached))) parts.1).0;
+    }
 
 -- its process, where no two processes have one pid
 module _ (pid tid : ℕ) (w : World) (p : Process) (distinct : AreDistinct (pids_of w.processes)) (is_process : find (is_live_process pid) w.processes ≡ Some p) where

@@ -1,20 +1,21 @@
 -- Runs, entry by entry: a fact of the initial state that each legal entry keeps, by what holds of the run so far, holds after every run.
-use Rattle.std.proofs.Common.{◌≡◌, ◌+◌, ◌<◌, ◌≤◌, Bool, true, false, ◌&&◌, cond, List, [], ◌∷◌, ◌++◌, length, map, reverse, find, nat_le, is_none, Option, Some, None, option_map, option_and_then, refl, ap, ◌∙◌, subst, arith}
+use Rattle.std.proofs.Common.{◌≡◌, ◌+◌, ◌<◌, ◌≤◌, Bool, true, false, ◌&&◌, cond, List, [], ◌∷◌, ◌++◌, length, map, reverse, find, nat_le, Option, Some, None, option_map, option_and_then, refl, ap, ◌∙◌, subst, arith}
 use Rattle.std.proofs.lemmas.Bool.{and_parts, and_from, leb-true, le-leb}
 use Rattle.std.proofs.lemmas.List.{length-append}
-use Rattle.std.proofs.lemmas.Option.{none-some, same_Some, cond_some, option_and_then_some}
+use Rattle.std.proofs.lemmas.Option.{none-some, same_Some, option_and_then_some}
 use Rattle.pct_model.specs.declared.script.Script.{Script}
 use Rattle.pct_model.specs.declared.schedule.Config.{Config}
 use Rattle.pct_model.specs.declared.schedule.Entry.{Entry}
-use Rattle.pct_model.specs.declared.limits.TheConstants.{MAX_BUDGET, MIN_PASSES, MAX_PASSES, MAX_SLOTS, MAX_WORKER}
+use Rattle.pct_model.specs.declared.limits.TheConstants.{MAX_BUDGET, MIN_PASSES, MAX_PASSES, MAX_SLOTS}
 use Rattle.pct_model.specs.declared.transition.Transition.{Transition}
 use Rattle.pct_model.specs.World.{Thread, Process, World, opening}
 use Rattle.pct_model.specs.ThreadSlots.{with_id}
 use Rattle.pct_model.specs.ChoiceTable.{choices_of, offers}
 use Rattle.pct_model.specs.TransitionTable.{transition_by}
 use Rattle.pct_model.specs.Actions.{is_live_process, after_transition}
-use Rattle.pct_model.specs.Step.{Successor, if_offered, transition_of, step}
+use Rattle.pct_model.specs.Step.{Successor, step}
 use Rattle.pct_model.specs.Run.{Run, event_of, run_step, run_from, is_config, run}
+use Rattle.pct_model.proofs.LegalSteps.{step_legal}
 
 -- a legal entry: the thread that it names, of a process that has not ended, has the choice
 pub record IsTaken (script : Script) (config : Config) (w : World) (e : Entry) (p : Process) (t : Thread) : Type 0 where
@@ -52,23 +53,21 @@ module _ (script : Script) (config : Config) where
     taken : IsTaken script config r.world e process thread
     is_next : with_step e (transition_by script config process thread e.alt) r ≡ next
 
-  taken_by : (r : Run) (e : Entry) (o : Transition) (next : Run) → transition_of script config r.world e ≡ Some o → with_step e o r ≡ next → LeadsTo r e next
-  taken_by r e o next is leads =
-      option_and_then_some (λ p. option_and_then (if_offered script config p e) (with_id e.tid p.threads)) (find (is_live_process e.pid) r.world.processes) o is
-      (λ p is_process found. option_and_then_some (if_offered script config p e) (with_id e.tid p.threads) o found
-      (λ t is_thread offered.
-      let parts = cond_some (offers (choices_of script config p t) e.alt) (transition_by script config p t e.alt) o offered in
-      record { process = p; thread = t; taken = record { is_process = is_process; is_thread = is_thread; offered = parts.0 }; is_next = ap (λ (x : Transition). with_step e x r) parts.1 ∙ leads }))
-
-  step_by : (r : Run) (e : Entry) (next : Run) (may : Bool) (o : Option Transition) → transition_of script config r.world e ≡ o
-      → option_map (λ (s : Successor). record { world = s.world; events = map (event_of e) (reverse s.events) ++ r.events }) (cond may (option_map (λ (x : Transition). record { world = after_transition e.pid e.tid x r.world; events = x.events }) o) None) ≡ Some next → LeadsTo r e next
-  step_by r e next true (Some o) found is = taken_by r e o next found (same_Some (with_step e o r) next is)
-  step_by r e next true None found is = absurd (none-some next is)
-  step_by r e next false o found is = absurd (none-some next is)
+  leads_by : (r : Run) (e : Entry) (next : Run) (o : Option Successor) → step script config r.world e ≡ o → option_map (λ (s : Successor). record { world = s.world; events = map (event_of e) (reverse s.events) ++ r.events }) o ≡ Some next → LeadsTo r e next
+  leads_by r e next (Some s) stepped is =
+      let made = step_legal script config r.world e s stepped in
+      let legal = made.0 in
+      record {
+        process = legal.process;
+        thread = legal.thread;
+        taken = record { is_process = legal.live; is_thread = legal.holds; offered = legal.offered };
+        is_next = ap (λ (x : Successor). record { world = x.world; events = map (event_of e) (reverse x.events) ++ r.events }) made.1 ∙ same_Some _ next is;
+      }
+  leads_by r e next None stepped is = absurd (none-some next is)
 
   leads : (r : Run) (e : Entry) (next : Run) → run_step script config r e ≡ Some next → LeadsTo r e next
-  unfolding run_step step
-  leads r e next is = step_by r e next (is_none r.world.stop && nat_le e.worker MAX_WORKER) (transition_of script config r.world e) refl is
+  unfolding run_step
+  leads r e next is = leads_by r e next (step script config r.world e) refl is
 
   -- the run of some entries and one more
   run_more : (r mid next : Run) (before : List Entry) (e : Entry) → run_from script config r before ≡ Some mid → run_step script config mid e ≡ Some next → run_from script config r (before ++ e ∷ []) ≡ Some next

@@ -18,7 +18,7 @@ use Rattle.pct_model.specs.World.{Thread, Process, new_frame, new_thread, thread
 use Rattle.pct_ending_laws.proofs.lift.KeyedLists.{found_passes, not_found}
 use Rattle.pct_ending_laws.proofs.lift.ChangedThreads.{thread_moved_keeps}
 use Rattle.pct_ending_laws.proofs.lift.CreatedThreads.{creates_with_next_id}
-use Rattle.pct_ending_laws.proofs.lift.MadeThreads.{own_thread_with, is_here, thread_is_made}
+use Rattle.pct_ending_laws.proofs.lift.MadeThreads.{own_thread_with, IsLive, live_thread}
 use Rattle.pct_ending_laws.proofs.lift.ThreadIds.{HaveIds, is_next_id, is_fresh}
 
 -- the initial thread of a script
@@ -43,24 +43,15 @@ module _ (script : Script) (config : Config) (p : Process) (e : Entry) (t : Thre
 
     -- ---- the thread that moves
 
-    pub mover_live : is_live_thread e.tid t ≡ true
-    mover_live = found_passes (is_live_thread e.tid) p.threads t moves.is_thread
-
-    pub mover_found : thread_with e.tid p ≡ Some t
-    mover_found = thread_is_made e.tid p t moves.ids.distinct moves.is_thread
-
-    pub mover_here : t.gone ≡ false
-    mover_here = is_here e.tid t mover_live
-
-    pub mover_id : t.id ≡ e.tid
-    mover_id = eqb-true t.id e.tid (and_parts (nat_eq t.id e.tid) (holds_slot t) mover_live).0
+    pub mover : IsLive p e.tid t
+    mover = live_thread e.tid p t moves.ids.distinct moves.is_thread
 
     -- a thread that is live with its id is that one
     pub is_mover : (id : ℕ) (u : Thread) → thread_with id p ≡ Some u → is_live_thread e.tid u ≡ true → (u ≡ t) × (id ≡ e.tid)
     is_mover id u is live =
         let named : u.id ≡ id = eqb-true u.id id (found_passes (λ (x : Thread). nat_eq x.id id) p.threads u is) in
         let same : id ≡ e.tid = sym named ∙ eqb-true u.id e.tid (and_parts (nat_eq u.id e.tid) (holds_slot u) live).0 in
-        (same_Some u t (sym is ∙ ap (λ (n : ℕ). thread_with n p) same ∙ mover_found), same)
+        (same_Some u t (sym is ∙ ap (λ (n : ℕ). thread_with n p) same ∙ mover.found), same)
 
     -- ---- the threads after the transition
 

@@ -1,5 +1,5 @@
 -- The end of a thread, and the exit of its process.
-use Rattle.std.proofs.Common.{◌≡◌, ℕ, suc, ◌<◌, ◌≤◌, true, false, List, [], ◌∷◌, ◌++◌, length, map, Some, None, refl, sym, ap, ◌∙◌, subst, le_antisymm, arith}
+use Rattle.std.proofs.Common.{◌≡◌, ℕ, suc, ◌<◌, ◌≤◌, true, false, List, [], ◌∷◌, ◌++◌, length, map, Some, None, refl, sym, ap, ◌∙◌, subst, le_antisymm, arith, Bool, ◌||◌}
 use Rattle.pct_model.specs.declared.event.What.TheVariants as what
 use Rattle.pct_model.specs.declared.frame.Frame.{Frame}
 use Rattle.pct_model.specs.declared.script.Script.{Script}
@@ -9,21 +9,34 @@ use Rattle.pct_model.specs.declared.state.Reason.TheVariants as reason
 use Rattle.pct_model.specs.declared.state.Status.TheVariants as status
 use Rattle.pct_model.specs.declared.transition.Action.TheVariants as action
 use Rattle.pct_model.specs.Actions.{without_first, thread_at, thread_after}
-use Rattle.pct_model.specs.Cancelability.{ending_state, ending_mode}
+use Rattle.pct_model.specs.Cancelability.{ending_state, ending_mode, is_deliverable}
 use Rattle.pct_model.specs.Kept.{AreOpen, open_functions}
 use Rattle.pct_model.specs.Keys.{key_place, value_at, with_pass}
 use Rattle.pct_model.specs.Once.{MayCome, newest}
 use Rattle.pct_model.specs.OpenPushes.{open_pushes}
 use Rattle.pct_model.specs.StopTable.{has_begun_to_end}
 use Rattle.pct_model.specs.ThreadEnds.{end_value}
-use Rattle.pct_model.specs.ThreadSummary.{ThreadSummary, with_ending}
+use Rattle.pct_model.specs.ThreadSummary.{ThreadSummary, with_ending, with_event}
 use Rattle.pct_model.specs.Transitions.{acts}
 use Rattle.pct_model.specs.World.{Thread, body_of}
 use Rattle.pct_ending_laws.proofs.StaticPushes.{PushesMatch}
-use Rattle.pct_ending_laws.proofs.thread.SummaryReading.{AllMayCome}
 use Rattle.pct_ending_laws.proofs.thread.Passes.{is_in, PassesFit, takes_key, begins_pass, has_pass, not_taken}
-use Rattle.pct_ending_laws.proofs.thread.ThreadRule.{FramesFit, Agrees, Fits, Keeps}
-use Rattle.pct_ending_laws.proofs.thread.GoingOn.{running, none_created}
+use Rattle.pct_ending_laws.proofs.thread.ThreadRule.{AllMayCome, FramesFit, Agrees, Fits, Keeps, HasFrames}
+use Rattle.pct_ending_laws.proofs.thread.GoingOn.{running}
+use Rattle.std.proofs.lemmas.Bool.{false≢true}
+use Rattle.pct_model.specs.declared.state.State.{State}
+use Rattle.pct_model.specs.declared.state.State.TheVariants.{Enable, Disable}
+
+-- ---- threads that act upon a cancellation request
+
+not_both : (state : State) → state ≡ Disable → state ≡ Enable → ⊥
+not_both state disabled enabled = false≢true (ap (λ s. is_deliverable s true) (sym disabled ∙ enabled))
+
+-- a thread that would have its cancelability disabled if it had begun to end, and has it enabled
+enabled_not_begun : (why : Reason) (exiting : Bool) (state : State) → ((has_begun_to_end why || exiting) ≡ true → state ≡ Disable) → state ≡ Enable → why ≡ reason.None
+enabled_not_begun reason.None exiting state disabled enabled = refl
+enabled_not_begun (reason.Exit v) exiting state disabled enabled = absurd (not_both state (disabled refl) enabled)
+enabled_not_begun reason.Canceled exiting state disabled enabled = absurd (not_both state (disabled refl) enabled)
 
 module _ (script : Script) (passes : ℕ) where
   -- ---- threads with frames
@@ -50,36 +63,37 @@ module _ (script : Script) (passes : ℕ) where
     in_passes = in_passes;
   }
 
+  -- a thread with frames acts upon a request: its cancelability is enabled, so it has not begun to end
+  pub cancel_fits : (t : Thread) (reported : ThreadSummary) → t.state ≡ Enable → Agrees script t.handlers t.reason t.ended t.state reported → PassesFit passes t.pass t.specific.in_pass reported.passes reported.destroyed
+      → HasFrames script t.reason t.frames t.handlers reported → Fits script passes (record t { status = status.Ending; frames = []; state = ending_state; mode = ending_mode; reason = reason.Canceled }) (with_event what.EndingCanceled reported) × AllMayCome passes (what.EndingCanceled ∷ []) reported
+  cancel_fits t reported enabled agrees in_passes has =
+      let not_begun : t.reason ≡ reason.None = enabled_not_begun t.reason reported.exiting t.state agrees.disabled enabled in
+      (begun_fits t reported reason.Canceled refl agrees in_passes has.not_ended has.not_exiting, (agrees.reason ∙ not_begun, tt))
+
   module _ (t : Thread) (frames : List Frame) (reported : ThreadSummary) (fits : Fits script passes (running t frames) reported) where
     -- a running thread begins to exit its process
     pub exit_keeps : (v : ℕ) → Keeps script passes (running t frames) reported (acts (action.BeginExit v ∷ []) (what.ExitBegun v ∷ []))
     unfolding thread_at thread_after
     exit_keeps v = record {
-      own = (
-        record {
-          agrees = record {
-            handlers_agree = fits.agrees.handlers_agree;
-            reason = fits.agrees.reason;
-            end = fits.agrees.end;
-            functions = fits.agrees.functions;
-            disabled = λ any. refl;
-          };
-          placed = tt;
-          by_status = (refl, refl);
-          in_passes = fits.in_passes;
-        },
-        (tt, tt),
-      );
-      created = none_created script passes;
+      own = record {
+        agrees = record {
+          handlers_agree = fits.agrees.handlers_agree;
+          reason = fits.agrees.reason;
+          end = fits.agrees.end;
+          functions = fits.agrees.functions;
+          disabled = λ any. refl;
+        };
+        placed = tt;
+        by_status = (refl, refl);
+        in_passes = fits.in_passes;
+      };
+      lawful = (tt, tt);
     }
 
     -- a running thread that has not begun to end begins to
     pub begin_keeps : (v : ℕ) → t.reason ≡ reason.None → Keeps script passes (running t frames) reported (acts (action.BeginEnd (reason.Exit v) ∷ []) (what.EndingExit v ∷ []))
     unfolding thread_at thread_after
-    begin_keeps v not_begun = record {
-      own = (begun_fits t reported (reason.Exit v) refl fits.agrees fits.in_passes fits.by_status.not_ended fits.by_status.not_exiting, (fits.agrees.reason ∙ not_begun, tt));
-      created = none_created script passes;
-    }
+    begin_keeps v not_begun = record { own = begun_fits t reported (reason.Exit v) refl fits.agrees fits.in_passes fits.by_status.not_ended fits.by_status.not_exiting; lawful = (fits.agrees.reason ∙ not_begun, tt) }
 
   -- ---- returns
 
@@ -89,7 +103,7 @@ module _ (script : Script) (passes : ℕ) where
     below_open = subst (λ (fs : List ℕ). AreOpen (fs ++ open_functions script below) t.handlers reported.left) none_open fits.by_status.pushes
 
     -- a return from a function that the thread called
-    leaves : FramesFit t.reason below → Fits script passes (running t below) reported
+    pub leaves : FramesFit t.reason below → Fits script passes (running t below) reported
     leaves fit = record {
       agrees = fits.agrees;
       placed = fits.placed.1;
@@ -107,7 +121,7 @@ module _ (script : Script) (passes : ℕ) where
     all_left (h ∷ pushed) left parts named = absurd (cc)
 
     -- a return from a handler or a destructor that ran as the thread ends
-    leaves_handler : has_begun_to_end t.reason ≡ true → below ≡ [] → Fits script passes (record t { status = status.Ending; frames = below }) reported
+    pub leaves_handler : has_begun_to_end t.reason ≡ true → below ≡ [] → Fits script passes (record t { status = status.Ending; frames = below }) reported
     leaves_handler begun alone =
         let are : AreOpen [] t.handlers reported.left = subst (λ (fs : List Frame). AreOpen (open_functions script fs) t.handlers reported.left) alone below_open in
         record {
@@ -123,16 +137,6 @@ module _ (script : Script) (passes : ℕ) where
           in_passes = fits.in_passes;
         }
 
-    -- the thread leaves a function that it called, or that a pop called
-    pub leave_keeps : FramesFit t.reason below → Keeps script passes (running t (frame ∷ below)) reported (acts (action.Leave status.Running ∷ []) [])
-    unfolding thread_at thread_after
-    leave_keeps fit = record { own = (leaves fit, tt); created = none_created script passes }
-
-    -- it leaves a handler or a destructor that ran as it ends
-    pub leave_handler_keeps : has_begun_to_end t.reason ≡ true → below ≡ [] → Keeps script passes (running t (frame ∷ below)) reported (acts (action.Leave status.Ending ∷ []) [])
-    unfolding thread_at thread_after
-    leave_handler_keeps begun alone = record { own = (leaves_handler begun alone, tt); created = none_created script passes }
-
   -- ---- threads that end
 
   module _ (matches : PushesMatch script) (t : Thread) (frames : List Frame) (reported : ThreadSummary) where
@@ -145,27 +149,24 @@ module _ (script : Script) (passes : ℕ) where
         → Keeps script passes (ending ((f, a) ∷ handlers)) reported (acts (action.PopHandler ∷ action.CallAlone f a kind.Handler ∷ []) (what.HandlerRun f a ∷ []))
     unfolding thread_at thread_after
     handler_keeps f a handlers fits = record {
-      own = (
-        record {
-          agrees = record {
-            handlers_agree = ap without_first fits.agrees.handlers_agree;
-            reason = fits.agrees.reason;
-            end = fits.agrees.end;
-            functions = fits.agrees.functions.1;
-            disabled = fits.agrees.disabled;
-          };
-          placed = (matches.first_within f fits.agrees.functions.0, tt);
-          by_status = record {
-            not_ended = fits.by_status.not_ended;
-            not_exiting = fits.by_status.not_exiting;
-            fit = (fits.by_status.has_reason, refl);
-            pushes = record { pushed = []; parts = ap without_first fits.by_status.are_left; named = refl };
-          };
-          in_passes = fits.in_passes;
-        },
-        ((ap newest fits.agrees.handlers_agree, ap has_begun_to_end fits.agrees.reason ∙ fits.by_status.has_reason, ap length (fits.agrees.handlers_agree ∙ fits.by_status.are_left)), tt),
-      );
-      created = none_created script passes;
+      own = record {
+        agrees = record {
+          handlers_agree = ap without_first fits.agrees.handlers_agree;
+          reason = fits.agrees.reason;
+          end = fits.agrees.end;
+          functions = fits.agrees.functions.1;
+          disabled = fits.agrees.disabled;
+        };
+        placed = (matches.first_within f fits.agrees.functions.0, tt);
+        by_status = record {
+          not_ended = fits.by_status.not_ended;
+          not_exiting = fits.by_status.not_exiting;
+          fit = (fits.by_status.has_reason, refl);
+          pushes = record { pushed = []; parts = ap without_first fits.by_status.are_left; named = refl };
+        };
+        in_passes = fits.in_passes;
+      };
+      lawful = ((ap newest fits.agrees.handlers_agree, ap has_begun_to_end fits.agrees.reason ∙ fits.by_status.has_reason, ap length (fits.agrees.handlers_agree ∙ fits.by_status.are_left)), tt);
     }
 
     module _ (fits : Fits script passes (ending []) reported) where
@@ -181,29 +182,26 @@ module _ (script : Script) (passes : ℕ) where
       destructor_keeps k f in_script in_pass =
           let pass : PassesFit passes t.pass t.specific.in_pass reported.passes reported.destroyed = fits.in_passes in
           record {
-            own = (
-              record {
-                agrees = fits.agrees;
-                placed = (matches.first_within f in_script, tt);
-                by_status = record {
-                  not_ended = fits.by_status.not_ended;
-                  not_exiting = fits.by_status.not_exiting;
-                  fit = (fits.by_status.has_reason, refl);
-                  pushes = record { pushed = []; parts = fits.by_status.are_left; named = refl };
-                };
-                in_passes = takes_key passes t.pass t.specific.in_pass reported.passes reported.destroyed pass k;
-              },
+            own = record {
+              agrees = fits.agrees;
+              placed = (matches.first_within f in_script, tt);
+              by_status = record {
+                not_ended = fits.by_status.not_ended;
+                not_exiting = fits.by_status.not_exiting;
+                fit = (fits.by_status.has_reason, refl);
+                pushes = record { pushed = []; parts = fits.by_status.are_left; named = refl };
+              };
+              in_passes = takes_key passes t.pass t.specific.in_pass reported.passes reported.destroyed pass k;
+            };
+            lawful = (
               (
-                (
-                  sym pass.current,
-                  has_pass passes t.pass t.specific.in_pass reported.passes reported.destroyed pass (key_place k) in_pass,
-                  fits.agrees.handlers_agree,
-                  not_taken passes t.pass t.specific.in_pass reported.passes reported.destroyed pass k in_pass,
-                ),
-                tt,
+                sym pass.current,
+                has_pass passes t.pass t.specific.in_pass reported.passes reported.destroyed pass (key_place k) in_pass,
+                fits.agrees.handlers_agree,
+                not_taken passes t.pass t.specific.in_pass reported.passes reported.destroyed pass k in_pass,
               ),
+              tt,
             );
-            created = none_created script passes;
           }
 
       -- the next pass begins
@@ -212,32 +210,29 @@ module _ (script : Script) (passes : ℕ) where
       pass_keeps more =
           let pass : PassesFit passes t.pass t.specific.in_pass reported.passes reported.destroyed = fits.in_passes in
           record {
-            own = (
-              record {
-                agrees = fits.agrees;
-                placed = fits.placed;
-                by_status = fits.by_status;
-                in_passes = begins_pass passes t.pass t.specific.in_pass reported.passes reported.destroyed pass more (with_pass t.specific).in_pass;
-              },
-              ((begun, fits.agrees.handlers_agree, ap suc (sym pass.current), omega (arith, more)), tt),
-            );
-            created = none_created script passes;
+            own = record {
+              agrees = fits.agrees;
+              placed = fits.placed;
+              by_status = fits.by_status;
+              in_passes = begins_pass passes t.pass t.specific.in_pass reported.passes reported.destroyed pass more (with_pass t.specific).in_pass;
+            };
+            lawful = ((begun, fits.agrees.handlers_agree, ap suc (sym pass.current), omega (arith, more)), tt);
           }
 
       -- ---- the end
 
       -- the event of its end, after events that do not change what is reported of it
-      end_lawful : MayCome passes (what.EndedWith (end_value t.reason)) reported
+      pub end_lawful : MayCome passes (what.EndedWith (end_value t.reason)) reported
       end_lawful = (begun, fits.by_status.not_ended, fits.agrees.handlers_agree, ap end_value (sym fits.agrees.reason))
 
       -- the event of due keys that are left
-      leftover_lawful : (left : ℕ) → 0 < left → passes ≤ t.pass → AllMayCome passes (what.Leftover left ∷ []) reported
+      pub leftover_lawful : (left : ℕ) → 0 < left → passes ≤ t.pass → AllMayCome passes (what.Leftover left ∷ []) reported
       leftover_lawful left low at_limit =
           let within : t.pass ≤ passes = fits.in_passes.within in
           ((low, fits.in_passes.current ∙ le_antisymm within at_limit), tt)
 
       -- the thread after its end, if it is not the last one of its process, and if it is
-      ended_fits : (v : ℕ) → Fits script passes (record t { status = status.Ended v; frames = frames; handlers = []; ended = true }) (record reported { ended = Some v })
+      pub ended_fits : (v : ℕ) → Fits script passes (record t { status = status.Ended v; frames = frames; handlers = []; ended = true }) (record reported { ended = Some v })
       ended_fits v = record {
         agrees = record {
           handlers_agree = fits.agrees.handlers_agree;
@@ -258,7 +253,7 @@ module _ (script : Script) (passes : ℕ) where
         in_passes = fits.in_passes;
       }
 
-      exits_fit : (v : ℕ) → Fits script passes (record t { status = status.Exiting; frames = []; handlers = []; ended = true; state = ending_state; mode = ending_mode }) (record reported { ended = Some v; exiting = true })
+      pub exits_fit : (v : ℕ) → Fits script passes (record t { status = status.Exiting; frames = []; handlers = []; ended = true; state = ending_state; mode = ending_mode }) (record reported { ended = Some v; exiting = true })
       exits_fit v = record {
         agrees = record {
           handlers_agree = fits.agrees.handlers_agree;
@@ -271,28 +266,3 @@ module _ (script : Script) (passes : ℕ) where
         by_status = (refl, refl);
         in_passes = fits.in_passes;
       }
-
-      -- the thread ends, with and without due keys that are left
-      pub end_keeps : Keeps script passes (ending []) reported (acts (action.EndThread (end_value t.reason) ∷ []) (what.EndedWith (end_value t.reason) ∷ []))
-      unfolding thread_at thread_after
-      end_keeps = record { own = (ended_fits (end_value t.reason), (end_lawful, tt)); created = none_created script passes }
-
-      pub end_with_keys_keeps : (left : ℕ) → 0 < left → passes ≤ t.pass → Keeps script passes (ending []) reported (acts (action.EndThread (end_value t.reason) ∷ []) (what.Leftover left ∷ what.EndedWith (end_value t.reason) ∷ []))
-      unfolding thread_at thread_after
-      end_with_keys_keeps left some limit = record { own = (ended_fits (end_value t.reason), (end_lawful, leftover_lawful left some limit)); created = none_created script passes }
-
-      -- the last thread of a process ends
-      pub last_keeps : Keeps script passes (ending []) reported (acts (action.MarkEnded ∷ action.BeginExit 0 ∷ []) (what.EndedWith (end_value t.reason) ∷ what.ExitBegun 0 ∷ []))
-      unfolding thread_at thread_after
-      last_keeps = record { own = (exits_fit (end_value t.reason), (tt, (end_lawful, tt))); created = none_created script passes }
-
-      pub last_with_keys_keeps : (left : ℕ) → 0 < left → passes ≤ t.pass → Keeps script passes (ending []) reported (acts (action.MarkEnded ∷ action.BeginExit 0 ∷ []) (what.Leftover left ∷ what.EndedWith (end_value t.reason) ∷ what.ExitBegun 0 ∷ []))
-      unfolding thread_at thread_after
-      last_with_keys_keeps left some limit = record { own = (exits_fit (end_value t.reason), (tt, (end_lawful, leftover_lawful left some limit))); created = none_created script passes }
-
-  -- ---- threads that exit their process
-
-  -- a thread that exits its process ends it
-  pub exiting_keeps : (t : Thread) (reported : ThreadSummary) (n : ℕ) → Fits script passes t reported → Keeps script passes t reported (acts (action.EndProcess n ∷ []) (what.ProcessEnded n ∷ []))
-  unfolding thread_at thread_after
-  exiting_keeps t reported n fits = record { own = (fits, (tt, tt)); created = none_created script passes }

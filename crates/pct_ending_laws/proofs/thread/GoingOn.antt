@@ -1,8 +1,7 @@
 -- Statements after which a thread goes on, with the handlers that it had.
-use Rattle.std.proofs.Common.{◌≡◌, ℕ, ◌<◌, Bool, true, false, List, [], ◌∷◌, ◌++◌, length, reverse, Some, None, sym, subst}
+use Rattle.std.proofs.Common.{◌≡◌, ℕ, ◌<◌, Bool, true, false, List, [], ◌∷◌, ◌++◌, length, reverse, sym, subst}
 use Rattle.std.specs.List.{list_all}
 use Rattle.std.proofs.lemmas.Bool.{false≢true}
-use Rattle.std.proofs.lemmas.Option.{none-some}
 use Rattle.pct_model.specs.declared.event.What.{What}
 use Rattle.pct_model.specs.declared.frame.Frame.{Frame}
 use Rattle.pct_model.specs.declared.script.Script.{Script}
@@ -10,23 +9,19 @@ use Rattle.pct_model.specs.declared.state.Status.{Status}
 use Rattle.pct_model.specs.declared.state.Status.TheVariants.{Running}
 use Rattle.pct_model.specs.declared.statement.Dest.{Dest}
 use Rattle.pct_model.specs.declared.statement.Stmt.{Stmt}
-use Rattle.pct_model.specs.declared.stop.Why.{Why}
 use Rattle.pct_model.specs.declared.statement.Dest.TheVariants as destination
 use Rattle.pct_model.specs.declared.transition.Action.{Action}
 use Rattle.pct_model.specs.declared.transition.Action.TheVariants as action
-use Rattle.pct_model.specs.declared.transition.NewThread.{NewThread}
 use Rattle.pct_model.specs.declared.transition.Transition.{Transition}
 use Rattle.pct_model.specs.Actions.{set_local, frames_written, thread_at, thread_after, for_each}
 use Rattle.pct_model.specs.Kept.{AreOpen, open_functions}
 use Rattle.pct_model.specs.Keys.{key_place, with_value}
 use Rattle.pct_model.specs.OpenPushes.{open_pushes}
-use Rattle.pct_model.specs.ThreadSummary.{ThreadSummary, no_events}
-use Rattle.pct_model.specs.Transitions.{goes_on, no_change, stops}
+use Rattle.pct_model.specs.ThreadSummary.{ThreadSummary}
+use Rattle.pct_model.specs.Transitions.{goes_on}
 use Rattle.pct_model.specs.World.{Thread, body_of}
 use Rattle.pct_ending_laws.proofs.lift.ReportedBy.{after_all}
-use Rattle.pct_ending_laws.proofs.lift.ThreadsAfter.{created_thread}
-use Rattle.pct_ending_laws.proofs.thread.SummaryReading.{summary, AllMayCome}
-use Rattle.pct_ending_laws.proofs.thread.ThreadRule.{Fits, Keeps}
+use Rattle.pct_ending_laws.proofs.thread.ThreadRule.{summary, AllMayCome, Fits, Keeps}
 
 -- ---- actions that write
 
@@ -71,20 +66,6 @@ module _ (script : Script) (passes : ℕ) where
 
   -- ---- transitions
 
-  -- no thread is created
-  pub none_created : (new : NewThread) → None ≡ Some new → Fits script passes (created_thread new) no_events
-  none_created new e = absurd (none-some new e)
-
-  -- a transition that changes nothing
-  pub no_change_keeps : (t : Thread) (reported : ThreadSummary) → Fits script passes t reported → Keeps script passes t reported no_change
-  unfolding thread_at
-  no_change_keeps t reported fits = record { own = (fits, tt); created = none_created }
-
-  -- a stop
-  pub stop_keeps : (why : Why) (t : Thread) (reported : ThreadSummary) → Fits script passes t reported → Keeps script passes t reported (stops why)
-  unfolding thread_at thread_after
-  stop_keeps why t reported fits = record { own = (fits, (tt, tt)); created = none_created }
-
   -- what holds of a thread with some handlers, holds of one that has these
   pub by_handlers : (t : Thread) (s : Status) (frames : List Frame) (reported : ThreadSummary) (o : Transition) (handlers : List (ℕ × ℕ)) → t.handlers ≡ handlers
       → (Fits script passes (record t { status = s; frames = frames; handlers = handlers }) reported → Keeps script passes (record t { status = s; frames = frames; handlers = handlers }) reported o)
@@ -114,7 +95,4 @@ module _ (script : Script) (passes : ℕ) where
     -- the same, after actions that write and events that do not change the summary
     pub going_on_keeps : (status : Status) (reported : ThreadSummary) (pc : ℕ) (actions : List Action) (added : List What) → open_pushes body pc ≡ open_pushes body frame.pc → pc < length body → list_all writes actions ≡ true → after_all summary (reverse added) reported ≡ reported → AllMayCome passes (reverse added) reported → Fits script passes (running t (frame ∷ below)) reported → Keeps script passes (record t { status = status; frames = frame ∷ below }) reported (goes_on pc actions added)
     unfolding thread_at
-    going_on_keeps status reported pc actions added same within all unchanged lawful fits = record {
-      own = (writes_fit actions all t (record frame { pc = pc } ∷ below) (after_all summary (reverse added) reported) (subst (λ (s : ThreadSummary). Fits script passes (running t (record frame { pc = pc } ∷ below)) s) (sym unchanged) (at_pc_fits pc same within reported fits)), lawful);
-      created = none_created;
-    }
+    going_on_keeps status reported pc actions added same within all unchanged lawful fits = record { own = writes_fit actions all t (record frame { pc = pc } ∷ below) (after_all summary (reverse added) reported) (subst (λ (s : ThreadSummary). Fits script passes (running t (record frame { pc = pc } ∷ below)) s) (sym unchanged) (at_pc_fits pc same within reported fits)); lawful = lawful }

@@ -16,9 +16,8 @@ use Rattle.pct_model.specs.ThreadSummary.{ThreadSummary, with_event}
 use Rattle.pct_model.specs.Transitions.{goes_on}
 use Rattle.pct_model.specs.World.{Thread, body_of, statement_at, new_frame}
 use Rattle.pct_ending_laws.proofs.StaticPushes.{PushesMatch}
-use Rattle.pct_ending_laws.proofs.thread.SummaryReading.{AllMayCome}
-use Rattle.pct_ending_laws.proofs.thread.ThreadRule.{FramesFit, Fits, Keeps}
-use Rattle.pct_ending_laws.proofs.thread.GoingOn.{running, none_created, at_pc_fits}
+use Rattle.pct_ending_laws.proofs.thread.ThreadRule.{AllMayCome, FramesFit, Fits, Keeps}
+use Rattle.pct_ending_laws.proofs.thread.GoingOn.{running, at_pc_fits}
 
 -- ---- lists of handlers
 
@@ -59,45 +58,46 @@ module _ (script : Script) (passes : ℕ) (matches : PushesMatch script) where
     unfolding thread_at thread_after
     call_keeps f x v at in_script fits =
         let next : Fits script passes (running t (record frame { pc = suc frame.pc } ∷ below)) reported = at_pc_fits script passes t frame below (suc frame.pc) (matches.next frame (statement.Do f x) at) (matches.next_within frame (statement.Do f x) at refl) reported fits in
-        record {
-          own = (call_fits f v kind.Call t (record frame { pc = suc frame.pc } ∷ below) reported in_script next.by_status.fit next, tt);
-          created = none_created script passes;
-        }
+        record { own = call_fits f v kind.Call t (record frame { pc = suc frame.pc } ∷ below) reported in_script next.by_status.fit next; lawful = tt }
 
     -- pthread_cleanup_push
     pub push_keeps : (f : ℕ) (x : Operand) (v : ℕ) → statement_at script frame ≡ Some (statement.Push f x) → f < length script.funcs → Fits script passes (running t (frame ∷ below)) reported → Keeps script passes (running t (frame ∷ below)) reported (goes_on (suc frame.pc) (action.PushHandler f v ∷ []) (Pushed f v ∷ []))
     unfolding thread_at thread_after
     push_keeps f x v at in_script fits = record {
-      own = (
-        record {
-          agrees = record {
-            handlers_agree = ap (λ (hs : List (ℕ × ℕ)). (f, v) ∷ hs) fits.agrees.handlers_agree;
-            reason = fits.agrees.reason;
-            end = fits.agrees.end;
-            functions = (in_script, fits.agrees.functions);
-            disabled = fits.agrees.disabled;
+      own = record {
+        agrees = record {
+          handlers_agree = ap (λ (hs : List (ℕ × ℕ)). (f, v) ∷ hs) fits.agrees.handlers_agree;
+          reason = fits.agrees.reason;
+          end = fits.agrees.end;
+          functions = (in_script, fits.agrees.functions);
+          disabled = fits.agrees.disabled;
+        };
+        placed = (matches.next_within frame (statement.Push f x) at refl, fits.placed.1);
+        by_status = record {
+          not_ended = fits.by_status.not_ended;
+          not_exiting = fits.by_status.not_exiting;
+          fit = fits.by_status.fit;
+          pushes = record {
+            pushed = (f, v) ∷ fits.by_status.pushes.pushed;
+            parts = ap (λ (hs : List (ℕ × ℕ)). (f, v) ∷ hs) fits.by_status.pushes.parts;
+            named = ap (λ (fs : List ℕ). f ∷ fs) fits.by_status.pushes.named ∙ sym (ap (λ (fs : List ℕ). fs ++ open_functions script below) (matches.next frame (statement.Push f x) at));
           };
-          placed = (matches.next_within frame (statement.Push f x) at refl, fits.placed.1);
-          by_status = record {
-            not_ended = fits.by_status.not_ended;
-            not_exiting = fits.by_status.not_exiting;
-            fit = fits.by_status.fit;
-            pushes = record {
-              pushed = (f, v) ∷ fits.by_status.pushes.pushed;
-              parts = ap (λ (hs : List (ℕ × ℕ)). (f, v) ∷ hs) fits.by_status.pushes.parts;
-              named = ap (λ (fs : List ℕ). f ∷ fs) fits.by_status.pushes.named ∙ sym (ap (λ (fs : List ℕ). fs ++ open_functions script below) (matches.next frame (statement.Push f x) at));
-            };
-          };
-          in_passes = fits.in_passes;
-        },
-        (tt, tt),
-      );
-      created = none_created script passes;
+        };
+        in_passes = fits.in_passes;
+      };
+      lawful = (tt, tt);
     }
 
     -- ---- pthread_cleanup_pop
 
-    module _ (f a : ℕ) (handlers : List (ℕ × ℕ)) (fits : Fits script passes (running (record t { handlers = (f, a) ∷ handlers }) (frame ∷ below)) reported) (popped : AreOpen (open_functions script (record frame { pc = suc frame.pc } ∷ below)) handlers reported.left) (within : suc frame.pc < length (body_of script frame.func)) where
+    module _ (x : Operand) (at : statement_at script frame ≡ Some (statement.Pop x)) (f a : ℕ) (handlers : List (ℕ × ℕ)) (fits : Fits script passes (running (record t { handlers = (f, a) ∷ handlers }) (frame ∷ below)) reported) where
+      -- the handlers without the one that is popped
+      popped : AreOpen (open_functions script (record frame { pc = suc frame.pc } ∷ below)) handlers reported.left
+      popped =
+          let top : (g : ℕ) × (open_pushes (body_of script frame.func) frame.pc ≡ g ∷ open_pushes (body_of script frame.func) (suc frame.pc)) = matches.pop frame x at in
+          let are : AreOpen (top.0 ∷ open_functions script (record frame { pc = suc frame.pc } ∷ below)) ((f, a) ∷ handlers) reported.left = subst (λ (fs : List ℕ). AreOpen (fs ++ open_functions script below) ((f, a) ∷ handlers) reported.left) top.1 fits.by_status.pushes in
+          pop_open top.0 (open_functions script (record frame { pc = suc frame.pc } ∷ below)) (f, a) handlers reported.left are
+
       -- the thread after a pop
       pop_fits : (run : Bool) → Fits script passes (running (record t { handlers = handlers }) (record frame { pc = suc frame.pc } ∷ below)) (with_event (Popped f a run) reported)
       pop_fits run = record {
@@ -108,7 +108,7 @@ module _ (script : Script) (passes : ℕ) (matches : PushesMatch script) where
           functions = fits.agrees.functions.1;
           disabled = fits.agrees.disabled;
         };
-        placed = (within, fits.placed.1);
+        placed = (matches.next_within frame (statement.Pop x) at refl, fits.placed.1);
         by_status = record {
           not_ended = fits.by_status.not_ended;
           not_exiting = fits.by_status.not_exiting;
@@ -125,27 +125,10 @@ module _ (script : Script) (passes : ℕ) (matches : PushesMatch script) where
           ((ap newest fits.agrees.handlers_agree, λ begun. subst (λ (hs : List (ℕ × ℕ)). length reported.left < length hs) (sym fits.agrees.handlers_agree) fewer), tt)
 
       -- the handler is removed, and called
-      drops : Keeps script passes (running (record t { handlers = (f, a) ∷ handlers }) (frame ∷ below)) reported (goes_on (suc frame.pc) (action.PopHandler ∷ []) (Popped f a false ∷ []))
-      unfolding thread_at thread_after
-      drops = record { own = (pop_fits false, pop_lawful false); created = none_created script passes }
-
-      runs : Keeps script passes (running (record t { handlers = (f, a) ∷ handlers }) (frame ∷ below)) reported (goes_on (suc frame.pc) (action.PopHandler ∷ action.Call f a kind.PopHandler ∷ []) (Popped f a true ∷ []))
-      unfolding thread_at thread_after
-      runs = record {
-        own = (call_fits f a kind.PopHandler (record t { handlers = handlers }) (record frame { pc = suc frame.pc } ∷ below) (with_event (Popped f a true) reported) fits.agrees.functions.0 fits.by_status.fit (pop_fits true), pop_lawful true);
-        created = none_created script passes;
-      }
-
-    module _ (x : Operand) (at : statement_at script frame ≡ Some (statement.Pop x)) (f a : ℕ) (handlers : List (ℕ × ℕ)) (fits : Fits script passes (running (record t { handlers = (f, a) ∷ handlers }) (frame ∷ below)) reported) where
-      -- the handlers without the one that is popped
-      popped : AreOpen (open_functions script (record frame { pc = suc frame.pc } ∷ below)) handlers reported.left
-      popped =
-          let top : (g : ℕ) × (open_pushes (body_of script frame.func) frame.pc ≡ g ∷ open_pushes (body_of script frame.func) (suc frame.pc)) = matches.pop frame x at in
-          let are : AreOpen (top.0 ∷ open_functions script (record frame { pc = suc frame.pc } ∷ below)) ((f, a) ∷ handlers) reported.left = subst (λ (fs : List ℕ). AreOpen (fs ++ open_functions script below) ((f, a) ∷ handlers) reported.left) top.1 fits.by_status.pushes in
-          pop_open top.0 (open_functions script (record frame { pc = suc frame.pc } ∷ below)) (f, a) handlers reported.left are
-
       pub drop_keeps : Keeps script passes (running (record t { handlers = (f, a) ∷ handlers }) (frame ∷ below)) reported (goes_on (suc frame.pc) (action.PopHandler ∷ []) (Popped f a false ∷ []))
-      drop_keeps = drops f a handlers fits popped (matches.next_within frame (statement.Pop x) at refl)
+      unfolding thread_at thread_after
+      drop_keeps = record { own = pop_fits false; lawful = pop_lawful false }
 
       pub run_keeps : Keeps script passes (running (record t { handlers = (f, a) ∷ handlers }) (frame ∷ below)) reported (goes_on (suc frame.pc) (action.PopHandler ∷ action.Call f a kind.PopHandler ∷ []) (Popped f a true ∷ []))
-      run_keeps = runs f a handlers fits popped (matches.next_within frame (statement.Pop x) at refl)
+      unfolding thread_at thread_after
+      run_keeps = record { own = call_fits f a kind.PopHandler (record t { handlers = handlers }) (record frame { pc = suc frame.pc } ∷ below) (with_event (Popped f a true) reported) fits.agrees.functions.0 fits.by_status.fit (pop_fits true); lawful = pop_lawful true }

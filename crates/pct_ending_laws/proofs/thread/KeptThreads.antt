@@ -62,8 +62,7 @@ module _ (why : Reason) (frame : Frame) where
   facts_by kind.Call below rest fit = above kind.Call below refl refl (rest fit)
   facts_by kind.PopHandler below rest fit = above kind.PopHandler below refl refl (rest fit)
   facts_by kind.Destructor below rest fit = alone kind.Destructor below fit.1 (record { some = refl; bottom = (refl, tt); has_reason = fit.0; no_exit = refl; not_exiting = refl })
-  facts_by kind.ForkFn below rest fit = absurd fit
-  facts_by kind.ExitFn below rest fit = absurd fit
+  facts_by _ below rest fit = absurd fit
 
 -- the frames of a thread that has not begun to exit its process
 pub frame_facts : (why : Reason) (frames : List Frame) → FramesFit why frames → FrameFacts why frames
@@ -96,22 +95,9 @@ module _ (script : Script) where
     joining_never_exits id [] = refl
     joining_never_exits id (frame ∷ below) = refl
 
-    of_running : (frames : List Frame) → HasFrames script why frames handlers s → StatusFacts status.Running why frames handlers s
-    of_running frames has =
-        let facts : FrameFacts why frames = frame_facts why frames has.fit in
-        record {
-          ended_status = λ some alive. absurd (no_end has.not_ended some);
-          pushes = λ alive. has.pushes;
-          no_frame = facts.some;
-          bottom = facts.bottom;
-          has_reason = λ alive. facts.has_reason;
-          exiting = has.not_exiting ∙ sym facts.not_exiting;
-          exit_functions = λ alive. facts.no_exit;
-        }
-
-    -- a thread that is suspended: it has frames, does not exit its process, and has not the status of one that is ending
-    of_suspended : (st : Status) (frames : List Frame) → has_no_frame st ≡ false → is_ending_status st ≡ false → is_exiting st frames ≡ false → HasFrames script why frames handlers s → StatusFacts st why frames handlers s
-    of_suspended st frames framed alive_status inside has =
+    -- a thread that has frames, does not exit its process, and has not the status of one that is ending
+    of_framed : (st : Status) (frames : List Frame) → has_no_frame st ≡ false → is_ending_status st ≡ false → is_exiting st frames ≡ false → HasFrames script why frames handlers s → StatusFacts st why frames handlers s
+    of_framed st frames framed alive_status inside has =
         let facts : FrameFacts why frames = frame_facts why frames has.fit in
         record {
           ended_status = λ some alive. absurd (no_end has.not_ended some);
@@ -161,9 +147,9 @@ module _ (script : Script) where
         subst (λ (fs : List Frame). StatusFacts st why fs handlers s) (sym none) (facts (subst (λ (fs : List Frame). ByStatus script st why fs handlers s) none by))
 
     of_status : (st : Status) (frames : List Frame) → ByStatus script st why frames handlers s → StatusFacts st why frames handlers s
-    of_status status.Running frames by = of_running frames by
-    of_status (status.AtPoint index) frames by = of_suspended (status.AtPoint index) frames refl refl (point_never_exits index frames) by.0
-    of_status (status.Joining id) frames by = of_suspended (status.Joining id) frames refl refl (joining_never_exits id frames) by.0
+    of_status status.Running frames by = of_framed status.Running frames refl refl (frame_facts why frames by.fit).not_exiting by
+    of_status (status.AtPoint index) frames by = of_framed (status.AtPoint index) frames refl refl (point_never_exits index frames) by.0
+    of_status (status.Joining id) frames by = of_framed (status.Joining id) frames refl refl (joining_never_exits id frames) by.0
     of_status status.Ending frames by = without_frames status.Ending frames by.no_frames of_ending by
     of_status (status.Ended v) frames by = without_frames (status.Ended v) frames by.no_frames (of_ended v) by
     of_status status.Exiting frames by = without_frames status.Exiting frames by.0 (λ exits. of_exiting exits.1) by
@@ -195,6 +181,6 @@ module _ (script : Script) where
         passes = fits.in_passes.current;
         not_destroyed = λ place key in_pass at. not_taken passes t.pass t.specific.in_pass s.passes s.destroyed fits.in_passes key.number
             (ap (is_in t.specific.in_pass) (on_own_place script keys kept place key at) ∙ get_or_from_slice_get t.specific.in_pass place true false in_pass);
-        no_key = λ place none. ((empty place none).0, λ in_pass. false≢true (sym (empty place none).1 ∙ get_or_from_slice_get t.specific.in_pass place true false in_pass));
+        no_key = λ place none. record { no_value = (empty place none).0; not_in_pass = λ in_pass. false≢true (sym (empty place none).1 ∙ get_or_from_slice_get t.specific.in_pass place true false in_pass) };
         no_pass = fits.in_passes.no_pass;
       }

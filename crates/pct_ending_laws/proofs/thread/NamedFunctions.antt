@@ -1,12 +1,11 @@
 -- The functions that a script's statements name are functions of the script.
-use Rattle.std.proofs.Common.{◌≡◌, ℕ, zero, suc, ◌+◌, ◌<◌, Bool, true, false, not, ◌||◌, cond, List, [], ◌∷◌, length, Option, Some, None, nat_eq, refl, sym, ap, subst, arith, eqb-true}
+use Rattle.std.proofs.Common.{◌≡◌, ℕ, suc, ◌+◌, ◌<◌, Bool, true, false, not, ◌||◌, cond, List, [], ◌∷◌, length, Option, Some, None, refl, subst, arith}
 use Rattle.std.specs.Prelude.{bytes_eq, slice_get, option_and_then}
 use Rattle.std.specs.List.{list_all, list_any, position_or_len}
-use Rattle.std.specs.Option.{option_map_or}
 use Rattle.std.proofs.lemmas.Bool.{false≢true, and_parts}
 use Rattle.std.proofs.lemmas.List.{length-map}
 use Rattle.std.proofs.lemmas.List.Quantifiers.{position-Some}
-use Rattle.std.proofs.lemmas.Option.{none-some, same_Some}
+use Rattle.std.proofs.lemmas.Option.{none-some}
 use Rattle.pct_model.specs.declared.frame.Frame.{Frame}
 use Rattle.pct_model.specs.declared.keyword.Keyword.TheVariants as keyword
 use Rattle.pct_model.specs.declared.script.Func.{Func}
@@ -23,6 +22,8 @@ use Rattle.pct_model.specs.Statements.{encode}
 use Rattle.pct_model.specs.Static.{is_found, has_word, have_words, has_first_word, has_line, has_lines}
 use Rattle.pct_model.specs.World.{statement_at}
 use Rattle.pct_model.proofs.StaticFacts.{passes_all, text_parts, lines_of_function}
+use Rattle.pct_jumps.proofs.OpenBlocks.{close_at}
+use Rattle.pct_ending_laws.proofs.lift.KeyedLists.{item_passes}
 
 -- the functions that the statements of a script name, and `main`, are functions of the script
 pub record NamesFunctions (script : Script) : Type 0 where
@@ -33,12 +34,6 @@ pub record NamesFunctions (script : Script) : Type 0 where
   pub destructor : (frame : Frame) (result key : Dest) (f : ℕ) → statement_at script frame ≡ Some (statement.KeyCreate result key (Some f)) → f < length script.funcs
 
 -- ---- lists
-
--- an item of a list in which all pass
-item_passes : {A : Type 0} (p : A → Bool) (xs : List A) (i : ℕ) (x : A) → list_all p xs ≡ true → slice_get xs i ≡ Some x → p x ≡ true
-item_passes p [] i x all at = absurd (none-some x at)
-item_passes p (y ∷ xs) zero x all at = subst (λ z. p z ≡ true) (same_Some y x at) (and_parts (p y) (list_all p xs) all).0
-item_passes p (y ∷ xs) (suc i) x all at = item_passes p xs i x (and_parts (p y) (list_all p xs) all).1 at
 
 some_cons : {A : Type 0} (p : A → Bool) (xs : List A) (passes : Bool) → (list_any p xs ≡ true → position_or_len p xs < length xs) → (passes || list_any p xs) ≡ true → cond (not passes) (1 + position_or_len p xs) 0 < suc (length xs)
 some_cons p xs true later any = omega arith
@@ -51,20 +46,16 @@ first_below p (x ∷ xs) any = some_cons p xs (p x) (first_below p xs) any
 
 -- ---- names
 
-index_is : (i : ℕ) (found : Option ℕ) → option_map_or (nat_eq i) found false ≡ true → found ≡ Some i
-index_is i None same = absurd (false≢true same)
-index_is i (Some j) same = ap (λ (n : ℕ). Some n) (sym (eqb-true i j same))
-
 -- the index of a name that is found is one of the names'
 found_below : (names : List (List ℕ)) (i : ℕ) → is_found names i ≡ true → i < length names
-found_below names i found = (position-Some (λ (name : List ℕ). bytes_eq name (name_at names i)) names i [] (index_is i (index_among names (name_at names i)) found)).0
+found_below names i found = (position-Some (λ (name : List ℕ). bytes_eq name (name_at names i)) names i [] (close_at i (index_among names (name_at names i)) found)).0
 
 module _ (script : Script) where
   abbrev contents : Contents
   contents = record { globals = script.globals; mutexes = script.mutexes; conds = script.conds; sems = script.sems; funcs = script.funcs }
 
-  item_below : (locals : List (List ℕ)) (f : ℕ) → is_found (names_of script.funcs) f ≡ true → f < length script.funcs
-  item_below locals f found = subst (λ (n : ℕ). f < n) (length-map script.funcs (λ (g : Func). g.name)) (found_below (names_of script.funcs) f found)
+  item_below : (f : ℕ) → is_found (names_of script.funcs) f ≡ true → f < length script.funcs
+  item_below f found = subst (λ (n : ℕ). f < n) (length-map script.funcs (λ (g : Func). g.name)) (found_below (names_of script.funcs) f found)
 
   -- some line is the encoding of a statement of the script
   abbrev IsLine : Stmt → Type 0
@@ -81,24 +72,6 @@ module _ (script : Script) where
   unfolding statement_at
   line_of frame s at = line_in frame s (slice_get script.funcs frame.func) refl at
 
-  -- ---- statements
-
-  called_below : (f : ℕ) (x : Operand) → IsLine (statement.Do f x) → f < length script.funcs
-  unfolding has_line has_first_word have_words has_word encode syntax_of
-  called_below f x line = item_below line.0 f (and_parts _ _ line.1).0
-
-  pushed_below : (f : ℕ) (x : Operand) → IsLine (statement.Push f x) → f < length script.funcs
-  unfolding has_line has_first_word have_words has_word encode syntax_of
-  pushed_below f x line = item_below line.0 f (and_parts _ _ line.1).0
-
-  created_below : (result id : Dest) (f : ℕ) (x : Operand) (detached : Bool) → IsLine (statement.Create result id f x detached) → f < length script.funcs
-  unfolding has_line has_first_word have_words has_word encode syntax_of
-  created_below result id f x detached line = item_below line.0 f (and_parts _ _ (and_parts _ _ (and_parts _ _ line.1).1).1).0
-
-  destructor_below : (result key : Dest) (f : ℕ) → IsLine (statement.KeyCreate result key (Some f)) → f < length script.funcs
-  unfolding has_line has_first_word have_words has_word encode syntax_of
-  destructor_below result key f line = item_below line.0 f (and_parts _ _ (and_parts _ _ (and_parts _ _ line.1).1).1).0
-
   main_below : main_of (names_of script.funcs) < length script.funcs
   unfolding main_of
   main_below =
@@ -106,10 +79,11 @@ module _ (script : Script) where
       subst (λ (n : ℕ). position_or_len (bytes_eq (keyword_text keyword.Main)) (names_of script.funcs) < n) (length-map script.funcs (λ (g : Func). g.name)) first
 
   pub names_functions : NamesFunctions script
+  unfolding has_line has_first_word have_words has_word encode syntax_of
   names_functions = record {
     main = main_below;
-    called = λ frame f x at. called_below f x (line_of frame (statement.Do f x) at);
-    pushed = λ frame f x at. pushed_below f x (line_of frame (statement.Push f x) at);
-    created = λ frame result id f x detached at. created_below result id f x detached (line_of frame (statement.Create result id f x detached) at);
-    destructor = λ frame result key f at. destructor_below result key f (line_of frame (statement.KeyCreate result key (Some f)) at);
+    called = λ frame f x at. let line = line_of frame (statement.Do f x) at in item_below f (and_parts _ _ line.1).0;
+    pushed = λ frame f x at. let line = line_of frame (statement.Push f x) at in item_below f (and_parts _ _ line.1).0;
+    created = λ frame result id f x detached at. let line = line_of frame (statement.Create result id f x detached) at in item_below f (and_parts _ _ (and_parts _ _ (and_parts _ _ line.1).1).1).0;
+    destructor = λ frame result key f at. let line = line_of frame (statement.KeyCreate result key (Some f)) at in item_below f (and_parts _ _ (and_parts _ _ (and_parts _ _ line.1).1).1).0;
   }

@@ -31,11 +31,10 @@ use Rattle.pct_model.specs.World.{Thread, body_of, statement_at, value_of, new_f
 use Rattle.pct_transition_cases.proofs.TransitionCases.{Leads, past_nop, past_if, past_while, past_else, past_end, Returns, by_return, by_end}
 use Rattle.pct_ending_laws.proofs.StaticPushes.{PushesMatch}
 use Rattle.pct_ending_laws.proofs.lift.ReportedBy.{after_all}
-use Rattle.pct_ending_laws.proofs.thread.SummaryReading.{summary, AllMayCome}
 use Rattle.pct_ending_laws.proofs.thread.Passes.{first_pass}
-use Rattle.pct_ending_laws.proofs.thread.ThreadRule.{Below, FramesFit, Fits, Keeps}
-use Rattle.pct_ending_laws.proofs.thread.GoingOn.{writes, running, none_created, going_on_keeps}
-use Rattle.pct_ending_laws.proofs.thread.Ends.{exit_keeps, begin_keeps, leave_keeps, leave_handler_keeps}
+use Rattle.pct_ending_laws.proofs.thread.ThreadRule.{summary, AllMayCome, Below, FramesFit, Fits, Keeps}
+use Rattle.pct_ending_laws.proofs.thread.GoingOn.{writes, running, going_on_keeps}
+use Rattle.pct_ending_laws.proofs.thread.Ends.{leaves, leaves_handler}
 
 -- a thread that has not begun to end has no reason to
 pub not_begun : (why : Reason) → has_begun_to_end why ≡ false → why ≡ reason.None
@@ -52,8 +51,7 @@ handler_by why kind.Handler below begun rest fit = refl
 handler_by why kind.Call below begun rest fit = rest fit
 handler_by why kind.PopHandler below begun rest fit = refl
 handler_by why kind.Destructor below begun rest fit = refl
-handler_by why kind.ForkFn below begun rest fit = absurd fit
-handler_by why kind.ExitFn below begun rest fit = absurd fit
+handler_by why _ below begun rest fit = absurd fit
 
 -- a thread with frames that has begun to end is in a handler
 in_handler : (why : Reason) (frames : List Frame) → has_begun_to_end why ≡ true → FramesFit why frames → is_in_handler frames ≡ true
@@ -118,26 +116,18 @@ module _ (script : Script) (passes : ℕ) (matches : PushesMatch script) where
     none_open globals at (by_end is) = matches.closes frame at is
 
     -- the frames below fit one of a kind
-    kind_fits : (k : FrameKind) → frame.kind ≡ k → Below k t.reason below (FramesFit t.reason below)
+    pub kind_fits : (k : FrameKind) → frame.kind ≡ k → Below k t.reason below (FramesFit t.reason below)
     kind_fits k is = subst (λ (x : FrameKind). Below x t.reason below (FramesFit t.reason below)) is fits.by_status.fit
 
-    pub main_keeps : (v : ℕ) → Keeps script passes own reported (acts (action.BeginExit v ∷ []) (what.ExitBegun v ∷ []))
-    main_keeps v = exit_keeps script passes t (frame ∷ below) reported fits v
-
-    pub start_keeps : (v : ℕ) → frame.kind ≡ kind.Start → Keeps script passes own reported (acts (action.BeginEnd (reason.Exit v) ∷ []) (what.EndingExit v ∷ []))
-    start_keeps v is = begin_keeps script passes t (frame ∷ below) reported fits v (kind_fits kind.Start is).0
-
     pub call_left_keeps : (globals : List ℕ) {s : Stmt} {v : ℕ} → statement_at script frame ≡ Some s → Returns body globals frame s v → (frame.kind ≡ kind.Call) ⊎ (frame.kind ≡ kind.PopHandler) → Keeps script passes own reported (acts (action.Leave status.Running ∷ []) [])
-    call_left_keeps globals at returns (inl is) = leave_keeps script passes t frame below reported fits (none_open globals at returns) (kind_fits kind.Call is)
-    call_left_keeps globals at returns (inr is) = leave_keeps script passes t frame below reported fits (none_open globals at returns) (kind_fits kind.PopHandler is)
+    unfolding thread_at thread_after
+    call_left_keeps globals at returns (inl is) = record { own = leaves script passes t frame below reported fits (none_open globals at returns) (kind_fits kind.Call is); lawful = tt }
+    call_left_keeps globals at returns (inr is) = record { own = leaves script passes t frame below reported fits (none_open globals at returns) (kind_fits kind.PopHandler is); lawful = tt }
 
     pub handler_left_keeps : (globals : List ℕ) {s : Stmt} {v : ℕ} → statement_at script frame ≡ Some s → Returns body globals frame s v → (frame.kind ≡ kind.Handler) ⊎ (frame.kind ≡ kind.Destructor) → Keeps script passes own reported (acts (action.Leave status.Ending ∷ []) [])
-    handler_left_keeps globals at returns (inl is) = let fit = kind_fits kind.Handler is in leave_handler_keeps script passes t frame below reported fits (none_open globals at returns) fit.0 fit.1
-    handler_left_keeps globals at returns (inr is) = let fit = kind_fits kind.Destructor is in leave_handler_keeps script passes t frame below reported fits (none_open globals at returns) fit.0 fit.1
-
-    -- no frame is that of a function registered with atexit
-    pub no_exit_function : frame.kind ≡ kind.ExitFn → ⊥
-    no_exit_function is = kind_fits kind.ExitFn is
+    unfolding thread_at thread_after
+    handler_left_keeps globals at returns (inl is) = let fit = kind_fits kind.Handler is in record { own = leaves_handler script passes t frame below reported fits (none_open globals at returns) fit.0 fit.1; lawful = tt }
+    handler_left_keeps globals at returns (inr is) = let fit = kind_fits kind.Destructor is in record { own = leaves_handler script passes t frame below reported fits (none_open globals at returns) fit.0 fit.1; lawful = tt }
 
     -- ---- pthread_setcancelstate
 
@@ -154,7 +144,7 @@ module _ (script : Script) (passes : ℕ) (matches : PushesMatch script) where
     unfolding thread_at thread_after
     state_keeps enable old at outside =
         let s : Stmt = statement.SetState enable old in
-        let with_state : Keeps script passes (running (record t { state = state_if enable }) (frame ∷ below)) reported (goes_on (suc frame.pc) (action.Write old (state_number t.state) ∷ []) (what.StateSet enable ∷ [])) =
+        let keeps =
         going_on_keeps script passes (record t { state = state_if enable }) frame below status.Running reported (suc frame.pc) (action.Write old (state_number t.state) ∷ []) (what.StateSet enable ∷ []) (matches.next frame s at) (matches.next_within frame s at refl) refl refl (tt, tt)
         (record {
           agrees = record { handlers_agree = fits.agrees.handlers_agree; reason = fits.agrees.reason; end = fits.agrees.end; functions = fits.agrees.functions; disabled = state_allowed enable outside };
@@ -162,4 +152,4 @@ module _ (script : Script) (passes : ℕ) (matches : PushesMatch script) where
           by_status = fits.by_status;
           in_passes = fits.in_passes;
         }) in
-        record { own = with_state.own; created = none_created script passes }
+        record { own = keeps.own; lawful = keeps.lawful }

@@ -1,6 +1,6 @@
 -- What each thread keeps, beside what the events report of it: the facts of Kept.antt, arranged by the status of the thread.
 use Rattle.std.proofs.Common.{◌≡◌, ℕ, ◌<◌, Bool, true, false, ◌||◌, List, [], ◌∷◌, length, reverse, Some, None}
-use Rattle.std.specs.Prelude.{is_some}
+use Rattle.std.specs.Prelude.{is_some, ◌≡◌, ℕ, true, List, [], ◌∷◌, refl}
 use Rattle.std.specs.List.{AllByRecursion}
 use Rattle.pct_model.specs.declared.frame.Frame.{Frame}
 use Rattle.pct_model.specs.declared.script.Script.{Script}
@@ -12,18 +12,32 @@ use Rattle.pct_model.specs.declared.state.State.{State}
 use Rattle.pct_model.specs.declared.state.State.TheVariants.{Disable}
 use Rattle.pct_model.specs.declared.state.Status.{Status}
 use Rattle.pct_model.specs.declared.state.Status.TheVariants as status
-use Rattle.pct_model.specs.declared.transition.NewThread.{NewThread}
 use Rattle.pct_model.specs.declared.transition.Transition.{Transition}
+use Rattle.pct_model.specs.declared.event.Event.{Event}
+use Rattle.pct_model.specs.declared.event.What.{What}
 use Rattle.pct_model.specs.Actions.{moved}
 use Rattle.pct_model.specs.Kept.{AreOpen, open_functions, is_join, is_call_of}
 use Rattle.pct_model.specs.NextStatement.{next_of}
 use Rattle.pct_model.specs.StopTable.{has_begun_to_end}
-use Rattle.pct_model.specs.ThreadSummary.{ThreadSummary, no_events}
+use Rattle.pct_model.specs.ThreadSummary.{ThreadSummary, no_events, with_event, summary_of}
 use Rattle.pct_model.specs.World.{Thread, body_of}
-use Rattle.pct_ending_laws.proofs.lift.ReportedBy.{after_all}
-use Rattle.pct_ending_laws.proofs.lift.ThreadsAfter.{created_thread}
-use Rattle.pct_ending_laws.proofs.thread.SummaryReading.{summary, AllMayCome}
+use Rattle.pct_model.specs.Once.{MayCome}
+use Rattle.pct_ending_laws.proofs.lift.ReportedBy.{after_all, reported_by, ThreadReading, of_thread, is_thread_reading}
 use Rattle.pct_ending_laws.proofs.thread.Passes.{PassesFit}
+
+-- ---- what the events report of a thread
+
+-- the reading of the summary of a thread
+abbrev pub summary : ThreadReading ThreadSummary
+summary = record { start = no_events; next = with_event; inherits = true; replica = λ parent s. record s { handlers = parent.handlers } }
+
+pub summary_reading : (tid pid : ℕ) (events : List Event) → summary_of pid tid events ≡ reported_by (of_thread summary tid) pid events
+summary_reading tid = is_thread_reading summary tid (λ pid events. summary_of pid tid events) (λ pid. refl) (λ pid e earlier. refl)
+
+-- each of some events of a thread, newest first, may come after those before it, with a limit on the passes over destructors
+abbrev pub AllMayCome : ℕ → List What → ThreadSummary → Type 0
+AllMayCome passes [] s = Unit {0}
+AllMayCome passes (w ∷ added) s = MayCome passes w (after_all summary added s) × AllMayCome passes added s
 
 -- ---- frames
 
@@ -117,7 +131,7 @@ module _ (script : Script) where
 
     -- ---- transitions
 
-    -- a thread fits its events after a transition, the events of which may come, and a thread that it creates fits none
+    -- a thread fits its events after a transition, the events of which may come
     pub record Keeps (t : Thread) (reported : ThreadSummary) (o : Transition) : Type 0 where
-      pub own : Fits (moved o t) (after_all summary (reverse o.events) reported) × AllMayCome passes (reverse o.events) reported
-      pub created : (new : NewThread) → o.created ≡ Some new → Fits (created_thread new) no_events
+      pub own : Fits (moved o t) (after_all summary (reverse o.events) reported)
+      pub lawful : AllMayCome passes (reverse o.events) reported

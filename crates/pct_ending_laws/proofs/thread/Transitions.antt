@@ -1,7 +1,7 @@
 -- Each transition of a thread keeps the rule of the thread.
-use Rattle.std.proofs.Common.{◌≡◌, ℕ, ◌%◌, true, List, [], ◌∷◌, nat_eq, eq-eqb, Option, refl, ap, ◌∙◌, subst}
+use Rattle.std.proofs.Common.{◌≡◌, ℕ, true, List, [], ◌∷◌, nat_eq, eq-eqb, Option, Some, refl, ap, ◌∙◌, subst}
 use Rattle.std.proofs.lemmas.Bool.{and_from}
-use Rattle.std.proofs.lemmas.Option.{same_Some}
+use Rattle.std.proofs.lemmas.Option.{none-some, same_Some}
 use Rattle.pct_model.specs.declared.event.Caller.TheVariants as caller
 use Rattle.pct_model.specs.declared.event.What.TheVariants as what
 use Rattle.pct_model.specs.declared.frame.Frame.{Frame}
@@ -23,23 +23,23 @@ use Rattle.pct_model.specs.ChoiceTable.{choices_of, offers}
 use Rattle.pct_model.specs.Kept.{is_join, is_call_of, KeysKept}
 use Rattle.pct_model.specs.NextStatement.{NextStatement, next_in, next_of, body_at}
 use Rattle.pct_model.specs.OtherThreads.{Others, others_of}
+use Rattle.pct_model.specs.ThreadEnds.{end_value}
 use Rattle.pct_model.specs.ThreadSummary.{ThreadSummary, no_events}
 use Rattle.pct_model.specs.TransitionTable.{transition_by}
 use Rattle.pct_model.specs.World.{Thread, SharedState, Process, value_of}
 use Rattle.pct_transition_cases.proofs.CaseOfTransition.{case_of}
-use Rattle.pct_transition_cases.proofs.PlacedStatements.{IsPlaced, on_top, is_placed}
+use Rattle.pct_transition_cases.proofs.PlacedStatements.{IsPlaced, on_top, is_placed, statement_placed}
 use Rattle.pct_transition_cases.proofs.TransitionCases.{TransitionCase, rests, stopped, jumped, emitted, variable_set, variable_added, function_called, main_returned, start_returned, call_left, handler_left, exit_function_left, thread_made, thread_not_made, join_begun, join_ended, thread_detached, self_got, request_sent, state_set, mode_set, cancel_tested, point_begun, point_done, point_passed, canceled, canceled_at_point, canceled_in_join, key_made, key_not_made, key_deleted, specific_set, specific_got, handler_pushed, handler_popped, handler_called, exit_called, handler_run, destructor_called, pass_begun, thread_ended, thread_ended_with_keys, last_ended, last_ended_with_keys, process_ended}
 use Rattle.pct_ending_laws.proofs.StaticPushes.{PushesMatch}
 use Rattle.pct_ending_laws.proofs.lift.ThreadsAfter.{created_thread}
 use Rattle.pct_ending_laws.proofs.lift.OfferedNumbers.{left_key_of}
 use Rattle.pct_ending_laws.proofs.keys.LeftKeys.{left_in_pass, destructor_in_script}
-use Rattle.pct_ending_laws.proofs.thread.ActingOnRequests.{cancel_fits}
 use Rattle.pct_ending_laws.proofs.thread.ThreadRule.{Fits, Keeps}
 use Rattle.pct_ending_laws.proofs.thread.NamedFunctions.{NamesFunctions}
-use Rattle.pct_ending_laws.proofs.thread.GoingOn.{running, none_created, no_change_keeps, stop_keeps, by_handlers}
+use Rattle.pct_ending_laws.proofs.thread.GoingOn.{running, by_handlers}
 use Rattle.pct_ending_laws.proofs.thread.Handlers.{call_keeps, push_keeps, drop_keeps, run_keeps}
-use Rattle.pct_ending_laws.proofs.thread.Ends.{begin_keeps, handler_keeps, destructor_keeps, pass_keeps, end_keeps, end_with_keys_keeps, last_keeps, last_with_keys_keeps, exiting_keeps}
-use Rattle.pct_ending_laws.proofs.thread.Statements.{not_begun, new_fits, next_keeps, leads_keeps, main_keeps, start_keeps, call_left_keeps, handler_left_keeps, no_exit_function, state_keeps}
+use Rattle.pct_ending_laws.proofs.thread.Ends.{exit_keeps, begin_keeps, cancel_fits, handler_keeps, destructor_keeps, pass_keeps, end_lawful, leftover_lawful, ended_fits, exits_fit}
+use Rattle.pct_ending_laws.proofs.thread.Statements.{not_begun, new_fits, next_keeps, leads_keeps, kind_fits, call_left_keeps, handler_left_keeps, state_keeps}
 
 module _ (script : Script) (passes : ℕ) (matches : PushesMatch script) (names : NamesFunctions script) (shared : SharedState) (kept : KeysKept script shared.keys) (t : Thread) (others : Others) (reported : ThreadSummary) where
   -- the thread, with a status and frames
@@ -52,29 +52,23 @@ module _ (script : Script) (passes : ℕ) (matches : PushesMatch script) (names 
 
   case_keeps : {frames : List Frame} {body : List Stmt} {next : NextStatement} {s : Status} {o : Transition} → IsPlaced script frames body next → TransitionCase passes body shared (own s frames) others true next s o → Fits script passes (own s frames) reported → Keeps script passes (own s frames) reported o
   unfolding thread_at thread_after
-  case_keeps {frames} place (rests next s alive) rule = no_change_keeps script passes (own s frames) reported rule
-  case_keeps {frames} place (stopped frame s why) rule = stop_keeps script passes why (own status.Running frames) reported rule
+  case_keeps {frames} place (rests next s alive) rule = record { own = rule; lawful = tt }
+  case_keeps {frames} place (stopped frame s why) rule = record { own = rule; lawful = (tt, tt) }
   -- statements of the script language
   case_keeps (on_top frame below s at) (jumped _ _ pc leads) rule = leads_keeps script passes matches t frame below reported rule shared.globals at leads
   case_keeps (on_top frame below s at) (emitted _ v) rule = next_keeps script passes matches t frame below reported rule status.Running (statement.Emit v) at refl refl [] (what.Emit (value frame v) ∷ []) refl refl (tt, tt)
   case_keeps (on_top frame below s at) (variable_set _ d v) rule = next_keeps script passes matches t frame below reported rule status.Running (statement.Set d v) at refl refl (action.Write d _ ∷ []) [] refl refl tt
   case_keeps (on_top frame below s at) (variable_added _ d v) rule = next_keeps script passes matches t frame below reported rule status.Running (statement.Add d v) at refl refl (action.Write d _ ∷ []) [] refl refl tt
   case_keeps (on_top frame below s at) (function_called _ f v room) rule = call_keeps script passes matches t frame below reported f v (value frame v) at (names.called frame f v at) rule
-  case_keeps (on_top frame below s at) (main_returned _ _ v returns is) rule = main_keeps script passes matches t frame below reported rule v
-  case_keeps (on_top frame below s at) (start_returned _ _ v returns is) rule = start_keeps script passes matches t frame below reported rule v is
+  case_keeps (on_top frame below s at) (main_returned _ _ v returns is) rule = exit_keeps script passes t (frame ∷ below) reported rule v
+  case_keeps (on_top frame below s at) (start_returned _ _ v returns is) rule = begin_keeps script passes t (frame ∷ below) reported rule v (kind_fits script passes matches t frame below reported rule kind.Start is).0
   case_keeps (on_top frame below s at) (call_left _ _ v returns kinds) rule = call_left_keeps script passes matches t frame below reported rule shared.globals at returns kinds
   case_keeps (on_top frame below s at) (handler_left _ _ v returns kinds) rule = handler_left_keeps script passes matches t frame below reported rule shared.globals at returns kinds
-  case_keeps (on_top frame below s at) (exit_function_left _ _ v returns is) rule = absurd (no_exit_function script passes matches t frame below reported rule is)
+  case_keeps (on_top frame below s at) (exit_function_left _ _ v returns is) rule = absurd (kind_fits script passes matches t frame below reported rule kind.ExitFn is)
   -- threads
-  case_keeps (on_top frame below s at) (thread_made _ result id f v detached new among) rule = record {
-    own = (next_keeps script passes matches t frame below reported rule status.Running (statement.Create result id f v detached) at refl refl (action.Write result 0 ∷ action.Write id new ∷ []) (what.Created new detached ∷ []) refl refl (tt, tt)).own;
-    created = λ made e. subst (λ (n : NewThread). Fits script passes (created_thread n) no_events) (same_Some (record { id = new; detached = detached; func = f; arg = value frame v }) made e) (new_fits script passes matches new f (value frame v) detached kind.Start (names.created frame result id f v detached at) (refl, refl));
-  }
+  case_keeps (on_top frame below s at) (thread_made _ result id f v detached new among) rule = let keeps = next_keeps script passes matches t frame below reported rule status.Running (statement.Create result id f v detached) at refl refl (action.Write result 0 ∷ action.Write id new ∷ []) (what.Created new detached ∷ []) refl refl (tt, tt) in record { own = keeps.own; lawful = keeps.lawful }
   case_keeps (on_top frame below s at) (thread_not_made _ result id f v detached) rule = next_keeps script passes matches t frame below reported rule status.Running (statement.Create result id f v detached) at refl refl (action.Write result 1 ∷ []) (what.Answer caller.Create 1 ∷ []) refl refl (tt, tt)
-  case_keeps (on_top frame below s at) (join_begun _ id d target seen other joinable unjoined) rule = record {
-    own = (record { agrees = rule.agrees; placed = rule.placed; by_status = (rule.by_status, ap (λ (x : Option Stmt). is_join (next_in frame x)) at); in_passes = rule.in_passes }, (tt, tt));
-    created = none_created script passes;
-  }
+  case_keeps (on_top frame below s at) (join_begun _ id d target seen other joinable unjoined) rule = record { own = record { agrees = rule.agrees; placed = rule.placed; by_status = (rule.by_status, ap (λ (x : Option Stmt). is_join (next_in frame x)) at); in_passes = rule.in_passes }; lawful = (tt, tt) }
   case_keeps (on_top frame below s at) (join_ended _ operand d id v target seen ended) rule =
       let awake : Fits script passes (running t (frame ∷ below)) reported = record { agrees = rule.agrees; placed = rule.placed; by_status = rule.by_status.0; in_passes = rule.in_passes } in
       next_keeps script passes matches t frame below reported awake (status.Joining id) (statement.Join operand d) at refl refl (action.EndJoin id ∷ action.Write d v ∷ []) (what.Joined id v ∷ []) refl refl (tt, tt)
@@ -86,24 +80,21 @@ module _ (script : Script) (passes : ℕ) (matches : PushesMatch script) (names 
   case_keeps (on_top frame below s at) (mode_set _ asynchronous old) rule = next_keeps script passes matches t frame below reported rule status.Running (statement.SetMode asynchronous old) at refl refl (action.SetMode (mode_if asynchronous) ∷ action.Write old (mode_number t.mode) ∷ []) (what.ModeSet asynchronous ∷ []) refl refl (tt, tt)
   case_keeps (on_top frame below s at) (cancel_tested _) rule = next_keeps script passes matches t frame below reported rule status.Running statement.TestCancel at refl refl [] (what.Done testcancel_point ∷ []) refl refl (tt, tt)
   case_keeps (on_top frame below s at) (point_begun _ index is) rule = record {
-    own = (
-      record {
-        agrees = rule.agrees;
-        placed = rule.placed;
-        by_status = (rule.by_status, ap (λ (x : Option Stmt). is_call_of index (next_in frame x)) at ∙ and_from (nat_eq index index) (is_required (point_kind index)) (eq-eqb index index refl) (ap is_required is));
-        in_passes = rule.in_passes;
-      },
-      (tt, tt),
-    );
-    created = none_created script passes;
+    own = record {
+      agrees = rule.agrees;
+      placed = rule.placed;
+      by_status = (rule.by_status, ap (λ (x : Option Stmt). is_call_of index (next_in frame x)) at ∙ and_from (nat_eq index index) (is_required (point_kind index)) (eq-eqb index index refl) (ap is_required is));
+      in_passes = rule.in_passes;
+    };
+    lawful = (tt, tt);
   }
   case_keeps (on_top frame below s at) (point_done _ index) rule = next_keeps script passes matches t frame below reported rule status.Running (statement.PointCall index) at refl refl [] (what.Done index ∷ []) refl refl (tt, tt)
   case_keeps (on_top frame below s at) (point_passed _ index i) rule =
       let awake : Fits script passes (running t (frame ∷ below)) reported = record { agrees = rule.agrees; placed = rule.placed; by_status = rule.by_status.0; in_passes = rule.in_passes } in
       next_keeps script passes matches t frame below reported awake (status.AtPoint index) (statement.PointCall i) at refl refl [] (what.Done index ∷ []) refl refl (tt, tt)
-  case_keeps {frames} place (canceled next enabled) rule = record { own = cancel_fits script passes (own status.Running frames) reported (enabled refl) rule.agrees rule.in_passes rule.by_status; created = none_created script passes }
-  case_keeps {frames} place (canceled_at_point next index enabled) rule = record { own = cancel_fits script passes (own (status.AtPoint index) frames) reported (enabled refl) rule.agrees rule.in_passes rule.by_status.0; created = none_created script passes }
-  case_keeps {frames} place (canceled_in_join next id enabled) rule = record { own = cancel_fits script passes (own (status.Joining id) frames) reported (enabled refl) rule.agrees rule.in_passes rule.by_status.0; created = none_created script passes }
+  case_keeps {frames} place (canceled next enabled) rule = let ends = cancel_fits script passes (own status.Running frames) reported (enabled refl) rule.agrees rule.in_passes rule.by_status in record { own = ends.0; lawful = ends.1 }
+  case_keeps {frames} place (canceled_at_point next index enabled) rule = let ends = cancel_fits script passes (own (status.AtPoint index) frames) reported (enabled refl) rule.agrees rule.in_passes rule.by_status.0 in record { own = ends.0; lawful = ends.1 }
+  case_keeps {frames} place (canceled_in_join next id enabled) rule = let ends = cancel_fits script passes (own (status.Joining id) frames) reported (enabled refl) rule.agrees rule.in_passes rule.by_status.0 in record { own = ends.0; lawful = ends.1 }
   -- keys
   case_keeps (on_top frame below s at) (key_made _ result key destructor k among) rule = next_keeps script passes matches t frame below reported rule status.Running (statement.KeyCreate result key destructor) at refl refl (action.MakeKey k destructor ∷ action.Write result 0 ∷ action.Write key k ∷ []) (what.KeyMade k ∷ []) refl refl (tt, tt)
   case_keeps (on_top frame below s at) (key_not_made _ result key destructor) rule = next_keeps script passes matches t frame below reported rule status.Running (statement.KeyCreate result key destructor) at refl refl (action.Write result 1 ∷ []) (what.Answer caller.KeyCreate 1 ∷ []) refl refl (tt, tt)
@@ -122,14 +113,26 @@ module _ (script : Script) (passes : ℕ) (matches : PushesMatch script) (names 
   case_keeps {frames} place (destructor_called next k f key none is named among) rule =
       by_handlers script passes t status.Ending frames reported _ [] none (λ r. destructor_keeps script passes matches t frames reported r k f (destructor_in_script script shared.keys kept k key f is named) (left_in_pass script shared.keys kept t.specific k (left_key_of shared.keys t.specific k (among refl)))) rule
   case_keeps {frames} place (pass_begun next none more) rule = by_handlers script passes t status.Ending frames reported _ [] none (λ r. pass_keeps script passes matches t frames reported r more) rule
-  case_keeps {frames} place (thread_ended next none) rule = by_handlers script passes t status.Ending frames reported _ [] none (λ r. end_keeps script passes matches t frames reported r) rule
-  case_keeps {frames} place (thread_ended_with_keys next left none some limit) rule = by_handlers script passes t status.Ending frames reported _ [] none (λ r. end_with_keys_keeps script passes matches t frames reported r left some limit) rule
-  case_keeps {frames} place (last_ended next none is_last) rule = by_handlers script passes t status.Ending frames reported _ [] none (λ r. last_keeps script passes matches t frames reported r) rule
-  case_keeps {frames} place (last_ended_with_keys next left none is_last some limit) rule = by_handlers script passes t status.Ending frames reported _ [] none (λ r. last_with_keys_keeps script passes matches t frames reported r left some limit) rule
-  case_keeps {frames} place (process_ended next v) rule = exiting_keeps script passes (own status.Exiting frames) reported (v % 256) rule
+  case_keeps {frames} place (thread_ended next none) rule = by_handlers script passes t status.Ending frames reported _ [] none (λ r. record { own = ended_fits script passes matches t frames reported r (end_value t.reason); lawful = (end_lawful script passes matches t frames reported r, tt) }) rule
+  case_keeps {frames} place (thread_ended_with_keys next left none some limit) rule = by_handlers script passes t status.Ending frames reported _ [] none (λ r. record { own = ended_fits script passes matches t frames reported r (end_value t.reason); lawful = (end_lawful script passes matches t frames reported r, leftover_lawful script passes matches t frames reported r left some limit) }) rule
+  case_keeps {frames} place (last_ended next none is_last) rule = by_handlers script passes t status.Ending frames reported _ [] none (λ r. record { own = exits_fit script passes matches t frames reported r (end_value t.reason); lawful = (tt, (end_lawful script passes matches t frames reported r, tt)) }) rule
+  case_keeps {frames} place (last_ended_with_keys next left none is_last some limit) rule = by_handlers script passes t status.Ending frames reported _ [] none (λ r. record { own = exits_fit script passes matches t frames reported r (end_value t.reason); lawful = (tt, (end_lawful script passes matches t frames reported r, leftover_lawful script passes matches t frames reported r left some limit)) }) rule
+  case_keeps {frames} place (process_ended next v) rule = record { own = rule; lawful = (tt, tt) }
+
+  -- a thread that it creates fits no events
+  case_created : {frames : List Frame} {body : List Stmt} {next : NextStatement} {s : Status} {o : Transition} → IsPlaced script frames body next → TransitionCase passes body shared t others true next s o → (new : NewThread) → o.created ≡ Some new → Fits script passes (created_thread new) no_events
+  case_created place (thread_made frame result id f v detached n among) new is =
+      subst (λ (x : NewThread). Fits script passes (created_thread x) no_events) (same_Some (record { id = n; detached = detached; func = f; arg = value frame v }) new is) (new_fits script passes matches n f (value frame v) detached kind.Start (names.created frame result id f v detached (statement_placed place)) (refl, refl))
+  case_created place _ new is = absurd (none-some new is)
 
 -- a transition of a thread, by any choice
 pub transition_keeps : (script : Script) → PushesMatch script → NamesFunctions script → (config : Config) (p : Process) (t : Thread) (reported : ThreadSummary) (choice : Alt) → KeysKept script p.shared.keys → offers (choices_of script config p t) choice ≡ true → Fits script config.passes t reported → Keeps script config.passes t reported (transition_by script config p t choice)
 transition_keeps script matches names config p t reported choice kept offered rule =
-    let others : Others = others_of script config p t in
+    let others : Others = others_of config.slots p.threads t.id in
     case_keeps script config.passes matches names p.shared kept t others reported (is_placed script t.frames) (case_of config.passes (body_at script t.frames) p.shared t others true choice (next_of script t.frames) t.status (λ known. offered)) rule
+
+-- the thread that it creates
+pub created_fits : (script : Script) → PushesMatch script → NamesFunctions script → (config : Config) (p : Process) (t : Thread) (choice : Alt) → KeysKept script p.shared.keys → offers (choices_of script config p t) choice ≡ true → (new : NewThread) → (transition_by script config p t choice).created ≡ Some new → Fits script config.passes (created_thread new) no_events
+created_fits script matches names config p t choice kept offered =
+    let others : Others = others_of config.slots p.threads t.id in
+    case_created script config.passes matches names p.shared kept t others no_events (is_placed script t.frames) (case_of config.passes (body_at script t.frames) p.shared t others true choice (next_of script t.frames) t.status (λ known. offered))

@@ -1,23 +1,5 @@
-use Rattle.std.proofs.Common.{ap, ◌∙◌}
-use Rattle.pct_model.specs.declared.state.Status.TheVariants as status
-use Rattle.pct_model.specs.Cancelability.{ending_state, ending_mode}
-use Rattle.pct_cancel.specs.declared.cancel.Cancel.{Cancel}
-use Rattle.pct_threads.specs.declared.record.Thread.{Thread}
-use Rattle.pct_model.specs.declared.state.Reason.{Reason}
-use Rattle.pct_threads.specs.Slots.{without_frames, with_record}
-use Rattle.pct_threads.specs.Tables.{on_held}
-use Rattle.pct_actions.proofs.HeldChanges.{then_held, on_held-record}
+use Rattle.pct_actions.proofs.TwoChanges.{then_held}
 use Rattle.pct_actions.proofs.own_actions.begin_end.Goals as goal
 
--- the record of a thread that begins to end
-abbrev ending : Reason → Thread → Thread
-ending why t = record t { status = status.Ending; cancel = record t.cancel { state = ending_state; mode = ending_mode }; reason = why }
-
 pub returns : goal.returns
-returns c =
-    let t = c.write-thread.result.now in
-    let why = c.args.why in
-    let threads = c.drop_frames.new.self in
-    then_held c.args.slot without_frames (λ h. record h { thread = ending why h.thread }) c.args.threads.now threads (on_held c.args.slot (with_record (record t { status = status.Ending; cancel = c.begin_end.new.self; reason = why })) threads) c.drop_frames.ensures
-    (ap (λ (cancel : Cancel). on_held c.args.slot (with_record (record t { status = status.Ending; cancel = cancel; reason = why })) threads) c.begin_end.ensures
-    ∙ on_held-record c.args.slot (ending why) threads t c.write-thread.ensures.value)
+returns c = then_held c.args.slot _ _ c.args.threads.now c.drop_frames.new.self c.start_ending.new.threads c.drop_frames.ensures c.start_ending.ensures

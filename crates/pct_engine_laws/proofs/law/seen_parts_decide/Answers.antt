@@ -2,7 +2,7 @@ use Rattle.pct_engine_laws.proofs.TransitionSeen.{transition_is_seen}
 use Rattle.pct_engine_laws.proofs.AfterSeen.{after_is_seen}
 use Rattle.pct_engine_laws.proofs.VerdictSeen.{verdict_is_seen}
 use Rattle.pct_engine_laws.proofs.ChosenSeen.{chosen_is_seen}
-use Rattle.pct_engine_laws.proofs.OpenRuns.{goes_on_while_open}
+use Rattle.pct_engine_laws.proofs.OpenRuns.{steps_if_legal, goes_on_while_open}
 use Rattle.pct_engine_laws.proofs.FewThreads.{few_made}
 use Rattle.pct_engine_laws.proofs.FewKeys.{few_keys_made}
 use Rattle.pct_engine_laws.proofs.RunNumbers.{run_numbers_fit}
@@ -19,6 +19,9 @@ returns-clause-verdict c = verdict_is_seen
 
 pub returns-clause-chosen : goal.returns-clause-chosen
 returns-clause-chosen c = chosen_is_seen
+
+pub returns-clause-step : goal.returns-clause-step
+returns-clause-step c = steps_if_legal
 
 pub returns-clause-open : goal.returns-clause-open
 returns-clause-open c = goes_on_while_open

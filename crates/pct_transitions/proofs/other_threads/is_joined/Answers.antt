@@ -1,7 +1,7 @@
 use Rattle.std.proofs.Common.{Bool, sym, ◌∙◌, arith}
 use Rattle.pct_model.specs.World.{Thread}
 use Rattle.pct_model.specs.OtherThreads.{is_joining}
-use Rattle.pct_transitions.proofs.SlotAnswers.{any_found, any_none}
+use Rattle.pct_transitions.proofs.OthersRead.{any_found, any_none}
 use Rattle.pct_transitions.proofs.other_threads.is_joined.Goals as goal
 
 pub returns-then-is_joiner_on : goal.returns-then-is_joiner_on

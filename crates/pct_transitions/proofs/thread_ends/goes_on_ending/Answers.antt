@@ -3,7 +3,7 @@ use Rattle.std.specs.Prelude.{slice_get}
 use Rattle.pct_model.specs.declared.schedule.Alt.{Alt}
 use Rattle.pct_model.specs.declared.transition.Transition.{Transition}
 use Rattle.pct_model.specs.Keys.{KeyPlace}
-use Rattle.pct_model.specs.ThreadEnds.{without_handlers, goes_on_ending}
+use Rattle.pct_model.specs.ThreadEnds.{goes_on_ending}
 use Rattle.pct_model.specs.World.{Thread}
 use Rattle.pct_transitions.proofs.thread_ends.goes_on_ending.Goals as goal
 
@@ -14,20 +14,18 @@ module _ (is_last : Bool) (passes : ℕ) (keys : List KeyPlace) (t : Thread) (ch
   runs_newest f a (h ∷ below) is newest = let same : (f, a) ≡ h = cc in is below ∙ ap (λ (h : ℕ × ℕ). goes_on_ending is_last passes keys t choice (h ∷ below)) same
 
   -- without one
-  runs_none : (handlers : List (ℕ × ℕ)) → o ≡ without_handlers is_last passes keys t choice → None ≡ slice_get handlers 0 → o ≡ goes_on_ending is_last passes keys t choice handlers
-  unfolding goes_on_ending
+  runs_none : (handlers : List (ℕ × ℕ)) → o ≡ goes_on_ending is_last passes keys t choice [] → None ≡ slice_get handlers 0 → o ≡ goes_on_ending is_last passes keys t choice handlers
   runs_none [] is none = is
   runs_none (h ∷ below) is none = absurd cc
 
 pub returns-in-Some : goal.returns-in-Some
-returns-in-Some c = λ script t position.
-    let places = c.args.position.now.keys.now.places in
-    runs_newest c.args.is_last c.args.passes places t c.args.choice c.runs_handler.result c.in-Some.func c.in-Some.arg t.handlers
-    (c.runs_handler.ensures c.args.is_last c.args.passes places t c.args.choice)
-    (sym c.in-Some.is ∙ c.newest.ensures ∙ ap (λ (handlers : List (ℕ × ℕ)). slice_get handlers 0) position.handlers_are)
+returns-in-Some c = λ shared t others is.
+    runs_newest others.is_last c.args.passes shared.keys t c.args.choice c.runs_handler.result c.in-Some.func c.in-Some.arg t.handlers
+    (c.runs_handler.ensures others.is_last c.args.passes shared.keys t c.args.choice)
+    (sym c.in-Some.is ∙ c.newest.ensures ∙ ap (λ (handlers : List (ℕ × ℕ)). slice_get handlers 0) is.position_is.handlers_are)
 
 pub returns-in-None : goal.returns-in-None
-returns-in-None c = λ script t position.
-    runs_none c.args.is_last c.args.passes c.args.position.now.keys.now.places t c.args.choice c.without_handlers.new.transition t.handlers
-    (c.without_handlers.ensures script t position)
-    (sym c.in-None.is ∙ c.newest.ensures ∙ ap (λ (handlers : List (ℕ × ℕ)). slice_get handlers 0) position.handlers_are)
+returns-in-None c = λ shared t others is.
+    runs_none others.is_last c.args.passes shared.keys t c.args.choice c.without_handlers.new.transition t.handlers
+    (c.without_handlers.ensures shared t others is)
+    (sym c.in-None.is ∙ c.newest.ensures ∙ ap (λ (handlers : List (ℕ × ℕ)). slice_get handlers 0) is.position_is.handlers_are)

@@ -12,7 +12,7 @@ returns-clause-cause c =
     subst (λ (v : EngineValue). (after : Run) → IsRunOf v after → IsOk c.step_with.result ↔ IsAllowed v after c.args.entry) c.self.view_is
     (λ after is.
     let legal = c.step_with.ensures.legal in
-    let goes_on = goes_on_while_open e.program.script e.program.config e.history.items after c.args.entry is in
+    let goes_on = goes_on_while_open e.program.script e.program.config e.trace.history after c.args.entry is in
     (λ ok. goes_on.0 (legal.0 ok), λ allowed. legal.1 (goes_on.1 allowed)))
 
 pub returns-clause-laws : goal.returns-clause-laws

@@ -1,0 +1,141 @@
+-- A transition that fits a process: each of its parts fits the process as the parts before it left it.
+use Rattle.std.proofs.Common.{◌≡◌, ◌≢◌, ℕ, zero, suc, ◌<◌, Bool, true, false, ◌&&◌, cond, List, [], ◌∷◌, map, filter, length, Option, Some, None, refl, sym, ap, ◌∙◌, subst, ne_eqb, eq-eqb, inl, inr}
+use Rattle.std.specs.Prelude.{IfSome, nat_eq, slice_get, slice_set, find, option_and_then}
+use Rattle.std.proofs.lemmas.Bool.{and_from, cases_eq}
+use Rattle.std.proofs.lemmas.List.{length-map}
+use Rattle.std.proofs.lemmas.List.Elements.{All-head}
+use Rattle.pct_model.specs.declared.transition.Action.{Action}
+use Rattle.pct_model.specs.declared.transition.Action.TheVariants as action
+use Rattle.pct_model.specs.declared.transition.Transition.{Transition}
+use Rattle.pct_model.specs.World.{Thread, SharedState}
+use Rattle.pct_model.specs.ThreadSlots.{is_ended_status, holds_slot, slot_of, is_live_thread}
+use Rattle.pct_model.specs.Actions.{named_after, shared_after, for_each, moved}
+use Rattle.pct_threads.specs.Slots.{Slot}
+use Rattle.pct_threads.specs.Tables.{slot_at}
+use Rattle.pct_keys.specs.Tables.{Table}
+use Rattle.pct_engine_laws.specs.Seen.{SeenSlot, on_slot, slot_after}
+use Rattle.pct_engine_laws.specs.SeenSteps.{thread_on, thread_with}
+use Rattle.pct_engine_laws.proofs.ThreadChanges.{on_thread, on_thread_keeps, named_keeps, transition_keeps_id}
+use Rattle.pct_process.specs.ProcessViews.{slots_of, ProcessData}
+use Rattle.pct_process.proofs.ViewedSlots.{length-slots_of}
+use Rattle.pct_actions.specs.ProcessChanges.{IsOnSlot, AreOnSlots, JoinFits, EndsNoJoin, AllEndNoJoin, JoinsFit, Makes}
+use Rattle.pct_actions.specs.ProcessParts.{slot_changed, with_slot, action_made, OwnFits, ActionsFit}
+use Rattle.pct_actions.proofs.ChangedSlots.{on_slot-here, changed_here, one_changed, on_slots_kept, all_made}
+use Rattle.pct_actions.proofs.OwnThread.{kept_fit}
+use Rattle.pct_actions.proofs.TableSlots.{alone_here}
+
+-- ---- the thread that makes it
+
+-- the thread with an id is on this slot, and the actions fit it
+pub record IsOwn (tid : ℕ) (actions : List Action) (slot : ℕ) (p : ProcessData) : Type 0 where
+  pub fits : OwnFits slot actions p
+  pub named : fits.thread.id ≡ tid
+  pub at : slot ≡ slot_of (length p.slots) tid
+
+pub own_of : (keys : Table) (threads : List Slot) (fit : length keys.rows ≡ length threads) (shared : SharedState) (p : ProcessData) → record { slots = slots_of keys.rows threads; shared = shared } ≡ p
+    → (tid slot : ℕ) (o : Transition) → slot ≡ slot_of (length threads) tid → slot < length threads → Makes tid o p → IsOwn tid o.actions slot p
+own_of keys threads fit shared p view tid slot o is inside needs =
+    let slots : List SeenSlot = slots_of keys.rows threads in
+    let at : slot ≡ slot_of (length slots) tid = is ∙ ap (λ (n : ℕ). slot_of n tid) (sym (length-slots_of keys threads fit)) in
+    let here : thread_with (length slots) tid slots ≡ Some needs.thread = ap (λ (d : ProcessData). thread_with (length d.slots) tid d.slots) view ∙ needs.here in
+    let alone = alone_here keys threads fit slot tid needs.thread inside (ap (λ (k : ℕ). option_and_then (thread_on tid) (slice_get slots k)) at ∙ here) in
+    record {
+      fits = record { made = (slot_at threads slot).made; thread = needs.thread; here = sym (ap (λ (d : ProcessData). slice_get d.slots slot) view) ∙ alone.0; fits = needs.fits; keys = needs.keys };
+      named = alone.1;
+      at = at ∙ ap (λ (d : ProcessData). slot_of (length d.slots) tid) view;
+    }
+
+-- ---- the threads that it names
+
+quiet_fits : (tid : ℕ) (a : Action) (slots : List SeenSlot) → EndsNoJoin a → JoinFits tid a slots
+quiet_fits tid (action.EndJoin id) slots quiet = absurd quiet
+quiet_fits tid _ slots quiet = tt
+
+quiet_fit : (tid : ℕ) (actions : List Action) (slots : List SeenSlot) → AllEndNoJoin actions → JoinsFit tid actions slots
+quiet_fit tid [] slots quiet = tt
+quiet_fit tid (a ∷ actions) slots quiet = (quiet_fits tid a slots quiet.0, quiet.1)
+
+module _ (p : ProcessData) (a : Action) (actions : List Action) (fit : ActionsFit (a ∷ actions) p) where
+  pub first_fits : ActionsFit (a ∷ []) p
+  first_fits = record { on_slots = fit.on_slots; tid = fit.tid; specific = fit.specific; keys = (fit.keys.0, tt); joins = (fit.joins.0, tt) }
+
+  pub rest_fit : ActionsFit actions (action_made a p)
+  rest_fit = record {
+    on_slots = on_slots_kept p.slots fit.on_slots (named_after a) (named_keeps a);
+    tid = fit.tid;
+    specific = fit.specific;
+    keys = kept_fit actions (action_made a p).shared.keys fit.specific fit.keys.1;
+    joins = quiet_fit fit.tid actions (action_made a p).slots fit.joins.1;
+  }
+
+-- ---- after the thread's own part
+
+module _ (tid : ℕ) (o : Transition) (slot : ℕ) (p : ProcessData) (on : AreOnSlots p.slots) (it : IsOwn tid o.actions slot p) where
+  abbrev t : Thread
+  t = it.fits.thread
+
+  abbrev s : SeenSlot
+  s = record { made = it.fits.made; here = t ∷ [] }
+
+  abbrev change : SeenSlot → SeenSlot
+  change = slot_changed (moved o)
+
+  abbrev after : List SeenSlot
+  after = on_slot slot change p.slots
+
+  -- the process with the part is that with the part of its thread
+  own_is_all : after ≡ map (slot_changed (on_thread tid (moved o))) p.slots
+  own_is_all =
+      let holds : holds_slot t ≡ true = (All-head (IsOnSlot (length p.slots) slot) t [] (on slot s it.fits.here)).holds in
+      let live : is_live_thread tid t ≡ true = and_from (nat_eq t.id tid) (holds_slot t) (eq-eqb t.id tid it.named) holds in
+      on_slot-here slot p.slots s it.fits.here change
+      ∙ sym (ap (λ (b : Bool). slice_set p.slots slot (record { made = it.fits.made; here = filter holds_slot (cond b (moved o t) t ∷ []) })) live)
+      ∙ sym (on_slot-here slot p.slots s it.fits.here (slot_changed (on_thread tid (moved o))))
+      ∙ one_changed p.slots on (on_thread tid (moved o)) tid (λ x other. ap (λ (b : Bool). cond (b && holds_slot x) (moved o x) x) other) slot s it.at it.fits.here
+
+  same_length : length after ≡ length p.slots
+  same_length = ap length own_is_all ∙ length-map p.slots (slot_changed (on_thread tid (moved o)))
+
+  other_slot : {A : Type 0} (xs : List A) (i j : ℕ) (x : A) → j ≢ i → slice_get (slice_set xs i x) j ≡ slice_get xs j
+  other_slot [] i j x differs = refl
+  other_slot (y ∷ xs) zero zero x differs = absurd (differs refl)
+  other_slot (y ∷ xs) zero (suc j) x differs = refl
+  other_slot (y ∷ xs) (suc i) zero x differs = refl
+  other_slot (y ∷ xs) (suc i) (suc j) x differs = other_slot xs i j x (λ same. differs (ap suc same))
+
+  -- another thread stays, or is not found on the slot
+  other_stays : (P : Thread → Type 0) (id : ℕ) → id ≢ tid → IfSome (thread_with (length p.slots) id p.slots) P → IfSome (thread_with (length after) id after) P
+  other_stays P id other was =
+      subst (λ (n : ℕ). IfSome (thread_with n id after) P) (sym same_length)
+      (elim (cases_eq (slot_of (length p.slots) id) slot) [
+        | inl same ↦
+            subst (λ (found : Option Thread). IfSome found P) (sym (ap (λ (k : ℕ). option_and_then (thread_on id) (slice_get after k)) same ∙ ap (option_and_then (thread_on id)) (changed_here slot p.slots s it.fits.here change) ∙ gone (holds_slot (moved o t)))) tt
+        | inr differs ↦
+            subst (λ (found : Option SeenSlot). IfSome (option_and_then (thread_on id) found) P) (sym (ap (λ (xs : List SeenSlot). slice_get xs (slot_of (length p.slots) id)) (on_slot-here slot p.slots s it.fits.here change) ∙ other_slot p.slots slot (slot_of (length p.slots) id) (change s) differs)) was
+      ])
+    where
+      gone : (b : Bool) → find (λ x. nat_eq x.id id) (cond b (moved o t ∷ []) []) ≡ None
+      gone true = ap (λ (d : Bool). cond d (Some (moved o t)) None) (ne_eqb (moved o t).id id (λ same. other (sym (sym (transition_keeps_id o t ∙ it.named) ∙ same))))
+      gone false = refl
+
+  join_kept : (a : Action) → JoinFits tid a p.slots → JoinFits tid a after
+  join_kept (action.EndJoin id) fits = (fits.0, other_stays (λ t. is_ended_status t.status ≡ true) id fits.0 fits.1)
+  join_kept _ fits = tt
+
+  joins_kept : (actions : List Action) → JoinsFit tid actions p.slots → JoinsFit tid actions after
+  joins_kept [] fits = tt
+  joins_kept (a ∷ actions) fits = (join_kept a fits.0, fits.1)
+
+  -- the actions fit the process
+  pub actions_fit : Makes tid o p → ActionsFit o.actions (with_slot slot change p)
+  actions_fit needs = record {
+    on_slots = subst AreOnSlots (sym own_is_all) (on_slots_kept p.slots on (on_thread tid (moved o)) (on_thread_keeps tid (moved o) (transition_keeps_id o)));
+    tid = tid;
+    specific = needs.thread.specific;
+    keys = needs.keys;
+    joins = joins_kept o.actions needs.joins;
+  }
+
+  -- and after them it is that of the transition, but for the thread that it creates
+  pub parts_made : for_each action_made o.actions (with_slot slot change p) ≡ record { slots = map (slot_after tid o) p.slots; shared = for_each shared_after o.actions p.shared }
+  parts_made = ap (λ (slots : List SeenSlot). for_each action_made o.actions (record { slots = slots; shared = p.shared })) own_is_all ∙ all_made o.actions (on_thread tid (moved o)) p.slots p.shared

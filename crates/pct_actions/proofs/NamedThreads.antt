@@ -1,0 +1,196 @@
+-- The slots of a process after a change of the thread that an action names, and after a key was deleted.
+use Rattle.std.proofs.Common.{◌≡◌, ℕ, ◌<◌, Bool, true, false, not, ◌&&◌, cond, List, [], ◌∷◌, map, filter, length, Option, Some, None, refl, sym, ap, ◌∙◌, subst, arith, mod-lt, ◌-◌, ◌≤◌, inl, inr}
+use Rattle.std.specs.Prelude.{All, IfSome, nat_eq, is_some, option_map, option_and_then}
+use Rattle.std.specs.Option.{option_map_or}
+use Rattle.std.proofs.lemmas.Bool.{and_from, cases_lt, false≢true}
+use Rattle.std.proofs.lemmas.List.{set-get_or}
+use Rattle.std.proofs.lemmas.List.Elements.{All-head}
+use Rattle.pct_model.specs.declared.transition.Action.{Action}
+use Rattle.pct_model.specs.declared.transition.Action.TheVariants as action
+use Rattle.pct_model.specs.Keys.{KeyValues, without_value}
+use Rattle.pct_model.specs.World.{Thread}
+use Rattle.pct_model.specs.ThreadSlots.{is_ended_status, holds_slot, slot_of, is_live_thread}
+use Rattle.pct_model.specs.Actions.{named_after}
+use Rattle.pct_threads.specs.Slots.{Held, Slot, unused, has_id, is_reclaimable, after_detach, after_change, with_change, freed}
+use Rattle.pct_threads.specs.Tables.{slot_at, held_at, is_reclaimable_at, on_slot}
+use Rattle.pct_threads.proofs.TableLemmas.{within-occupied, occupied-test}
+use Rattle.pct_keys.specs.Tables.{Table, row_at}
+use Rattle.pct_engine_laws.specs.Seen.{SeenSlot}
+use Rattle.pct_engine_laws.specs.SeenSteps.{thread_with}
+use Rattle.pct_process.specs.ThreadViews.{thread_of, threads_of, slot_view, with_specific}
+use Rattle.pct_process.specs.ProcessViews.{with_row, slots_of, thread_on_slot}
+use Rattle.pct_process.proofs.ViewedSlots.{own, length-slots_of, slot_here, thread_on_slot-is, thread_with-is}
+use Rattle.pct_actions.specs.ProcessChanges.{IsOnSlot, AreOnSlots, JoinFits}
+use Rattle.pct_actions.specs.ProcessParts.{on_threads, slot_changed}
+use Rattle.pct_actions.specs.SharedChanges.{forgotten, slot_named, on_named, requested, named_on, NameFits}
+use Rattle.pct_actions.proofs.ChangedSlots.{none_changed, none_leaves, one_changed}
+use Rattle.pct_actions.proofs.TableSlots.{seen_at, changed_thread}
+
+-- ---- a key that is deleted
+
+-- a slot where no thread keeps its value of it
+forgotten_here : (place : ℕ) (row : KeyValues) (made : ℕ) (o : Option Held) → with_row (without_value place row) (record { made = made; here = threads_of o }) ≡ on_threads (λ t. record t { specific = without_value place t.specific }) (with_row row (record { made = made; here = threads_of o }))
+forgotten_here place row made None = refl
+forgotten_here place row made (Some h) = refl
+
+-- all slots
+pub key_forgotten : (place : ℕ) (rows : List KeyValues) (threads : List Slot) → length rows ≡ length threads
+    → slots_of (map (without_value place) rows) threads ≡ map (on_threads (λ t. record t { specific = without_value place t.specific })) (slots_of rows threads)
+key_forgotten place rows [] fit = refl
+key_forgotten place [] (s ∷ threads) fit = absurd (omega (arith, fit))
+key_forgotten place (row ∷ rows) (s ∷ threads) fit =
+    ap (λ (x : SeenSlot). x ∷ slots_of (map (without_value place) rows) threads) (forgotten_here place row s.made s.here)
+    ∙ ap (λ (rest : List SeenSlot). on_threads (λ t. record t { specific = without_value place t.specific }) (with_row row (slot_view s)) ∷ rest) (key_forgotten place rows threads (omega (arith, fit)))
+
+-- ---- a thread that is named
+
+-- a thread that holds its slot, after an action that names it: it was joined, became detached, or has a request pending
+module _ (row : KeyValues) (id : ℕ) (h : Held) (named : nat_eq h.id id ≡ true) (holds : holds_slot (thread_of h) ≡ true) where
+  abbrev t : Thread
+  t = with_specific row (thread_of h)
+
+  live : is_live_thread id t ≡ true
+  live = and_from (nat_eq h.id id) (holds_slot t) named holds
+
+  joined_here : is_ended_status h.thread.status ≡ true → [] ≡ filter holds_slot (named_after (action.EndJoin id) t ∷ [])
+  unfolding named_after
+  joined_here ended =
+      sym (ap (λ (b : Bool). filter holds_slot (cond b (record t { joined = true }) t ∷ [])) live ∙ ap (λ (e : Bool). cond (not (e && true)) (record t { joined = true } ∷ []) []) ended)
+
+  detached_here : map (with_specific row) (threads_of (after_detach h)) ≡ filter holds_slot (named_after (action.Detach id) t ∷ [])
+  unfolding named_after
+  detached_here = by (is_ended_status h.thread.status) ∙ sym (ap (λ (b : Bool). filter holds_slot (cond b (record t { detached = true }) t ∷ [])) live) where
+    by : (e : Bool) → map (with_specific row) (threads_of (cond e None (Some (record h { detached = true })))) ≡ cond (not (e && true)) (record t { detached = true } ∷ []) []
+    by true = refl
+    by false = refl
+
+  requested_here : map (with_specific row) (thread_of (requested h) ∷ []) ≡ filter holds_slot (named_after (action.Request id) t ∷ [])
+  unfolding named_after
+  requested_here = by h.thread.ended ∙ sym (ap (λ (b : Bool). filter holds_slot (cond (b && not h.thread.ended) (record t { pending = true }) t ∷ [])) live) where
+    by : (e : Bool) → map (with_specific row) (thread_of (cond e h (record h { thread = record h.thread { cancel = record h.thread.cancel { pending = true } } })) ∷ []) ≡ filter holds_slot (cond (not e) (record t { pending = true }) t ∷ [])
+    by true = sym (ap (λ (b : Bool). cond b (t ∷ []) []) holds)
+    by false = sym (ap (λ (b : Bool). cond b (record t { pending = true } ∷ []) []) holds)
+
+-- a thread with another id is not named
+other_joined : (id : ℕ) (t : Thread) → nat_eq t.id id ≡ false → named_after (action.EndJoin id) t ≡ t
+unfolding named_after
+other_joined id t other = ap (λ (b : Bool). cond (b && holds_slot t) (record t { joined = true }) t) other
+
+other_detached : (id : ℕ) (t : Thread) → nat_eq t.id id ≡ false → named_after (action.Detach id) t ≡ t
+unfolding named_after
+other_detached id t other = ap (λ (b : Bool). cond (b && holds_slot t) (record t { detached = true }) t) other
+
+other_requested : (id : ℕ) (t : Thread) → nat_eq t.id id ≡ false → named_after (action.Request id) t ≡ t
+unfolding named_after
+other_requested id t other = ap (λ (b : Bool). cond ((b && holds_slot t) && not t.ended) (record t { pending = true }) t) other
+
+-- a table has the slot of each id, if it has a slot
+no_slots : (id : ℕ) (rows : List KeyValues) (f : SeenSlot → SeenSlot) (threads : List Slot) → length threads ≤ slot_of (length threads) id → slots_of rows threads ≡ map f (slots_of rows threads)
+no_slots id rows f [] past = refl
+no_slots id rows f (s ∷ threads) past = let low : slot_of (length (s ∷ threads)) id < length (s ∷ threads) = mod-lt (id - 1) (omega arith) in absurd (omega (arith, past, low))
+
+module _ (keys : Table) (threads : List Slot) (fit : length keys.rows ≡ length threads) (on : AreOnSlots (slots_of keys.rows threads)) where
+  abbrev slots : List SeenSlot
+  slots = slots_of keys.rows threads
+
+  holds_here : (k : ℕ) (h : Held) → held_at threads k ≡ Some h → holds_slot (thread_of h) ≡ true
+  holds_here k h here =
+      let inside : k < length threads = within-occupied threads k (ap is_some here) in
+      (All-head (IsOnSlot (length slots) k) (own keys threads fit k h) [] (subst (λ (ts : List Thread). All (IsOnSlot (length slots) k) ts) (ap (λ (o : Option Held). map (with_specific (row_at keys k)) (threads_of o)) here) (on k (seen_at keys threads fit k) (slot_here keys threads fit k inside)))).holds
+
+  module _ (id : ℕ) where
+    abbrev place : ℕ
+    place = slot_of (length threads) id
+
+    -- what a change makes of the thread with the id is what another makes of its data
+    abbrev Named : (Slot → Slot) → (Thread → Thread) → Type 0
+    Named change f = (h : Held) → held_at threads place ≡ Some h → nat_eq h.id id ≡ true → holds_slot (thread_of h) ≡ true → map (with_specific (row_at keys place)) (threads_of (change (slot_at threads place)).here) ≡ filter holds_slot (f (own keys threads fit place h) ∷ [])
+
+    module _ (change : Slot → Slot) (f : Thread → Thread) (made : (change (slot_at threads place)).made ≡ (slot_at threads place).made) (others : (t : Thread) → nat_eq t.id id ≡ false → f t ≡ t) (named : Named change f) where
+      here_is : (b : Bool) (o : Option Held) → held_at threads place ≡ o → option_map_or (λ h. nat_eq h.id id) o false ≡ b
+          → map (with_specific (row_at keys place)) (threads_of (cond b (change (slot_at threads place)) (slot_at threads place)).here) ≡ filter holds_slot (map f (map (with_specific (row_at keys place)) (threads_of o)))
+      here_is true None at has = absurd (false≢true has)
+      here_is false None at has = ap (λ (o : Option Held). map (with_specific (row_at keys place)) (threads_of o)) at
+      here_is true (Some h) at has = named h at has (holds_here place h at)
+      here_is false (Some h) at has =
+          let t : Thread = own keys threads fit place h in
+          ap (λ (o : Option Held). map (with_specific (row_at keys place)) (threads_of o)) at
+          ∙ sym (ap (λ (x : Thread). filter holds_slot (x ∷ [])) (others t has) ∙ ap (λ (b : Bool). cond b (t ∷ []) []) (holds_here place h at))
+
+      made_is : (b : Bool) → (cond b (change (slot_at threads place)) (slot_at threads place)).made ≡ (slot_at threads place).made
+      made_is true = made
+      made_is false = refl
+
+      -- the slots after the change, if a thread has the id
+      changed_by : (b : Bool) → place < length threads → has_id id (slot_at threads place) ≡ b → slots_of keys.rows (on_slot place (λ s. cond b (change s) s) threads) ≡ map (slot_changed f) slots
+      changed_by b inside has =
+          changed_thread keys threads fit place (λ s. cond b (change s) s) (slot_changed f) inside (λ i. record { made = made_is b i; here = here_is b (held_at threads place) refl has i })
+          ∙ one_changed slots on f id others place (seen_at keys threads fit place) (ap (λ (n : ℕ). slot_of n id) (sym (length-slots_of keys threads fit))) (slot_here keys threads fit place inside)
+
+      by : (b : Bool) → has_id id (slot_at threads place) ≡ b → slots_of keys.rows (option_map_or (λ target. on_slot target change threads) (cond b (Some place) None) threads) ≡ map (slot_changed f) slots
+      by true has = changed_by true (within-occupied threads place (occupied-test (λ h. nat_eq h.id id) (held_at threads place) has)) has
+      by false has =
+          elim (cases_lt place (length threads)) [
+            | inl inside ↦ ap (slots_of keys.rows) (sym (set-get_or threads place unused)) ∙ changed_by false inside has
+            | inr past ↦ no_slots id keys.rows (slot_changed f) threads past
+          ]
+
+      on_named_is : slots_of keys.rows (on_named id change threads) ≡ map (slot_changed f) slots
+      on_named_is = by (has_id id (slot_at threads place)) refl
+
+    -- a thread that was joined has ended
+    ended_here : (tid : ℕ) → JoinFits tid (action.EndJoin id) slots → (h : Held) → held_at threads place ≡ Some h → nat_eq h.id id ≡ true → is_ended_status h.thread.status ≡ true
+    ended_here tid fits h here named =
+        let found : thread_with (length slots) id slots ≡ Some (own keys threads fit place h) = thread_with-is keys threads fit id place refl (within-occupied threads place (ap is_some here))
+        ∙ ap (λ (b : Bool). cond b (thread_on_slot slots place) None) (ap (λ (o : Option Held). option_map_or (λ x. nat_eq x.id id) o false) here ∙ named)
+        ∙ thread_on_slot-is keys threads fit place
+        ∙ ap (option_map (own keys threads fit place)) here in
+        subst (λ (o : Option Thread). IfSome o (λ t. is_ended_status t.status ≡ true)) found fits.1
+
+    reclaimable_here : (tid : ℕ) → JoinFits tid (action.EndJoin id) slots → IfSome (slot_named id threads) (λ target. is_reclaimable_at threads target ≡ true)
+    reclaimable_here tid fits = by_has (has_id id (slot_at threads place)) refl where
+      not_detached : (e d : Bool) → e ≡ true → not (e && d) ≡ true → not d ≡ true
+      not_detached true d ended holds = holds
+      not_detached false d ended holds = absurd (false≢true ended)
+
+      ready : (o : Option Held) → held_at threads place ≡ o → option_map_or (λ h. nat_eq h.id id) o false ≡ true → option_map_or is_reclaimable o false ≡ true
+      ready None at has = absurd (false≢true has)
+      ready (Some h) at has =
+          let ended = ended_here tid fits h at has in
+          and_from (is_ended_status h.thread.status) (not h.detached) ended (not_detached (is_ended_status h.thread.status) h.detached ended (holds_here place h at))
+
+      by_has : (b : Bool) → has_id id (slot_at threads place) ≡ b → IfSome (cond b (Some place) None) (λ target. is_reclaimable_at threads target ≡ true)
+      by_has true has = ready (held_at threads place) refl has
+      by_has false has = tt
+
+-- ---- an action, where the table has forgotten a key that it deletes
+
+module _ (keys : Table) (threads : List Slot) (fit : length keys.rows ≡ length threads) (tid : ℕ) (old : List SeenSlot) (before : AreOnSlots old) where
+  abbrev on : slots_of keys.rows threads ≡ old → AreOnSlots (slots_of keys.rows threads)
+  on same = subst AreOnSlots (sym same) before
+
+  -- an action that fits the data fits the table
+  pub name_fits : (a : Action) → slots_of keys.rows threads ≡ forgotten a old → JoinFits tid a old → NameFits a threads
+  unfolding forgotten
+  name_fits (action.EndJoin id) same fits = reclaimable_here keys threads fit (on same) id tid (subst (JoinFits tid (action.EndJoin id)) (sym same) fits)
+  name_fits _ same fits = tt
+
+  -- the slots after it
+  pub named_is : (a : Action) → slots_of keys.rows threads ≡ forgotten a old → JoinFits tid a old → slots_of keys.rows (named_on a threads) ≡ map (slot_changed (named_after a)) old
+  unfolding named_on named_after forgotten
+  named_is (action.EndJoin id) same fits =
+      on_named_is keys threads fit (on same) id freed (named_after (action.EndJoin id)) refl (other_joined id)
+      (λ h here named holds. joined_here (row_at keys (slot_of (length threads) id)) id h named holds (ended_here keys threads fit (on same) id tid (subst (JoinFits tid (action.EndJoin id)) (sym same) fits) h here named))
+      ∙ ap (map (slot_changed (named_after (action.EndJoin id)))) same
+  named_is (action.Request id) same fits =
+      let row : KeyValues = row_at keys (slot_of (length threads) id) in
+      on_named_is keys threads fit (on same) id (with_change requested) (named_after (action.Request id)) refl (other_requested id)
+      (λ h here named holds. ap (λ (o : Option Held). map (with_specific row) (threads_of (option_map requested o))) here ∙ requested_here row id h named holds)
+      ∙ ap (map (slot_changed (named_after (action.Request id)))) same
+  named_is (action.Detach id) same fits =
+      let row : KeyValues = row_at keys (slot_of (length threads) id) in
+      on_named_is keys threads fit (on same) id (after_change after_detach) (named_after (action.Detach id)) refl (other_detached id)
+      (λ h here named holds. ap (λ (o : Option Held). map (with_specific row) (threads_of (option_and_then after_detach o))) here ∙ detached_here row id h named holds)
+      ∙ ap (map (slot_changed (named_after (action.Detach id)))) same
+  named_is (action.DeleteKey k) same fits = same ∙ none_leaves old before (named_after (action.DeleteKey k)) (λ t. refl)
+  named_is _ same fits = same ∙ sym (none_changed old before (λ t. t) (λ t. refl))

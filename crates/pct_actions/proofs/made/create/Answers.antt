@@ -1,0 +1,33 @@
+use Rattle.std.proofs.Common.{rules, Option, Some, sym, ap, ◌∙◌, ◌<◌, subst}
+use Rattle.std.specs.Prelude.{slice_set}
+use Rattle.pct_model.specs.declared.transition.NewThread.{NewThread}
+use Rattle.pct_model.specs.Keys.{no_values}
+use Rattle.pct_process.specs.ProcessViews.{slots_of, shared_of, ProcessData}
+use Rattle.pct_actions.specs.ProcessParts.{created_made, NewFits}
+use Rattle.pct_actions.proofs.NewThreads.{is_next, slots_created}
+use Rattle.pct_actions.proofs.made.create.Goals as goal
+
+pub create-requires-clause-free : goal.create-requires-clause-free
+create-requires-clause-free c =
+    let s = c.process.inside in
+    let next = is_next s.keys s.threads c.process.invariant c.in-Some.new c.slot_of-slot.result c.slot_of-slot.ensures.value (subst (λ (p : ProcessData). NewFits (Some c.in-Some.new) p) (sym c.process.view_is) (subst (λ (created : Option NewThread). NewFits created c.args.process.now) c.in-Some.is c.requires)) in
+    next.free
+
+pub create-requires-clause-fits : goal.create-requires-clause-fits
+create-requires-clause-fits c =
+    let s = c.process.inside in
+    let next = is_next s.keys s.threads c.process.invariant c.in-Some.new c.slot_of-slot.result c.slot_of-slot.ensures.value (subst (λ (p : ProcessData). NewFits (Some c.in-Some.new) p) (sym c.process.view_is) (subst (λ (created : Option NewThread). NewFits created c.args.process.now) c.in-Some.is c.requires)) in
+    let fits : c.in-Some.new.id < 4294967296 = search rules in
+    subst (λ n. n < 4294967296) (sym next.id_is) fits
+
+pub returns-in-Some : goal.returns-in-Some
+returns-in-Some c =
+    let s = c.process.inside in
+    let next = is_next s.keys s.threads c.process.invariant c.in-Some.new c.slot_of-slot.result c.slot_of-slot.ensures.value (subst (λ (p : ProcessData). NewFits (Some c.in-Some.new) p) (sym c.process.view_is) (subst (λ (created : Option NewThread). NewFits created c.args.process.now) c.in-Some.is c.requires)) in
+    let new = c.in-Some.new in
+    (λ i. record {
+      slots = (ap (λ keys. slots_of keys.rows c.create.new.self) c.clear_row.ensures ∙ ap (slots_of (slice_set s.keys.rows c.slot_of-slot.result no_values)) c.create.ensures.table ∙ slots_created s.keys s.threads c.process.invariant new c.slot_of-slot.result c.slot_of-slot.ensures.value next) i;
+      shared = shared_of s.globals s.owners s.counts (ap (λ keys. keys.places) c.clear_row.ensures i) s.exit_value;
+    })
+    ∙ ap (created_made (Some new)) c.process.view_is
+    ∙ ap (λ (created : Option NewThread). created_made created c.args.process.now) (sym c.in-Some.is)

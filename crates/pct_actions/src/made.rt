@@ -1,0 +1,36 @@
+//! What a transition of a thread changes in its process.
+
+ghost use Rattle.std.specs.Prelude.{◌≡◌};
+ghost use Rattle.pct_actions.specs.ProcessChanges.{data_moved, Makes};
+ghost use Rattle.pct_actions.specs.ProcessParts.{created_made, NewFits};
+
+use crate::own_thread::make_own;
+use crate::shared_actions::act_all;
+use pct_model::{NewThread, Transition};
+use pct_process::ProcessState;
+
+/// Makes the changes of a transition of the thread with an id, which fits the process. The end of the process and the stop of the
+/// run are not among them.
+pub fn make(process: &mut ProcessState, tid: u32, transition: &Transition)
+    requires { Makes tid transition.now process.old }
+    ensures { process.new ≡ data_moved tid transition.now process.old }
+{
+    let slot = process.threads.slot_of(tid);
+    make_own(process, slot, transition);
+    act_all(process, &transition.actions, 0);
+    create(process, transition.created);
+}
+
+// Creates the thread that a transition creates, if it does. It has no thread-specific data.
+fn create(process: &mut ProcessState, created: Option<NewThread>)
+    requires { NewFits created process.old }
+    ensures { process.new ≡ created_made created process.old }
+{
+    if let Some(new) = created {
+        let slot = process.threads.slot_of(new.id);
+        process
+            .threads
+            .create(slot, new.func, new.arg, new.detached);
+        process.keys.clear_row(slot);
+    }
+}

@@ -1,0 +1,78 @@
+-- What holds of each state that a run reaches.
+use Rattle.std.proofs.Common.{◌≡◌, ℕ, ◌+◌, ◌*◌, ◌^◌, ◌<◌, ◌≤◌, Bool, true, ◌&&◌, List, length, Option, Some, None, refl, sym, subst, arith}
+use Rattle.std.specs.Prelude.{All, nat_le, slice_get}
+use Rattle.std.specs.Option.{option_map_or}
+use Rattle.std.proofs.lemmas.Bool.{and_parts, leb-true}
+use Rattle.std.proofs.lemmas.List.Elements.{All-weaker}
+use Rattle.std.proofs.lemmas.Option.{slice_get_within, get_or_from_slice_get}
+use Rattle.std.proofs.Math.Nat.{mul-le-mul}
+use Rattle.pct_model.specs.declared.script.Script.{Script}
+use Rattle.pct_model.specs.declared.limits.TheConstants.{MAX_BUDGET, MIN_PASSES, MAX_PASSES, MAX_SLOTS}
+use Rattle.pct_model.specs.declared.schedule.Config.{Config}
+use Rattle.pct_model.specs.declared.schedule.Entry.{Entry}
+use Rattle.pct_model.specs.Keys.{KeyPlace}
+use Rattle.pct_model.specs.Run.{Run, is_config, run}
+use Rattle.pct_engine_laws.specs.Seen.{SeenProcess, Seen, seen}
+use Rattle.pct_engine_laws.specs.ThreadCounts.{MadeAtMost}
+use Rattle.pct_engine_laws.specs.KeyCounts.{KeysAtMost}
+use Rattle.pct_engine_laws.proofs.FewKeys.{few_keys_made}
+use Rattle.pct_engine_laws.proofs.FewThreads.{few_made}
+use Rattle.pct_engine_laws.proofs.PlacedThreads.{HoldsSlot, processes_are_placed}
+use Rattle.pct_engine_laws.proofs.RunNumbers.{run_limited}
+use Rattle.pct_actions.specs.ProcessChanges.{IsOnSlot}
+use Rattle.pct_transitions.specs.Programs.{ProgramValue}
+use Rattle.pct_machine.specs.MachineSteps.{AllCanStep}
+use Rattle.pct_engine.specs.Traces.{TraceValue}
+use Rattle.pct_engine.specs.EngineStates.{StandsFor}
+
+-- a configuration within the limits has 1 to 64 slots
+pub slots_within : (config : Config) → is_config config ≡ true → (1 ≤ config.slots) × (config.slots ≤ MAX_SLOTS)
+slots_within config limits =
+    let early : Bool = nat_le 1 config.budget && nat_le config.budget MAX_BUDGET && nat_le MIN_PASSES config.passes && nat_le config.passes MAX_PASSES in
+    let few = and_parts (early && nat_le 1 config.slots) (nat_le config.slots MAX_SLOTS) limits in
+    let some = and_parts early (nat_le 1 config.slots) few.0 in
+    (leb-true 1 config.slots some.1, leb-true config.slots MAX_SLOTS few.1)
+
+next_below : (slot slots made n : ℕ) → slot < slots → slots ≤ 64 → made ≤ 1 + n → n ≤ 200000 → 1 + slot + slots * made < 2 ^ 32
+next_below slot slots made n low few made_few budget =
+    let low_made : made ≤ 200001 = omega (arith, made_few, budget) in
+    let many : slots * made ≤ 64 * 200001 = mul-le-mul few low_made in
+    omega (arith, low, few, many)
+
+key_below : (place made n : ℕ) → place < 128 → made ≤ n → n ≤ 200000 → 1 + place + 128 * made < 2 ^ 32
+key_below place made n low made_few budget =
+    let low_made : made ≤ 200000 = omega (arith, made_few, budget) in
+    omega (arith, low, low_made)
+
+made_by : (places : List KeyPlace) (place n : ℕ) → KeysAtMost n places → option_map_or (λ p. p.made) (slice_get places place) 0 ≤ n
+made_by places place n few = by (slice_get places place) refl where
+  by : (o : Option KeyPlace) → slice_get places place ≡ o → option_map_or (λ p. p.made) o 0 ≤ n
+  by None at = omega arith
+  by (Some p) at = subst (λ (p : KeyPlace). p.made ≤ n) (get_or_from_slice_get places place p p at) (few place p (slice_get_within places place p at))
+
+item_has : {T : Type 0} (P : T → Type 0) (xs : List T) (i : ℕ) (x : T) → All P xs → slice_get xs i ≡ Some x → P x
+item_has P xs i x each at = subst P (get_or_from_slice_get xs i x x at) (each i x (slice_get_within xs i x at))
+
+-- each of its processes can step
+all_can_step : (script : Script) (config : Config) (entries : List Entry) (after : Run) → run script config entries ≡ Some after → AllCanStep config.slots (seen config.slots after.world)
+all_can_step script config entries after is = λ i p at.
+    let n : ℕ = length entries in
+    let limits = run_limited script config entries after is in
+    let placed = processes_are_placed config.slots after.world i p at in
+    let all : length p.slots ≡ config.slots = placed.all in
+    let processes : List SeenProcess = (seen config.slots after.world).processes in
+    let made : MadeAtMost (1 + n) p.slots = item_has (λ (q : SeenProcess). MadeAtMost (1 + n) q.slots) processes i p (few_made script config entries after is) at in
+    let keys : KeysAtMost n p.shared.keys = item_has (λ (q : SeenProcess). KeysAtMost n q.shared.keys) processes i p (few_keys_made script config entries after is) at in
+    record {
+      all = all;
+      on_slots = λ s row found.
+          subst (λ (slots : ℕ). All (IsOnSlot slots s) row.here) (sym all) (All-weaker (HoldsSlot config.slots s) (IsOnSlot config.slots s) (λ t has. record { on = has.on; holds = has.holds }) row.here (placed.each s row found));
+      numbers = record {
+        ids = λ k low. next_below k (length p.slots) _ n low (omega (arith, all, limits.slots)) (made k _ low) limits.budget;
+        keys_fit = λ place low. key_below place _ n low (made_by p.shared.keys place n keys) limits.budget;
+      };
+    }
+
+-- the machine of an engine
+pub stands_can_step : (program : ProgramValue) (trace : TraceValue) (machine : Seen) → StandsFor program trace machine → AllCanStep program.config.slots machine
+stands_can_step program trace machine stands = subst (AllCanStep program.config.slots) (sym stands.state_is) (all_can_step program.script program.config trace.history stands.after stands.is_run)

@@ -1,0 +1,88 @@
+-- Each transition that a thread of a process takes fits the process.
+use Rattle.std.proofs.Common.{◌≡◌, ℕ, true, false, List, length, Option, Some, None, refl, sym, ap, ◌∙◌, subst}
+use Rattle.std.specs.Prelude.{IfSome, is_some, is_none, nat_eq}
+use Rattle.std.specs.List.{list_any}
+use Rattle.std.proofs.lemmas.Bool.{false≢true, true≢false}
+use Rattle.std.proofs.lemmas.Option.{same_Some}
+use Rattle.pct_model.specs.declared.script.Script.{Script}
+use Rattle.pct_model.specs.declared.schedule.Alt.{Alt}
+use Rattle.pct_model.specs.declared.state.Status.{Status}
+use Rattle.pct_model.specs.declared.statement.Stmt.{Stmt}
+use Rattle.pct_model.specs.declared.transition.Transition.{Transition}
+use Rattle.pct_model.specs.ChoiceTable.{offers}
+use Rattle.pct_model.specs.Keys.{Key}
+use Rattle.pct_model.specs.NextStatement.{NextStatement, next_of, body_at}
+use Rattle.pct_model.specs.OtherThreads.{Others}
+use Rattle.pct_model.specs.ThreadSlots.{is_ended_status}
+use Rattle.pct_model.specs.World.{Thread}
+use Rattle.pct_engine_laws.specs.Fitting.{AllFit}
+use Rattle.pct_engine_laws.specs.SeenSteps.{thread_with, new_ids_from, others_in, choices_in, transition_in}
+use Rattle.pct_transition_cases.proofs.CaseOfTransition.{case_of}
+use Rattle.pct_transition_cases.proofs.TransitionCases.{TransitionCase, thread_made, join_ended, key_made, key_deleted, specific_set, destructor_called}
+use Rattle.pct_process.specs.ProcessViews.{ProcessData}
+use Rattle.pct_transitions.specs.Numbers.{AreOnPlaces}
+use Rattle.pct_transitions.specs.ProcessSteps.{with_data}
+use Rattle.pct_transitions.proofs.KeyChoices.{new_fits, left_fits}
+use Rattle.pct_actions.specs.TableFits.{KeysFit}
+use Rattle.pct_actions.specs.ProcessChanges.{AreOnSlots, JoinsFit, Makes}
+
+-- ---- keys
+
+is_there : (found : Option Key) → is_none found ≡ false → is_some found ≡ true
+is_there None none = absurd (true≢false none)
+is_there (Some key) none = refl
+
+-- ---- the transition of a thread, by a choice that is offered
+
+module _ (script : Script) (passes tid : ℕ) (d : ProcessData) (t : Thread) (choice : Alt) (found : thread_with (length d.slots) tid d.slots ≡ Some t) where
+  abbrev slots : ℕ
+  slots = length d.slots
+
+  -- its transition
+  abbrev taken : Transition
+  taken = transition_in script slots passes (with_data d) t choice
+
+  -- its transition, by case
+  abbrev Case : Others → NextStatement → Status → Transition → Type 0
+  Case others next s o = TransitionCase passes (body_at script t.frames) d.shared t others true next s o
+
+  keys_fit : AreOnPlaces d.shared.keys → {others : Others} {next : NextStatement} {s : Status} {o : Transition} → Case others next s o → KeysFit o.actions d.shared.keys t.specific
+  keys_fit on (key_made frame result key destructor k among) = (new_fits d.shared.keys k (among refl), (tt, (tt, tt)))
+  keys_fit on (key_deleted frame key named) = (is_there _ named, tt)
+  keys_fit on (specific_set frame key v named) = (is_there _ named, tt)
+  keys_fit on (destructor_called next k f key none is destructor among) = (left_fits d.shared.keys t.specific k on (among refl), (tt, tt))
+  keys_fit on _ = assumption
+
+  joins_fit : {next : NextStatement} {s : Status} {o : Transition} → t.status ≡ s → Case (others_in slots d.slots t.id) next s o → JoinsFit tid o.actions d.slots
+  unfolding others_in
+  joins_fit at (join_ended frame operand e id v target is ended) =
+      let has_ended : is_ended_status target.status ≡ true = ap is_ended_status ended in (
+        (
+          λ same. let mover : target ≡ t = same_Some target t (sym is ∙ ap (λ (k : ℕ). thread_with slots k d.slots) same ∙ found) in false≢true (sym (ap is_ended_status at) ∙ ap (λ (u : Thread). is_ended_status u.status) (sym mover) ∙ has_ended),
+          subst (λ (o : Option Thread). IfSome o (λ u. is_ended_status u.status ≡ true)) (sym is) has_ended,
+        ),
+        (tt, tt),
+      )
+  joins_fit at _ = assumption
+
+  created_fits : {next : NextStatement} {s : Status} {o : Transition} → Case (others_in slots d.slots t.id) next s o → IfSome o.created (λ new. list_any (nat_eq new.id) (new_ids_from slots 0 d.slots) ≡ true)
+  unfolding others_in
+  created_fits (thread_made frame result id f v detached n among) = among refl
+  created_fits _ = tt
+
+  -- the transition that it takes fits the process
+  pub taken_fits : AreOnSlots d.slots → AreOnPlaces d.shared.keys → AllFit (length t.frames) (length t.handlers) t.pass taken.actions → offers (choices_in script slots (with_data d) t) choice ≡ true → Makes tid taken d
+  taken_fits placed on fits offered =
+      let others : Others = others_in slots d.slots t.id in
+      let next : NextStatement = next_of script t.frames in
+      let body : List Stmt = body_at script t.frames in
+      let its_case : Case others next t.status taken = case_of passes body d.shared t others true choice next t.status (λ known. offered) in
+      record {
+        on_slots = placed;
+        thread = t;
+        here = found;
+        fits = fits;
+        keys = keys_fit on its_case;
+        joins = joins_fit refl its_case;
+        created = created_fits its_case;
+      }

@@ -1,0 +1,72 @@
+-- The places that are kept as those from the first on are gone through: they are moved to the front, in their order.
+use Rattle.std.proofs.Common.{◌≡◌, ℕ, ◌+◌, ◌<◌, ◌≤◌, List, [], ◌∷◌, ◌++◌, length, take, drop, flat_map, slice_set, get_or, sym, ap, ◌∙◌, append-nil, subst, arith}
+use Rattle.std.specs.List.{All, swap}
+use Rattle.std.proofs.lemmas.List.{take_more, take_more_set, take-set-le, drop_more, drop-set-lt, get_or-set_same, length-set}
+use Rattle.std.proofs.lemmas.List.Edits.{swap_is}
+use Rattle.std.proofs.lemmas.List.Elements.{All-set, All-get_or}
+use Rattle.std.proofs.lemmas.Grind.{flat_map-append, drop_more_same}
+use Rattle.pct_engine_laws.specs.Seen.{SeenProcess}
+
+-- those before an index were gone through
+pub record IsKeptTo (f : SeenProcess → List SeenProcess) (kept index : ℕ) (old now : List SeenProcess) : Type 0 where
+  pub few : kept ≤ index
+  pub all : length now ≡ length old
+  pub done : take kept now ≡ flat_map f (take index old)
+  pub rest : drop index now ≡ drop index old
+  pub sizes : (slots : ℕ) → All (λ p. length p.slots ≡ slots) old → All (λ p. length p.slots ≡ slots) now
+
+module _ (f : SeenProcess → List SeenProcess) (kept index : ℕ) (old now : List SeenProcess) (p q : SeenProcess) (within : index < length now) (to : IsKeptTo f kept index old now) (at : p ≡ get_or now index p) (size : length q.slots ≡ length p.slots) where
+  -- what is kept of those before the next index
+  taken : take kept now ++ f p ≡ flat_map f (take (index + 1) old)
+  taken =
+      let same : p ≡ get_or old index p = cc (drop_more now index p within, drop_more old index p (omega (arith, to.all))) in
+      ap (λ (ps : List SeenProcess). ps ++ f p) to.done
+      ∙ ap (λ (x : SeenProcess). flat_map f (take index old) ++ f x) same
+      ∙ ap (λ (ps : List SeenProcess). flat_map f (take index old) ++ ps) (sym (append-nil (f (get_or old index p))))
+      ∙ sym (flat_map-append f (take index old) (get_or old index p ∷ []))
+      ∙ ap (flat_map f) (sym (take_more old index p (omega (arith, to.all))))
+
+  sized : (slots : ℕ) → All (λ p. length p.slots ≡ slots) old → All (λ p. length p.slots ≡ slots) (slice_set now index q)
+  sized slots all =
+      let P = λ (x : SeenProcess). length x.slots ≡ slots in
+      All-set P now index q (size ∙ ap (λ (x : SeenProcess). length x.slots) at ∙ All-get_or P now index p within (to.sizes slots all)) (to.sizes slots all)
+
+  -- the next one is not kept
+  pub none_kept : f p ≡ [] → IsKeptTo f kept (index + 1) old (slice_set now index q)
+  none_kept none = record {
+    few = omega (arith, to.few);
+    all = length-set now index q ∙ to.all;
+    done = take-set-le kept now index q to.few ∙ sym (append-nil (take kept now)) ∙ ap (λ (ps : List SeenProcess). take kept now ++ ps) (sym none) ∙ taken;
+    rest = drop-set-lt (index + 1) now index q (omega (arith)) ∙ drop_more_same now old index to.rest;
+    sizes = sized;
+  }
+
+  -- the next one is kept
+  pub one_kept : f p ≡ q ∷ [] → IsKeptTo f (kept + 1) (index + 1) old (swap (slice_set now index q) index kept)
+  one_kept one =
+      let first : SeenProcess = get_or (slice_set now index q) kept p in
+      let moved : List SeenProcess = slice_set (slice_set now index q) index first in
+      let long : length (slice_set now index q) ≡ length now = length-set now index q in
+      let more : length moved ≡ length now = length-set (slice_set now index q) index first ∙ long in
+      let is : swap (slice_set now index q) index kept ≡ slice_set moved kept q =
+      sym (swap_is (slice_set now index q) index kept p (omega (arith, long, within)) (omega (arith, long, within, to.few)))
+      ∙ ap (slice_set moved kept) (get_or-set_same now index q p within) in
+      let next : IsKeptTo f (kept + 1) (index + 1) old (slice_set moved kept q) = record {
+        few = omega (arith, to.few);
+        all = length-set moved kept q ∙ more ∙ to.all;
+        done =
+            take_more_set moved kept q (omega (arith, more, within, to.few))
+            ∙ ap (λ (ps : List SeenProcess). ps ++ q ∷ []) (take-set-le kept (slice_set now index q) index first to.few ∙ take-set-le kept now index q to.few)
+            ∙ ap (λ (ps : List SeenProcess). take kept now ++ ps) (sym one)
+            ∙ taken;
+        rest =
+            drop-set-lt (index + 1) moved kept q (omega (arith, to.few))
+            ∙ drop-set-lt (index + 1) (slice_set now index q) index first (omega (arith))
+            ∙ drop-set-lt (index + 1) now index q (omega (arith))
+            ∙ drop_more_same now old index to.rest;
+        sizes = λ slots all.
+            let P = λ (x : SeenProcess). length x.slots ≡ slots in
+            let at_first : P first = All-get_or P (slice_set now index q) kept p (omega (arith, long, within, to.few)) (sized slots all) in
+            All-set P moved kept q (size ∙ ap (λ (x : SeenProcess). length x.slots) at ∙ All-get_or P now index p within (to.sizes slots all)) (All-set P (slice_set now index q) index first at_first (sized slots all));
+      } in
+      subst (IsKeptTo f (kept + 1) (index + 1) old) (sym is) next

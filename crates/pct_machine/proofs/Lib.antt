@@ -1,0 +1,11 @@
+mod FittingTransitions
+mod StepsOfProcess
+mod LegalEntries
+mod ProcessEnds
+mod PlacesAfter
+mod KeptPlaces
+mod SlotScans
+mod ReadySlots
+mod LegalChoices
+mod Picks
+mod ReadyProcesses

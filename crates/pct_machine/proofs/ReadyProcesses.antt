@@ -1,0 +1,134 @@
+-- The threads of several processes that are ready: the verdict, and the choice of the scheduler.
+use Rattle.std.proofs.Common.{◌≡◌, ℕ, suc, ◌+◌, ◌-◌, ◌%◌, ◌≤◌, Bool, true, false, not, ◌||◌, cond, List, [], ◌∷◌, ◌++◌, map, flat_map, length, Option, Some, None, refl, sym, ap, ◌∙◌, arith}
+use Rattle.std.specs.Prelude.{nat_eq, slice_get, is_some, option_map, option_and_then, IfSome}
+use Rattle.std.specs.List.{list_all, list_any}
+use Rattle.std.proofs.Math.Nat.{zero-add}
+use Rattle.std.proofs.lemmas.List.{length-map}
+use Rattle.std.proofs.lemmas.Option.{slice_get-map, none-some, same_Some}
+use Rattle.pct_model.specs.declared.script.Script.{Script}
+use Rattle.pct_model.specs.declared.schedule.Config.{Config}
+use Rattle.pct_model.specs.declared.schedule.Entry.{Entry}
+use Rattle.pct_model.specs.declared.stop.Why.{Why}
+use Rattle.pct_model.specs.declared.stop.Verdict.{Verdict}
+use Rattle.pct_model.specs.declared.stop.Verdict.TheVariants as verdict
+use Rattle.pct_model.specs.Chosen.{Candidate, item_at, entry_for}
+use Rattle.pct_engine_laws.specs.Seen.{SeenProcess, Seen}
+use Rattle.pct_engine_laws.specs.SeenSteps.{ready_in, candidate_in, has_ready_in, seen_candidates, seen_chosen, seen_verdict, seen_verdict_by}
+use Rattle.pct_process.specs.ProcessViews.{thread_on_slot}
+use Rattle.pct_model.specs.declared.schedule.Alt.{Alt}
+use Rattle.pct_machine.specs.declared.scheduler.Draw.{Draw}
+use Rattle.pct_machine.specs.declared.scheduler.Pick.{Pick}
+use Rattle.pct_machine.specs.declared.scheduler.Pick.TheVariants.{Here, Before}
+use Rattle.pct_machine.specs.Places.{RiseWithin}
+use Rattle.pct_machine.specs.MachineSteps.{AllCanStep, legal_transition}
+use Rattle.pct_machine.specs.Candidates.{candidates_of, candidates_among, pick_after, takes_entry}
+use Rattle.pct_machine.proofs.LegalEntries.{taken_is_legal}
+use Rattle.pct_machine.proofs.Picks.{among}
+use Rattle.pct_machine.proofs.ReadySlots.{as_many, ready_at}
+
+-- ---- one process
+
+through : {A B C : Type 0} (f : A → B) (g : B → Option C) (o : Option A) → option_and_then g (option_map f o) ≡ option_and_then (λ a. g (f a)) o
+through f g None = refl
+through f g (Some a) = refl
+
+module _ (script : Script) (p : SeenProcess) (set : List ℕ) (are : map (thread_on_slot p.slots) set ≡ map (λ t. Some t) (ready_in script (length p.slots) p)) where
+  -- it has as many candidates as slots whose threads are ready
+  pub count_is : length set ≡ length (candidates_of script p)
+  count_is = as_many p.slots set (ready_in script (length p.slots) p) are ∙ sym (length-map (ready_in script (length p.slots) p) (candidate_in script (length p.slots) p))
+
+  -- the candidate at an index
+  pub candidate_at : {T : Type 0} (g : Candidate → Option T) (j : ℕ) (slot : Option ℕ) → slot ≡ slice_get set j → option_and_then g (slice_get (candidates_of script p) j) ≡ option_and_then (λ t. g (candidate_in script (length p.slots) p t)) (option_and_then (thread_on_slot p.slots) slot)
+  candidate_at g j slot at =
+      ap (option_and_then g) (slice_get-map (candidate_in script (length p.slots) p) (ready_in script (length p.slots) p) j)
+      ∙ through (candidate_in script (length p.slots) p) g (slice_get (ready_in script (length p.slots) p) j)
+      ∙ ap (option_and_then (λ t. g (candidate_in script (length p.slots) p t))) (sym (ready_at p.slots set (ready_in script (length p.slots) p) are j slot at).0)
+
+  -- a thread holds its slot
+  pub slot_held : (j : ℕ) (slot : Option ℕ) → slot ≡ slice_get set j → IfSome slot (λ s. is_some (thread_on_slot p.slots s) ≡ true)
+  slot_held j slot at = (ready_at p.slots set (ready_in script (length p.slots) p) are j slot at).1
+
+-- ---- their slots
+
+abbrev pub AllSized : ℕ → List SeenProcess → Type 0
+AllSized n ps = (i : ℕ) (p : SeenProcess) → slice_get ps i ≡ Some p → length p.slots ≡ n
+
+any_sized : (script : Script) (n : ℕ) (ps : List SeenProcess) → AllSized n ps → list_any (λ p. has_ready_in script (length p.slots) p) ps ≡ list_any (has_ready_in script n) ps
+any_sized script n [] sized = refl
+any_sized script n (p ∷ ps) sized =
+    ap (λ k. has_ready_in script k p || list_any (λ q. has_ready_in script (length q.slots) q) ps) (sized 0 p refl)
+    ∙ ap (λ b. has_ready_in script n p || b) (any_sized script n ps (λ i q at. sized (suc i) q at))
+
+pub among_sized : (script : Script) (n : ℕ) (ps : List SeenProcess) → AllSized n ps → candidates_among script ps ≡ flat_map (λ p. map (candidate_in script n p) (ready_in script n p)) ps
+among_sized script n [] sized = refl
+among_sized script n (p ∷ ps) sized =
+    ap (λ k. map (candidate_in script k p) (ready_in script k p) ++ candidates_among script ps) (sized 0 p refl)
+    ∙ ap (λ cs. map (candidate_in script n p) (ready_in script n p) ++ cs) (among_sized script n ps (λ i q at. sized (suc i) q at))
+
+-- ---- the verdict
+
+-- the verdict by the stop, by whether all processes have ended, by whether a thread is ready, and by whether the budget is used up
+abbrev pub verdict_of : Option Why → Bool → Bool → Bool → Verdict
+verdict_of (Some why) ended ready full = verdict.Undefined why
+verdict_of None ended ready full = cond ended verdict.Complete (cond (not ready) verdict.Deadlock (cond full verdict.Budget verdict.Open))
+
+by_stop : (script : Script) (config : Config) (ps : List SeenProcess) (n : ℕ) (o : Option Why) → verdict_of o (list_all (λ p. is_some p.ended) ps) (list_any (has_ready_in script config.slots) ps) (nat_eq n config.budget) ≡ seen_verdict_by o script config ps n
+by_stop script config ps n None = refl
+by_stop script config ps n (Some why) = refl
+
+module _ (script : Script) (config : Config) (v : Seen) (n : ℕ) (can : AllCanStep config.slots v) where
+  pub verdict_is : (o : Option Why) (ended ready full : Bool) → o ≡ v.stop → ended ≡ list_all (λ p. is_some p.ended) v.processes → ready ≡ list_any (λ p. has_ready_in script (length p.slots) p) v.processes → full ≡ nat_eq n config.budget
+      → verdict_of o ended ready full ≡ seen_verdict script config v n
+  unfolding seen_verdict
+  verdict_is o ended ready full at_stop at_end at_ready at_count =
+      (λ i. verdict_of (at_stop i) (at_end i) ((at_ready ∙ any_sized script config.slots v.processes (λ j p at. (can j p at).all)) i) (at_count i))
+      ∙ by_stop script config v.processes n v.stop
+
+-- ---- the choice
+
+sub_zero : (n : ℕ) → n - 0 ≡ n
+sub_zero n = omega (arith)
+
+entry_worker : (worker b : ℕ) (o : Option Candidate) (e : Entry) → option_and_then (entry_for worker b) o ≡ Some e → e.worker ≡ worker
+entry_worker worker b None e is = absurd (none-some e is)
+entry_worker worker b (Some c) e is = by_choice (item_at c.choices b) is where
+  by_choice : (o : Option Alt) → option_map (λ choice. record { worker = worker; pid = c.pid; tid = c.tid; alt = choice }) o ≡ Some e → e.worker ≡ worker
+  by_choice None is = absurd (none-some e is)
+  by_choice (Some choice) is = sym (ap (λ (x : Entry). x.worker) (same_Some (record { worker = worker; pid = c.pid; tid = c.tid; alt = choice }) e is))
+
+legal_if : (script : Script) (config : Config) (v : Seen) (high : ℕ) → RiseWithin 0 high v.processes → is_some v.stop ≡ false → (o : Option Entry) → IfSome o (λ e. list_any (takes_entry script config e) v.processes ≡ true) → ((e : Entry) → o ≡ Some e → e.worker ≤ 16)
+    → IfSome o (λ e. is_some (legal_transition script config v e) ≡ true)
+legal_if script config v high rise running None taken small = tt
+legal_if script config v high rise running (Some e) taken small = taken_is_legal script config e v high rise running (small e refl) taken
+
+module _ (script : Script) (config : Config) (v : Seen) (draw : Draw) (can : AllCanStep config.slots v) (running : is_some v.stop ≡ false) where
+  abbrev all : List Candidate
+  all = candidates_among script v.processes
+
+  whole : (answer : Pick) → answer ≡ pick_after 0 draw all → answer ≡ Here (option_and_then (entry_for draw.worker draw.choice) (item_at all draw.thread))
+  unfolding pick_after
+  whole answer is =
+      is
+      ∙ among 0 draw (draw.thread % (0 + length all)) all (omega (arith))
+      ∙ ap (λ (k : ℕ). Here (option_and_then (entry_for draw.worker draw.choice) (slice_get all k))) (sub_zero (draw.thread % (0 + length all)))
+      ∙ ap (λ (n : ℕ). Here (option_and_then (entry_for draw.worker draw.choice) (slice_get all (draw.thread % n)))) (zero-add (length all))
+
+  -- the entry that is chosen
+  pub chosen_is : (entry : Option Entry) → Here entry ≡ pick_after 0 draw all → entry ≡ seen_chosen script config.slots v draw.worker draw.thread draw.choice
+  unfolding seen_candidates
+  chosen_is entry is =
+      cc (whole (Here entry) is)
+      ∙ ap (λ (cs : List Candidate). option_and_then (entry_for draw.worker draw.choice) (item_at cs draw.thread)) (among_sized script config.slots v.processes (λ i p at. (can i p at).all))
+      ∙ sym (ap (λ b. cond (not b) (option_and_then (entry_for draw.worker draw.choice) (item_at (seen_candidates script config.slots v) draw.thread)) None) running)
+
+  -- it is one of the candidates
+  pub never_before : (i : ℕ) → Before i ≡ pick_after 0 draw all → ⊥
+  never_before i is = cc (whole (Before i) is)
+
+  -- it is legal for a worker within the limit
+  pub chosen_is_legal : (high : ℕ) → RiseWithin 0 high v.processes → (entry : Option Entry) → Here entry ≡ pick_after 0 draw all → IfSome entry (λ e. list_any (takes_entry script config e) v.processes ≡ true) → draw.worker ≤ 16 → IfSome entry (λ e. is_some (legal_transition script config v e) ≡ true)
+  chosen_is_legal high rise entry is taken small =
+      legal_if script config v high rise running entry taken (λ e some.
+      let same : entry ≡ option_and_then (entry_for draw.worker draw.choice) (item_at all draw.thread) = cc (whole (Here entry) is) in
+      let by : e.worker ≡ draw.worker = entry_worker draw.worker draw.choice (item_at all draw.thread) e (sym same ∙ some) in
+      omega (arith, by, small))

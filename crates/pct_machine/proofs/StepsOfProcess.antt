@@ -1,0 +1,30 @@
+-- A transition that an entry takes fits the process.
+use Rattle.std.proofs.Common.{◌≡◌, ℕ, true, length, Option, Some, None, refl, sym, ◌∙◌, subst}
+use Rattle.std.specs.Prelude.{is_some}
+use Rattle.std.proofs.lemmas.Bool.{false≢true}
+use Rattle.pct_model.specs.declared.script.Script.{Script}
+use Rattle.pct_model.specs.declared.schedule.Config.{Config}
+use Rattle.pct_model.specs.declared.schedule.Entry.{Entry}
+use Rattle.pct_model.specs.declared.transition.Transition.{Transition}
+use Rattle.pct_model.specs.World.{Thread}
+use Rattle.pct_engine_laws.specs.Fitting.{AllFit}
+use Rattle.pct_engine_laws.specs.SeenSteps.{thread_with, transition_in}
+use Rattle.pct_process.specs.ProcessViews.{thread_on_slot, HoldsThread, ProcessData}
+use Rattle.pct_transitions.specs.Numbers.{AreOnPlaces}
+use Rattle.pct_transitions.specs.ProcessSteps.{with_data, Takes}
+use Rattle.pct_actions.specs.ProcessChanges.{AreOnSlots, Makes}
+use Rattle.pct_machine.proofs.FittingTransitions.{taken_fits}
+
+-- the thread that holds a slot
+pub thread_of : (o : Option Thread) → is_some o ≡ true → (t : Thread) × (o ≡ Some t)
+thread_of None some = absurd (false≢true some)
+thread_of (Some t) some = (t, refl)
+
+module _ (script : Script) (config : Config) (d : ProcessData) (e : Entry) (slot : ℕ) (o : Transition) (holds : HoldsThread (thread_with (length d.slots) e.tid d.slots) (thread_on_slot d.slots slot)) where
+  -- the transition of a choice that is offered fits the process
+  pub makes : AreOnSlots d.slots → AreOnPlaces d.shared.keys → ((t : Thread) → thread_on_slot d.slots slot ≡ Some t → Takes script config d t e.alt true o) → ((t : Thread) → thread_on_slot d.slots slot ≡ Some t → true ≡ true → AllFit (length t.frames) (length t.handlers) t.pass o.actions) → Makes e.tid o d
+  makes placed on takes fits =
+      let t = thread_of (thread_on_slot d.slots slot) holds.some in
+      let is : o ≡ transition_in script (length d.slots) config.passes (with_data d) t.0 e.alt = (takes t.0 t.1).taken refl in
+      subst (λ (x : Transition). Makes e.tid x d) (sym is)
+      (taken_fits script config.passes e.tid d t.0 e.alt (holds.same ∙ t.1) placed on (subst (λ (x : Transition). AllFit (length t.0.frames) (length t.0.handlers) t.0.pass x.actions) is (fits t.0 t.1 refl)) (takes t.0 t.1).offered_is)

@@ -1,0 +1,4 @@
+pub mod ProcessSteps
+pub mod Places
+pub mod MachineSteps
+pub mod Candidates

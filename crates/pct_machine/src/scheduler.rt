@@ -1,0 +1,47 @@
+//! The threads of a process that are ready, and the numbers that choose one of them.
+
+ghost use Rattle.std.specs.Prelude.{◌≡◌, Some, map, length};
+ghost use Rattle.pct_engine_laws.specs.SeenSteps.{ready_in};
+ghost use Rattle.pct_process.specs.ProcessViews.{thread_on_slot};
+ghost use Rattle.pct_transitions.specs.ProcessSteps.{with_data};
+
+use pct_model::Entry;
+use pct_process::ProcessState;
+use pct_set::SlotSet;
+use pct_transitions::{Program, has_choice};
+
+/// The numbers of a worker, which choose an entry.
+#[derive(Clone, Copy, Debug)]
+pub struct Draw {
+    /// The worker.
+    pub worker: u32,
+    /// The number that chooses one of the threads that are ready.
+    pub thread: u32,
+    /// The number that chooses one of its choices.
+    pub choice: u32,
+}
+
+/// What a number chooses of some candidates and of others before them.
+pub(crate) enum Pick {
+    /// One of the candidates, by the entry of the worker; none if there are no candidates.
+    Here(Option<Entry>),
+    /// One of those before them, by its index among them.
+    Before(u32),
+}
+
+/// The slots of the threads that are ready.
+pub(crate) fn ready_slots(program: &Program, process: &ProcessState) -> SlotSet
+    ensures { map (thread_on_slot process.now.slots) result ≡ map (λ t. Some t) (ready_in program.now.script (length process.now.slots) (with_data process.now)) }
+{
+    // A process has at most 64 slots, with at most one thread on each.
+    let _count = process.slot_count();
+    let mut ready = SlotSet::new();
+    let mut rest = process.occupied();
+    while let Some(slot) = rest.nth(0) {
+        if has_choice(program, process, slot) {
+            ready.insert(slot);
+        }
+        rest.remove(slot);
+    }
+    ready
+}

@@ -1,0 +1,3 @@
+pub mod RowViews
+pub mod ViewedSlots
+mod FirstProcess

@@ -1,0 +1,16 @@
+use Rattle.std.proofs.Common.{◌≡◌, Some, sym, ap, ◌∙◌, subst}
+use Rattle.std.specs.Prelude.{is_some, option_map}
+use Rattle.pct_model.specs.World.{Thread}
+use Rattle.pct_process.specs.ProcessViews.{thread_on_slot, ProcessData}
+use Rattle.pct_process.proofs.ViewedSlots.{occupied_is, id_is}
+use Rattle.pct_process.proofs.process_state.ProcessState.id_on.Goals as goal
+
+pub place-requires : goal.place-requires
+place-requires c =
+    let s = c.self.inside in
+    sym (occupied_is s.keys s.threads c.self.invariant c.args.slot) ∙ ap (λ (p : ProcessData). is_some (thread_on_slot p.slots c.args.slot)) c.self.view_is ∙ c.requires
+
+pub returns : goal.returns
+returns c =
+    let s = c.self.inside in
+    subst (λ (p : ProcessData). option_map (λ (t : Thread). t.id) (thread_on_slot p.slots c.args.slot) ≡ Some c.place.result.id) c.self.view_is (id_is s.keys s.threads c.self.invariant c.args.slot c.place.result c.place.ensures.value)

@@ -1,0 +1,2 @@
+pub mod ThreadViews
+pub mod ProcessViews

@@ -1,9 +1,0 @@
-use Rattle.std.proofs.Common.{◌≡◌, length, take, map}
-use Rattle.pct_threads.specs.Slots.{freed}
-use Rattle.pct_threads.proofs.threads.Threads.free_as.Given as goal
-
-abbrev pub invariant-loop-slot : goal.invariant-loop-slot
-invariant-loop-slot l = record {
-  long : length l.self ≡ length l.other;
-  done : take l.slot l.self ≡ map freed (take l.slot l.other);
-}

@@ -1,0 +1,175 @@
+-- What is read of the table of threads is what a thread sees of the others.
+use Rattle.std.proofs.Common.{◌≡◌, ℕ, zero, suc, ◌+◌, ◌*◌, ◌<◌, ◌≤◌, Bool, true, false, not, ◌||◌, cond, List, [], ◌∷◌, ◌++◌, map, take, drop, length, nat_eq, Option, Some, None, refl, sym, ap, ◌∙◌, inl, inr, arith}
+use Rattle.std.specs.Prelude.{All, filter, is_none, is_some, option_map, option_and_then}
+use Rattle.std.specs.List.{list_any, range_with_len}
+use Rattle.std.specs.Option.{option_map_or}
+use Rattle.std.proofs.Math.Bool.{or-false}
+use Rattle.std.proofs.lemmas.Bool.{cases_lt, false≢true}
+use Rattle.std.proofs.lemmas.List.{take_all, drop_more, drop_all}
+use Rattle.std.proofs.lemmas.List.Elements.{filter_passes}
+use Rattle.std.proofs.lemmas.List.Folds.{list_any-append, list_any_at}
+use Rattle.std.proofs.lemmas.Option.{none-some, slice_get-get_or, slice_get_past, same_Some}
+use Rattle.pct_model.specs.Keys.{KeyValues}
+use Rattle.pct_model.specs.OtherThreads.{Others, no_live_thread, is_detached_thread, exit_value_of, exit_value_with, is_joining}
+use Rattle.pct_model.specs.ThreadSlots.{slot_of}
+use Rattle.pct_model.specs.World.{Thread}
+use Rattle.pct_set.specs.Slots.{slots_where}
+use Rattle.pct_threads.specs.declared.record.Place.{Place}
+use Rattle.pct_threads.specs.declared.record.Thread.{Thread as Kept}
+use Rattle.pct_threads.specs.Slots.{Held, Slot, unused, is_occupied, has_id, place_of}
+use Rattle.pct_threads.specs.Tables.{slot_at, held_at, place_at, thread_at, is_free_at, next_id_at}
+use Rattle.pct_threads.proofs.TableLemmas.{within-free}
+use Rattle.pct_keys.specs.Tables.{Table, row_at}
+use Rattle.pct_engine_laws.specs.Seen.{SeenSlot}
+use Rattle.pct_engine_laws.specs.SeenSteps.{threads_on, is_empty, new_id_on, new_ids_from, others_in}
+use Rattle.pct_engine_laws.proofs.ListFacts.{all_none}
+use Rattle.pct_process.specs.ThreadViews.{thread_of, threads_of, slot_view, with_specific}
+use Rattle.pct_process.specs.ProcessViews.{slots_of, with_rows}
+use Rattle.pct_process.proofs.ViewedSlots.{own, length-slots_of, thread_on_slot-is, looked_up, not_looked_up}
+use Rattle.pct_transitions.specs.OtherThreads.{any_on, is_other_running}
+
+-- ---- scans
+
+module _ (test : Thread → Bool) (same : (own : KeyValues) (t : Thread) → test (with_specific own t) ≡ test t) where
+  any_here : (row : KeyValues) (here : Option Held) → list_any test (map (with_specific row) (threads_of here)) ≡ any_on test here
+  any_here row None = refl
+  any_here row (Some h) = or-false (test (with_specific row (thread_of h))) ∙ same row (thread_of h)
+
+  -- some thread passes a test that does not read its data exactly if the thread on some slot of the table does
+  pub any_slot : (rows : List KeyValues) (threads : List Slot) → length rows ≡ length threads → list_any (λ s. any_on test s.here) threads ≡ list_any test (threads_on (slots_of rows threads))
+  any_slot [] [] fit = refl
+  any_slot [] (s ∷ rest) fit = absurd (omega (arith, fit))
+  any_slot (row ∷ rows) [] fit = absurd (omega (arith, fit))
+  any_slot (row ∷ rows) (s ∷ rest) fit =
+      ap (λ (b : Bool). any_on test s.here || b) (any_slot rows rest (omega (arith, fit)))
+      ∙ ap (λ (b : Bool). b || list_any test (threads_on (slots_of rows rest))) (sym (any_here row s.here))
+      ∙ sym (list_any-append test (map (with_specific row) (threads_of s.here)) (threads_on (slots_of rows rest)))
+
+-- a slot whose thread passes
+pub any_found : (test : Thread → Bool) (threads : List Slot) (slot : ℕ) → slot < length threads → any_on test (held_at threads slot) ≡ true → list_any (λ s. any_on test s.here) threads ≡ true
+any_found test threads slot inside passes = list_any_at (λ (s : Slot). any_on test s.here) threads slot unused inside passes
+
+-- no slot has one
+pub any_none : (test : Thread → Bool) (threads : List Slot) (n : ℕ) → length threads ≤ n → list_any (λ s. any_on test s.here) (take n threads) ≡ false → list_any (λ s. any_on test s.here) threads ≡ false
+any_none test threads n whole none = ap (list_any (λ (s : Slot). any_on test s.here)) (sym (take_all n threads whole)) ∙ none
+
+-- ---- new ids
+
+empty_here : (here : Option Held) → is_empty (threads_of here) ≡ not (is_some here)
+empty_here None = refl
+empty_here (Some h) = refl
+
+id_more : (threads : List Slot) (s : ℕ) (free : Bool) (rest : List ℕ) → map (next_id_at threads) (cond free (s ∷ rest) rest) ≡ cond free (next_id_at threads s ∷ []) [] ++ map (next_id_at threads) rest
+id_more threads s true rest = refl
+id_more threads s false rest = refl
+
+free_past : (threads : List Slot) (s : ℕ) → length threads ≤ s → is_free_at threads s ≡ false
+free_past threads s past = ap (λ (o : Option Slot). option_map_or (λ slot. not (is_occupied slot)) o false) (slice_get_past threads s past)
+
+free_here : (threads : List Slot) (s : ℕ) → s < length threads → is_free_at threads s ≡ is_empty (threads_of (held_at threads s))
+free_here threads s inside =
+    ap (λ (o : Option Slot). option_map_or (λ slot. not (is_occupied slot)) o false) (slice_get-get_or threads s unused inside) ∙ sym (empty_here (held_at threads s))
+
+-- no slot past the last one is free
+none_past : (threads : List Slot) (s k : ℕ) → length threads ≤ s → map (next_id_at threads) (filter (is_free_at threads) (range_with_len s k)) ≡ []
+none_past threads s zero past = refl
+none_past threads s (suc k) past =
+    ap (λ b. map (next_id_at threads) (cond b (s ∷ filter (is_free_at threads) (range_with_len (s + 1) k)) (filter (is_free_at threads) (range_with_len (s + 1) k)))) (free_past threads s past)
+    ∙ none_past threads (s + 1) k (omega (arith, past))
+
+-- the ids of the slots from one on
+ids_from : (threads : List Slot) (s k : ℕ) → length threads ≤ s + k → map (next_id_at threads) (filter (is_free_at threads) (range_with_len s k)) ≡ new_ids_from (length threads) s (map slot_view (drop s threads))
+ids_from threads s zero within = ap (λ rows. new_ids_from (length threads) s (map slot_view rows)) (sym (drop_all s threads (omega (arith, within))))
+ids_from threads s (suc k) within =
+    elim (cases_lt s (length threads)) [
+      | inl inside ↦
+          let rest : map (next_id_at threads) (filter (is_free_at threads) (range_with_len (s + 1) k)) ≡ new_ids_from (length threads) (s + 1) (map slot_view (drop (s + 1) threads)) = ids_from threads (s + 1) k (omega (arith, within)) in
+          id_more threads s (is_free_at threads s) (filter (is_free_at threads) (range_with_len (s + 1) k))
+          ∙ ap (λ b. cond b (next_id_at threads s ∷ []) [] ++ map (next_id_at threads) (filter (is_free_at threads) (range_with_len (s + 1) k))) (free_here threads s inside)
+          ∙ ap (λ ids. new_id_on (length threads) s (slot_view (slot_at threads s)) ++ ids) rest
+          ∙ ap (λ rows. new_ids_from (length threads) s (map slot_view rows)) (sym (drop_more threads s unused inside))
+      | inr past ↦ none_past threads s (suc k) past ∙ ap (λ rows. new_ids_from (length threads) s (map slot_view rows)) (sym (drop_all s threads past))
+    ]
+
+empty_on_row : (row : KeyValues) (ts : List Thread) → is_empty (map (with_specific row) ts) ≡ is_empty ts
+empty_on_row row [] = refl
+empty_on_row row (t ∷ ts) = refl
+
+-- they do not depend on the data of the threads
+ids_on_rows : (slots s : ℕ) (rows : List KeyValues) (seen : List SeenSlot) → new_ids_from slots s seen ≡ new_ids_from slots s (with_rows rows seen)
+ids_on_rows slots s rows [] = refl
+ids_on_rows slots s [] (x ∷ seen) = refl
+ids_on_rows slots s (row ∷ rows) (x ∷ seen) =
+    ap (λ (ids : List ℕ). cond (is_empty x.here) ((1 + s + slots * x.made) ∷ []) [] ++ ids) (ids_on_rows slots (s + 1) rows seen)
+    ∙ ap (λ (b : Bool). cond b ((1 + s + slots * x.made) ∷ []) [] ++ new_ids_from slots (s + 1) (with_rows rows seen)) (sym (empty_on_row row x.here))
+
+-- a free slot is one of the table
+pub free_within : (threads : List Slot) → All (λ s. s < length threads) (slots_where (is_free_at threads))
+unfolding slots_where
+free_within threads = λ k d inside. within-free threads _ (filter_passes (is_free_at threads) (range_with_len 0 64) k d inside)
+
+-- ---- what a thread sees
+
+-- of a thread that holds a slot
+module _ (own : Held → Thread) where
+  is_there : (id : ℕ) (o : Option Held) → option_map_or (λ h. nat_eq h.id id) o false ≡ true → false ≡ is_none (option_map own o)
+  is_there id None has = absurd (false≢true has)
+  is_there id (Some h) has = refl
+
+module _ (keys : Table) (k : ℕ) where
+  detached_here : (o : Option Held) (place : Place) → option_map place_of o ≡ Some place → place.detached ≡ option_map_or (λ t. t.detached) (option_map (λ h. with_specific (row_at keys k) (thread_of h)) o) false
+  detached_here None place is = absurd (none-some place is)
+  detached_here (Some h) place is = sym (ap (λ (p : Place). p.detached) (same_Some (place_of h) place is))
+
+  ended_here : (o : Option Held) (kept : Kept) → option_map (λ h. h.thread) o ≡ Some kept → exit_value_of kept.status ≡ option_and_then (λ t. exit_value_of t.status) (option_map (λ h. with_specific (row_at keys k) (thread_of h)) o)
+  ended_here None kept is = absurd (none-some kept is)
+  ended_here (Some h) kept is = sym (ap (λ (r : Kept). exit_value_of r.status) (same_Some h.thread kept is))
+
+module _ (keys : Table) (threads : List Slot) (fit : length keys.rows ≡ length threads) (tid : ℕ) (others : Others) (sees : others ≡ others_in (length (slots_of keys.rows threads)) (slots_of keys.rows threads) tid) where
+  -- the thread with an id is that on its slot
+  module _ (id k : ℕ) (is : k ≡ slot_of (length threads) id) (inside : k < length threads) where
+    there : has_id id (slot_at threads k) ≡ true → others.named id ≡ option_map (own keys threads fit k) (held_at threads k)
+    unfolding others_in
+    there has = ap (λ (o : Others). o.named id) sees ∙ (looked_up keys threads fit id k is inside has).same ∙ thread_on_slot-is keys threads fit k
+
+    nowhere : has_id id (slot_at threads k) ≡ false → others.named id ≡ None
+    unfolding others_in
+    nowhere has = ap (λ (o : Others). o.named id) sees ∙ not_looked_up keys threads fit id k is inside has
+
+    pub is_no_thread : (has : Bool) → has ≡ has_id id (slot_at threads k) → not has ≡ no_live_thread id others
+    is_no_thread true has = is_there (own keys threads fit k) id (held_at threads k) (sym has) ∙ ap (λ (o : Option Thread). is_none o) (sym (there (sym has)))
+    is_no_thread false has = ap (λ (o : Option Thread). is_none o) (sym (nowhere (sym has)))
+
+    pub is_detached : (place : Place) → has_id id (slot_at threads k) ≡ true → place_at threads k ≡ Some place → place.detached ≡ is_detached_thread id others
+    is_detached place has at = detached_here keys k (held_at threads k) place at ∙ ap (λ (o : Option Thread). option_map_or (λ t. t.detached) o false) (sym (there has))
+
+    pub none_detached : has_id id (slot_at threads k) ≡ false → false ≡ is_detached_thread id others
+    none_detached has = ap (λ (o : Option Thread). option_map_or (λ t. t.detached) o false) (sym (nowhere has))
+
+    pub has_ended : (kept : Kept) → has_id id (slot_at threads k) ≡ true → thread_at threads k ≡ Some kept → exit_value_of kept.status ≡ exit_value_with id others
+    has_ended kept has at = ended_here keys k (held_at threads k) kept at ∙ ap (option_and_then (λ t. exit_value_of t.status)) (sym (there has))
+
+    pub none_ended : has_id id (slot_at threads k) ≡ false → None ≡ exit_value_with id others
+    none_ended has = ap (option_and_then (λ t. exit_value_of t.status)) (sym (nowhere has))
+
+  -- a thread joins the one with an id
+  pub joins_read : (id : ℕ) → list_any (λ s. any_on (λ t. is_joining id t.status) s.here) threads ≡ others.another_joins id
+  unfolding others_in
+  joins_read id = any_slot (λ t. is_joining id t.status) (λ own t. refl) keys.rows threads fit ∙ ap (λ (o : Others). o.another_joins id) (sym sees)
+
+  -- each other thread has ended
+  pub last_read : (b : Bool) → b ≡ list_any (λ s. any_on (is_other_running tid) s.here) threads → not b ≡ others.is_last
+  unfolding others_in
+  last_read b is =
+      ap not (is ∙ any_slot (is_other_running tid) (λ own t. refl) keys.rows threads fit)
+      ∙ sym (all_none (λ t. t.ended || nat_eq t.id tid) (threads_on (slots_of keys.rows threads)))
+      ∙ ap (λ (o : Others). o.is_last) (sym sees)
+
+  -- the ids of the next threads on the free slots
+  pub new_ids_read : length threads ≤ 64 → map (next_id_at threads) (slots_where (is_free_at threads)) ≡ others.new_ids
+  unfolding slots_where others_in
+  new_ids_read few =
+      ids_from threads 0 64 few
+      ∙ ids_on_rows (length threads) 0 keys.rows (map slot_view threads)
+      ∙ ap (λ (n : ℕ). new_ids_from n 0 (slots_of keys.rows threads)) (sym (length-slots_of keys threads fit))
+      ∙ ap (λ (o : Others). o.new_ids) (sym sees)

@@ -1,0 +1,34 @@
+use Rattle.std.proofs.Common.{◌≡◌, ℕ, ◌%◌, List, length, sym, ap, ◌∙◌, subst, arith}
+use Rattle.std.specs.Prelude.{slice_get}
+use Rattle.std.proofs.lemmas.Option.{slice_get_past}
+use Rattle.pct_model.specs.declared.schedule.Alt.{Alt}
+use Rattle.pct_model.specs.Chosen.{item_at}
+use Rattle.pct_model.specs.ChoiceTable.{choices_at}
+use Rattle.pct_model.specs.NextStatement.{next_of}
+use Rattle.pct_engine_laws.specs.SeenSteps.{others_in}
+use Rattle.pct_transitions.specs.Listed.{listed, AreWithin}
+use Rattle.pct_transitions.proofs.process_steps.choice_by.Goals as goal
+
+pub count-count-requires : goal.count-count-requires
+count-count-requires c = subst (λ (n : ℕ). AreWithin n c.choices_at-choices.result) (sym c.new-context.ensures.whole.rows) c.choices_at-choices.ensures.within
+
+pub returns-then-count-eq0 : goal.returns-then-count-eq0
+returns-then-count-eq0 c = λ t at.
+    let p = c.args.process.now in
+    let context = c.new-context.result in
+    let is = c.new-context.ensures.context t at in
+    let others = others_in (length p.slots) p.slots t.id in
+    let these = listed context.threads.now context.position.keys.now c.choices_at-choices.result in
+    let choices = c.choices_at-choices.ensures.value p.shared t others is ∙ (λ i. choices_at (is.shared_is.keys_are i) t others (next_of (c.new-context.ensures.program i).script t.frames) t.status) in
+    let none : length these ≡ 0 = sym (c.count-count.ensures context.threads.now) ∙ c.if-count-eq0.true in
+    sym (slice_get_past these _ (omega (arith, none))) ∙ ap (λ (xs : List Alt). item_at xs c.args.number) choices
+
+pub returns : goal.returns
+returns c = λ t at.
+    let p = c.args.process.now in
+    let context = c.new-context.result in
+    let is = c.new-context.ensures.context t at in
+    let others = others_in (length p.slots) p.slots t.id in
+    let these = listed context.threads.now context.position.keys.now c.choices_at-choices.result in
+    let choices = c.choices_at-choices.ensures.value p.shared t others is ∙ (λ i. choices_at (is.shared_is.keys_are i) t others (next_of (c.new-context.ensures.program i).script t.frames) t.status) in
+    c.nth.ensures ∙ ap (λ (n : ℕ). slice_get these (c.args.number % n)) (c.count-count.ensures context.threads.now) ∙ ap (λ (xs : List Alt). item_at xs c.args.number) choices

@@ -1,0 +1,21 @@
+use Rattle.std.proofs.Common.{◌≡◌, ℕ, List, length, nat_lt, sym, ap, ◌∙◌, subst}
+use Rattle.pct_model.specs.declared.schedule.Alt.{Alt}
+use Rattle.pct_model.specs.ChoiceTable.{choices_at, is_enabled}
+use Rattle.pct_model.specs.NextStatement.{next_of}
+use Rattle.pct_engine_laws.specs.SeenSteps.{others_in}
+use Rattle.pct_transitions.specs.Listed.{listed, AreWithin}
+use Rattle.pct_transitions.proofs.OfferedLists.{enabled_by_count}
+use Rattle.pct_transitions.proofs.process_steps.has_choice.Goals as goal
+
+pub count-requires : goal.count-requires
+count-requires c = subst (λ (n : ℕ). AreWithin n c.choices_at.result) (sym c.new-context.ensures.whole.rows) c.choices_at.ensures.within
+
+pub returns : goal.returns
+returns c = λ t at.
+    let p = c.args.process.now in
+    let is = c.new-context.ensures.context t at in
+    let others = others_in (length p.slots) p.slots t.id in
+    let choices = c.choices_at.ensures.value p.shared t others is ∙ (λ i. choices_at (is.shared_is.keys_are i) t others (next_of (c.new-context.ensures.program i).script t.frames) t.status) in
+    let context = c.new-context.result in
+    let these = listed context.threads.now context.position.keys.now c.choices_at.result in
+    ap (λ (n : ℕ). nat_lt 0 n) (c.count.ensures context.threads.now) ∙ enabled_by_count these ∙ ap (λ (xs : List Alt). is_enabled xs) choices

@@ -1,0 +1,43 @@
+use Rattle.std.proofs.Common.{List, length, sym, ap, ◌∙◌, subst}
+use Rattle.std.proofs.lemmas.Bool.{false≢true}
+use Rattle.pct_model.specs.declared.schedule.Alt.{Alt}
+use Rattle.pct_model.specs.ChoiceTable.{choices_at, offers}
+use Rattle.pct_model.specs.NextStatement.{next_of, body_at}
+use Rattle.pct_model.specs.TransitionTable.{acts_or, transition_at}
+use Rattle.pct_engine_laws.specs.SeenSteps.{others_in}
+use Rattle.pct_process.specs.ProcessViews.{ProcessData}
+use Rattle.pct_transitions.specs.Numbers.{AreOnPlaces}
+use Rattle.pct_transitions.specs.Programs.{ProgramValue}
+use Rattle.pct_transitions.proofs.KeyChoices.{on_places}
+use Rattle.pct_transitions.proofs.process_steps.takes.Goals as goal
+
+pub returns-then-not-offers-clause-taken : goal.returns-then-not-offers-clause-taken
+returns-then-not-offers-clause-taken c = λ t at.
+    let p = c.args.process.now in
+    let is = c.new-context.ensures.context t at in
+    let others = others_in (length p.slots) p.slots t.id in
+    let choices = c.choices_at.ensures.value p.shared t others is ∙ (λ i. choices_at (is.shared_is.keys_are i) t others (next_of (c.new-context.ensures.program i).script t.frames) t.status) in
+    record {
+      offered_is = sym (c.offers.ensures ∙ ap (λ (these : List Alt). offers these c.args.choice) choices) ∙ c.if-not-offers.true;
+      taken = λ offered. absurd (false≢true offered);
+    }
+
+pub returns-clause-taken : goal.returns-clause-taken
+returns-clause-taken c = λ t at.
+    let p = c.args.process.now in
+    let is = c.new-context.ensures.context t at in
+    let others = others_in (length p.slots) p.slots t.id in
+    let choices = c.choices_at.ensures.value p.shared t others is ∙ (λ i. choices_at (is.shared_is.keys_are i) t others (next_of (c.new-context.ensures.program i).script t.frames) t.status) in
+    record {
+      offered_is = sym (c.offers.ensures ∙ ap (λ (these : List Alt). offers these c.args.choice) choices) ∙ c.if-not-offers.false;
+      taken = λ offered. c.transition_by.ensures.value p.shared t others is ∙ ap (λ (v : ProgramValue). acts_or c.args.choice t.status (transition_at v.config.passes (body_at v.script t.frames) p.shared t others c.args.choice (next_of v.script t.frames) t.status)) c.new-context.ensures.program;
+    }
+
+pub returns-clause-fits : goal.returns-clause-fits
+returns-clause-fits c = λ t at taken. (c.transition_by.ensures.fits _ t _ (c.new-context.ensures.context t at)).actions
+
+pub returns-then-not-offers-clause-places : goal.returns-then-not-offers-clause-places
+returns-then-not-offers-clause-places c = subst (λ (d : ProcessData). AreOnPlaces d.shared.keys) c.process.view_is (on_places c.process.inside.keys c.sound.ensures)
+
+pub returns-clause-places : goal.returns-clause-places
+returns-clause-places c = subst (λ (d : ProcessData). AreOnPlaces d.shared.keys) c.process.view_is (on_places c.process.inside.keys c.sound.ensures)

@@ -1,0 +1,52 @@
+//! What the next step of a thread depends on.
+
+ghost use Rattle.std.specs.Prelude.{◌≡◌, Some, is_some, length, true};
+ghost use Rattle.pct_model.specs.World.{Thread};
+ghost use Rattle.pct_engine_laws.specs.SeenSteps.{others_in};
+ghost use Rattle.pct_process.specs.ProcessViews.{thread_on_slot};
+ghost use Rattle.pct_transitions.specs.Numbers.{NumbersFit};
+ghost use Rattle.pct_transitions.specs.Contexts.{IsContext, IsWhole};
+ghost use Rattle.pct_transitions.specs.ProcessSteps.{NewNumbersFit};
+
+use crate::position::{Position, position_of};
+use crate::program::Program;
+use pct_process::ProcessState;
+use pct_threads::Threads;
+
+/// What the next step of a thread depends on: the thread, what it shares with the other threads of its process, and their
+/// table. In a contract, `IsContext` says of which thread this is the context.
+///
+/// The calls that take a context on the way of every step are inline: its parts then stay in registers, and are read where they are
+/// needed.
+#[derive(Clone, Copy)]
+pub(crate) struct Context<'a> {
+    pub program: &'a Program,
+    /// The threads of the process.
+    pub threads: &'a Threads,
+    /// The globals of the process.
+    pub globals: &'a [u32],
+    /// The value with which exit began.
+    pub exit_value: Option<u32>,
+    /// The thread, and the keys of the process.
+    pub position: Position<'a>,
+}
+
+impl<'a> Context<'a> {
+    /// The context of the thread on a slot.
+    #[inline(always)]
+    pub(crate) fn new(program: &'a Program, process: &'a ProcessState, slot: u32) -> Context<'a>
+        requires { is_some (thread_on_slot process.now.slots slot) ≡ true }
+        ensures context { (t : Thread) → thread_on_slot process.now.slots slot ≡ Some t → IsContext process.now.shared t (others_in (length process.now.slots) process.now.slots t.id) result }
+        ensures program { result.program.now ≡ program.now }
+        ensures whole { IsWhole result }
+        ensures numbers { NewNumbersFit process.now → NumbersFit result.threads.now result.position.keys.now }
+    {
+        Context {
+            program,
+            threads: &process.threads,
+            globals: process.globals.as_slice(),
+            exit_value: process.exit_value,
+            position: position_of(program, &process.threads, &process.keys, slot),
+        }
+    }
+}
