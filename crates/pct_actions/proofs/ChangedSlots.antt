@@ -32,16 +32,18 @@ module _ (k : ℕ) (slots : List SeenSlot) (s : SeenSlot) (here : slice_get slot
       let inside : k < length (slice_set slots k (f s)) = rw (length-set slots k (f s)) (slice_get_within slots k s here) in
       ap (λ (xs : List SeenSlot). slice_get xs k) (on_slot-here f) ∙ slice_get-get_or (slice_set slots k (f s)) k s inside ∙ ap (λ (x : SeenSlot). Some x) (get_or-set_same slots k (f s) s (slice_get_within slots k s here))
 
-  -- the slots with the slot as it is
-  pub same_here : slice_set slots k s ≡ slots
-  same_here = ap (slice_set slots k) (sym (get_or_from_slice_get slots k s s here)) ∙ set-get_or slots k s
+  -- a change that leaves the slot as it is
+  pub same_here : (f : SeenSlot → SeenSlot) → f s ≡ s → on_slot k f slots ≡ slots
+  same_here f same = on_slot-here f ∙ ap (slice_set slots k) (same ∙ sym (get_or_from_slice_get slots k s s here)) ∙ set-get_or slots k s
 
-  -- one change after another
-  pub then_here : (f g : SeenSlot → SeenSlot) → on_slot k g (on_slot k f slots) ≡ slice_set slots k (g (f s))
-  then_here f g =
+  -- one change after another, which together are a third
+  pub then_here : (f g both : SeenSlot → SeenSlot) → g (f s) ≡ both s → on_slot k g (on_slot k f slots) ≡ on_slot k both slots
+  then_here f g both same =
       ap (λ (o : Option SeenSlot). option_map_or (λ x. slice_set (on_slot k f slots) k (g x)) o (on_slot k f slots)) (changed_here f)
       ∙ ap (λ (xs : List SeenSlot). slice_set xs k (g (f s))) (on_slot-here f)
       ∙ set-set slots k (f s) (g (f s))
+      ∙ ap (slice_set slots k) same
+      ∙ sym (on_slot-here both)
 
 -- two changes of all slots that have one outcome
 each_agrees : (f g : SeenSlot → SeenSlot) (slots : List SeenSlot) → ((j : ℕ) (x : SeenSlot) → slice_get slots j ≡ Some x → f x ≡ g x) → map f slots ≡ map g slots

@@ -1,4 +1,3 @@
-mod FrameChanges
 pub mod RestItems
 mod TwoChanges
 mod ChangedSlots

@@ -71,19 +71,6 @@ module _ (row : KeyValues) (id : ℕ) (h : Held) (named : nat_eq h.id id ≡ tru
     by true = sym (ap (λ (b : Bool). cond b (t ∷ []) []) holds)
     by false = sym (ap (λ (b : Bool). cond b (record t { pending = true } ∷ []) []) holds)
 
--- a thread with another id is not named
-other_joined : (id : ℕ) (t : Thread) → nat_eq t.id id ≡ false → named_after (action.EndJoin id) t ≡ t
-unfolding named_after
-other_joined id t other = ap (λ (b : Bool). cond (b && holds_slot t) (record t { joined = true }) t) other
-
-other_detached : (id : ℕ) (t : Thread) → nat_eq t.id id ≡ false → named_after (action.Detach id) t ≡ t
-unfolding named_after
-other_detached id t other = ap (λ (b : Bool). cond (b && holds_slot t) (record t { detached = true }) t) other
-
-other_requested : (id : ℕ) (t : Thread) → nat_eq t.id id ≡ false → named_after (action.Request id) t ≡ t
-unfolding named_after
-other_requested id t other = ap (λ (b : Bool). cond ((b && holds_slot t) && not t.ended) (record t { pending = true }) t) other
-
 -- a table has the slot of each id, if it has a slot
 no_slots : (id : ℕ) (rows : List KeyValues) (f : SeenSlot → SeenSlot) (threads : List Slot) → length threads ≤ slot_of (length threads) id → slots_of rows threads ≡ map f (slots_of rows threads)
 no_slots id rows f [] past = refl
@@ -179,17 +166,20 @@ module _ (keys : Table) (threads : List Slot) (fit : length keys.rows ≡ length
   pub named_is : (a : Action) → slots_of keys.rows threads ≡ forgotten a old → JoinFits tid a old → slots_of keys.rows (named_on a threads) ≡ map (slot_changed (named_after a)) old
   unfolding named_on named_after forgotten
   named_is (action.EndJoin id) same fits =
-      on_named_is keys threads fit (on same) id freed (named_after (action.EndJoin id)) refl (other_joined id)
+      on_named_is keys threads fit (on same) id freed (named_after (action.EndJoin id)) refl
+      (λ x other. ap (λ (b : Bool). cond (b && holds_slot x) (record x { joined = true }) x) other)
       (λ h here named holds. joined_here (row_at keys (slot_of (length threads) id)) id h named holds (ended_here keys threads fit (on same) id tid (subst (JoinFits tid (action.EndJoin id)) (sym same) fits) h here named))
       ∙ ap (map (slot_changed (named_after (action.EndJoin id)))) same
   named_is (action.Request id) same fits =
       let row : KeyValues = row_at keys (slot_of (length threads) id) in
-      on_named_is keys threads fit (on same) id (with_change requested) (named_after (action.Request id)) refl (other_requested id)
+      on_named_is keys threads fit (on same) id (with_change requested) (named_after (action.Request id)) refl
+      (λ x other. ap (λ (b : Bool). cond ((b && holds_slot x) && not x.ended) (record x { pending = true }) x) other)
       (λ h here named holds. ap (λ (o : Option Held). map (with_specific row) (threads_of (option_map requested o))) here ∙ requested_here row id h named holds)
       ∙ ap (map (slot_changed (named_after (action.Request id)))) same
   named_is (action.Detach id) same fits =
       let row : KeyValues = row_at keys (slot_of (length threads) id) in
-      on_named_is keys threads fit (on same) id (after_change after_detach) (named_after (action.Detach id)) refl (other_detached id)
+      on_named_is keys threads fit (on same) id (after_change after_detach) (named_after (action.Detach id)) refl
+      (λ x other. ap (λ (b : Bool). cond (b && holds_slot x) (record x { detached = true }) x) other)
       (λ h here named holds. ap (λ (o : Option Held). map (with_specific row) (threads_of (option_and_then after_detach o))) here ∙ detached_here row id h named holds)
       ∙ ap (map (slot_changed (named_after (action.Detach id)))) same
   named_is (action.DeleteKey k) same fits = same ∙ none_leaves old before (named_after (action.DeleteKey k)) (λ t. refl)

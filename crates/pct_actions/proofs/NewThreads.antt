@@ -1,8 +1,8 @@
 -- A new thread with an id that is offered: the slot of the id is free, and the id is that of the next thread on it.
-use Rattle.std.proofs.Common.{◌≡◌, ◌⊎◌, inl, inr, ℕ, suc, ◌+◌, ◌-◌, ◌*◌, ◌%◌, ◌<◌, Bool, true, false, not, ◌||◌, cond, List, [], ◌∷◌, ◌++◌, map, length, Option, Some, None, refl, sym, ap, ◌∙◌, subst, arith, zero-add, eqb-true}
+use Rattle.std.proofs.Common.{◌≡◌, ◌⊎◌, inl, inr, ℕ, suc, ◌+◌, ◌-◌, ◌*◌, ◌%◌, ◌<◌, Bool, true, false, not, cond, List, [], ◌∷◌, ◌++◌, map, length, Option, Some, None, refl, sym, ap, ◌∙◌, subst, arith, zero-add, eqb-true}
 use Rattle.std.specs.Prelude.{nat_eq, is_some, slice_get, slice_set}
 use Rattle.std.specs.List.{list_any}
-use Rattle.std.proofs.lemmas.Bool.{false≢true}
+use Rattle.std.proofs.lemmas.Bool.{false≢true, or_cases}
 use Rattle.std.proofs.lemmas.Nat.{mod-mul-add}
 use Rattle.std.proofs.lemmas.Option.{none-some, same_Some, slice_get_within}
 use Rattle.pct_model.specs.declared.transition.NewThread.{NewThread}
@@ -36,14 +36,10 @@ none_here [] empty = refl
 none_here (t ∷ ts) empty = absurd (false≢true empty)
 
 -- an id among one, if a test holds, and others
-either_among : (n x : ℕ) (rest : List ℕ) (same : Bool) → nat_eq n x ≡ same → (same || list_any (nat_eq n) rest) ≡ true → (n ≡ x) ⊎ (list_any (nat_eq n) rest ≡ true)
-either_among n x rest true is among = inl (eqb-true n x is)
-either_among n x rest false is among = inr among
-
 among_if : (n x : ℕ) (rest : List ℕ) (test : Bool) → list_any (nat_eq n) (cond test (x ∷ []) [] ++ rest) ≡ true → ((test ≡ true) × (n ≡ x)) ⊎ (list_any (nat_eq n) rest ≡ true)
 among_if n x rest true among =
-    elim (either_among n x rest (nat_eq n x) refl among) [
-      | inl is ↦ inl (refl, is)
+    elim (or_cases (nat_eq n x) (list_any (nat_eq n) rest) among) [
+      | inl is ↦ inl (refl, eqb-true n x is)
       | inr later ↦ inr later
     ]
 among_if n x rest false among = inr among

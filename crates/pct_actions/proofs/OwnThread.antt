@@ -3,14 +3,14 @@ use Rattle.std.proofs.Common.{◌≡◌, ℕ, suc, ◌-◌, ◌<◌, Bool, true,
 use Rattle.std.specs.Prelude.{slice_get, slice_set, is_some, option_map, option_and_then}
 use Rattle.std.proofs.lemmas.Bool.{false≢true}
 use Rattle.std.proofs.lemmas.Option.{same_Some}
-use Rattle.std.proofs.lemmas.List.{set-get_or, set-set}
+use Rattle.std.proofs.lemmas.List.{set-get_or}
 use Rattle.pct_model.specs.declared.frame.Frame.{Frame}
 use Rattle.pct_model.specs.declared.statement.Dest.{Dest}
 use Rattle.pct_model.specs.declared.statement.Dest.TheVariants as destination
 use Rattle.pct_model.specs.declared.transition.Action.{Action}
 use Rattle.pct_model.specs.declared.transition.Action.TheVariants as action
 use Rattle.pct_model.specs.declared.transition.Transition.{Transition}
-use Rattle.pct_model.specs.Actions.{at_pc, set_local, frames_written, without_first, thread_at, thread_after, for_each, moved}
+use Rattle.pct_model.specs.Actions.{at_pc, frames_written, without_first, thread_at, thread_after, for_each, moved}
 use Rattle.pct_model.specs.Keys.{Key, KeyPlace, KeyValues, key_place, key_at, if_number, key_with}
 use Rattle.pct_model.specs.ThreadSlots.{is_ended_status, holds_slot}
 use Rattle.pct_model.specs.World.{Thread, SharedState}
@@ -26,8 +26,8 @@ use Rattle.pct_process.specs.ProcessViews.{with_row, slots_of, ProcessData}
 use Rattle.pct_process.proofs.ViewedSlots.{own}
 use Rattle.pct_actions.specs.OwnChanges.{held_of, on_own, own_rows, unless_reclaimed}
 use Rattle.pct_actions.specs.ProcessParts.{on_threads, settled, slot_changed, with_slot, OwnFits}
-use Rattle.pct_actions.specs.TableFits.{KeyFits, KeepsKeys, AllKeepKeys, KeysFit}
-use Rattle.pct_actions.proofs.ChangedSlots.{on_slot-here, changed_here, then_here}
+use Rattle.pct_actions.specs.KeysFit.{KeyFits, KeepsKeys, AllKeepKeys, KeysFit}
+use Rattle.pct_actions.proofs.ChangedSlots.{changed_here, then_here}
 use Rattle.pct_actions.proofs.TableSlots.{changed_slot, changed_thread, held_here}
 
 -- ---- keys
@@ -88,58 +88,37 @@ slot_is row own f s same i = record { made = s.made; here = by s.here i } where
 
 -- ---- room
 
-length-set_local : (i v : ℕ) (frames : List Frame) → length (set_local i v frames) ≡ length frames
-length-set_local i v [] = refl
-length-set_local i v (frame ∷ below) = refl
-
 length-frames_written : (d : Dest) (v : ℕ) (frames : List Frame) → length (frames_written d v frames) ≡ length frames
-length-frames_written (destination.Local i) v frames = length-set_local i v frames
+length-frames_written (destination.Local i) v [] = refl
+length-frames_written (destination.Local i) v (frame ∷ below) = refl
 length-frames_written _ v frames = refl
 
 length-without_first : {T : Type 0} (xs : List T) → length (without_first xs) ≡ length xs - 1
 length-without_first [] = refl
 length-without_first (x ∷ xs) = sym (sub-one (suc (length xs)))
 
-depth-after : (a : Action) (t : Thread) → depth_after a (length t.frames) ≡ length (thread_after a t).frames
+-- actions that fit the numbers after an action fit the thread after it
+fit_after : (a : Action) (t : Thread) (rest : List Action) → AllFit (depth_after a (length t.frames)) (handlers_after a (length t.handlers)) (pass_after a t.pass) rest
+    → AllFit (length (thread_after a t).frames) (length (thread_after a t).handlers) (thread_after a t).pass rest
 unfolding thread_after
-depth-after (action.Write d v) t = sym (length-frames_written d v t.frames)
-depth-after (action.Leave s) t = sym (length-without_first t.frames)
-depth-after _ t = refl
-
-handlers-after : (a : Action) (t : Thread) → handlers_after a (length t.handlers) ≡ length (thread_after a t).handlers
-unfolding thread_after
-handlers-after action.PopHandler t = sym (length-without_first t.handlers)
-handlers-after _ t = refl
-
-pass-after : (a : Action) (t : Thread) → pass_after a t.pass ≡ (thread_after a t).pass
-unfolding thread_after
-pass-after action.BeginPass t = refl
-pass-after _ t = refl
+fit_after (action.Write d v) t rest fits = subst (λ (n : ℕ). AllFit n (length t.handlers) t.pass rest) (sym (length-frames_written d v t.frames)) fits
+fit_after (action.Leave s) t rest fits = subst (λ (n : ℕ). AllFit n (length t.handlers) t.pass rest) (sym (length-without_first t.frames)) fits
+fit_after action.PopHandler t rest fits = subst (λ (n : ℕ). AllFit (length t.frames) n t.pass rest) (sym (length-without_first t.handlers)) fits
+fit_after _ t rest fits = fits
 
 -- ---- the actions fit
 
 module _ (slot : ℕ) (p : ProcessData) where
   -- the process after a change of the thread
-  own_changed : (f : Thread → Thread) (actions rest : List Action) (w : OwnFits slot actions p) → AllFit (length (f w.thread).frames) (length (f w.thread).handlers) (f w.thread).pass rest → KeysFit rest p.shared.keys (f w.thread).specific
+  pub own_changed : (f : Thread → Thread) (actions rest : List Action) (w : OwnFits slot actions p) → AllFit (length (f w.thread).frames) (length (f w.thread).handlers) (f w.thread).pass rest → KeysFit rest p.shared.keys (f w.thread).specific
       → OwnFits slot rest (with_slot slot (on_threads f) p)
   own_changed f actions rest w fits keys = record { made = w.made; thread = f w.thread; here = changed_here slot p.slots (record { made = w.made; here = w.thread ∷ [] }) w.here (on_threads f); fits = fits; keys = keys }
-
-  pub no_actions : (actions : List Action) → OwnFits slot actions p → OwnFits slot [] p
-  no_actions actions w = record { made = w.made; thread = w.thread; here = w.here; fits = tt; keys = tt }
-
-  pub no_actions_after : (f : Thread → Thread) (actions : List Action) → OwnFits slot actions p → OwnFits slot [] (with_slot slot (on_threads f) p)
-  no_actions_after f actions w = own_changed f actions [] w tt tt
 
   pub first_action : (a : Action) (rest : List Action) → OwnFits slot (a ∷ rest) p → OwnFits slot (a ∷ []) p
   first_action a rest w = record { made = w.made; thread = w.thread; here = w.here; fits = (w.fits.0, tt); keys = (w.keys.0, tt) }
 
   pub rest_actions : (a : Action) (rest : List Action) → OwnFits slot (a ∷ rest) p → OwnFits slot rest (with_slot slot (on_threads (thread_after a)) p)
-  rest_actions a rest w =
-      let t : Thread = w.thread in
-      own_changed (thread_after a) (a ∷ rest) rest w
-      (subst (λ (n : ℕ). AllFit (length (thread_after a t).frames) (length (thread_after a t).handlers) n rest) (pass-after a t)
-      (subst (λ (n : ℕ). AllFit (length (thread_after a t).frames) n (pass_after a t.pass) rest) (handlers-after a t) (subst (λ (n : ℕ). AllFit n (handlers_after a (length t.handlers)) (pass_after a t.pass) rest) (depth-after a t) w.fits.1)))
-      (kept_fit rest p.shared.keys (thread_after a t).specific w.keys.1)
+  rest_actions a rest w = own_changed (thread_after a) (a ∷ rest) rest w (fit_after a w.thread rest w.fits.1) (kept_fit rest p.shared.keys (thread_after a w.thread).specific w.keys.1)
 
   length-at_pc : (pc : ℕ) (frames : List Frame) → length frames ≡ length (at_pc pc frames)
   length-at_pc pc [] = refl
@@ -154,13 +133,10 @@ module _ (slot : ℕ) (p : ProcessData) where
 pub own_parts : (slot : ℕ) (o : Transition) (p : ProcessData) → OwnFits slot o.actions p
     → with_slot slot settled (with_slot slot (on_threads (for_each thread_after o.actions)) (with_slot slot (on_threads (thread_at o.next)) p)) ≡ with_slot slot (slot_changed (moved o)) p
 own_parts slot o p w =
-    let s : SeenSlot = record { made = w.made; here = w.thread ∷ [] } in
-    let next : SeenSlot → SeenSlot = on_threads (thread_at o.next) in
+    let all : SeenSlot → SeenSlot = on_threads (moved o) in
+    let two = then_here slot p.slots (record { made = w.made; here = w.thread ∷ [] }) w.here in
     ap (λ (slots : List SeenSlot). record p { slots = slots })
-    (then_here slot (seen.on_slot slot next p.slots) (next s) (changed_here slot p.slots s w.here next) (on_threads (for_each thread_after o.actions)) settled
-    ∙ ap (λ (slots : List SeenSlot). slice_set slots slot (slot_changed (moved o) s)) (on_slot-here slot p.slots s w.here next)
-    ∙ set-set p.slots slot (next s) (slot_changed (moved o) s)
-    ∙ sym (on_slot-here slot p.slots s w.here (slot_changed (moved o))))
+    (ap (seen.on_slot slot settled) (two (on_threads (thread_at o.next)) (on_threads (for_each thread_after o.actions)) all refl) ∙ two all settled (slot_changed (moved o)) refl)
 
 -- ---- the tables
 

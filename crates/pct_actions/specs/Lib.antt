@@ -1,4 +1,4 @@
-pub mod TableFits
+pub mod KeysFit
 pub mod ProcessChanges
 pub mod ProcessParts
 pub mod OwnChanges

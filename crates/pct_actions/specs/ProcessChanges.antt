@@ -11,7 +11,7 @@ use Rattle.pct_engine_laws.specs.Fitting.{AllFit}
 use Rattle.pct_engine_laws.specs.Seen.{SeenSlot, slots_moved}
 use Rattle.pct_engine_laws.specs.SeenSteps.{thread_with, new_ids_from}
 use Rattle.pct_process.specs.ProcessViews.{ProcessData}
-use Rattle.pct_actions.specs.TableFits.{KeysFit}
+use Rattle.pct_actions.specs.KeysFit.{KeysFit}
 
 -- ---- what it changes
 

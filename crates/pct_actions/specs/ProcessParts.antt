@@ -12,7 +12,7 @@ use Rattle.pct_engine_laws.specs.Fitting.{AllFit}
 use Rattle.pct_engine_laws.specs.Seen.{SeenSlot, on_slot, with_created}
 use Rattle.pct_engine_laws.specs.SeenSteps.{new_ids_from}
 use Rattle.pct_process.specs.ProcessViews.{ProcessData}
-use Rattle.pct_actions.specs.TableFits.{KeysFit}
+use Rattle.pct_actions.specs.KeysFit.{KeysFit}
 use Rattle.pct_actions.specs.ProcessChanges.{AreOnSlots, JoinsFit}
 
 -- ---- slots

@@ -3,10 +3,9 @@
 ghost use Rattle.std.specs.Prelude.{◌≡◌, ◌<◌, ◌≤◌, ◌∷◌, [], ℕ, suc, List, length, Some, None, true};
 ghost use Rattle.pct_model.specs.declared.limits.TheConstants.{MAX_FRAMES, MAX_HANDLERS, MAX_PASSES};
 ghost use Rattle.pct_model.specs.declared.state.Status.TheVariants as status;
-ghost use Rattle.pct_model.specs.Actions.{set_local, frames_written, at_pc, without_first, thread_at, thread_after};
+ghost use Rattle.pct_model.specs.Actions.{frames_written, at_pc, without_first, thread_at, thread_after};
 ghost use Rattle.pct_model.specs.Cancelability.{ending_state, ending_mode};
 ghost use Rattle.pct_model.specs.World.{new_frame};
-ghost use Rattle.pct_threads.specs.FrameWords.{kind_number};
 ghost use Rattle.pct_threads.specs.Slots.{Held, after_change};
 ghost use Rattle.pct_threads.specs.Tables.{held_at, is_occupied_at, on_slot};
 ghost use Rattle.pct_engine_laws.specs.Fitting.{Fits};
@@ -75,7 +74,7 @@ fn run_at(threads: &mut Threads, slot: u32, pc: u32)
     requires { is_occupied_at threads.old slot ≡ true }
     ensures { threads.new ≡ on_own slot (λ t. record t { status = status.Running; frames = at_pc pc t.frames }) threads.old }
 {
-    set_pc(threads, slot, pc);
+    threads.set_pc(slot, pc);
     set_status(threads, slot, Status::Running);
 }
 
@@ -85,23 +84,8 @@ fn write_local(threads: &mut Threads, slot: u32, dest: Dest, value: u32)
     ensures { threads.new ≡ on_own slot (λ t. record t { frames = frames_written dest value t.frames }) threads.old }
 {
     match dest {
-        Dest::Local(i) => set_local(threads, slot, i, value),
+        Dest::Local(i) => threads.set_local(slot, i, value),
         Dest::Global(_) | Dest::Drop => {}
-    }
-}
-
-// A local of the newest frame gets a value.
-fn set_local(threads: &mut Threads, slot: u32, i: u32, value: u32)
-    requires { is_occupied_at threads.old slot ≡ true }
-    ensures { threads.new ≡ on_own slot (λ t. record t { frames = set_local i value t.frames }) threads.old }
-{
-    let Some(frame) = threads.top_frame(slot) else {
-        return;
-    };
-    if (i as usize) < frame.locals.len() {
-        let depth = threads.place(slot).depth;
-        // The words of a frame from 3 on are its locals.
-        threads.set_frame_word(slot, depth - 1, 3 + i, value);
     }
 }
 
@@ -111,7 +95,7 @@ fn call(threads: &mut Threads, slot: u32, func: u32, arg: u32, kind: FrameKind)
     requires room { (held : Held) → held_at threads.old slot ≡ Some held → length held.frames ≤ MAX_FRAMES }
     ensures { threads.new ≡ on_own slot (λ t. record t { status = status.Running; frames = new_frame func arg kind ∷ t.frames }) threads.old }
 {
-    threads.push_frame(slot, func, arg, kind_number(kind));
+    threads.call(slot, func, arg, kind);
     set_status(threads, slot, Status::Running);
 }
 
@@ -120,8 +104,8 @@ fn call_alone(threads: &mut Threads, slot: u32, func: u32, arg: u32, kind: Frame
     requires { is_occupied_at threads.old slot ≡ true }
     ensures { threads.new ≡ on_own slot (λ t. record t { status = status.Running; frames = new_frame func arg kind ∷ [] }) threads.old }
 {
-    threads.drop_frames(slot);
-    call(threads, slot, func, arg, kind);
+    threads.call_alone(slot, func, arg, kind);
+    set_status(threads, slot, Status::Running);
 }
 
 // The thread leaves its newest frame, and gets a status.
@@ -236,18 +220,6 @@ fn start_ending(threads: &mut Threads, slot: u32, why: Reason)
     thread.reason = why;
 }
 
-// The newest frame, if there is one, is at another program counter.
-fn set_pc(threads: &mut Threads, slot: u32, pc: u32)
-    requires { is_occupied_at threads.old slot ≡ true }
-    ensures { threads.new ≡ on_own slot (λ t. record t { frames = at_pc pc t.frames }) threads.old }
-{
-    let depth = threads.place(slot).depth;
-    if depth > 0 {
-        // Word 1 of a frame is its program counter.
-        threads.set_frame_word(slot, depth - 1, 1, pc);
-    }
-}
-
 // The newest frame, if there is one, is removed.
 fn leave_frame(threads: &mut Threads, slot: u32)
     requires { is_occupied_at threads.old slot ≡ true }
@@ -281,21 +253,4 @@ fn pop_from(handlers: &mut Handlers)
     ensures { handlers.new ≡ without_first handlers.old }
 {
     let _newest = handlers.pop();
-}
-
-// The number of a kind, as the table of threads has it.
-fn kind_number(kind: FrameKind) -> u32
-    ensures value { result ≡ kind_number kind }
-    ensures within { result < 8 }
-{
-    match kind {
-        FrameKind::Main => 0,
-        FrameKind::Start => 1,
-        FrameKind::Call => 2,
-        FrameKind::PopHandler => 3,
-        FrameKind::Handler => 4,
-        FrameKind::Destructor => 5,
-        FrameKind::ForkFn => 6,
-        FrameKind::ExitFn => 7,
-    }
 }

@@ -5,7 +5,7 @@ ghost use Rattle.pct_model.specs.Actions.{for_each, moved, thread_after, thread_
 ghost use Rattle.pct_keys.specs.Tables.{row_at};
 ghost use Rattle.pct_actions.specs.OwnChanges.{own_rows};
 ghost use Rattle.pct_actions.specs.ProcessParts.{on_threads, settled, slot_changed, with_slot, OwnFits};
-ghost use Rattle.pct_actions.specs.TableFits.{KeyFits};
+ghost use Rattle.pct_actions.specs.KeysFit.{KeyFits};
 
 use crate::own_actions;
 use pct_keys::{Keys, key_place};

@@ -122,4 +122,4 @@ others_seen slots tid threads some =
 
 -- the choices of a thread of a process
 pub choices_seen : (script : Script) (config : Config) (p : Process) (t : Thread) → 0 < config.slots → choices_of script config p t ≡ choices_in script config.slots (seen_process config.slots p) t
-choices_seen script config p t some = ap (λ (others : Others). choices_at p.shared.keys t others (next_of script t.frames) t.status) (others_seen config.slots t.id p.threads some)
+choices_seen script config p t some = ap (λ (others : Others). choices_at p.shared t others (next_of script t.frames) t.status) (others_seen config.slots t.id p.threads some)

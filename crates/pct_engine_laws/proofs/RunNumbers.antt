@@ -21,7 +21,7 @@ use Rattle.pct_model.specs.declared.transition.Action.TheVariants as action
 use Rattle.pct_model.specs.declared.transition.NewThread.{NewThread}
 use Rattle.pct_model.specs.declared.transition.Transition.{Transition}
 use Rattle.pct_model.specs.Keys.{KeyPlace, new_keys, left_keys}
-use Rattle.pct_model.specs.World.{Thread, ProcessEnd, Process, World, first_process, opening}
+use Rattle.pct_model.specs.World.{Thread, SharedState, ProcessEnd, Process, World, first_process, opening}
 use Rattle.pct_model.specs.Actions.{shared_after, process_after, has_ended, orphaned, other_process_after, for_each, thread_moved, thread_created, threads_moved, changed, is_live_process, after_transition}
 use Rattle.pct_model.specs.ChoiceTable.{choices_of, offers}
 use Rattle.pct_model.specs.NextStatement.{NextStatement, next_of, body_at}
@@ -82,13 +82,13 @@ all_among P n (k ∷ numbers) all among = elim (or_cases (nat_eq n k) (list_any 
   | inr later ↦ all_among P n numbers (All-tail P k numbers all) later
 ]
 
-case_within : (limit : ℕ) (keys : List KeyPlace) (t : Thread) (others : Others) → All (λ (n : ℕ). n ≤ limit) others.new_ids → All (λ (n : ℕ). n ≤ limit) (new_keys keys) → All (λ (n : ℕ). n ≤ limit) (left_keys keys t.specific)
-    → {next : NextStatement} {s : Status} {choice : Alt} → Offered keys t others next s choice → IsChoiceWithin limit choice
-case_within limit keys t others ids made left (may_go next s alive) = tt
-case_within limit keys t others ids made left (may_act next s alive enabled) = omega arith
-case_within limit keys t others ids made left (may_create frame result id f v detached n among) = all_among (λ (k : ℕ). k ≤ limit) n others.new_ids ids among
-case_within limit keys t others ids made left (may_make_key frame result key destructor n among) = all_among (λ (k : ℕ). k ≤ limit) n (new_keys keys) made among
-case_within limit keys t others ids made left (may_destroy next k none among) = all_among (λ (n : ℕ). n ≤ limit) k (left_keys keys t.specific) left among
+case_within : (limit : ℕ) (shared : SharedState) (t : Thread) (others : Others) → All (λ (n : ℕ). n ≤ limit) others.new_ids → All (λ (n : ℕ). n ≤ limit) (new_keys shared.keys) → All (λ (n : ℕ). n ≤ limit) (left_keys shared.keys t.specific)
+    → {next : NextStatement} {s : Status} {choice : Alt} → Offered shared t others next s choice → IsChoiceWithin limit choice
+case_within limit shared t others ids made left (may_go next s alive) = tt
+case_within limit shared t others ids made left (may_act next s alive enabled) = omega arith
+case_within limit shared t others ids made left (may_create frame result id f v detached n among) = all_among (λ (k : ℕ). k ≤ limit) n others.new_ids ids among
+case_within limit shared t others ids made left (may_make_key frame result key destructor n among) = all_among (λ (k : ℕ). k ≤ limit) n (new_keys shared.keys) made among
+case_within limit shared t others ids made left (may_destroy next k none among) = all_among (λ (n : ℕ). n ≤ limit) k (left_keys shared.keys t.specific) left among
 
 module _ (script : Script) (config : Config) (p : Process) (t : Thread) (choice : Alt) (n : ℕ) (slots : config.slots ≤ 64) (has : HasFew n p.pid p.threads p.shared.keys) (offered : offers (choices_of script config p t) choice ≡ true) where
   -- what it sees of the others
@@ -103,8 +103,8 @@ module _ (script : Script) (config : Config) (p : Process) (t : Thread) (choice 
   choice_within : IsChoiceWithin (128 + 128 * n) choice
   choice_within =
       let more : All (λ (id : ℕ). id ≤ 128 + 128 * n) others.new_ids = All-weaker (λ (id : ℕ). id ≤ 64 + 64 * n) (λ id. id ≤ 128 + 128 * n) (λ id small. omega (arith, small)) others.new_ids ids_within in
-      case_within (128 + 128 * n) p.shared.keys t others more (new_keys_within n p.shared.keys has.keys_few) (left_keys_within n p.shared.keys has.keys_few t.specific)
-      (offered_of p.shared.keys t others choice (next_of script t.frames) t.status offered)
+      case_within (128 + 128 * n) p.shared t others more (new_keys_within n p.shared.keys has.keys_few) (left_keys_within n p.shared.keys has.keys_few t.specific)
+      (offered_of p.shared t others choice (next_of script t.frames) t.status offered)
 
   -- what its transition makes
   made_within : MakesWithin n (transition_by script config p t choice)

@@ -64,7 +64,7 @@ others_in slots rows tid = record { named = λ id. thread_with slots id rows; an
 
 -- the choices of a thread of a process
 abbrev pub choices_in : Script → ℕ → SeenProcess → Thread → List Alt
-choices_in script slots p t = choices_at p.shared.keys t (others_in slots p.slots t.id) (next_of script t.frames) t.status
+choices_in script slots p t = choices_at p.shared t (others_in slots p.slots t.id) (next_of script t.frames) t.status
 
 -- what a thread of a process does by a choice, with this limit on the passes over destructors
 abbrev pub transition_in : Script → ℕ → ℕ → SeenProcess → Thread → Alt → Transition

@@ -1,10 +1,8 @@
 -- The lines of a canonical text parse back, each by itself.
-use Rattle.std.proofs.Common.{◌≡◌, ℕ, suc, ◌-◌, ◌≤◌, ◌<◌, Bool, true, false, not, ◌&&◌, ◌||◌, List, [], ◌∷◌, Option, Some, length, map, refl, sym, ap, ◌∙◌, arith, nat_le, nat_eq, eqb-true, leb-true, le-leb, decimal, option_map}
+use Rattle.std.proofs.Common.{◌≡◌, ℕ, suc, ◌-◌, ◌≤◌, Bool, true, false, not, List, [], ◌∷◌, Option, Some, length, map, refl, sym, ap, ◌∙◌, arith, le-leb, decimal, option_map}
 use Rattle.std.specs.Prelude.{replicate}
 use Rattle.std.specs.List.{list_all}
-use Rattle.std.specs.Str.Parse.{digits_value}
 use Rattle.std.proofs.lemmas.Bool.{and_parts, and_from}
-use Rattle.std.proofs.lemmas.Fmt.{decimal_nonempty, length-decimal-le, decimal_is_IsNumeral}
 use Rattle.pct_model.specs.declared.line_kind.LineKind.{LineKind}
 use Rattle.pct_model.specs.declared.line_kind.LineKind.TheVariants as line_kind
 use Rattle.pct_model.specs.declared.line_kind.SymbolKind.{SymbolKind}
@@ -17,69 +15,20 @@ use Rattle.pct_model.specs.declared.parsed_line.Token.{Token}
 use Rattle.pct_model.specs.declared.parsed_line.Token.TheVariants as token
 use Rattle.pct_model.specs.declared.statement.Stmt.{Stmt}
 use Rattle.pct_model.specs.declared.statement.Stmt.TheVariants as statement
-use Rattle.pct_model.specs.Names.{is_digit, is_letter, is_name_byte, is_name}
+use Rattle.pct_model.specs.Names.{is_name}
 use Rattle.pct_model.specs.Lines.{◌>>=◌}
 use Rattle.pct_model.specs.LineKinds.{syntax_of, declaration_syntax, line_kinds, line_kind_of}
 use Rattle.pct_model.specs.Statements.{encode, line_kind_of_statement, arguments_of, argument_kinds_of, role_of}
-use Rattle.pct_model.specs.LineParsing.{is_empty, begins_comment, numeral, token_at, tokens_at, parsed_as, parsed_words}
+use Rattle.pct_model.specs.LineParsing.{is_empty, begins_comment, token_at, tokens_at, parsed_as, parsed_words}
 use Rattle.pct_model.specs.Contents.{Contents, names_of_kind, resolve_all}
 use Rattle.pct_model.specs.Sections.{is_declaration, is_statement}
 use Rattle.pct_model.specs.Spells.{encoded}
 use Rattle.pct_model.specs.Static.{has_first_word, has_word, have_words, has_line}
 use Rattle.pct_model.specs.Canon.{argument_texts, statement_words, declaration_line}
-use Rattle.pct_text.proofs.Numbers.{digits_of_decimal}
-use Rattle.pct_grammar.proofs.SharedWords.{is_printable, is_word, NameLists}
+use Rattle.pct_grammar.proofs.SharedWords.{is_word, NameLists}
 use Rattle.pct_grammar.proofs.CanonLines.{is_line}
-use Rattle.pct_grammar.proofs.TokensResolve.{words_print, replaced_lengths}
+use Rattle.pct_grammar.proofs.TokensResolve.{name_is_word, decimal_is_numeral, decimal_is_word, words_print, replaced_lengths}
 use Rattle.pct_grammar.proofs.EncodeDecode.{line_kind_found, first_word}
-
--- ---- words
-
-in_range : (low high b : ℕ) → 33 ≤ low → high ≤ 126 → (nat_le low b && nat_le b high) ≡ true → is_printable b ≡ true
-in_range low high b least most h =
-    let sections = and_parts (nat_le low b) (nat_le b high) h in
-    let above : low ≤ b = leb-true low b sections.0 in
-    let below : b ≤ high = leb-true b high sections.1 in
-    and_from (nat_le 33 b) (nat_le b 126) (le-leb 33 b (omega arith)) (le-leb b 126 (omega arith))
-
-either : (P : Type 0) (s t : Bool) → (s || t) ≡ true → (s ≡ true → P) → (t ≡ true → P) → P
-either P true t h left right = left refl
-either P false t h left right = right h
-
-digit_prints : (b : ℕ) → is_digit b ≡ true → is_printable b ≡ true
-digit_prints b h = in_range 48 57 b (omega arith) (omega arith) h
-
-name_byte_prints : (b : ℕ) → is_name_byte b ≡ true → is_printable b ≡ true
-name_byte_prints b h =
-    let P = is_printable b ≡ true in
-    let upper = nat_le 65 b && nat_le b 90 in
-    let lower = nat_le 97 b && nat_le b 122 in
-    either P (is_letter b || is_digit b) (nat_eq b 95) h
-    (λ e. either P (is_letter b) (is_digit b) e (λ g. either P upper lower g (in_range 65 90 b (omega arith) (omega arith)) (in_range 97 122 b (omega arith) (omega arith))) (digit_prints b))
-    (λ e. ap is_printable (eqb-true b 95 e))
-
-wider : (p q : ℕ → Bool) → ((b : ℕ) → p b ≡ true → q b ≡ true) → (xs : List ℕ) → list_all p xs ≡ true → list_all q xs ≡ true
-wider p q each [] all = refl
-wider p q each (x ∷ xs) all =
-    let sections = and_parts (p x) (list_all p xs) all in
-    and_from (q x) (list_all q xs) (each x sections.0) (wider p q each xs sections.1)
-
--- a name is a word
-pub name_is_word : (w : List ℕ) → is_name w ≡ true → is_word w ≡ true
-unfolding is_name
-name_is_word [] h = absurd cc
-name_is_word (b ∷ bs) h =
-    let first = and_parts (not (is_digit b) && list_all is_name_byte (b ∷ bs)) (nat_le (length (b ∷ bs)) 31) h in
-    wider is_name_byte is_printable name_byte_prints (b ∷ bs) (and_parts (not (is_digit b)) (list_all is_name_byte (b ∷ bs)) first.0).1
-
-filled_if : (w : List ℕ) → 0 < length w → not (is_empty w) ≡ true
-filled_if [] some = absurd (omega arith)
-filled_if (b ∷ bs) some = refl
-
-number_is_word : (n : ℕ) → n ≤ 32767 → is_word (decimal n) ≡ true
-number_is_word n fits =
-    and_from (not (is_empty (decimal n))) (list_all is_printable (decimal n)) (filled_if (decimal n) (decimal_nonempty n (omega arith)))
-    (wider is_digit is_printable digit_prints (decimal n) (digits_of_decimal n))
 
 -- ---- declarations
 
@@ -95,18 +44,12 @@ pub record ParsesAs (words : List (List ℕ)) (line : ParsedLine) : Type 0 where
 kind_found : (k : SymbolKind) → line_kind_of (declaration_syntax k).keyword ≡ Some (line_kind.Declares k)
 unfolding line_kind_of line_kinds syntax_of declaration_syntax
 kind_found kind.Global = refl
-kind_found kind.Mutex = refl
-kind_found kind.Cond = refl
-kind_found kind.Sem = refl
-kind_found kind.Function = refl
+kind_found _ = refl
 
 kind_is_line : (k : SymbolKind) (words : List (List ℕ)) → list_all is_word words ≡ true → is_line (declaration_line k words) ≡ true
 unfolding declaration_syntax
 kind_is_line kind.Global words are = and_from (list_all is_word words) true are refl
-kind_is_line kind.Mutex words are = and_from (list_all is_word words) true are refl
-kind_is_line kind.Cond words are = and_from (list_all is_word words) true are refl
-kind_is_line kind.Sem words are = and_from (list_all is_word words) true are refl
-kind_is_line kind.Function words are = and_from (list_all is_word words) true are refl
+kind_is_line _ words are = and_from (list_all is_word words) true are refl
 
 declaration_parses : (k : SymbolKind) (texts : List (List ℕ)) (words : List Token) → list_all is_word texts ≡ true → tokens_at ((declaration_syntax k).argument_kinds (length texts)) texts ≡ Some words
     → ParsesAs (declaration_line k texts) (declared_line k words)
@@ -132,31 +75,20 @@ is_plain_kind _ = false
 -- a line that declares a name alone parses back
 pub name_parses : (k : SymbolKind) (w : List ℕ) → is_plain_kind k ≡ true → is_name w ≡ true → ParsesAs (declaration_line k (w ∷ [])) (declared_line k (token.Name w ∷ []))
 unfolding declaration_syntax
-name_parses kind.Global w plain h = declaration_parses kind.Global (w ∷ []) (token.Name w ∷ []) (and_from (is_word w) true (name_is_word w h) refl) (name_parsed w h)
-name_parses kind.Mutex w plain h = declaration_parses kind.Mutex (w ∷ []) (token.Name w ∷ []) (and_from (is_word w) true (name_is_word w h) refl) (name_parsed w h)
-name_parses kind.Cond w plain h = declaration_parses kind.Cond (w ∷ []) (token.Name w ∷ []) (and_from (is_word w) true (name_is_word w h) refl) (name_parsed w h)
 name_parses kind.Sem w plain h = absurd cc
 name_parses kind.Function w plain h = absurd cc
-
-count_numeral : (n : ℕ) → n ≤ 32767 → numeral (decimal n) ≡ Some n
-unfolding numeral
-count_numeral n fits =
-    let w = decimal n in
-    let value : digits_value 10 w ≡ n = (decimal_is_IsNumeral n (omega arith)).1 in
-    let filled = filled_if w (decimal_nonempty n (omega arith)) in
-    let short = le-leb (length w) 10 (length-decimal-le 10 n (omega arith) (omega arith) (omega arith)) in
-    rw (filled, digits_of_decimal n, short, value, le-leb n 4294967295 (omega arith)) refl
+name_parses k w plain h = declaration_parses k (w ∷ []) (token.Name w ∷ []) (and_from (is_word w) true (name_is_word w h) refl) (name_parsed w h)
 
 count_parsed : (w : List ℕ) (n : ℕ) → is_name w ≡ true → n ≤ 32767 → tokens_at (argument_kind.Declared ∷ argument_kind.Count ∷ []) (w ∷ decimal n ∷ []) ≡ Some (token.Name w ∷ token.Number n ∷ [])
 unfolding tokens_at token_at
-count_parsed w n h fits = rw (h, count_numeral n fits, le-leb n 32767 fits) refl
+count_parsed w n h fits = rw (h, decimal_is_numeral n (omega arith), le-leb n 32767 fits) refl
 
 -- a line that declares a semaphore parses back
 pub sem_parses : (w : List ℕ) (n : ℕ) → is_name w ≡ true → n ≤ 32767 → ParsesAs (declaration_line kind.Sem (w ∷ decimal n ∷ [])) (declared_line kind.Sem (token.Name w ∷ token.Number n ∷ []))
 unfolding declaration_syntax
 sem_parses w n h fits =
     declaration_parses kind.Sem (w ∷ decimal n ∷ []) (token.Name w ∷ token.Number n ∷ [])
-    (and_from (is_word w) (list_all is_word (decimal n ∷ [])) (name_is_word w h) (and_from (is_word (decimal n)) true (number_is_word n fits) refl)) (count_parsed w n h fits)
+    (and_from (is_word w) (list_all is_word (decimal n ∷ [])) (name_is_word w h) (and_from (is_word (decimal n)) true (decimal_is_word n (omega arith)) refl)) (count_parsed w n h fits)
 
 abbrev names_as_words : List (List ℕ) → List Token
 names_as_words names = map (λ w. token.Name w) names
@@ -199,10 +131,9 @@ no_declaration _ = refl
 texts_length : (c : Contents) (locals : List (List ℕ)) (argument_kinds : List ArgumentKind) (args : List Argument) → have_words c locals argument_kinds args ≡ true → length (argument_texts c locals argument_kinds args) ≡ length args
 unfolding have_words argument_texts
 texts_length c locals [] [] have = refl
-texts_length c locals [] (a ∷ args) have = absurd cc
-texts_length c locals (p ∷ argument_kinds) [] have = absurd cc
 texts_length c locals (p ∷ argument_kinds) (a ∷ args) have =
     ap suc (texts_length c locals argument_kinds args (and_parts (has_word c locals p a) (have_words c locals argument_kinds args) have).1)
+texts_length c locals _ _ have = absurd cc
 
 -- the parsed line of a statement
 pub record Statement (c : Contents) (locals : List (List ℕ)) (s : Stmt) : Type 0 where

@@ -1,10 +1,11 @@
 -- The lines and words of a text that is built from words.
-use Rattle.std.proofs.Common.{◌≡◌, ℕ, ◌+◌, ◌≤◌, Bool, true, false, not, ◌&&◌, ◌||◌, cond, List, [], ◌∷◌, Option, Some, None, map, filter, option_map, refl, ap, ◌∙◌, append_assoc, arith, nat_le, leb-true, ne_eqb}
+use Rattle.std.proofs.Common.{◌≡◌, ℕ, ◌+◌, ◌≤◌, Bool, true, false, not, ◌&&◌, cond, List, [], ◌∷◌, Option, Some, None, map, filter, option_map, refl, ap, ◌∙◌, append_assoc, arith, nat_le, leb-true, ne_eqb}
 use Rattle.std.specs.Prelude.{filter_map, is_some}
 use Rattle.std.specs.List.{All, cons_option, list_all, enumerate_from, join_with_byte, slice_split}
-use Rattle.std.proofs.lemmas.Bool.{and_parts, and_from}
+use Rattle.std.proofs.lemmas.Bool.{and_parts, and_from, or_right}
 use Rattle.std.proofs.lemmas.List.Concat.{flat_map-cons}
-use Rattle.std.proofs.lemmas.List.Elements.{All-cons}
+use Rattle.std.proofs.lemmas.List.Elements.{All-weaker}
+use Rattle.std.proofs.lemmas.List.Sums.{AllPass-from_list_all}
 use Rattle.std.proofs.lemmas.List.Folds.{list_all-append}
 use Rattle.std.proofs.lemmas.List.Splits.{slice_split_none, slice_split_at}
 use Rattle.pct_model.specs.declared.parsed_line.ParsedLine.{ParsedLine}
@@ -15,6 +16,7 @@ use Rattle.pct_model.specs.Sections.{parsed_numbered, parsed_lines}
 use Rattle.pct_text.proofs.SplitOnce.{lacks_other, lacks-append, lacks-cons}
 use Rattle.pct_text.proofs.Lines.{lines_of-nil, lines_of-line}
 use Rattle.pct_grammar.proofs.SharedWords.{is_printable, is_word}
+use Rattle.pct_grammar.proofs.TokensResolve.{all_more}
 
 -- a line: words, the first of which begins no comment
 abbrev pub is_line : List (List ℕ) → Bool
@@ -33,27 +35,14 @@ no_blank b h =
     let least : 33 ≤ b = printable b h in
     rw (ne_eqb b 9 (omega arith), ne_eqb b 13 (omega arith), ne_eqb b 32 (omega arith)) refl
 
-or_yes : (t : Bool) → (t || true) ≡ true
-or_yes true = refl
-or_yes false = refl
-
 allowed : (b : ℕ) → is_printable b ≡ true → is_allowed b ≡ true
-allowed b h = ap (λ t. is_blank b || t) h ∙ or_yes (is_blank b)
+allowed b h = or_right (is_blank b) (is_printable b) h
 
 printable_of : (w : List ℕ) → is_word w ≡ true → list_all is_printable w ≡ true
 printable_of w h = (and_parts (not (is_empty w)) (list_all is_printable w) h).1
 
 none_blank : (w : List ℕ) → list_all is_printable w ≡ true → All (λ b. is_blank b ≡ false) w
-none_blank [] all = λ k d within. absurd (omega arith)
-none_blank (b ∷ bs) all =
-    let sections = and_parts (is_printable b) (list_all is_printable bs) all in
-    All-cons (λ x. is_blank x ≡ false) b bs (no_blank b sections.0) (none_blank bs sections.1)
-
-all_allowed : (w : List ℕ) → list_all is_printable w ≡ true → list_all is_allowed w ≡ true
-all_allowed [] all = refl
-all_allowed (b ∷ bs) all =
-    let sections = and_parts (is_printable b) (list_all is_printable bs) all in
-    and_from (is_allowed b) (list_all is_allowed bs) (allowed b sections.0) (all_allowed bs sections.1)
+none_blank w all = All-weaker (λ b. is_printable b ≡ true) (λ b. is_blank b ≡ false) no_blank w (AllPass-from_list_all is_printable w all)
 
 -- ---- the words of a line
 
@@ -80,11 +69,11 @@ words_again (w ∷ next ∷ words) all =
 -- the bytes of a line are allowed
 line_allowed : (words : List (List ℕ)) → list_all is_word words ≡ true → list_all is_allowed (joined words) ≡ true
 line_allowed [] all = refl
-line_allowed (w ∷ []) all = all_allowed w (printable_of w (and_parts (is_word w) true all).0)
+line_allowed (w ∷ []) all = all_more is_printable is_allowed allowed w (printable_of w (and_parts (is_word w) true all).0)
 line_allowed (w ∷ next ∷ words) all =
     let sections = and_parts (is_word w) (list_all is_word (next ∷ words)) all in
     list_all-append is_allowed w (32 ∷ joined (next ∷ words))
-    ∙ and_from (list_all is_allowed w) (list_all is_allowed (joined (next ∷ words))) (all_allowed w (printable_of w sections.0)) (line_allowed (next ∷ words) sections.1)
+    ∙ and_from (list_all is_allowed w) (list_all is_allowed (joined (next ∷ words))) (all_more is_printable is_allowed allowed w (printable_of w sections.0)) (line_allowed (next ∷ words) sections.1)
 
 -- a line parses as its words do
 pub parsed_again : (words : List (List ℕ)) → list_all is_word words ≡ true → parsed (joined words) ≡ parsed_words words
@@ -146,14 +135,13 @@ line_step n bytes line lines e = ap (λ (o : Option ParsedLine). cons_option (op
 
 parses_from : (n : ℕ) (lines : List (List (List ℕ))) (all : List ParsedLine) → list_all is_line lines ≡ true → LineParses lines all → filter_map parsed_numbered (enumerate_from n (map joined lines)) ≡ enumerate_from n all
 parses_from n [] [] lines parse_all = refl
-parses_from n [] (s ∷ all) are parse_all = absurd cc
-parses_from n (words ∷ lines) [] are parse_all = absurd cc
 parses_from n (words ∷ lines) (s ∷ all) are parse_all =
     let sections = and_parts (is_line words) (list_all is_line lines) are in
     let first : parsed_words words ≡ Some s = cc in
     let others : LineParses lines all = cc in
     line_step n (joined words) s (enumerate_from (n + 1) (map joined lines)) (parsed_again words (words_of_line words sections.0) ∙ first)
     ∙ ap (λ ls. (n, s) ∷ ls) (parses_from (n + 1) lines all sections.1 others)
+parses_from n _ _ are parse_all = absurd cc
 
 -- the parsed lines of the text
 pub parsed_lines_again : (lines : List (List (List ℕ))) (all : List ParsedLine) → list_all is_line lines ≡ true → LineParses lines all → parsed_lines (text_of lines) ≡ enumerate_from 1 all

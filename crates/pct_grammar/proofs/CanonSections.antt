@@ -4,18 +4,18 @@ use Rattle.std.specs.List.{AllZip, list_all, enumerate_from}
 use Rattle.std.proofs.lemmas.Bool.{and_parts, and_from}
 use Rattle.pct_model.specs.declared.line_kind.SymbolKind.{SymbolKind}
 use Rattle.pct_model.specs.declared.line_kind.SymbolKind.TheVariants as kind
-use Rattle.pct_model.specs.declared.role.Role.{Role}
-use Rattle.pct_model.specs.declared.role.Role.TheVariants as role
 use Rattle.pct_model.specs.declared.parsed_line.ParsedLine.{ParsedLine}
 use Rattle.pct_model.specs.declared.parsed_line.Token.{Token}
 use Rattle.pct_model.specs.declared.script.Func.{Func}
 use Rattle.pct_model.specs.Statements.{EncodedStmt, encode}
-use Rattle.pct_model.specs.LineKinds.{syntax_of, declaration_syntax}
+use Rattle.pct_model.specs.LineKinds.{syntax_of}
 use Rattle.pct_model.specs.LineParsing.{is_empty}
 use Rattle.pct_model.specs.Contents.{Contents}
 use Rattle.pct_model.specs.Sections.{Line, Section, Sections, role_in, is_same, declares_by, declares, is_declaration, is_statement, declaring, prepend_line, split_sections, is_function}
 use Rattle.pct_model.specs.Spells.{encoded, SpellsBody}
 use Rattle.pct_grammar.proofs.CanonLineParsing.{declared_line}
+use Rattle.pct_grammar.proofs.SharedWords.{role_of_kind}
+use Rattle.pct_grammar.proofs.FunctionHeaders.{no_kind}
 
 -- ---- lines without their numbers
 
@@ -33,25 +33,13 @@ pub declared_numbered : (k : SymbolKind) (n : ℕ) (lines : List ParsedLine) →
 declared_numbered k n [] = refl
 declared_numbered k n (line ∷ lines) = numbered_step k n line (enumerate_from (n + 1) lines) lines (declares k line) (declared_numbered k (n + 1) lines)
 
-statement_role : (k : SymbolKind) (r : Role) → not (is_declaration r) ≡ true → declares_by k r ≡ false
-statement_role k (role.Declares other) h = absurd cc
-statement_role k _ h = refl
-
 -- statements declare nothing
 pub statements_declare : (k : SymbolKind) (body rest : List ParsedLine) → list_all is_statement body ≡ true → words_declared k (body ++ rest) ≡ words_declared k rest
 statements_declare k [] rest all = refl
 statements_declare k (line ∷ body) rest all =
     let sections = and_parts (is_statement line) (list_all is_statement body) all in
     let others = filter (declares k) (body ++ rest) in
-    ap (λ t. map (λ (s : ParsedLine). s.tokens) (cond t (line ∷ others) others)) (statement_role k (role_in line) sections.0) ∙ statements_declare k body rest sections.1
-
-role_of_kind : (k : SymbolKind) → (declaration_syntax k).role ≡ role.Declares k
-unfolding declaration_syntax
-role_of_kind kind.Global = refl
-role_of_kind kind.Mutex = refl
-role_of_kind kind.Cond = refl
-role_of_kind kind.Sem = refl
-role_of_kind kind.Function = refl
+    ap (λ t. map (λ (s : ParsedLine). s.tokens) (cond t (line ∷ others) others)) (no_kind k (role_in line) sections.0) ∙ statements_declare k body rest sections.1
 
 kind_declares : (k other : SymbolKind) (words : List Token) → declares k (declared_line other words) ≡ is_same k other
 unfolding syntax_of
@@ -59,10 +47,9 @@ kind_declares k other words = ap (declares_by k) (role_of_kind other)
 
 declares_step : (line : ParsedLine) (others : List ParsedLine) (t same : Bool) → t ≡ same
     → map (λ (s : ParsedLine). s.tokens) (cond t (line ∷ others) others) ≡ cond same (line.tokens ∷ map (λ (s : ParsedLine). s.tokens) others) (map (λ (s : ParsedLine). s.tokens) others)
-declares_step line others true true e = refl
 declares_step line others true false e = absurd cc
 declares_step line others false true e = absurd cc
-declares_step line others false false e = refl
+declares_step line others _ _ e = refl
 
 -- a declaration before other lines
 pub declares_first : (k other : SymbolKind) (words : List Token) (rest : List ParsedLine) → words_declared k (declared_line other words ∷ rest) ≡ cond (is_same k other) (words ∷ words_declared k rest) (words_declared k rest)

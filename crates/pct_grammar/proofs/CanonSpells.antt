@@ -232,11 +232,8 @@ in_turn c functions k =
 declared_all : (c : Contents) (functions : List ParsedLine) → ((k : SymbolKind) → words_declared k functions ≡ cond (is_same k kind.Function) (outlines_of c.funcs) [])
     → (k : SymbolKind) → words_declared k (with_declarations c functions) ≡ declarations c k
 unfolding declarations
-declared_all c functions parsed kind.Global = in_turn c functions kind.Global ∙ ap (λ ws. declarations c kind.Global ++ ws) (parsed kind.Global) ∙ append-nil (declarations c kind.Global)
-declared_all c functions parsed kind.Mutex = in_turn c functions kind.Mutex ∙ ap (λ ws. declarations c kind.Mutex ++ ws) (parsed kind.Mutex) ∙ append-nil (declarations c kind.Mutex)
-declared_all c functions parsed kind.Cond = in_turn c functions kind.Cond ∙ ap (λ ws. declarations c kind.Cond ++ ws) (parsed kind.Cond) ∙ append-nil (declarations c kind.Cond)
-declared_all c functions parsed kind.Sem = in_turn c functions kind.Sem ∙ ap (λ ws. declarations c kind.Sem ++ ws) (parsed kind.Sem) ∙ append-nil (declarations c kind.Sem)
 declared_all c functions parsed kind.Function = in_turn c functions kind.Function ∙ parsed kind.Function
+declared_all c functions parsed k = in_turn c functions k ∙ ap (λ ws. declarations c k ++ ws) (parsed k) ∙ append-nil (declarations c k)
 
 after_all : (c : Contents) (functions : List ParsedLine) → ((n : ℕ) → StatementsThen c (split_sections (enumerate_from n functions)) [] c.funcs) → (n : ℕ) → StatementsThen c (split_sections (enumerate_from n (with_declarations c functions))) [] c.funcs
 after_all c functions after n =

@@ -1,15 +1,16 @@
 -- The tokens of the declarations of each kind, and the names that a script declares.
 use Rattle.std.proofs.Common.{◌≡◌, ℕ, Bool, true, false, ◌&&◌, ◌++◌, cond, List, [], ◌∷◌, map, take, drop, filter_map, flat_map, refl, sym, ap, ◌∙◌, nat_le}
 use Rattle.std.specs.List.{list_all, cons_option}
-use Rattle.std.proofs.lemmas.Bool.{and_parts, and_from}
-use Rattle.std.proofs.lemmas.List.Folds.{flat_map-map}
+use Rattle.std.proofs.lemmas.Bool.{and_from}
+use Rattle.std.proofs.lemmas.List.Concat.{flat_map_single}
+use Rattle.std.proofs.lemmas.List.Folds.{flat_map-map, list_all-append}
 use Rattle.pct_model.specs.declared.line_kind.SymbolKind.{SymbolKind}
 use Rattle.pct_model.specs.declared.line_kind.SymbolKind.TheVariants as kind
 use Rattle.pct_model.specs.declared.parsed_line.Token.{Token}
 use Rattle.pct_model.specs.declared.parsed_line.Token.TheVariants as token
 use Rattle.pct_model.specs.declared.script.Func.{Func}
 use Rattle.pct_model.specs.declared.script.SemDecl.{SemDecl}
-use Rattle.pct_model.specs.Names.{is_name, names_of}
+use Rattle.pct_model.specs.Names.{is_name}
 use Rattle.pct_model.specs.Contents.{Contents, names_of_kind}
 use Rattle.pct_model.specs.Sections.{Line, names_in, declared_by, declares, declaring, names_declared}
 use Rattle.pct_model.specs.Spells.{declarations}
@@ -42,21 +43,12 @@ names_of_words : (names : List (List ℕ)) → flat_map first_of_words (map name
 names_of_words [] = refl
 names_of_words (name ∷ names) = ap (λ more. name ∷ more) (names_of_words names)
 
-names_of_sems : (sems : List SemDecl) → flat_map first_of_words (map sem_words sems) ≡ map (λ s. s.name) sems
-names_of_sems [] = refl
-names_of_sems (s ∷ sems) = ap (λ more. s.name ∷ more) (names_of_sems sems)
-
-names_of_functions : (funcs : List Func) → flat_map first_of_words (map (λ f. function_words f.name f.locals) funcs) ≡ names_of funcs
-names_of_functions [] = refl
-names_of_functions (f ∷ funcs) = ap (λ more. f.name ∷ more) (names_of_functions funcs)
-
 names_parsed : (c : Contents) (k : SymbolKind) → flat_map first_of_words (declarations c k) ≡ names_of_kind c k
 unfolding declarations
-names_parsed c kind.Global = names_of_words c.globals
-names_parsed c kind.Mutex = names_of_words c.mutexes
-names_parsed c kind.Cond = names_of_words c.conds
-names_parsed c kind.Sem = names_of_sems c.sems
-names_parsed c kind.Function = names_of_functions c.funcs
+names_parsed c kind.Sem = flat_map-map first_of_words sem_words c.sems ∙ flat_map_single (λ (s : SemDecl). s.name) c.sems
+names_parsed c kind.Function =
+    flat_map-map first_of_words (λ (f : Func). function_words f.name f.locals) c.funcs ∙ flat_map_single (λ (f : Func). f.name) c.funcs
+names_parsed c k = names_of_words (names_of_kind c k)
 
 -- lines with these tokens declare these names
 pub names_from : (lines : List Line) (c : Contents) (k : SymbolKind) → map (λ l. l.1.tokens) (declaring k lines) ≡ declarations c k → names_declared lines k ≡ names_of_kind c k
@@ -129,20 +121,14 @@ parsed_functions (l ∷ ls) is =
 
 declared_name : (k : SymbolKind) (words : List Token) → Declares k words → list_all is_name (first_of_words words) ≡ true
 declared_name kind.Global words is = ap (λ ws. list_all is_name (first_of_words ws)) is.same ∙ and_from (is_name is.name) true is.is refl
-declared_name kind.Mutex words is = ap (λ ws. list_all is_name (first_of_words ws)) is.same ∙ and_from (is_name is.name) true is.is refl
-declared_name kind.Cond words is = ap (λ ws. list_all is_name (first_of_words ws)) is.same ∙ and_from (is_name is.name) true is.is refl
-declared_name kind.Sem words is = ap (λ ws. list_all is_name (first_of_words ws)) is.same ∙ and_from (is_name is.name) true is.is refl
-declared_name kind.Function words is = ap (λ ws. list_all is_name (first_of_words ws)) is.same ∙ and_from (is_name is.name) true is.is refl
-
-all_of_both : {A : Type 0} (test : A → Bool) (xs ys : List A) → list_all test xs ≡ true → list_all test ys ≡ true → list_all test (xs ++ ys) ≡ true
-all_of_both test [] ys h k = k
-all_of_both test (x ∷ xs) ys h k =
-    let sections = and_parts (test x) (list_all test xs) h in
-    and_from (test x) (list_all test (xs ++ ys)) sections.0 (all_of_both test xs ys sections.1 k)
+declared_name _ words is = ap (λ ws. list_all is_name (first_of_words ws)) is.same ∙ and_from (is_name is.name) true is.is refl
 
 each_name : (k : SymbolKind) (ls : List Line) → EachIs (Declares k) ls → list_all is_name (flat_map (λ l. declared_by l.1) ls) ≡ true
 each_name k [] is = refl
-each_name k (l ∷ ls) is = all_of_both is_name (declared_by l.1) (flat_map (λ (m : Line). declared_by m.1) ls) (declared_name k l.1.tokens is.0) (each_name k ls is.1)
+each_name k (l ∷ ls) is =
+    let others = flat_map (λ (m : Line). declared_by m.1) ls in
+    list_all-append is_name (declared_by l.1) others
+    ∙ and_from (list_all is_name (declared_by l.1)) (list_all is_name others) (declared_name k l.1.tokens is.0) (each_name k ls is.1)
 
 -- the declared names of each kind are names
 pub names_are_names : (k : SymbolKind) (lines : List Line) → EachParsed lines → list_all is_name (names_declared lines k) ≡ true

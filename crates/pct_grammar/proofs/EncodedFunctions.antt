@@ -1,6 +1,7 @@
 -- What the lines of functions spell: a function's name, its locals, and its statements.
-use Rattle.std.proofs.Common.{◌≡◌, ℕ, Bool, true, false, not, cond, List, [], ◌∷◌, map, drop, filter, Some, length, refl, sym, ap, ◌∙◌}
+use Rattle.std.proofs.Common.{◌≡◌, ℕ, Bool, true, false, cond, List, [], ◌∷◌, map, drop, filter, Some, length, refl, sym, ap, ◌∙◌}
 use Rattle.std.specs.List.{AllZip, list_all}
+use Rattle.std.proofs.lemmas.Bool.{not-true}
 use Rattle.std.proofs.lemmas.Simd.{map-map}
 use Rattle.pct_model.specs.declared.line_kind.SymbolKind.TheVariants as kind
 use Rattle.pct_model.specs.declared.parsed_line.Argument.{Argument}
@@ -82,12 +83,11 @@ words_of_function f = function_words f.name f.locals
 
 resolve_both : (c : Contents) (sections : List Section) (funcs : List Func) → map (λ section. section.header.1.tokens) sections ≡ map words_of_function funcs → AllZip (SpellsBody c) sections funcs → AllZip (WroteAll c) sections funcs
 resolve_both c [] [] headers bodies = tt
-resolve_both c [] (f ∷ funcs) headers bodies = absurd bodies
-resolve_both c (section ∷ sections) [] headers bodies = absurd bodies
 resolve_both c (section ∷ sections) (f ∷ funcs) headers bodies =
     let first : section.header.1.tokens ≡ words_of_function f = cc in
     let others : map (λ (p : Section). p.header.1.tokens) sections ≡ map words_of_function funcs = cc in
     (record { words = first; body = bodies.0 }, resolve_both c sections funcs others bodies.1)
+resolve_both c _ _ headers bodies = absurd bodies
 
 -- the tokens of the functions' headers are those of the lines that declare functions
 pub words_of_headers : {A : Type 0} (h : List Token → A) (lines : List Line) → map (λ section. h section.header.1.tokens) (functions_in lines) ≡ map (λ l. h l.1.tokens) (declaring kind.Function lines)
@@ -107,13 +107,9 @@ locals_resolved c section f resolves_to = ap (λ ws. drop 1 (names_in ws)) resol
 
 -- ---- the arguments on a statement's line
 
-not_true : (t : Bool) → not t ≡ true → t ≡ false
-not_true false h = refl
-not_true true h = absurd cc
-
 -- a statement is no declaration
 pub no_declaration : (line : ParsedLine) → is_statement line ≡ true → is_declaration (role_in line) ≡ false
-no_declaration line is = not_true (is_declaration (role_in line)) is
+no_declaration line is = not-true (is_declaration (role_in line)) is
 
 -- resolved arguments of a statement have words
 pub line_has_words : (c : Contents) (locals : List (List ℕ)) (line : ParsedLine) (args : List Argument) → IsParsed line → is_statement line ≡ true

@@ -10,6 +10,17 @@ use Rattle.pct_model.specs.Spelling.{Fault, first_of}
 use Rattle.pct_model.specs.Sections.{Line, Section, functions_in}
 use Rattle.pct_model.specs.Checks.{first_wrong, none_wrong, fault_at_line, first_that, first_in}
 
+-- ---- tests
+
+pub not_not : (t : Bool) → not (not t) ≡ t
+not_not true = refl
+not_not false = refl
+
+pub swap : (a b d : Bool) → (a && (b && d)) ≡ (b && (a && d))
+swap true b d = refl
+swap false true d = refl
+swap false false d = refl
+
 -- ---- a fault
 
 -- the first fault is None if and only if each is None

@@ -1,17 +1,23 @@
 -- The headers of a text's sections are its declarations.
 use Rattle.std.proofs.Common.{◌≡◌, Bool, true, false, not, cond, List, [], ◌∷◌, refl, sym, ap, ◌∙◌, filter, map}
+use Rattle.pct_model.specs.declared.line_kind.SymbolKind.{SymbolKind}
 use Rattle.pct_model.specs.declared.line_kind.SymbolKind.TheVariants as kind
 use Rattle.pct_model.specs.declared.role.Role.{Role}
 use Rattle.pct_model.specs.declared.role.Role.TheVariants as role
-use Rattle.pct_model.specs.Sections.{Line, Section, Sections, role_in, declares_by, declares, is_declaration, is_statement, declaring, is_function, split_sections, functions_in}
+use Rattle.pct_model.specs.Sections.{Line, Section, Sections, role_in, declares_by, declares, is_declaration, is_statement, declaring, is_function, split_sections, sections_of, functions_in}
 use Rattle.pct_model.specs.Checks.{headers}
 
-abbrev put : Bool → Line → Sections → Sections
-put t l p = cond t (record { preamble = l ∷ p.preamble; sections = p.sections }) (record { preamble = []; sections = record { header = l; body = p.preamble } ∷ p.sections })
+-- the headers of sections
+abbrev pub outlines_of : List Section → List Line
+outlines_of sections = map (λ section. section.header) sections
+
+-- one more line at the start, a statement or not
+abbrev prefix_if : Bool → Line → Sections → Sections
+prefix_if t l p = cond t (record { preamble = l ∷ p.preamble; sections = p.sections }) (record { preamble = []; sections = record { header = l; body = p.preamble } ∷ p.sections })
 
 -- ---- of all sections
 
-one_header : (l : Line) (p : Sections) (t : Bool) → map (λ (section : Section). section.header) (put (not t) l p).sections ≡ cond t (l ∷ map (λ (section : Section). section.header) p.sections) (map (λ (section : Section). section.header) p.sections)
+one_header : (l : Line) (p : Sections) (t : Bool) → outlines_of (prefix_if (not t) l p).sections ≡ cond t (l ∷ outlines_of p.sections) (outlines_of p.sections)
 one_header l p true = refl
 one_header l p false = refl
 
@@ -21,27 +27,34 @@ unfolding split_sections
 headers_are [] = refl
 headers_are (l ∷ lines) = one_header l (split_sections lines) (is_declaration (role_in l.1)) ∙ ap (λ (ls : List Line). cond (is_declaration (role_in l.1)) (l ∷ ls) ls) (headers_are lines)
 
--- ---- of the functions
+-- ---- of one kind
 
-no_statement : (r : Role) → not (is_declaration r) ≡ true → declares_by kind.Function r ≡ false
-no_statement (role.Declares k) e = absurd cc
-no_statement _ e = refl
+-- a statement declares nothing
+pub no_kind : (k : SymbolKind) (r : Role) → not (is_declaration r) ≡ true → declares_by k r ≡ false
+no_kind k (role.Declares j) e = absurd cc
+no_kind k _ e = refl
 
-abbrev functions_of : List Section → List Line
-functions_of sections = map (λ (section : Section). section.header) (filter is_function sections)
+declaring_step : (k : SymbolKind) (l : Line) (p : Sections) (t : Bool) → is_statement l.1 ≡ t → declaring k (outlines_of (prefix_if t l p).sections) ≡ declaring k (l ∷ outlines_of p.sections)
+declaring_step k l p true e =
+    let others : List Line = declaring k (outlines_of p.sections) in
+    sym (ap (λ (is : Bool). cond is (l ∷ others) others) (no_kind k (role_in l.1) e))
+declaring_step k l p false e = refl
 
-declaring_header : (l : Line) (body : List Line) (sections : List Section) (s : Bool) → declares kind.Function l.1 ≡ s
-    → map (λ (section : Section). section.header) (cond s (record { header = l; body = body } ∷ filter is_function sections) (filter is_function sections)) ≡ cond s (l ∷ functions_of sections) (functions_of sections)
-declaring_header l body sections true e = refl
-declaring_header l body sections false e = refl
+-- the declarations of a kind are among the headers of the sections
+pub declaring_headers : (k : SymbolKind) (lines : List Line) → declaring k (headers lines) ≡ declaring k lines
+unfolding split_sections
+declaring_headers k [] = refl
+declaring_headers k (l ∷ lines) =
+    declaring_step k l (split_sections lines) (is_statement l.1) refl ∙ ap (λ (others : List Line). cond (declares k l.1) (l ∷ others) others) (declaring_headers k lines)
 
-one_function : (l : Line) (p : Sections) (t : Bool) → is_statement l.1 ≡ t
-    → functions_of (put t l p).sections ≡ cond (declares kind.Function l.1) (l ∷ functions_of p.sections) (functions_of p.sections)
-one_function l p true e = sym (ap (λ (s : Bool). cond s (l ∷ functions_of p.sections) (functions_of p.sections)) (no_statement (role_in l.1) e))
-one_function l p false e = declaring_header l p.preamble p.sections (declares kind.Function l.1) refl
+function_step : (section : Section) (sections : List Section) (others : List Line) (t : Bool) → outlines_of sections ≡ others → outlines_of (cond t (section ∷ sections) sections) ≡ cond t (section.header ∷ others) others
+function_step section sections others true e = ap (λ (ls : List Line). section.header ∷ ls) e
+function_step section sections others false e = e
+
+headers_kept : (sections : List Section) → outlines_of (filter is_function sections) ≡ declaring kind.Function (outlines_of sections)
+headers_kept [] = refl
+headers_kept (section ∷ sections) = function_step section (filter is_function sections) (declaring kind.Function (outlines_of sections)) (is_function section) (headers_kept sections)
 
 -- the headers of the functions are the lines that declare a function
-pub function_headers : (lines : List Line) → map (λ (section : Section). section.header) (functions_in lines) ≡ declaring kind.Function lines
-unfolding split_sections
-function_headers [] = refl
-function_headers (l ∷ lines) = one_function l (split_sections lines) (is_statement l.1) refl ∙ ap (λ (ls : List Line). cond (declares kind.Function l.1) (l ∷ ls) ls) (function_headers lines)
+pub function_headers : (lines : List Line) → outlines_of (functions_in lines) ≡ declaring kind.Function lines
+function_headers lines = headers_kept (sections_of lines) ∙ declaring_headers kind.Function lines

@@ -17,7 +17,7 @@ use Rattle.pct_model.specs.Sections.{Line, Section, argument_kinds_in, names_in,
 use Rattle.pct_model.specs.Spells.{encoded, AreContents}
 use Rattle.pct_model.specs.Static.{has_first_word, have_words, has_line, has_lines, has_text}
 use Rattle.pct_grammar.proofs.SharedWords.{IsParsed, EachParsed}
-use Rattle.pct_grammar.proofs.OptionFacts.{MappedFrom, mapped_from}
+use Rattle.pct_grammar.proofs.OptionSteps.{map_some}
 use Rattle.pct_grammar.proofs.EncodeDecode.{has_first}
 use Rattle.pct_grammar.proofs.ParsedFromWords.{DeclaresFunction, line_declares}
 use Rattle.pct_grammar.proofs.Declarations.{names_from, sems_from, names_are_names, is_sem, sems_are_sems, function_words, all_names_in}
@@ -33,10 +33,10 @@ line_has : (c : Contents) (locals : List (List ℕ)) (line : ParsedLine) (s : St
 unfolding has_line
 line_has c locals line s from is h =
     let o = resolve_all (names_of_kind c) locals (argument_kinds_in line) line.tokens in
-    let at : MappedFrom {B = EncodedStmt} (λ arguments. (line.line_kind, arguments)) o (encode s) = mapped_from {B = EncodedStmt} (λ arguments. (line.line_kind, arguments)) o (encode s) h in
-    ap (resolved_has_line c locals) at.is
-    ∙ and_from (has_first_word c locals line.line_kind) (have_words c locals ((syntax_of line.line_kind).argument_kinds (length at.value)) at.value)
-    (has_first c locals from.first line.line_kind from.line_kind) (line_has_words c locals line at.value from is at.from)
+    let at = map_some {B = EncodedStmt} (λ arguments. (line.line_kind, arguments)) o (encode s) h in
+    ap (resolved_has_line c locals) (sym at.2)
+    ∙ and_from (has_first_word c locals line.line_kind) (have_words c locals ((syntax_of line.line_kind).argument_kinds (length at.0)) at.0)
+    (has_first c locals from.first line.line_kind from.line_kind) (line_has_words c locals line at.0 from is at.1)
 
 body_has : (c : Contents) (locals : List (List ℕ)) (body : List Line) (stmts : List Stmt) → EachStatement body → map (λ l. encoded c locals l.1) body ≡ map (λ s. Some (encode s)) stmts
     → list_all (has_line c locals) stmts ≡ true

@@ -1,11 +1,10 @@
 -- The check of limits on lines, and the limits of the script that they spell.
 use Rattle.std.proofs.Common.{◌≡◌, ℕ, ◌+◌, ◌<◌, ◌≤◌, Bool, true, false, not, ◌&&◌, ◌||◌, cond, List, [], ◌∷◌, ◌++◌, Some, length, refl, sym, ap, ◌∙◌, arith, filter, map, nat_le, nat_lt, leb-true, le-leb}
-use Rattle.std.specs.Prelude.{is_none, drop, sum_by, count_by}
+use Rattle.std.specs.Prelude.{is_none, sum_by, count_by}
 use Rattle.std.specs.List.{AllZip, list_all}
 use Rattle.std.proofs.lemmas.Bool.{and_parts, lt-leb, leb-false, ltb-true, ltb-false}
 use Rattle.std.proofs.lemmas.List.{length-map, length-append}
 use Rattle.std.proofs.lemmas.List.Elements.{filter-append}
-use Rattle.std.proofs.lemmas.List.Folds.{list_all-map}
 use Rattle.std.proofs.lemmas.List.Sums.{sum_by-cons}
 use Rattle.pct_model.specs.declared.line_kind.SymbolKind.{SymbolKind}
 use Rattle.pct_model.specs.declared.line_kind.SymbolKind.TheVariants as kind
@@ -19,21 +18,19 @@ use Rattle.pct_model.specs.declared.statement.Stmt.{Stmt}
 use Rattle.pct_model.specs.LineParsing.{is_empty}
 use Rattle.pct_model.specs.Statements.{encode}
 use Rattle.pct_model.specs.Contents.{Contents, names_of_kind}
-use Rattle.pct_model.specs.Sections.{Line, Section, role_in, declares, is_declaration, is_statement, names_in, locals_of, declaring, is_function, split_sections, sections_of, functions_in}
+use Rattle.pct_model.specs.Sections.{Line, Section, role_in, declares, is_declaration, is_statement, locals_of, declaring, is_function, split_sections, sections_of, functions_in}
 use Rattle.pct_model.specs.Checks.{first_wrong, none_wrong, most, exceeds, has_many_locals, exceeds_limit, too_many}
 use Rattle.pct_model.specs.Static.{is_within, statement_lines, keeps_limits}
 use Rattle.pct_model.specs.Spells.{declarations, encoded, SpellsBody, AreContents}
 use Rattle.pct_grammar.proofs.SectionSplits.{lines_of_sections, all_statements, is_section, are_sections}
-use Rattle.pct_grammar.proofs.FirstFaults.{line_none, first_wrong_none}
+use Rattle.pct_grammar.proofs.FirstFaults.{swap, line_none, first_wrong_none}
+use Rattle.pct_grammar.proofs.Declared.{locals_pass}
 
 -- ---- rules
 
 or_step : (a b x y : Bool) → (not (a || b) && (x && y)) ≡ ((not a && x) && (not b && y))
 or_step true b x y = refl
-or_step false true true y = refl
-or_step false true false y = refl
-or_step false false true y = refl
-or_step false false false y = refl
+or_step false b x y = swap (not b) x y
 
 -- no line breaks one of two rules if and only if no line breaks the first and none the second
 pub none_or : {A : Type 0} (r s : List A → A → Bool) (before items : List A) → none_wrong (λ earlier a. r earlier a || s earlier a) before items ≡ (none_wrong r before items && none_wrong s before items)
@@ -109,11 +106,9 @@ parsed_each lines = map (λ (l : Line). l.1) lines
 
 declared_length : (c : Contents) (k : SymbolKind) → length (declarations c k) ≡ length (names_of_kind c k)
 unfolding declarations
-declared_length c kind.Global = length-map c.globals (λ (name : List ℕ). token.Name name ∷ [])
-declared_length c kind.Mutex = length-map c.mutexes (λ (name : List ℕ). token.Name name ∷ [])
-declared_length c kind.Cond = length-map c.conds (λ (name : List ℕ). token.Name name ∷ [])
 declared_length c kind.Sem = length-map c.sems (λ (s : SemDecl). token.Name s.name ∷ token.Number s.count ∷ []) ∙ sym (length-map c.sems (λ (s : SemDecl). s.name))
 declared_length c kind.Function = length-map c.funcs (λ (f : Func). token.Name f.name ∷ map (λ (name : List ℕ). token.Name name) f.locals) ∙ sym (length-map c.funcs (λ (f : Func). f.name))
+declared_length c k = length-map (names_of_kind c k) (λ (name : List ℕ). token.Name name ∷ [])
 
 kind_within : (lines : List Line) (c : Contents) → AreContents lines c → (k : SymbolKind) → none_wrong (exceeds (declares k) (most k)) [] (parsed_each lines) ≡ is_within c k
 kind_within lines c are k =
@@ -162,12 +157,11 @@ sections_count (section ∷ sections) are wholes =
 
 bodies_count : (c : Contents) (sections : List Section) (funcs : List Func) → AllZip (SpellsBody c) sections funcs → sum_by body_length sections ≡ statement_lines funcs
 bodies_count c [] [] zip = refl
-bodies_count c [] (f ∷ funcs) zip = absurd zip
-bodies_count c (section ∷ sections) [] zip = absurd zip
 bodies_count c (section ∷ sections) (f ∷ funcs) zip =
     let same : length section.body ≡ length f.body = sym (length-map section.body (λ (l : Line). encoded c f.locals l.1)) ∙ ap length zip.0 ∙ length-map f.body (λ (s : Stmt). Some (encode s)) in
     sum_by-cons body_length section sections ∙ ap (λ n. n + sum_by body_length sections) same ∙ ap (λ n. length f.body + n) (bodies_count c sections funcs zip.1)
     ∙ sym (sum_by-cons (λ (g : Func). length g.body) f funcs)
+bodies_count c _ _ zip = absurd zip
 
 statements_count : (lines : List Line) (c : Contents) → AreContents lines c → count_by is_statement (parsed_each lines) ≡ statement_lines c.funcs
 statements_count lines c are =
@@ -180,42 +174,15 @@ statements_count lines c are =
 
 -- ---- locals
 
-abbrev few_names : List Token → Bool
-few_names words = not (nat_lt 8 (length (drop 1 (names_in words))))
-
-few_or : (l : Line) (others : List Line) (t rest : Bool) → rest ≡ list_all (λ (m : Line). few_names m.1.tokens) others
-    → (not (t && nat_lt 8 (length (locals_of l.1))) && rest) ≡ list_all (λ (m : Line). few_names m.1.tokens) (cond t (l ∷ others) others)
-few_or l others true rest e = ap (λ (t : Bool). few_names l.1.tokens && t) e
-few_or l others false rest e = e
-
-few_locals : (lines : List Line) → list_all (λ (line : ParsedLine). not (has_many_locals line)) (parsed_each lines) ≡ list_all (λ (l : Line). few_names l.1.tokens) (declaring kind.Function lines)
-few_locals [] = refl
-few_locals (l ∷ lines) =
-    few_or l (declaring kind.Function lines) (declares kind.Function l.1) (list_all (λ (line : ParsedLine). not (has_many_locals line)) (parsed_each lines)) (few_locals lines)
-
-names_counted : (names : List (List ℕ)) → names_in (map (λ (name : List ℕ). token.Name name) names) ≡ names
-names_counted [] = refl
-names_counted (name ∷ names) = ap (λ (ns : List (List ℕ)). name ∷ ns) (names_counted names)
-
 at_most : (n : ℕ) (t : Bool) → nat_lt 8 n ≡ t → not t ≡ nat_le n 8
 at_most n true e = sym (lt-leb n 8 (ltb-true 8 n e))
 at_most n false e = sym (le-leb n 8 (ltb-false 8 n e))
 
-abbrev words_of_function : Func → List Token
-words_of_function f = token.Name f.name ∷ map (λ (name : List ℕ). token.Name name) f.locals
-
-few_of : (funcs : List Func) → list_all (λ (f : Func). few_names (words_of_function f)) funcs ≡ list_all (λ (f : Func). nat_le (length f.locals) 8) funcs
-few_of [] = refl
-few_of (f ∷ funcs) =
-    let this : few_names (words_of_function f) ≡ nat_le (length f.locals) 8 =
-    ap (λ (names : List (List ℕ)). not (nat_lt 8 (length names))) (names_counted f.locals) ∙ at_most (length f.locals) (nat_lt 8 (length f.locals)) refl
-    in ap (λ (t : Bool). t && list_all (λ (g : Func). few_names (words_of_function g)) funcs) this ∙ ap (λ (t : Bool). nat_le (length f.locals) 8 && t) (few_of funcs)
-
 locals_within : (lines : List Line) (c : Contents) → AreContents lines c → none_wrong (λ before line. has_many_locals line) [] (parsed_each lines) ≡ list_all (λ (f : Func). nat_le (length f.locals) 8) c.funcs
-unfolding declarations
 locals_within lines c are =
-    none_by_test has_many_locals [] (parsed_each lines) ∙ few_locals lines ∙ sym (list_all-map few_names (λ (l : Line). l.1.tokens) (declaring kind.Function lines))
-    ∙ ap (λ (ws : List (List Token)). list_all few_names ws) (are.declared kind.Function) ∙ list_all-map few_names words_of_function c.funcs ∙ few_of c.funcs
+    none_by_test has_many_locals [] (parsed_each lines)
+    ∙ locals_pass (λ names. nat_le (length names) 8) (λ line. nat_lt 8 (length (locals_of line))) lines c
+    (λ line. at_most (length (locals_of line)) (nat_lt 8 (length (locals_of line))) refl) (are.declared kind.Function)
 
 -- ---- all limits
 

@@ -1,9 +1,11 @@
 -- A line that spells something is misspelled, or it parses.
-use Rattle.std.proofs.Common.{◌≡◌, ℕ, Bool, true, false, ◌&&◌, cond, List, [], ◌∷◌, Option, Some, None, length, refl, sym, ap, ◌∙◌, arith, filter, nat_eq, eqb-true, option_map}
+use Rattle.std.proofs.Common.{◌≡◌, ℕ, Bool, true, false, ◌&&◌, cond, List, [], ◌∷◌, Option, Some, None, length, refl, sym, ap, ◌∙◌, arith, nat_eq, eqb-true, option_map}
 use Rattle.std.specs.Prelude.{is_some, is_none}
 use Rattle.std.specs.List.{list_all, enumerate_from}
 use Rattle.std.specs.Option.{option_map_or}
 use Rattle.std.proofs.lemmas.Bool.{and_parts, eqb-false}
+use Rattle.std.proofs.lemmas.List.Elements.{filter_passes}
+use Rattle.std.proofs.lemmas.List.Sums.{list_all-from_AllPass}
 use Rattle.pct_model.specs.declared.line_kind.LineKind.{LineKind}
 use Rattle.pct_model.specs.declared.line_kind.ArgumentKind.{ArgumentKind}
 use Rattle.pct_model.specs.declared.refusal.ParseWhy.{ParseWhy}
@@ -14,49 +16,34 @@ use Rattle.pct_model.specs.Lines.{◌>>=◌, lines_of}
 use Rattle.pct_model.specs.LineKinds.{syntax_of, line_kind_of}
 use Rattle.pct_model.specs.LineParsing.{Numbered, words_in, spell_something, spelled_lines, token_at, tokens_at, is_allowed, parsed_as, parsed_words, parsed}
 use Rattle.pct_model.specs.Spelling.{Fault, why_not, faulty_word, fault_at, fault_of_words, misspelled, spelling}
+use Rattle.pct_grammar.proofs.TokensResolve.{words_at_lengths}
 use Rattle.pct_grammar.proofs.FirstFaults.{first_of_none}
-use Rattle.pct_grammar.proofs.OptionFacts.{mapped_none}
+use Rattle.pct_grammar.proofs.OptionFacts.{mapped_some, mapped_none, none_is}
 
 -- ---- words and argument kinds
-
-map_some : {A B : Type 0} (f : A → B) (o : Option A) → is_some (option_map f o) ≡ is_some o
-map_some f None = refl
-map_some f (Some x) = refl
 
 one_word : (o : Option Token) (why : ParseWhy) (fault : Option ParseWhy) (others : Option (List Token)) → is_none fault ≡ is_some others
     → is_none (cond (is_some o) fault (Some why)) ≡ is_some (o >>= λ first. option_map (λ rest. first ∷ rest) others)
 one_word None why fault others e = refl
-one_word (Some parsed) why fault others e = e ∙ sym (map_some (λ (rest : List Token). parsed ∷ rest) others)
+one_word (Some parsed) why fault others e = e ∙ sym (mapped_some (λ (rest : List Token). parsed ∷ rest) others)
 
 as_many : (argument_kinds : List ArgumentKind) (words : List (List ℕ)) → length words ≡ length argument_kinds → is_none (faulty_word argument_kinds words) ≡ is_some (tokens_at argument_kinds words)
 unfolding faulty_word tokens_at
 as_many [] [] e = refl
-as_many [] (w ∷ words) e = absurd (omega arith)
-as_many (p ∷ argument_kinds) [] e = absurd (omega arith)
 as_many (p ∷ argument_kinds) (w ∷ words) e =
     let fewer : length words ≡ length argument_kinds = omega arith in
     one_word (token_at p w) (why_not p w) (faulty_word argument_kinds words) (tokens_at argument_kinds words) (as_many argument_kinds words fewer)
+as_many _ _ e = absurd (omega arith)
 
-one_more : (o : Option Token) (others : Option (List Token)) → is_some (o >>= λ first. option_map (λ rest. first ∷ rest) others) ≡ true → is_some others ≡ true
-one_more None others e = absurd cc
-one_more (Some parsed) others e = sym (map_some (λ (rest : List Token). parsed ∷ rest) others) ∙ e
-
-some_as_many : (argument_kinds : List ArgumentKind) (words : List (List ℕ)) → is_some (tokens_at argument_kinds words) ≡ true → length words ≡ length argument_kinds
-unfolding tokens_at
-some_as_many [] [] e = refl
-some_as_many [] (w ∷ words) e = absurd cc
-some_as_many (p ∷ argument_kinds) [] e = absurd cc
-some_as_many (p ∷ argument_kinds) (w ∷ words) e =
-    let fewer = some_as_many argument_kinds words (one_more (token_at p w) (tokens_at argument_kinds words) e) in
-    omega (arith, fewer)
-
-not_as_many : (argument_kinds : List ArgumentKind) (words : List (List ℕ)) (t : Bool) → is_some (tokens_at argument_kinds words) ≡ t → nat_eq (length words) (length argument_kinds) ≡ false → false ≡ t
-not_as_many argument_kinds words true e other = absurd (eqb-false (length words) (length argument_kinds) other (some_as_many argument_kinds words e))
-not_as_many argument_kinds words false e other = refl
+not_as_many : (argument_kinds : List ArgumentKind) (words : List (List ℕ)) (o : Option (List Token)) → tokens_at argument_kinds words ≡ o
+    → nat_eq (length words) (length argument_kinds) ≡ false → false ≡ is_some o
+not_as_many argument_kinds words (Some tokens) e other =
+    absurd (eqb-false (length words) (length argument_kinds) other (words_at_lengths argument_kinds words tokens e).0)
+not_as_many argument_kinds words None e other = refl
 
 by_count : (argument_kinds : List ArgumentKind) (words : List (List ℕ)) (t : Bool) → nat_eq (length words) (length argument_kinds) ≡ t → is_none (cond t (faulty_word argument_kinds words) (Some WordCount)) ≡ is_some (tokens_at argument_kinds words)
 by_count argument_kinds words true e = as_many argument_kinds words (eqb-true (length words) (length argument_kinds) e)
-by_count argument_kinds words false e = not_as_many argument_kinds words (is_some (tokens_at argument_kinds words)) refl e
+by_count argument_kinds words false e = not_as_many argument_kinds words (tokens_at argument_kinds words) refl e
 
 fault_or_words : (argument_kinds : List ArgumentKind) (words : List (List ℕ)) → is_none (fault_at argument_kinds words) ≡ is_some (tokens_at argument_kinds words)
 unfolding fault_at
@@ -70,7 +57,7 @@ kinds_for f words = (syntax_of f).argument_kinds (length words)
 by_line_kind : (words : List (List ℕ)) (o : Option LineKind) → is_none (option_map_or (λ f. fault_at (kinds_for f words) words) o (Some UnknownWord)) ≡ is_some (o >>= λ f. parsed_as f words)
 by_line_kind words None = refl
 by_line_kind words (Some f) =
-    fault_or_words (kinds_for f words) words ∙ sym (map_some {B = ParsedLine} (λ (parsed : List Token). record { line_kind = f; tokens = parsed }) (tokens_at (kinds_for f words) words))
+    fault_or_words (kinds_for f words) words ∙ sym (mapped_some {B = ParsedLine} (λ (parsed : List Token). record { line_kind = f; tokens = parsed }) (tokens_at (kinds_for f words) words))
 
 by_words : (words : List (List ℕ)) → spell_something words ≡ true → is_none (fault_of_words words) ≡ is_some (parsed_words words)
 unfolding fault_of_words parsed_words
@@ -95,10 +82,6 @@ parses_bytes : (words : List (List ℕ)) (t : Bool) → is_some (cond t (parsed_
 parses_bytes words true is = parses_words words is
 parses_bytes words false is = absurd cc
 
-none_is : (o : Option ParseWhy) → is_none o ≡ true → o ≡ None
-none_is None e = refl
-none_is (Some why) e = absurd cc
-
 -- a line that parses is not misspelled
 pub not_misspelled : (bytes : List ℕ) (s : ParsedLine) → parsed bytes ≡ Some s → misspelled bytes ≡ None
 unfolding misspelled parsed
@@ -109,17 +92,9 @@ not_misspelled bytes s e = none_is _ (parses_bytes (words_in bytes) (list_all is
 abbrev spells : Numbered (List ℕ) → Bool
 spells l = spell_something (words_in l.1)
 
-each_spells : (t : Bool) (l : Numbered (List ℕ)) (lines : List (Numbered (List ℕ))) → spells l ≡ t → list_all spells lines ≡ true → list_all spells (cond t (l ∷ lines) lines) ≡ true
-each_spells true l lines e are = ap (λ (t : Bool). t && list_all spells lines) e ∙ are
-each_spells false l lines e are = are
-
-all_spell : (lines : List (Numbered (List ℕ))) → list_all spells (filter spells lines) ≡ true
-all_spell [] = refl
-all_spell (l ∷ lines) = each_spells (spells l) l (filter spells lines) refl (all_spell lines)
-
 lines_spell : (text : List ℕ) → list_all spells (spelled_lines text) ≡ true
 unfolding spelled_lines
-lines_spell text = all_spell (enumerate_from 1 (lines_of text))
+lines_spell text = list_all-from_AllPass spells (spelled_lines text) (filter_passes spells (enumerate_from 1 (lines_of text)))
 
 abbrev fault_of : Numbered (List ℕ) → Option Fault
 fault_of l = option_map (λ why. (l.0, why)) (misspelled l.1)

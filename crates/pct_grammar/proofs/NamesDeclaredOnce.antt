@@ -1,25 +1,26 @@
 -- The check of names finds no fault if and only if each name is declared once.
-use Rattle.std.proofs.Common.{◌≡◌, ℕ, ◌+◌, ◌≤◌, Bool, true, false, not, ◌&&◌, ◌||◌, cond, List, [], ◌∷◌, ◌++◌, map, flat_map, drop, take, refl, sym, ap, ap₂, ◌∙◌, arith, is_none, bytes_eq}
+use Rattle.std.proofs.Common.{◌≡◌, ℕ, ◌+◌, ◌≤◌, Bool, true, false, not, ◌&&◌, ◌||◌, cond, List, [], ◌∷◌, ◌++◌, map, flat_map, take, refl, sym, ap, ap₂, ◌∙◌, arith, is_none, bytes_eq}
 use Rattle.std.specs.List.{list_all, list_any}
-use Rattle.std.proofs.lemmas.Bool.{and_parts, and_from, not-true}
-use Rattle.std.proofs.lemmas.List.Folds.{list_all-map}
+use Rattle.std.proofs.lemmas.Bool.{and_parts, and_from, or_parts, not-true, not_from_false}
 use Rattle.pct_model.specs.declared.line_kind.SymbolKind.{SymbolKind}
 use Rattle.pct_model.specs.declared.line_kind.SymbolKind.TheVariants as kind
 use Rattle.pct_model.specs.declared.role.Role.{Role}
 use Rattle.pct_model.specs.declared.role.Role.TheVariants as role
 use Rattle.pct_model.specs.declared.refusal.ParseWhy.TheVariants.{NameTwice}
 use Rattle.pct_model.specs.declared.parsed_line.ParsedLine.{ParsedLine}
-use Rattle.pct_model.specs.declared.parsed_line.Token.{Token}
-use Rattle.pct_model.specs.declared.script.Func.{Func}
 use Rattle.pct_model.specs.Names.{all_different, names_of}
 use Rattle.pct_model.specs.Contents.{Contents, names_of_kind}
-use Rattle.pct_model.specs.Sections.{Line, Sections, role_in, declares_by, declares, is_declaration, is_statement, names_in, declared_by, locals_of, declaring, names_declared, split_sections}
+use Rattle.pct_model.specs.Sections.{Line, Section, sections_of, role_in, declares_by, declares, is_declaration, names_in, declared_by, locals_of, declaring, names_declared}
 use Rattle.pct_model.specs.Spells.{AreContents}
 use Rattle.pct_model.specs.Checks.{first_wrong, none_wrong, declares_again, headers, name_twice}
 use Rattle.pct_model.specs.Static.{all_names, has_each_name_once}
 use Rattle.pct_model.proofs.Bytes.{same_bytes, bytes_eq-refl}
-use Rattle.pct_grammar.proofs.FirstFaults.{line_none, first_wrong_none}
-use Rattle.pct_grammar.proofs.Declared.{words_of, names_back, names_declared_are, outlines_of, prefix_if, declaring_headers, of_function_declarations}
+use Rattle.pct_grammar.proofs.FirstFaults.{not_not, line_none, first_wrong_none}
+use Rattle.pct_grammar.proofs.SectionSplits.{all_statements, is_section, are_sections}
+use Rattle.pct_grammar.proofs.FunctionHeaders.{outlines_of, declaring_headers}
+use Rattle.pct_grammar.proofs.LimitLaw.{none_or, none_by_test}
+use Rattle.pct_grammar.proofs.Declarations.{names_from}
+use Rattle.pct_grammar.proofs.Declared.{locals_pass}
 
 -- ---- tests
 
@@ -27,10 +28,6 @@ same_tests : (a b : Bool) → (a ≡ true → b ≡ true) → (b ≡ true → a 
 same_tests true b f g = sym (f refl)
 same_tests false true f g = g refl
 same_tests false false f g = refl
-
-not_from : (t : Bool) → t ≡ false → not t ≡ true
-not_from true e = absurd cc
-not_from false e = refl
 
 -- ---- how often a name is among names
 
@@ -87,7 +84,7 @@ unfolding all_different
 different_of_once [] few = refl
 different_of_once (x ∷ xs) few =
     let none : times x xs ≡ 0 = omega (arith, few x, first_times x xs) in
-    and_from (not (list_any (bytes_eq x) xs)) (all_different xs) (not_from (list_any (bytes_eq x) xs) (lacks x xs none)) (different_of_once xs (λ w. let one = few w in omega arith))
+    and_from (not (list_any (bytes_eq x) xs)) (all_different xs) (not_from_false (list_any (bytes_eq x) xs) (lacks x xs none)) (different_of_once xs (λ w. let one = few w in omega arith))
 
 -- ---- declarations in the order of the text
 
@@ -98,13 +95,9 @@ declared_in lines = flat_map declared_by lines
 abbrev declares_known : List ParsedLine → ParsedLine → Bool
 declares_known before line = list_any (λ name. list_any (bytes_eq name) (declared_in before)) (declared_by line)
 
-or_left : (t : Bool) → (t || false) ≡ false → t ≡ false
-or_left true e = e
-or_left false e = refl
-
 once_first : (names before : List (List ℕ)) → list_any (λ name. list_any (bytes_eq name) before) (take 1 names) ≡ false → Once before → Once (take 1 names ++ before)
 once_first [] before e few = few
-once_first (x ∷ names) before e few = once_more x before (absent x before (or_left (list_any (bytes_eq x) before) e)) few
+once_first (x ∷ names) before e few = once_more x before (absent x before (or_parts (list_any (bytes_eq x) before) false e).0) few
 
 once_of_none : (before items : List ParsedLine) → Once (declared_in before) → none_wrong declares_known before items ≡ true → (w : List ℕ) → times w (declared_in before) + times w (declared_in items) ≤ 1
 unfolding none_wrong
@@ -128,7 +121,7 @@ none_of_once before (s ∷ items) few =
     let apart : (w : List ℕ) → times w (declared_by s) + times w (declared_in before) ≤ 1 = λ w. omega (arith, few w, times-append w (declared_by s) (declared_in items)) in
     let later : (w : List ℕ) → times w (declared_in (s ∷ before)) + times w (declared_in items) ≤ 1 =
     λ w. omega (arith, few w, times-append w (declared_by s) (declared_in before), times-append w (declared_by s) (declared_in items)) in
-    and_from (not (declares_known before s)) (none_wrong declares_known (s ∷ before) items) (not_from (declares_known before s) (known_none (names_in s.tokens) (declared_in before) apart)) (none_of_once (s ∷ before) items later)
+    and_from (not (declares_known before s)) (none_wrong declares_known (s ∷ before) items) (not_from_false (declares_known before s) (known_none (names_in s.tokens) (declared_in before) apart)) (none_of_once (s ∷ before) items later)
 
 -- no name is declared again if and only if the names are different
 declares_again_law : (items : List ParsedLine) → none_wrong declares_known [] items ≡ all_different (declared_in items)
@@ -138,30 +131,6 @@ declares_again_law items =
     (λ e. none_of_once [] items (λ w. let one = once_of_different (declared_in items) e w in omega arith))
 
 -- ---- the order of the kinds
-
--- each of the lines is a declaration
-abbrev AreDeclarations : List Line → Type 0
-AreDeclarations [] = Unit {0}
-AreDeclarations (l ∷ lines) = (is_declaration (role_in l.1) ≡ true) × AreDeclarations lines
-
-no_statement : (r : Role) → not (is_declaration r) ≡ false → is_declaration r ≡ true
-no_statement (role.Declares k) e = refl
-no_statement (role.Opens b) e = absurd cc
-no_statement role.Else e = absurd cc
-no_statement role.End e = absurd cc
-no_statement role.Pop e = absurd cc
-no_statement role.Return e = absurd cc
-no_statement role.Plain e = absurd cc
-no_statement role.Other e = absurd cc
-
-declarations_step : (l : Line) (p : Sections) (t : Bool) → is_statement l.1 ≡ t → AreDeclarations (outlines_of p.sections) → AreDeclarations (outlines_of (prefix_if t l p).sections)
-declarations_step l p true e others = others
-declarations_step l p false e others = (no_statement (role_in l.1) e, others)
-
-are_declarations : (lines : List Line) → AreDeclarations (headers lines)
-unfolding split_sections
-are_declarations [] = tt
-are_declarations (l ∷ lines) = declarations_step l (split_sections lines) (is_statement l.1) refl (are_declarations lines)
 
 -- how often a name is declared of a kind
 abbrev times_of : List ℕ → List Line → SymbolKind → ℕ
@@ -177,21 +146,16 @@ declared_of lines = flat_map (λ (l : Line). declared_by l.1) lines
 kinds_step : (w : List ℕ) (l : Line) (lines : List Line) (r : Role) → is_declaration r ≡ true → times w (declared_of lines) ≡ times_in_kinds (times_of w lines)
     → times w (declared_by l.1 ++ declared_of lines) ≡ times_in_kinds (λ k. times w (declared_of (cond (declares_by k r) (l ∷ declaring k lines) (declaring k lines))))
 kinds_step w l lines (role.Declares kind.Global) is e = omega (arith, times-append w (declared_by l.1) (declared_of lines), times-append w (declared_by l.1) (names_declared lines kind.Global))
-kinds_step w l lines (role.Declares kind.Mutex) is e = omega (arith, times-append w (declared_by l.1) (declared_of lines), times-append w (declared_by l.1) (names_declared lines kind.Mutex))
-kinds_step w l lines (role.Declares kind.Cond) is e = omega (arith, times-append w (declared_by l.1) (declared_of lines), times-append w (declared_by l.1) (names_declared lines kind.Cond))
-kinds_step w l lines (role.Declares kind.Sem) is e = omega (arith, times-append w (declared_by l.1) (declared_of lines), times-append w (declared_by l.1) (names_declared lines kind.Sem))
-kinds_step w l lines (role.Declares kind.Function) is e = omega (arith, times-append w (declared_by l.1) (declared_of lines), times-append w (declared_by l.1) (names_declared lines kind.Function))
-kinds_step w l lines (role.Opens b) is e = absurd cc
-kinds_step w l lines role.Else is e = absurd cc
-kinds_step w l lines role.End is e = absurd cc
-kinds_step w l lines role.Pop is e = absurd cc
-kinds_step w l lines role.Return is e = absurd cc
-kinds_step w l lines role.Plain is e = absurd cc
-kinds_step w l lines role.Other is e = absurd cc
+kinds_step w l lines (role.Declares k) is e = omega (arith, times-append w (declared_by l.1) (declared_of lines), times-append w (declared_by l.1) (names_declared lines k))
+kinds_step w l lines _ is e = absurd cc
 
-in_kinds : (w : List ℕ) (lines : List Line) → AreDeclarations lines → times w (declared_of lines) ≡ times_in_kinds (times_of w lines)
+in_kinds : (w : List ℕ) (sections : List Section) → list_all is_section sections ≡ true
+    → times w (declared_of (outlines_of sections)) ≡ times_in_kinds (times_of w (outlines_of sections))
 in_kinds w [] are = refl
-in_kinds w (l ∷ lines) are = kinds_step w l lines (role_in l.1) are.0 (in_kinds w lines are.1)
+in_kinds w (section ∷ sections) are =
+    let h = and_parts (is_section section) (list_all is_section sections) are in
+    let this = and_parts (is_declaration (role_in section.header.1)) (all_statements section.body) h.0 in
+    kinds_step w section.header (outlines_of sections) (role_in section.header.1) this.0 (in_kinds w sections h.1)
 
 declared_in_headers : (lines : List Line) → declared_in (map (λ l. l.1) lines) ≡ declared_of lines
 declared_in_headers [] = refl
@@ -210,10 +174,10 @@ in_all_names w c =
 same_times : (lines : List Line) (c : Contents) → AreContents lines c → (w : List ℕ) → times w (declared_in (map (λ l. l.1) (headers lines))) ≡ times w (all_names c)
 same_times lines c are w =
     let each : (k : SymbolKind) → times_of w (headers lines) k ≡ times w (names_of_kind c k) =
-    λ k. ap (λ (ls : List Line). times w (declared_of ls)) (declaring_headers k lines) ∙ ap (times w) (names_declared_are lines c are k) in
+    λ k. ap (λ (ls : List Line). times w (declared_of ls)) (declaring_headers k lines) ∙ ap (times w) (names_from lines c k (are.declared k)) in
     let kinds : times_in_kinds (times_of w (headers lines)) ≡ times_in_kinds (λ k. times w (names_of_kind c k)) =
     omega (arith, each kind.Global, each kind.Mutex, each kind.Cond, each kind.Sem, each kind.Function) in
-    ap (times w) (declared_in_headers (headers lines)) ∙ in_kinds w (headers lines) (are_declarations lines) ∙ kinds ∙ sym (in_all_names w c)
+    ap (times w) (declared_in_headers (headers lines)) ∙ in_kinds w (sections_of lines) (are_sections lines).sections_are ∙ kinds ∙ sym (in_all_names w c)
 
 different_alike : (xs ys : List (List ℕ)) → ((w : List ℕ) → times w xs ≡ times w ys) → all_different xs ≡ true → all_different ys ≡ true
 different_alike xs ys same e = different_of_once ys (λ w. omega (arith, same w, once_of_different xs e w))
@@ -227,57 +191,16 @@ same_different xs ys same = same_tests (all_different xs) (all_different ys) (di
 abbrev has_local_twice : ParsedLine → Bool
 has_local_twice line = declares kind.Function line && not (all_different (locals_of line))
 
-regroup : (x y p q : Bool) → (not (x || y) && (p && q)) ≡ ((not x && p) && (not y && q))
-regroup true y p q = refl
-regroup false true true q = refl
-regroup false true false q = refl
-regroup false false p q = refl
-
--- no line breaks either of two rules
-none_of_two : (rule : List ParsedLine → ParsedLine → Bool) (test : ParsedLine → Bool) (before items : List ParsedLine)
-    → none_wrong (λ before line. rule before line || test line) before items ≡ (none_wrong rule before items && list_all (λ line. not (test line)) items)
-unfolding none_wrong
-none_of_two rule test before [] = refl
-none_of_two rule test before (s ∷ items) =
-    let p = none_wrong rule (s ∷ before) items in
-    let q = list_all (λ (line : ParsedLine). not (test line)) items in
-    ap (λ (t : Bool). not (rule before s || test s) && t) (none_of_two rule test (s ∷ before) items) ∙ regroup (rule before s) (test s) p q
-
-none_of_both : (items : List ParsedLine) → none_wrong declares_again [] items ≡ (none_wrong declares_known [] items && list_all (λ line. not (has_local_twice line)) items)
-unfolding none_wrong declares_again
-none_of_both items = none_of_two declares_known has_local_twice [] items
-
-locals_step : (l : Line) (others : List Line) (rest d a : Bool) → all_different (locals_of l.1) ≡ a → rest ≡ list_all (λ l. all_different (locals_of l.1)) others
-    → (not (d && not a) && rest) ≡ list_all (λ l. all_different (locals_of l.1)) (cond d (l ∷ others) others)
-locals_step l others rest true true is e = sym (ap (λ (t : Bool). t && list_all (λ (l : Line). all_different (locals_of l.1)) others) is ∙ sym e)
-locals_step l others rest true false is e = sym (ap (λ (t : Bool). t && list_all (λ (l : Line). all_different (locals_of l.1)) others) is)
-locals_step l others rest false a is e = e
-
-of_functions : (lines : List Line) → list_all (λ line. not (has_local_twice line)) (map (λ l. l.1) lines) ≡ list_all (λ l. all_different (locals_of l.1)) (declaring kind.Function lines)
-of_functions [] = refl
-of_functions (l ∷ lines) =
-    locals_step l (declaring kind.Function lines) (list_all (λ line. not (has_local_twice line)) (map (λ l. l.1) lines)) (declares kind.Function l.1) (all_different (locals_of l.1)) refl (of_functions lines)
-
--- the locals among the tokens of a `fn` line
-abbrev locals_different : List Token → Bool
-locals_different words = all_different (drop 1 (names_in words))
-
-of_words : (funcs : List Func) → list_all locals_different (map words_of funcs) ≡ list_all (λ f. all_different f.locals) funcs
-of_words [] = refl
-of_words (f ∷ funcs) = ap₂ (λ (x y : Bool). x && y) (ap all_different (names_back f.locals)) (of_words funcs)
-
-same_locals : (lines : List Line) (c : Contents) → AreContents lines c → list_all (λ line. not (has_local_twice line)) (map (λ l. l.1) (headers lines)) ≡ list_all (λ f. all_different f.locals) c.funcs
-same_locals lines c are =
-    of_functions (headers lines) ∙ ap (list_all (λ (l : Line). all_different (locals_of l.1))) (declaring_headers kind.Function lines)
-    ∙ sym (list_all-map locals_different (λ (l : Line). l.1.tokens) (declaring kind.Function lines))
-    ∙ ap (list_all locals_different) (are.declared kind.Function ∙ of_function_declarations c) ∙ of_words c.funcs
-
 -- ---- the theorem
 
 -- each name is declared once if and only if the check finds no fault
 pub once_law : (lines : List Line) (c : Contents) → AreContents lines c → is_none (name_twice lines) ≡ has_each_name_once c
-unfolding name_twice has_each_name_once
+unfolding name_twice has_each_name_once declares_again
 once_law lines c are =
     let items = map (λ (l : Line). l.1) (headers lines) in
-    line_none NameTwice (first_wrong declares_again [] (headers lines)) ∙ first_wrong_none declares_again [] (headers lines) ∙ none_of_both items
-    ∙ ap₂ (λ (x y : Bool). x && y) (declares_again_law items ∙ same_different (declared_in items) (all_names c) (same_times lines c are)) (same_locals lines c are)
+    line_none NameTwice (first_wrong declares_again [] (headers lines)) ∙ first_wrong_none declares_again [] (headers lines)
+    ∙ none_or declares_known (λ before line. has_local_twice line) [] items
+    ∙ ap₂ (λ (x y : Bool). x && y) (declares_again_law items ∙ same_different (declared_in items) (all_names c) (same_times lines c are))
+    (none_by_test has_local_twice [] items
+    ∙ locals_pass all_different (λ line. not (all_different (locals_of line))) (headers lines) c (λ line. not_not (all_different (locals_of line)))
+    (ap (map (λ (l : Line). l.1.tokens)) (declaring_headers kind.Function lines) ∙ are.declared kind.Function))

@@ -17,7 +17,8 @@ use Rattle.pct_model.specs.Checks.{uses_unknown, unknown_in, unknown_name}
 use Rattle.pct_model.specs.Spells.{declarations, encoded, SpellsBody, AreContents}
 use Rattle.pct_grammar.specs.Resolving.{decode, resolve_statement, resolve_body, first_name, resolve_function, resolve_functions, sems_in, resolve_contents}
 use Rattle.pct_grammar.proofs.SharedWords.{IsParsed, EachParsed}
-use Rattle.pct_grammar.proofs.OptionFacts.{mapped_some, mapped_none, or_none, and_some, some_not_none, MappedFrom, mapped_from, BothFrom, both_from}
+use Rattle.pct_grammar.proofs.OptionFacts.{mapped_some, mapped_none, or_none, and_some, some_not_none, BothFrom, both_from}
+use Rattle.pct_grammar.proofs.OptionSteps.{map_some}
 use Rattle.pct_grammar.proofs.EncodeDecode.{statement_back}
 use Rattle.pct_grammar.proofs.Declarations.{names_from, parsed_again, each_declares, parsed_names, parsed_sems, parsed_functions}
 use Rattle.pct_grammar.proofs.EncodedFunctions.{EachStatement, EachSection, FunctionParsed, functions_parsed, WroteAll, words_of_function, words_of_headers, functions_resolve, locals_resolved, no_declaration, line_has_words}
@@ -76,10 +77,10 @@ line_resolved : (c : Contents) (locals : List (List ℕ)) (line : ParsedLine) (s
 unfolding resolve_statement
 line_resolved c locals line s from is h =
     let o = resolve_all (names_of_kind c) locals (argument_kinds_in line) line.tokens in
-    let at : MappedFrom (decode line.line_kind) o s = mapped_from (decode line.line_kind) o s h in
-    let back : encode (decode line.line_kind at.value) ≡ (line.line_kind, at.value) =
-    statement_back c locals line.line_kind at.value (no_declaration line is) (line_has_words c locals line at.value from is at.from)
-    in ap (λ (p : Option (List Argument)). option_map {U = EncodedStmt} (λ arguments. (line.line_kind, arguments)) p) at.from ∙ ap (λ (t : EncodedStmt). Some t) (sym back ∙ sym (ap encode at.is))
+    let at = map_some (decode line.line_kind) o s h in
+    let back : encode (decode line.line_kind at.0) ≡ (line.line_kind, at.0) =
+    statement_back c locals line.line_kind at.0 (no_declaration line is) (line_has_words c locals line at.0 from is at.1)
+    in ap (λ (p : Option (List Argument)). option_map {U = EncodedStmt} (λ arguments. (line.line_kind, arguments)) p) at.1 ∙ ap (λ (t : EncodedStmt). Some t) (sym back ∙ ap encode at.2)
 
 body_resolved : (c : Contents) (locals : List (List ℕ)) (body : List Line) (stmts : List Stmt) → EachStatement body → resolve_body (names_of_kind c) locals body ≡ Some stmts
     → map (λ l. encoded c locals l.1) body ≡ map (λ s. Some (encode s)) stmts
@@ -102,8 +103,8 @@ function_resolved : (c : Contents) (section : Section) (f : Func) → EachStatem
 unfolding resolve_function
 function_resolved c section f from h =
     let o = resolve_body (names_of_kind c) (locals_of section.header.1) section.body in
-    let at : MappedFrom (function_of section) o f = mapped_from (function_of section) o f h in
-    subst (SpellsBody c section) (sym at.is) (body_resolved c (locals_of section.header.1) section.body at.value from at.from)
+    let at = map_some (function_of section) o f h in
+    subst (SpellsBody c section) at.2 (body_resolved c (locals_of section.header.1) section.body at.0 from at.1)
 
 functions_resolved : (c : Contents) (sections : List Section) (funcs : List Func) → EachSection FunctionParsed sections → resolve_functions (names_of_kind c) sections ≡ Some funcs → AllZip (SpellsBody c) sections funcs
 unfolding resolve_functions
@@ -121,8 +122,8 @@ header_read : (names : SymbolKind → List (List ℕ)) (section : Section) (f : 
 unfolding resolve_function
 header_read names section f h =
     let o = resolve_body names (locals_of section.header.1) section.body in
-    let at : MappedFrom (function_of section) o f = mapped_from (function_of section) o f h in
-    sym (ap words_of_function at.is)
+    let at = map_some (function_of section) o f h in
+    ap words_of_function at.2
 
 headers_read : (names : SymbolKind → List (List ℕ)) (sections : List Section) (funcs : List Func) → resolve_functions names sections ≡ Some funcs → map (λ section. parsed_again section.header.1.tokens) sections ≡ map words_of_function funcs
 unfolding resolve_functions
@@ -142,12 +143,10 @@ contents_with lines funcs = record { globals = names_declared lines kind.Global;
 all_declared : (lines : List Line) (funcs : List Func) → EachParsed lines → resolve_functions (names_declared lines) (functions_in lines) ≡ Some funcs → (k : SymbolKind)
     → map (λ l. l.1.tokens) (declaring k lines) ≡ declarations (contents_with lines funcs) k
 unfolding declarations sems_in
-all_declared lines funcs from h kind.Global = parsed_names (declaring kind.Global lines) (each_declares kind.Global lines from)
-all_declared lines funcs from h kind.Mutex = parsed_names (declaring kind.Mutex lines) (each_declares kind.Mutex lines from)
-all_declared lines funcs from h kind.Cond = parsed_names (declaring kind.Cond lines) (each_declares kind.Cond lines from)
 all_declared lines funcs from h kind.Sem = parsed_sems (declaring kind.Sem lines) (each_declares kind.Sem lines from)
 all_declared lines funcs from h kind.Function =
     parsed_functions (declaring kind.Function lines) (each_declares kind.Function lines from) ∙ sym (words_of_headers parsed_again lines) ∙ headers_read (names_declared lines) (functions_in lines) funcs h
+all_declared lines funcs from h k = parsed_names (declaring k lines) (each_declares k lines from)
 
 contents_from : (lines : List Line) (funcs : List Func) → EachParsed lines → are_in_functions lines ≡ true → resolve_functions (names_declared lines) (functions_in lines) ≡ Some funcs
     → AreContents lines (contents_with lines funcs)
@@ -162,9 +161,8 @@ contents_from lines funcs from inside h =
 pub contents_are : (lines : List Line) (c : Contents) → EachParsed lines → are_in_functions lines ≡ true → resolve_contents lines ≡ Some c → AreContents lines c
 unfolding resolve_contents
 contents_are lines c from inside h =
-    let at : MappedFrom (contents_with lines) (resolve_functions (names_declared lines) (functions_in lines)) c =
-    mapped_from (contents_with lines) (resolve_functions (names_declared lines) (functions_in lines)) c h
-    in subst (AreContents lines) (sym at.is) (contents_from lines at.value from inside at.from)
+    let at = map_some (contents_with lines) (resolve_functions (names_declared lines) (functions_in lines)) c h in
+    subst (AreContents lines) at.2 (contents_from lines at.0 from inside at.1)
 
 -- ---- what is spelled is known
 

@@ -8,13 +8,12 @@ use Rattle.std.proofs.lemmas.List.Folds.{list_all-map}
 use Rattle.pct_model.specs.declared.role.Block.{Block}
 use Rattle.pct_model.specs.declared.role.Block.TheVariants as block
 use Rattle.pct_model.specs.declared.role.Change.{Change}
-use Rattle.pct_model.specs.declared.role.Change.TheVariants.{Stays, Opens, Closes, Turns}
+use Rattle.pct_model.specs.declared.role.Change.TheVariants.{Stays}
 use Rattle.pct_model.specs.declared.role.Role.{Role}
 use Rattle.pct_model.specs.declared.role.Role.TheVariants as role
 use Rattle.pct_model.specs.declared.line_kind.SymbolKind.{SymbolKind}
 use Rattle.pct_model.specs.declared.line_kind.SymbolKind.TheVariants as kind
 use Rattle.pct_model.specs.declared.refusal.ParseWhy.{ParseWhy}
-use Rattle.pct_model.specs.declared.script.Func.{Func}
 use Rattle.pct_model.specs.LineParsing.{Numbered, is_empty}
 use Rattle.pct_model.specs.Spelling.{Fault}
 use Rattle.pct_model.specs.Contents.{Contents}
@@ -24,20 +23,17 @@ use Rattle.pct_model.specs.Checks.{roles}
 use Rattle.pct_model.specs.Static.{nests}
 use Rattle.pct_model.specs.Spells.{SpellsBody, AreContents}
 use Rattle.pct_grammar.proofs.SectionSplits.{lines_of_sections, all_statements, is_section, are_sections}
-use Rattle.pct_grammar.proofs.Roles.{without_numbers, roles_same, functions_same}
+use Rattle.pct_grammar.proofs.FirstFaults.{swap}
+use Rattle.pct_grammar.proofs.Roles.{without_numbers, roles_same, all_from_zip}
 
 -- ---- without the lines' numbers
 
 kinds_after : (blocks : Blocks) (n : ℕ) (change : Change) → kinds_of (open_after_line blocks n change) ≡ open_after (kinds_of blocks) change
 unfolding open_after_line open_after
 kinds_after [] n Stays = refl
-kinds_after [] n (Opens b) = refl
-kinds_after [] n Closes = refl
-kinds_after [] n Turns = refl
+kinds_after [] n _ = refl
 kinds_after (b ∷ blocks) n Stays = refl
-kinds_after (b ∷ blocks) n (Opens inner) = refl
-kinds_after (b ∷ blocks) n Closes = refl
-kinds_after (b ∷ blocks) n Turns = refl
+kinds_after (b ∷ blocks) n _ = refl
 
 one_line : (blocks : Blocks) (l : Numbered Role) (lines : List (Numbered Role)) → nesting_in blocks (l ∷ lines) ≡ faulty_or l.0 (change_at (kinds_of blocks) l.1) (λ change. nesting_in (open_after_line blocks l.0 change) lines)
 unfolding nesting_in
@@ -82,24 +78,12 @@ begins_anew (r ∷ rs) = is_declaration r
 not_outside : (r : Role) (f : Change → Bool) → not (is_declaration r) ≡ true → nests_or (outside r) f ≡ false
 unfolding outside
 not_outside (role.Declares k) f e = absurd cc
-not_outside (role.Opens b) f e = refl
-not_outside role.Else f e = refl
-not_outside role.End f e = refl
-not_outside role.Pop f e = refl
-not_outside role.Return f e = refl
-not_outside role.Plain f e = refl
-not_outside role.Other f e = refl
+not_outside _ f e = refl
 
 not_inside : (b : Block) (r : Role) (f : Change → Bool) → is_declaration r ≡ true → nests_or (inside b r) f ≡ false
 unfolding inside
 not_inside b (role.Declares k) f e = refl
-not_inside b (role.Opens inner) f e = absurd cc
-not_inside b role.Else f e = absurd cc
-not_inside b role.End f e = absurd cc
-not_inside b role.Pop f e = absurd cc
-not_inside b role.Return f e = absurd cc
-not_inside b role.Plain f e = absurd cc
-not_inside b role.Other f e = absurd cc
+not_inside b _ f e = absurd cc
 
 both : (answer : Result Change ParseWhy) (f g : Change → Bool) (t : Bool) → ((change : Change) → f change ≡ (g change && t)) → nests_or answer f ≡ (nests_or answer g && t)
 both (Ok change) f g t e = e change
@@ -155,12 +139,6 @@ empty_roles (l ∷ lines) = refl
 statements_are : (lines : List Line) → all_statements lines ≡ true → statements (roles_of lines) ≡ true
 statements_are lines are = list_all-map (λ r. not (is_declaration r)) (λ (l : Line). role_in l.1) lines ∙ are
 
-swap : (a b d : Bool) → (a && (b && d)) ≡ ((b && (a && d)))
-swap true true d = refl
-swap true false d = refl
-swap false true d = refl
-swap false false d = refl
-
 -- the header of a section, and the statements after it
 abbrev SectionNests : Role → Section → List Section → Type 0
 SectionNests r section sections =
@@ -194,18 +172,9 @@ other_nests k section sections stays other body are rest =
     ∙ sym (ap (λ (t : Bool). (t || is_empty section.body) && wholes && list_all section_nests (cond t (section ∷ filter is_function sections) (filter is_function sections))) other)
 
 section_is : (r : Role) (section : Section) (sections : List Section) → is_declaration r ≡ true → all_statements section.body ≡ true → list_all is_section sections ≡ true → Rest sections → SectionNests r section sections
-section_is (role.Declares kind.Global) section sections e body are rest = other_nests kind.Global section sections refl refl body are rest
-section_is (role.Declares kind.Mutex) section sections e body are rest = other_nests kind.Mutex section sections refl refl body are rest
-section_is (role.Declares kind.Cond) section sections e body are rest = other_nests kind.Cond section sections refl refl body are rest
-section_is (role.Declares kind.Sem) section sections e body are rest = other_nests kind.Sem section sections refl refl body are rest
 section_is (role.Declares kind.Function) section sections e body are rest = function_nests section sections body are rest
-section_is (role.Opens b) section sections e body are rest = absurd cc
-section_is role.Else section sections e body are rest = absurd cc
-section_is role.End section sections e body are rest = absurd cc
-section_is role.Pop section sections e body are rest = absurd cc
-section_is role.Return section sections e body are rest = absurd cc
-section_is role.Plain section sections e body are rest = absurd cc
-section_is role.Other section sections e body are rest = absurd cc
+section_is (role.Declares k) section sections e body are rest = other_nests k section sections refl refl body are rest
+section_is _ section sections e body are rest = absurd cc
 
 sections_nest : (sections : List Section) → list_all is_section sections ≡ true → Rest sections
 unfolding lines_of_sections are_nested
@@ -235,5 +204,5 @@ nesting_by_sections lines =
 pub nesting_law : (lines : List Line) (c : Contents) → AreContents lines c → is_none (nesting (roles lines)) ≡ list_all nests c.funcs
 nesting_law lines c are =
     nesting_by_sections lines ∙ ap (λ (t : Bool). t && list_all section_nests (functions_in lines)) are.in_functions
-    ∙ functions_same c (functions_in lines) c.funcs section_nests nests are.bodies
-    (λ (section : Section) (f : Func) (e : SpellsBody c section f). ap (λ (rs : List Role). are_nested (block.Function ∷ []) rs) (roles_same c section f e))
+    ∙ all_from_zip (SpellsBody c) section_nests nests (λ section f e. ap (λ (rs : List Role). are_nested (block.Function ∷ []) rs) (roles_same c section f e))
+    (functions_in lines) c.funcs are.bodies

@@ -54,12 +54,11 @@ same_function c d section f g names first second =
 
 same_functions : (c d : Contents) (sections : List Section) (fs gs : List Func) → names_of_kind c ≡ names_of_kind d → AllZip (WroteAll c) sections fs → AllZip (WroteAll d) sections gs → fs ≡ gs
 same_functions c d [] [] [] names first second = refl
-same_functions c d [] [] (g ∷ gs) names first second = absurd second
 same_functions c d [] (f ∷ fs) gs names first second = absurd first
 same_functions c d (section ∷ sections) [] gs names first second = absurd first
-same_functions c d (section ∷ sections) (f ∷ fs) [] names first second = absurd second
 same_functions c d (section ∷ sections) (f ∷ fs) (g ∷ gs) names first second =
     ap (λ (h : Func). h ∷ fs) (same_function c d section f g names first.0 second.0) ∙ ap (λ more. g ∷ more) (same_functions c d sections fs gs names first.1 second.1)
+same_functions c d _ _ _ names first second = absurd second
 
 -- ---- scripts
 

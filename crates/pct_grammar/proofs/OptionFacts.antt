@@ -1,5 +1,5 @@
 -- Facts on options, and on lists that are built from options.
-use Rattle.std.proofs.Common.{◌≡◌, not, ◌&&◌, List, ◌∷◌, Option, Some, None, is_some, is_none, refl, option_map}
+use Rattle.std.proofs.Common.{◌≡◌, true, not, ◌&&◌, List, ◌∷◌, Option, Some, None, is_some, is_none, refl, option_map}
 use Rattle.std.specs.Option.{option_or}
 use Rattle.pct_model.specs.Lines.{◌>>=◌}
 
@@ -23,21 +23,15 @@ pub and_some : {A B C : Type 0} (f : A → B → C) (o : Option A) (p : Option B
 and_some f None p = refl
 and_some f (Some a) p = mapped_some (f a) p
 
+-- an option that is none is None
+pub none_is : {A : Type 0} (o : Option A) → is_none o ≡ true → o ≡ None
+none_is None h = refl
+none_is (Some a) h = absurd cc
+
 -- an option that is not None is Some
 pub some_not_none : {A : Type 0} (o : Option A) → not (is_none o) ≡ is_some o
 some_not_none None = refl
 some_not_none (Some a) = refl
-
--- the value that was mapped
-pub record MappedFrom {A B : Type 0} (f : A → B) (o : Option A) (b : B) : Type 0 where
-  pub value : A
-  pub from : o ≡ Some value
-  pub is : b ≡ f value
-
--- a mapped option that is Some comes from a value
-pub mapped_from : {A B : Type 0} (f : A → B) (o : Option A) (b : B) → option_map f o ≡ Some b → MappedFrom f o b
-mapped_from f None b h = absurd cc
-mapped_from f (Some a) b h = record { value = a; from = refl; is = cc }
 
 -- the first item and the others, each from an option that is Some
 pub record BothFrom {A : Type 0} (o : Option A) (p : Option (List A)) (xs : List A) : Type 0 where
@@ -49,6 +43,5 @@ pub record BothFrom {A : Type 0} (o : Option A) (p : Option (List A)) (xs : List
 
 -- a list that is Some comes from its first item and the others
 pub both_from : {A : Type 0} (o : Option A) (p : Option (List A)) (xs : List A) → (o >>= λ a. option_map (λ (others : List A). a ∷ others) p) ≡ Some xs → BothFrom o p xs
-both_from None p xs h = absurd cc
-both_from (Some a) None xs h = absurd cc
 both_from (Some a) (Some others) xs h = record { first = a; others = others; one = refl; rest = refl; whole = cc }
+both_from _ _ xs h = absurd cc

@@ -2,43 +2,33 @@
 use Rattle.std.proofs.Common.{◌≡◌, ℕ, zero, suc, ◌-◌, Bool, true, false, cond, List, [], ◌∷◌, map, replicate, filter_map, Option, Some, None, length, refl, sym, ap, ◌∙◌, subst, nat_le, option_map}
 use Rattle.std.specs.List.{list_all, cons_option}
 use Rattle.std.proofs.lemmas.Bool.{and_from}
+use Rattle.std.proofs.lemmas.Option.{cond_some}
 use Rattle.pct_model.specs.declared.line_kind.LineKind.{LineKind}
 use Rattle.pct_model.specs.declared.line_kind.LineKind.TheVariants as line_kind
 use Rattle.pct_model.specs.declared.line_kind.SymbolKind.{SymbolKind}
 use Rattle.pct_model.specs.declared.line_kind.SymbolKind.TheVariants as kind
 use Rattle.pct_model.specs.declared.line_kind.ArgumentKind.{ArgumentKind}
 use Rattle.pct_model.specs.declared.line_kind.ArgumentKind.TheVariants as argument_kind
-use Rattle.pct_model.specs.declared.role.Role.TheVariants as role
 use Rattle.pct_model.specs.declared.parsed_line.ParsedLine.{ParsedLine}
 use Rattle.pct_model.specs.declared.parsed_line.Token.{Token}
 use Rattle.pct_model.specs.declared.parsed_line.Token.TheVariants as token
 use Rattle.pct_model.specs.Names.{is_name}
-use Rattle.pct_model.specs.Lines.{◌>>=◌}
 use Rattle.pct_model.specs.LineKinds.{declaration_syntax, syntax_of, line_kind_of, fn_argument_kinds}
 use Rattle.pct_model.specs.LineParsing.{Numbered, is_allowed, words_in, spelled_lines, numeral, token_at, tokens_at, parsed_as, parsed_words, parsed}
 use Rattle.pct_model.specs.Sections.{Line, parsed_numbered, parsed_lines, is_same, declares_by, declares}
-use Rattle.pct_grammar.proofs.SharedWords.{IsParsed, EachParsed}
+use Rattle.pct_grammar.proofs.SharedWords.{IsParsed, EachParsed, role_of_kind}
 use Rattle.pct_grammar.proofs.OptionFacts.{BothFrom, both_from}
+use Rattle.pct_grammar.proofs.OptionSteps.{bind_some, map_some}
 
 -- ---- a line
-
-from_kinds : (line : ParsedLine) (w : List ℕ) (words : List (List ℕ)) (f : LineKind) (o : Option (List Token)) → line_kind_of w ≡ Some f → tokens_at ((syntax_of f).argument_kinds (length words)) words ≡ o
-    → option_map {U = ParsedLine} (λ parsed_token. record { line_kind = f; tokens = parsed_token }) o ≡ Some line → IsParsed line
-from_kinds line w words f None e at h = absurd cc
-from_kinds line w words f (Some parsed_token) e at h =
-    let whole : ParsedLine = record { line_kind = f; tokens = parsed_token } in
-    let from : IsParsed whole = record { first = w; others = words; line_kind = e; words = at } in
-    let is : whole ≡ line = cc in
-    subst IsParsed is from
-
-from_line_kind : (line : ParsedLine) (w : List ℕ) (words : List (List ℕ)) (o : Option LineKind) → line_kind_of w ≡ o → (o >>= λ f. parsed_as f words) ≡ Some line → IsParsed line
-from_line_kind line w words None e h = absurd cc
-from_line_kind line w words (Some f) e h = from_kinds line w words f (tokens_at ((syntax_of f).argument_kinds (length words)) words) e refl h
 
 from_words : (line : ParsedLine) (words : List (List ℕ)) → parsed_words words ≡ Some line → IsParsed line
 unfolding parsed_words
 from_words line [] h = absurd cc
-from_words line (w ∷ words) h = from_line_kind line w words (line_kind_of w) refl h
+from_words line (w ∷ words) h =
+    let f = bind_some (line_kind_of w) (λ f. parsed_as f words) line h in
+    let tokens = map_some {B = ParsedLine} (λ ts. record { line_kind = f.0; tokens = ts }) (tokens_at ((syntax_of f.0).argument_kinds (length words)) words) line f.2 in
+    subst IsParsed tokens.2 (record { first = w; others = words; line_kind = f.1; words = tokens.1 })
 
 from_bytes : (line : ParsedLine) (words : List (List ℕ)) (t : Bool) → cond t (parsed_words words) None ≡ Some line → IsParsed line
 from_bytes line words true h = from_words line words h
@@ -91,17 +81,16 @@ pub record IsNameToken (parsed_token : Token) : Type 0 where
   pub is : is_name name ≡ true
   pub same : parsed_token ≡ token.Name name
 
-name_by : (w : List ℕ) (parsed_token : Token) (t : Bool) → is_name w ≡ t → cond t (Some (token.Name w)) None ≡ Some parsed_token → IsNameToken parsed_token
-name_by w parsed_token true e h = record { name = w; is = e; same = cc }
-name_by w parsed_token false e h = absurd cc
+name_by : (w : List ℕ) (parsed_token : Token) → cond (is_name w) (Some (token.Name w)) None ≡ Some parsed_token → IsNameToken parsed_token
+name_by w parsed_token h = let found = cond_some (is_name w) (token.Name w) parsed_token h in record { name = w; is = found.0; same = sym found.1 }
 
 parses_name : (w : List ℕ) (parsed_token : Token) → token_at argument_kind.Declared w ≡ Some parsed_token → IsNameToken parsed_token
 unfolding token_at
-parses_name w parsed_token h = name_by w parsed_token (is_name w) refl h
+parses_name w parsed_token h = name_by w parsed_token h
 
 parses_local : (w : List ℕ) (parsed_token : Token) → token_at argument_kind.Local w ≡ Some parsed_token → IsNameToken parsed_token
 unfolding token_at
-parses_local w parsed_token h = name_by w parsed_token (is_name w) refl h
+parses_local w parsed_token h = name_by w parsed_token h
 
 -- a count
 record IsCountToken (parsed_token : Token) : Type 0 where
@@ -109,17 +98,12 @@ record IsCountToken (parsed_token : Token) : Type 0 where
   fits : nat_le n 32767 ≡ true
   same : parsed_token ≡ token.Number n
 
-count_by_range : (n : ℕ) (parsed_token : Token) (t : Bool) → nat_le n 32767 ≡ t → cond t (Some (token.Number n)) None ≡ Some parsed_token → IsCountToken parsed_token
-count_by_range n parsed_token true e h = record { n = n; fits = e; same = cc }
-count_by_range n parsed_token false e h = absurd cc
-
-count_by_value : (parsed_token : Token) (o : Option ℕ) → (o >>= λ n. cond (nat_le n 32767) (Some (token.Number n)) None) ≡ Some parsed_token → IsCountToken parsed_token
-count_by_value parsed_token None h = absurd cc
-count_by_value parsed_token (Some n) h = count_by_range n parsed_token (nat_le n 32767) refl h
-
 parses_count : (w : List ℕ) (parsed_token : Token) → token_at argument_kind.Count w ≡ Some parsed_token → IsCountToken parsed_token
 unfolding token_at
-parses_count w parsed_token h = count_by_value parsed_token (numeral w) h
+parses_count w parsed_token h =
+    let n = bind_some (numeral w) (λ n. cond (nat_le n 32767) (Some (token.Number n)) None) parsed_token h in
+    let found = cond_some (nat_le n.0 32767) (token.Number n.0) parsed_token n.2 in
+    record { n = n.0; fits = found.0; same = sym found.1 }
 
 -- names alone
 pub record AreNameTokens (words : List Token) : Type 0 where
@@ -206,21 +190,11 @@ name_and_names n ws words h =
 
 words_declare : (k : SymbolKind) (ws : List (List ℕ)) (words : List Token) → tokens_at ((declaration_syntax k).argument_kinds (length ws)) ws ≡ Some words → Declares k words
 unfolding declaration_syntax
-words_declare kind.Global ws words h = name_alone ws words h
-words_declare kind.Mutex ws words h = name_alone ws words h
-words_declare kind.Cond ws words h = name_alone ws words h
 words_declare kind.Sem ws words h = name_and_count ws words h
 words_declare kind.Function ws words h = name_and_names (length ws) ws words h
+words_declare _ ws words h = name_alone ws words h
 
 -- ---- the line kind of a declaration
-
-role_of_kind : (k : SymbolKind) → (declaration_syntax k).role ≡ role.Declares k
-unfolding declaration_syntax
-role_of_kind kind.Global = refl
-role_of_kind kind.Mutex = refl
-role_of_kind kind.Cond = refl
-role_of_kind kind.Sem = refl
-role_of_kind kind.Function = refl
 
 same_kind : (k other : SymbolKind) → is_same k other ≡ true → other ≡ k
 same_kind kind.Global kind.Global h = refl
@@ -235,12 +209,9 @@ unfolding syntax_of
 line_kind_declares k (line_kind.Declares other) h = ap (λ (o : SymbolKind). line_kind.Declares o) (same_kind k other (sym (ap (declares_by k) (role_of_kind other)) ∙ h))
 line_kind_declares k f h = absurd cc
 
-shape_declares : (k : SymbolKind) → syntax_of (line_kind.Declares k) ≡ declaration_syntax k
-unfolding syntax_of
-shape_declares k = refl
-
 -- a parsed declaration of a kind has the tokens of such a declaration
 pub line_declares : (k : SymbolKind) (line : ParsedLine) → IsParsed line → declares k line ≡ true → Declares k line.tokens
+unfolding syntax_of
 line_declares k line from h =
-    let is : syntax_of line.line_kind ≡ declaration_syntax k = ap syntax_of (line_kind_declares k line.line_kind h) ∙ shape_declares k in
+    let is : syntax_of line.line_kind ≡ declaration_syntax k = ap syntax_of (line_kind_declares k line.line_kind h) in
     words_declare k from.others line.tokens (sym (ap (λ s. tokens_at (s.argument_kinds (length from.others)) from.others) is) ∙ from.words)

@@ -1,11 +1,10 @@
 -- The check of plain functions finds no fault if and only if the arguments that have to be plain functions are.
-use Rattle.std.proofs.Common.{◌≡◌, ℕ, suc, Bool, true, false, not, ◌&&◌, ◌||◌, cond, List, [], ◌∷◌, Option, Some, None, length, map, refl, sym, ap, ap₂, ◌∙◌, subst, is_none, option_map, slice_get, unwrap_or}
+use Rattle.std.proofs.Common.{◌≡◌, ℕ, Bool, true, false, not, ◌&&◌, ◌||◌, cond, List, [], ◌∷◌, Option, Some, None, length, map, refl, sym, ap, ap₂, ◌∙◌, is_none, option_map, slice_get, unwrap_or}
 use Rattle.std.specs.List.{AllZip, list_all}
 use Rattle.std.specs.Option.{option_map_or}
-use Rattle.std.proofs.lemmas.List.Folds.{list_all-append, list_all-map}
+use Rattle.std.proofs.lemmas.List.Folds.{list_all-append}
 use Rattle.std.proofs.lemmas.Option.{same_Some, slice_get-map}
 use Rattle.pct_model.specs.declared.line_kind.LineKind.{LineKind}
-use Rattle.pct_model.specs.declared.line_kind.SymbolKind.{SymbolKind}
 use Rattle.pct_model.specs.declared.line_kind.SymbolKind.TheVariants as kind
 use Rattle.pct_model.specs.declared.line_kind.ArgumentKind.{ArgumentKind}
 use Rattle.pct_model.specs.declared.line_kind.ArgumentKind.TheVariants as argument_kind
@@ -26,29 +25,12 @@ use Rattle.pct_model.specs.Spells.{encoded, SpellsBody, AreContents}
 use Rattle.pct_model.specs.Checks.{first_that, asks_plain, plain_names, is_plain, is_plain_section, is_plain_function, names_other, not_plain}
 use Rattle.pct_model.specs.Static.{is_plain_body, is_plain_at, names_plain, names_plain_functions}
 use Rattle.pct_grammar.proofs.OptionSteps.{bind_some, map_some}
-use Rattle.pct_grammar.proofs.FirstFaults.{first_that_none, first_in_none}
-use Rattle.pct_grammar.proofs.Declared.{names_declared_are}
+use Rattle.pct_grammar.proofs.FirstFaults.{not_not, first_that_none, first_in_none}
+use Rattle.pct_grammar.proofs.Roles.{zip_from_maps, maps_from_zip, all_from_zip}
+use Rattle.pct_grammar.proofs.TokensResolve.{replaced_lengths}
+use Rattle.pct_grammar.proofs.Declarations.{names_from}
 
 -- ---- two lists, index by index
-
-zip_from_maps : {A B C : Type 0} (f : A → C) (g : B → C) (xs : List A) (ys : List B) → map f xs ≡ map g ys → AllZip (λ x y. f x ≡ g y) xs ys
-zip_from_maps f g [] [] e = tt
-zip_from_maps f g [] (y ∷ ys) e = absurd cc
-zip_from_maps f g (x ∷ xs) [] e = absurd cc
-zip_from_maps f g (x ∷ xs) (y ∷ ys) e =
-    let first : f x ≡ g y = cc in
-    let others : map f xs ≡ map g ys = cc in
-    (first, zip_from_maps f g xs ys others)
-
-maps_from_zip : {A B C : Type 0} (R : A → B → Type 0) (p : A → C) (q : B → C) → ((x : A) (y : B) → R x y → p x ≡ q y) → (xs : List A) (ys : List B) → AllZip R xs ys → map p xs ≡ map q ys
-maps_from_zip R p q same [] [] zip = refl
-maps_from_zip R p q same [] (y ∷ ys) zip = absurd zip
-maps_from_zip R p q same (x ∷ xs) [] zip = absurd zip
-maps_from_zip R p q same (x ∷ xs) (y ∷ ys) zip = ap₂ (λ z zs. z ∷ zs) (same x y zip.0) (maps_from_zip R p q same xs ys zip.1)
-
-all_from_zip : {A B : Type 0} (R : A → B → Type 0) (p : A → Bool) (q : B → Bool) → ((x : A) (y : B) → R x y → p x ≡ q y) → (xs : List A) (ys : List B) → AllZip R xs ys → list_all p xs ≡ list_all q ys
-all_from_zip R p q same xs ys zip =
-    sym (list_all-map (λ t. t) p xs) ∙ ap (list_all (λ t. t)) (maps_from_zip R p q same xs ys zip) ∙ list_all-map (λ t. t) q ys
 
 map_or_false : {A : Type 0} (p : A → Bool) (o : Option A) → option_map_or p o false ≡ unwrap_or (option_map p o) false
 map_or_false p None = refl
@@ -64,16 +46,6 @@ at_from_zip R p q same xs ys zip i =
 
 -- ---- what a line spells
 
--- there are as many arguments as tokens
-args_for_words : (names : SymbolKind → List (List ℕ)) (locals : List (List ℕ)) (argument_kinds : List ArgumentKind) (words : List Token) (args : List Argument) → resolve_all names locals argument_kinds words ≡ Some args → length args ≡ length words
-unfolding resolve_all
-args_for_words names locals argument_kinds [] args e = ap length (sym (same_Some [] args e))
-args_for_words names locals [] (w ∷ words) args e = absurd cc
-args_for_words names locals (p ∷ argument_kinds) (w ∷ words) args e =
-    let first = bind_some (resolve names locals p w) (λ first. option_map (λ others. first ∷ others) (resolve_all names locals argument_kinds words)) args e in
-    let others = map_some (λ others. first.0 ∷ others) (resolve_all names locals argument_kinds words) args first.2 in
-    subst (λ (xs : List Argument). length xs ≡ suc (length words)) others.2 (ap suc (args_for_words names locals argument_kinds words others.0 others.1))
-
 -- the line is of the statement's kind, with its arguments at the same positions
 record WroteAll (c : Contents) (locals : List (List ℕ)) (line : ParsedLine) (s : Stmt) : Type 0 where
   line_kind : line.line_kind ≡ line_kind_of_statement s
@@ -86,7 +58,7 @@ resolves_to c locals line s e =
     let found = map_some (λ args. (line.line_kind, args)) all (encode s) e in
     let line_kind : line.line_kind ≡ line_kind_of_statement s = ap (λ (t : LineKind × List Argument). t.0) found.2 in
     let args : all ≡ Some (arguments_of s) = found.1 ∙ ap (λ (t : LineKind × List Argument). Some t.1) found.2 in
-    let many : length line.tokens ≡ length (arguments_of s) = sym (args_for_words (names_of_kind c) locals (argument_kinds_in line) line.tokens (arguments_of s) args) in
+    let many : length line.tokens ≡ length (arguments_of s) = sym (replaced_lengths (names_of_kind c) locals (argument_kinds_in line) line.tokens (arguments_of s) args) in
     record { line_kind = line_kind; args = args; argument_kinds = ap₂ (λ (f : LineKind) (n : ℕ). (syntax_of f).argument_kinds n) line_kind many }
 
 -- ---- plain functions
@@ -105,7 +77,7 @@ module _ (lines : List Line) (c : Contents) (are : AreContents lines c) where
   unfolding is_plain_function
   at_name w a e =
       let found = map_some (λ (i : ℕ). argument.Item i) (index_among (names_of_kind c kind.Function) w) a e in
-      let there : index_among (names_declared lines kind.Function) w ≡ Some found.0 = ap (λ (names : List (List ℕ)). index_among names w) (names_declared_are lines c are kind.Function) ∙ found.1 in
+      let there : index_among (names_declared lines kind.Function) w ≡ Some found.0 = ap (λ (names : List (List ℕ)). index_among names w) (names_from lines c kind.Function (are.declared kind.Function)) ∙ found.1 in
       ap (λ (o : Option ℕ). option_map_or (λ (i : ℕ). option_map_or is_plain_section (slice_get (functions_in lines) i) false) o false) there
       ∙ at_from_zip (SpellsBody c) is_plain_section is_plain_body plain_section (functions_in lines) c.funcs are.bodies found.0
       ∙ ap (is_plain_at c) found.2
@@ -118,24 +90,10 @@ module _ (lines : List Line) (c : Contents) (are : AreContents lines c) where
       → list_all (is_plain_function lines) (cond (asks_plain p) (names_in (w ∷ [])) []) ≡ (not (asks_plain p) || is_plain_at c a)
   unfolding resolve resolve_name
   at_index locals argument_kind.PlainFunction (token.Name w) a e = and_true (is_plain_function lines w) ∙ at_name w a e
-  at_index locals argument_kind.PlainFunction (token.Number n) a e = ap (is_plain_at c) (same_Some (argument.Number n) a e)
-  at_index locals argument_kind.PlainFunction token.Nothing a e = ap (is_plain_at c) (same_Some argument.Nothing a e)
-  at_index locals argument_kind.PlainFunction (token.Flag is_set) a e = ap (is_plain_at c) (same_Some (argument.Flag is_set) a e)
+  at_index locals argument_kind.PlainFunction _ a e = ap (is_plain_at c) (same_Some _ a e)
   at_index locals argument_kind.OptionalPlainFunction (token.Name w) a e = and_true (is_plain_function lines w) ∙ at_name w a e
-  at_index locals argument_kind.OptionalPlainFunction (token.Number n) a e = ap (is_plain_at c) (same_Some (argument.Number n) a e)
-  at_index locals argument_kind.OptionalPlainFunction token.Nothing a e = ap (is_plain_at c) (same_Some argument.Nothing a e)
-  at_index locals argument_kind.OptionalPlainFunction (token.Flag is_set) a e = ap (is_plain_at c) (same_Some (argument.Flag is_set) a e)
-  at_index locals argument_kind.Declared w a e = refl
-  at_index locals argument_kind.Local w a e = refl
-  at_index locals argument_kind.Count w a e = refl
-  at_index locals argument_kind.Operand w a e = refl
-  at_index locals argument_kind.Variable w a e = refl
-  at_index locals argument_kind.Dest w a e = refl
-  at_index locals (argument_kind.Item k) w a e = refl
-  at_index locals argument_kind.OptionalFunction w a e = refl
-  at_index locals argument_kind.State w a e = refl
-  at_index locals argument_kind.Mode w a e = refl
-  at_index locals argument_kind.Detached w a e = refl
+  at_index locals argument_kind.OptionalPlainFunction _ a e = ap (is_plain_at c) (same_Some _ a e)
+  at_index locals _ w a e = refl
 
   plain_words : (locals : List (List ℕ)) (argument_kinds : List ArgumentKind) (words : List Token) (args : List Argument) → resolve_all (names_of_kind c) locals argument_kinds words ≡ Some args
       → list_all (is_plain_function lines) (plain_names argument_kinds words) ≡ names_plain c argument_kinds args
@@ -150,10 +108,6 @@ module _ (lines : List Line) (c : Contents) (are : AreContents lines c) where
       list_all-append (is_plain_function lines) (cond (asks_plain p) (names_in (w ∷ [])) []) (plain_names argument_kinds words)
       ∙ ap₂ (λ (x y : Bool). x && y) (at_index locals p w first.0 first.1) (plain_words locals argument_kinds words others.0 others.1)
       ∙ ap (names_plain c (p ∷ argument_kinds)) others.2
-
-  not_not : (t : Bool) → not (not t) ≡ t
-  not_not true = refl
-  not_not false = refl
 
   plain_names_in : (locals : List (List ℕ)) (l : Line) (s : Stmt) → encoded c locals l.1 ≡ Some (encode s) → not (names_other lines l.1) ≡ names_plain_functions c s
   unfolding names_other

@@ -11,7 +11,7 @@ use Rattle.pct_model.specs.Checks.{first_wrong, none_wrong, roles, is_in_push, r
 use Rattle.pct_model.specs.Static.{returns_outside_pushes}
 use Rattle.pct_model.specs.Spells.{SpellsBody, AreContents}
 use Rattle.pct_grammar.proofs.FirstFaults.{first_wrong_none, first_in_none}
-use Rattle.pct_grammar.proofs.Roles.{without_numbers, roles_same, functions_same}
+use Rattle.pct_grammar.proofs.Roles.{without_numbers, roles_same, all_from_zip}
 
 one_function : (c : Contents) (section : Section) (f : Func) → SpellsBody c section f → is_none (first_wrong is_in_push [] (roles section.body)) ≡ returns_outside_pushes f
 one_function c section f e =
@@ -22,4 +22,5 @@ pub returns_law : (lines : List Line) (c : Contents) → AreContents lines c →
 unfolding return_in_push
 returns_law lines c are =
     first_in_none ReturnInPush (λ (section : Section). first_wrong is_in_push [] (roles section.body)) lines
-    ∙ functions_same c (functions_in lines) c.funcs (λ (section : Section). is_none (first_wrong is_in_push [] (roles section.body))) returns_outside_pushes are.bodies (one_function c)
+    ∙ all_from_zip (SpellsBody c) (λ (section : Section). is_none (first_wrong is_in_push [] (roles section.body))) returns_outside_pushes (one_function c)
+    (functions_in lines) c.funcs are.bodies

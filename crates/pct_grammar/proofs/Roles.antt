@@ -1,10 +1,10 @@
 -- The roles of a function's lines are the roles of its statements.
-use Rattle.std.proofs.Common.{◌≡◌, ℕ, Bool, ◌&&◌, List, [], ◌∷◌, Option, Some, None, refl, ap, ◌∙◌, map, option_map}
+use Rattle.std.proofs.Common.{◌≡◌, ℕ, Bool, List, [], ◌∷◌, Some, refl, sym, ap, ap₂, ◌∙◌, map}
 use Rattle.std.specs.List.{AllZip, list_all}
-use Rattle.std.proofs.lemmas.Option.{same_Some}
+use Rattle.std.proofs.lemmas.List.Folds.{list_all-map}
+use Rattle.pct_grammar.proofs.OptionSteps.{map_some}
 use Rattle.pct_model.specs.declared.line_kind.LineKind.{LineKind}
 use Rattle.pct_model.specs.declared.role.Role.{Role}
-use Rattle.pct_model.specs.declared.parsed_line.Argument.{Argument}
 use Rattle.pct_model.specs.declared.parsed_line.ParsedLine.{ParsedLine}
 use Rattle.pct_model.specs.declared.script.Func.{Func}
 use Rattle.pct_model.specs.declared.statement.Stmt.{Stmt}
@@ -16,15 +16,35 @@ use Rattle.pct_model.specs.Sections.{Line, Section, role_in, argument_kinds_in}
 use Rattle.pct_model.specs.Checks.{roles}
 use Rattle.pct_model.specs.Spells.{encoded, SpellsBody}
 
+-- ---- two lists, index by index
+
+-- equal images, index by index
+pub zip_from_maps : {A B C : Type 0} (f : A → C) (g : B → C) (xs : List A) (ys : List B) → map f xs ≡ map g ys → AllZip (λ x y. f x ≡ g y) xs ys
+zip_from_maps f g [] [] e = tt
+zip_from_maps f g (x ∷ xs) (y ∷ ys) e =
+    let first : f x ≡ g y = cc in
+    let others : map f xs ≡ map g ys = cc in
+    (first, zip_from_maps f g xs ys others)
+zip_from_maps f g _ _ e = absurd cc
+
+-- images are equal if they are so index by index
+pub maps_from_zip : {A B C : Type 0} (R : A → B → Type 0) (p : A → C) (q : B → C) → ((x : A) (y : B) → R x y → p x ≡ q y) → (xs : List A) (ys : List B) → AllZip R xs ys → map p xs ≡ map q ys
+maps_from_zip R p q same [] [] zip = refl
+maps_from_zip R p q same (x ∷ xs) (y ∷ ys) zip = ap₂ (λ z zs. z ∷ zs) (same x y zip.0) (maps_from_zip R p q same xs ys zip.1)
+maps_from_zip R p q same _ _ zip = absurd zip
+
+-- tests of all items agree if they agree index by index
+pub all_from_zip : {A B : Type 0} (R : A → B → Type 0) (p : A → Bool) (q : B → Bool) → ((x : A) (y : B) → R x y → p x ≡ q y) → (xs : List A) (ys : List B) → AllZip R xs ys → list_all p xs ≡ list_all q ys
+all_from_zip R p q same xs ys zip =
+    sym (list_all-map (λ t. t) p xs) ∙ ap (list_all (λ t. t)) (maps_from_zip R p q same xs ys zip) ∙ list_all-map (λ t. t) q ys
+
 -- ---- a line
 
-resolved_line_kind : (line : ParsedLine) (o : Option (List Argument)) (t : EncodedStmt) → option_map {U = EncodedStmt} (λ arguments. (line.line_kind, arguments)) o ≡ Some t → line.line_kind ≡ t.0
-resolved_line_kind line None t e = absurd cc
-resolved_line_kind line (Some arguments) t e = ap (λ (encoded : EncodedStmt). encoded.0) (same_Some (line.line_kind, arguments) t e)
-
 -- a line is of the kind of the statement that it spells
-pub line_kind_same : (c : Contents) (locals : List (List ℕ)) (line : ParsedLine) (s : Stmt) → encoded c locals line ≡ Some (encode s) → line.line_kind ≡ (encode s).0
-line_kind_same c locals line s e = resolved_line_kind line (resolve_all (names_of_kind c) locals (argument_kinds_in line) line.tokens) (encode s) e
+line_kind_same : (c : Contents) (locals : List (List ℕ)) (line : ParsedLine) (s : Stmt) → encoded c locals line ≡ Some (encode s) → line.line_kind ≡ (encode s).0
+line_kind_same c locals line s e =
+    let all = resolve_all (names_of_kind c) locals (argument_kinds_in line) line.tokens in
+    ap (λ (t : EncodedStmt). t.0) (map_some {B = EncodedStmt} (λ arguments. (line.line_kind, arguments)) all (encode s) e).2
 
 -- the roles of lines without their numbers
 pub without_numbers : (lines : List Line) → map (λ (l : Numbered Role). l.1) (roles lines) ≡ map (λ (l : Line). role_in l.1) lines
@@ -33,28 +53,9 @@ without_numbers (l ∷ lines) = ap (λ (rs : List Role). role_in l.1 ∷ rs) (wi
 
 -- ---- the lines of a function
 
-same_roles : (c : Contents) (locals : List (List ℕ)) (body : List Line) (stmts : List Stmt) → map (λ (l : Line). encoded c locals l.1) body ≡ map (λ (s : Stmt). Some (encode s)) stmts
-    → map (λ (l : Line). role_in l.1) body ≡ map role_of stmts
-same_roles c locals [] [] e = refl
-same_roles c locals [] (s ∷ stmts) e = absurd cc
-same_roles c locals (l ∷ body) [] e = absurd cc
-same_roles c locals (l ∷ body) (s ∷ stmts) e =
-    let first : encoded c locals l.1 ≡ Some (encode s) = cc in
-    let others : map (λ (m : Line). encoded c locals m.1) body ≡ map (λ (t : Stmt). Some (encode t)) stmts = cc in
-    let same : role_in l.1 ≡ role_of s = ap (λ (f : LineKind). (syntax_of f).role) (line_kind_same c locals l.1 s first) in
-    ap (λ (r : Role). r ∷ map (λ (m : Line). role_in m.1) body) same ∙ ap (λ (rs : List Role). role_of s ∷ rs) (same_roles c locals body stmts others)
-
 -- the roles of a function's lines are those of its statements
 pub roles_same : (c : Contents) (section : Section) (f : Func) → SpellsBody c section f → map (λ l. role_in l.1) section.body ≡ map role_of f.body
-roles_same c section f e = same_roles c f.locals section.body f.body e
-
--- ---- all functions
-
--- tests of the sections and of the functions that they spell agree
-pub functions_same : (c : Contents) (sections : List Section) (funcs : List Func) (test : Section → Bool) (check : Func → Bool) → AllZip (SpellsBody c) sections funcs
-    → ((section : Section) (f : Func) → SpellsBody c section f → test section ≡ check f) → list_all test sections ≡ list_all check funcs
-functions_same c [] [] test check zip same = refl
-functions_same c [] (f ∷ funcs) test check zip same = absurd zip
-functions_same c (section ∷ sections) [] test check zip same = absurd zip
-functions_same c (section ∷ sections) (f ∷ funcs) test check zip same =
-    ap (λ (t : Bool). t && list_all test sections) (same section f zip.0) ∙ ap (λ (t : Bool). check f && t) (functions_same c sections funcs test check zip.1 same)
+roles_same c section f e =
+    maps_from_zip (λ (l : Line) (s : Stmt). encoded c f.locals l.1 ≡ Some (encode s)) (λ (l : Line). role_in l.1) role_of
+    (λ l s h. ap (λ (k : LineKind). (syntax_of k).role) (line_kind_same c f.locals l.1 s h)) section.body f.body
+    (zip_from_maps (λ (l : Line). encoded c f.locals l.1) (λ (s : Stmt). Some (encode s)) section.body f.body e)

@@ -18,7 +18,7 @@ use Rattle.pct_model.proofs.StaticFacts.{PassesAll, passes_all, static_from}
 use Rattle.pct_grammar.specs.Resolving.{resolve_contents}
 use Rattle.pct_grammar.proofs.SharedWords.{EachParsed}
 use Rattle.pct_grammar.proofs.Declared.{main_law}
-use Rattle.pct_grammar.proofs.OptionFacts.{or_none}
+use Rattle.pct_grammar.proofs.OptionFacts.{or_none, none_is}
 use Rattle.pct_grammar.proofs.LimitLaw.{limits_law}
 use Rattle.pct_grammar.proofs.Misspelled.{spelling_or_parsed}
 use Rattle.pct_grammar.proofs.NestingLaw.{section_nests, nesting_by_sections, nesting_law}
@@ -31,10 +31,6 @@ use Rattle.pct_grammar.proofs.HasText.{has_text_law}
 use Rattle.pct_grammar.proofs.OneScript.{one_law}
 
 -- ---- nothing among faults
-
-pub is_nothing : {A : Type 0} (o : Option A) → is_none o ≡ true → o ≡ None
-is_nothing None e = refl
-is_nothing (Some x) e = absurd cc
 
 something : {A : Type 0} (o : Option A) → is_some o ≡ true → (x : A) × (o ≡ Some x)
 something None e = absurd cc
@@ -98,7 +94,7 @@ unfolding first_fault
 contents_are_faultless text c spells static =
     let spelled = spelling_or_parsed text ∙ spells.each_says in
     let checked = no_fault (parsed_lines text) (checks_of_static (parsed_lines text) c spells.are_contents (passes_all c static)) in
-    is_nothing _ (none_of_two (spelling (spelled_lines text)) _ spelled (none_of_two (checks (parsed_lines text)) None checked refl))
+    none_is _ (none_of_two (spelling (spelled_lines text)) _ spelled (none_of_two (checks (parsed_lines text)) None checked refl))
 
 -- a text that spells a script has no fault
 pub spelled_is_faultless : (text : List ℕ) (script : Script) → Spells text script → first_fault text ≡ None

@@ -1,7 +1,7 @@
 -- The lines of a text are the statements before its first section, and then its sections in order.
-use Rattle.std.proofs.Common.{◌≡◌, Bool, true, false, not, ◌&&◌, cond, List, [], ◌∷◌, ◌++◌, refl, ap}
+use Rattle.std.proofs.Common.{◌≡◌, Bool, true, false, ◌&&◌, cond, List, [], ◌∷◌, ◌++◌, refl, ap}
 use Rattle.std.specs.List.{list_all}
-use Rattle.std.proofs.lemmas.Bool.{and_from}
+use Rattle.std.proofs.lemmas.Bool.{and_from, not-false}
 use Rattle.pct_model.specs.Sections.{Line, Section, Sections, role_in, is_declaration, is_statement, split_sections}
 
 -- the lines of sections
@@ -23,10 +23,6 @@ pub record AreSectionsOf (lines : List Line) (p : Sections) : Type 0 where
   pub sections_are : list_all is_section p.sections ≡ true
   pub whole : lines ≡ p.preamble ++ lines_of_sections p.sections
 
-opposite : (t : Bool) → not t ≡ false → t ≡ true
-opposite true e = refl
-opposite false e = absurd cc
-
 one_more : (l : Line) (lines : List Line) (p : Sections) (t : Bool) → is_statement l.1 ≡ t → AreSectionsOf lines p
     → AreSectionsOf (l ∷ lines) (cond t (record { preamble = l ∷ p.preamble; sections = p.sections }) (record { preamble = []; sections = record { header = l; body = p.preamble } ∷ p.sections }))
 unfolding lines_of_sections
@@ -38,7 +34,7 @@ one_more l lines p true e are = record {
 one_more l lines p false e are = record {
   prefix_is = refl;
   sections_are = and_from (is_declaration (role_in l.1) && all_statements p.preamble) (list_all is_section p.sections)
-      (and_from (is_declaration (role_in l.1)) (all_statements p.preamble) (opposite (is_declaration (role_in l.1)) e) are.prefix_is) are.sections_are;
+      (and_from (is_declaration (role_in l.1)) (all_statements p.preamble) (not-false (is_declaration (role_in l.1)) e) are.prefix_is) are.sections_are;
   whole = ap (λ (ls : List Line). l ∷ ls) are.whole;
 }
 

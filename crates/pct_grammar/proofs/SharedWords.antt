@@ -1,10 +1,12 @@
 -- Definitions that the lemmas of this crate share.
-use Rattle.std.proofs.Common.{◌≡◌, ℕ, Bool, true, not, ◌&&◌, List, [], ◌∷◌, Some, length, nat_le}
+use Rattle.std.proofs.Common.{◌≡◌, ℕ, Bool, true, not, ◌&&◌, List, [], ◌∷◌, Some, length, nat_le, refl}
 use Rattle.std.specs.List.{list_all}
 use Rattle.pct_model.specs.declared.line_kind.SymbolKind.{SymbolKind}
+use Rattle.pct_model.specs.declared.line_kind.SymbolKind.TheVariants as kind
+use Rattle.pct_model.specs.declared.role.Role.TheVariants as role
 use Rattle.pct_model.specs.declared.parsed_line.ParsedLine.{ParsedLine}
 use Rattle.pct_model.specs.Names.{is_name}
-use Rattle.pct_model.specs.LineKinds.{syntax_of, line_kind_of}
+use Rattle.pct_model.specs.LineKinds.{declaration_syntax, syntax_of, line_kind_of}
 use Rattle.pct_model.specs.LineParsing.{is_empty, tokens_at}
 use Rattle.pct_model.specs.Contents.{Contents, names_of_kind}
 use Rattle.pct_model.specs.Sections.{Line}
@@ -32,3 +34,9 @@ is_word w = not (is_empty w) && list_all is_printable w
 pub record NameLists (c : Contents) (locals : List (List ℕ)) : Type 0 where
   pub kinds : (k : SymbolKind) → list_all is_name (names_of_kind c k) ≡ true
   pub own : list_all is_name locals ≡ true
+
+-- the role of a declaration
+pub role_of_kind : (k : SymbolKind) → (declaration_syntax k).role ≡ role.Declares k
+unfolding declaration_syntax
+role_of_kind kind.Global = refl
+role_of_kind _ = refl

@@ -5,7 +5,7 @@ use Rattle.std.specs.Prelude.{is_some, bytes_eq, codes, decimal}
 use Rattle.std.specs.List.{list_all}
 use Rattle.std.specs.Option.{option_or, option_map_or}
 use Rattle.std.specs.Str.Parse.{digits_value}
-use Rattle.std.proofs.lemmas.Bool.{and_parts, and_from, false_from_ne_true, true_from_ne_false, not-true}
+use Rattle.std.proofs.lemmas.Bool.{and_parts, and_from, or_right, false_from_ne_true, true_from_ne_false, not-true}
 use Rattle.std.proofs.lemmas.Bool.Decides.{nat_tests}
 use Rattle.std.proofs.lemmas.Fmt.{decimal_is_IsNumeral, decimal_nonempty, length-decimal-le}
 use Rattle.std.proofs.lemmas.List.Folds.{list_all_at}
@@ -23,7 +23,7 @@ use Rattle.pct_model.specs.declared.parsed_line.Token.{Token}
 use Rattle.pct_model.specs.declared.parsed_line.Token.TheVariants as token
 use Rattle.pct_model.specs.Names.{is_digit, is_name_byte, is_name, name_at, index_among}
 use Rattle.pct_model.specs.Lines.{◌>>=◌}
-use Rattle.pct_model.specs.LineKinds.{syntax_of, declaration_syntax}
+use Rattle.pct_model.specs.LineKinds.{syntax_of}
 use Rattle.pct_model.specs.LineParsing.{is_empty, is_numeral, numeral, name, token_at, tokens_at}
 use Rattle.pct_model.specs.Contents.{Contents, names_of_kind, variable, item, resolve_name, resolve, resolve_all}
 use Rattle.pct_model.specs.Sections.{is_declaration}
@@ -31,7 +31,8 @@ use Rattle.pct_model.specs.Static.{is_found, is_seen, is_variable, is_value, is_
 use Rattle.pct_model.specs.Canon.{symbol_kind_at, argument_text, argument_texts}
 use Rattle.pct_model.proofs.Bytes.{same_bytes}
 use Rattle.pct_text.proofs.Numbers.{digits_of_decimal}
-use Rattle.pct_grammar.proofs.SharedWords.{NameLists, is_printable, is_word}
+use Rattle.pct_grammar.proofs.SharedWords.{NameLists, is_printable, is_word, role_of_kind}
+use Rattle.pct_grammar.proofs.OptionFacts.{both_from}
 use Rattle.pct_grammar.proofs.EncodeDecode.{number_there, same_number}
 
 -- ---- names and their indices
@@ -60,10 +61,6 @@ found_name names i all h =
 
 -- ---- resolved arguments have words
 
-or_right : (s t : Bool) → t ≡ true → (s || t) ≡ true
-or_right true t h = refl
-or_right false t h = h
-
 variable_by : (c : Contents) (locals : List (List ℕ)) (w : List ℕ) (a : Argument) (o p : Option ℕ) → index_among locals w ≡ o → index_among c.globals w ≡ p
     → option_or (option_map (λ (i : ℕ). argument.Local i) o) (option_map (λ (i : ℕ). argument.Global i) p) ≡ Some a → is_variable c locals a ≡ true
 variable_by c locals w a (Some i) p at there is = ap (is_variable c locals) (sym (same_Some _ _ is)) ∙ found_again locals w i at
@@ -83,12 +80,9 @@ item_reads : (c : Contents) (locals : List (List ℕ)) (k : SymbolKind) (w : Lis
 item_reads c locals k w a is = item_by c locals k w a (index_among (names_of_kind c k) w) refl is
 
 value_from : (c : Contents) (locals : List (List ℕ)) (a : Argument) → is_variable c locals a ≡ true → is_value c locals a ≡ true
-value_from c locals (argument.Number n) h = absurd cc
 value_from c locals (argument.Local i) h = h
 value_from c locals (argument.Global i) h = h
-value_from c locals (argument.Item i) h = absurd cc
-value_from c locals argument.Nothing h = absurd cc
-value_from c locals (argument.Flag is_set) h = absurd cc
+value_from c locals _ h = absurd cc
 
 -- a token that is a name resolves to the name's argument
 named_word : (names : SymbolKind → List (List ℕ)) (locals : List (List ℕ)) (p : ArgumentKind) (w : List ℕ) (parsed : Token) (a : Argument) → name w ≡ Some parsed → resolve names locals p parsed ≡ Some a → resolve_name names locals p w ≡ Some a
@@ -160,17 +154,9 @@ word_reads c locals argument_kind.Detached w parsed a other is e =
 
 -- ---- several tokens
 
--- the first item and the others
-cons_parts : {A : Type 0} (o : Option A) (os : Option (List A)) (all : List A) → (o >>= λ x. option_map (λ (xs : List A). x ∷ xs) os) ≡ Some all
-    → (x : A) × (xs : List A) × (o ≡ Some x) × (os ≡ Some xs) × (x ∷ xs ≡ all)
-cons_parts None os all is = absurd cc
-cons_parts (Some x) None all is = absurd cc
-cons_parts (Some x) (Some xs) all is = (x, xs, refl, refl, same_Some _ _ is)
-
 cons_made : {A : Type 0} (o : Option A) (os : Option (List A)) (x : A) (xs : List A) → o ≡ Some x → os ≡ Some xs → (o >>= λ y. option_map (λ (ys : List A). y ∷ ys) os) ≡ Some (x ∷ xs)
 cons_made (Some y) (Some ys) x xs one more = cc
-cons_made (Some y) None x xs one more = absurd cc
-cons_made None os x xs one more = absurd cc
+cons_made _ _ x xs one more = absurd cc
 
 -- the arguments of resolved tokens have words, except for counts
 pub words_read : (c : Contents) (locals : List (List ℕ)) (argument_kinds : List ArgumentKind) (ws : List (List ℕ)) (words : List Token) (args : List Argument) → list_all is_no_count argument_kinds ≡ true
@@ -178,14 +164,15 @@ pub words_read : (c : Contents) (locals : List (List ℕ)) (argument_kinds : Lis
 unfolding tokens_at resolve_all have_words
 words_read c locals [] [] words args all is e =
     ap (have_words c locals []) (sym (same_Some _ _ (ap (resolve_all (names_of_kind c) locals []) (same_Some _ _ is) ∙ e)))
-words_read c locals [] (w ∷ ws) words args all is e = absurd cc
-words_read c locals (p ∷ argument_kinds) [] words args all is e = absurd cc
 words_read c locals (p ∷ argument_kinds) (w ∷ ws) words args all is e =
     let good = and_parts (is_no_count p) (list_all is_no_count argument_kinds) all in
-    let parsed = cons_parts (token_at p w) (tokens_at argument_kinds ws) words is in
-    let stand = cons_parts (resolve (names_of_kind c) locals p parsed.0) (resolve_all (names_of_kind c) locals argument_kinds parsed.1) args (ap (resolve_all (names_of_kind c) locals (p ∷ argument_kinds)) parsed.4 ∙ e) in
-    ap (have_words c locals (p ∷ argument_kinds)) (sym stand.4)
-    ∙ and_from (has_word c locals p stand.0) (have_words c locals argument_kinds stand.1) (word_reads c locals p w parsed.0 stand.0 good.0 parsed.2 stand.2) (words_read c locals argument_kinds ws parsed.1 stand.1 good.1 parsed.3 stand.3)
+    let parsed = both_from (token_at p w) (tokens_at argument_kinds ws) words is in
+    let stand = both_from (resolve (names_of_kind c) locals p parsed.first) (resolve_all (names_of_kind c) locals argument_kinds parsed.others) args (ap (resolve_all (names_of_kind c) locals (p ∷ argument_kinds)) (sym parsed.whole) ∙ e) in
+    ap (have_words c locals (p ∷ argument_kinds)) stand.whole
+    ∙ and_from (has_word c locals p stand.first) (have_words c locals argument_kinds stand.others)
+    (word_reads c locals p w parsed.first stand.first good.0 parsed.one stand.one)
+    (words_read c locals argument_kinds ws parsed.others stand.others good.1 parsed.rest stand.rest)
+words_read c locals _ _ words args all is e = absurd cc
 
 no_counts : (n : ℕ) (p : ArgumentKind) → is_no_count p ≡ true → list_all is_no_count (replicate n p) ≡ true
 no_counts zero p h = refl
@@ -193,12 +180,8 @@ no_counts (suc n) p h = and_from (is_no_count p) (list_all is_no_count (replicat
 
 -- no argument of a statement is a count
 pub statement_kinds : (f : LineKind) (n : ℕ) → is_declaration (syntax_of f).role ≡ false → list_all is_no_count ((syntax_of f).argument_kinds n) ≡ true
-unfolding syntax_of declaration_syntax
-statement_kinds (line_kind.Declares kind.Global) n other = absurd cc
-statement_kinds (line_kind.Declares kind.Mutex) n other = absurd cc
-statement_kinds (line_kind.Declares kind.Cond) n other = absurd cc
-statement_kinds (line_kind.Declares kind.Sem) n other = absurd cc
-statement_kinds (line_kind.Declares kind.Function) n other = absurd cc
+unfolding syntax_of
+statement_kinds (line_kind.Declares k) n other = absurd (true≢false (sym (ap is_declaration (role_of_kind k)) ∙ other))
 statement_kinds line_kind.Create n other = no_counts (min 1 (n - 4)) argument_kind.Detached refl
 statement_kinds _ n other = refl
 
@@ -206,12 +189,11 @@ statement_kinds _ n other = refl
 pub words_at_lengths : (argument_kinds : List ArgumentKind) (ws : List (List ℕ)) (words : List Token) → tokens_at argument_kinds ws ≡ Some words → (length ws ≡ length argument_kinds) × (length words ≡ length argument_kinds)
 unfolding tokens_at
 words_at_lengths [] [] words is = (refl, ap length (sym (same_Some _ _ is)))
-words_at_lengths [] (w ∷ ws) words is = absurd cc
-words_at_lengths (p ∷ argument_kinds) [] words is = absurd cc
 words_at_lengths (p ∷ argument_kinds) (w ∷ ws) words is =
-    let parsed = cons_parts (token_at p w) (tokens_at argument_kinds ws) words is in
-    let more = words_at_lengths argument_kinds ws parsed.1 parsed.3 in
-    (ap suc more.0, ap length (sym parsed.4) ∙ ap suc more.1)
+    let parsed = both_from (token_at p w) (tokens_at argument_kinds ws) words is in
+    let more = words_at_lengths argument_kinds ws parsed.others parsed.rest in
+    (ap suc more.0, ap length parsed.whole ∙ ap suc more.1)
+words_at_lengths _ _ words is = absurd cc
 
 -- each token resolves to one argument
 pub replaced_lengths : (names : SymbolKind → List (List ℕ)) (locals : List (List ℕ)) (argument_kinds : List ArgumentKind) (words : List Token) (args : List Argument) → resolve_all names locals argument_kinds words ≡ Some args → length args ≡ length words
@@ -220,18 +202,19 @@ replaced_lengths names locals [] [] args is = ap length (sym (same_Some _ _ is))
 replaced_lengths names locals (p ∷ argument_kinds) [] args is = ap length (sym (same_Some _ _ is))
 replaced_lengths names locals [] (w ∷ words) args is = absurd cc
 replaced_lengths names locals (p ∷ argument_kinds) (w ∷ words) args is =
-    let stand = cons_parts (resolve names locals p w) (resolve_all names locals argument_kinds words) args is in
-    ap length (sym stand.4) ∙ ap suc (replaced_lengths names locals argument_kinds words stand.1 stand.3)
+    let stand = both_from (resolve names locals p w) (resolve_all names locals argument_kinds words) args is in
+    ap length stand.whole ∙ ap suc (replaced_lengths names locals argument_kinds words stand.others stand.rest)
 
 -- ---- bytes that are printed
 
-all_more : (p q : ℕ → Bool) → ((b : ℕ) → p b ≡ true → q b ≡ true) → (bs : List ℕ) → list_all p bs ≡ true → list_all q bs ≡ true
+-- a weaker test of all bytes
+pub all_more : (p q : ℕ → Bool) → ((b : ℕ) → p b ≡ true → q b ≡ true) → (bs : List ℕ) → list_all p bs ≡ true → list_all q bs ≡ true
 all_more p q more [] all = refl
 all_more p q more (b ∷ bs) all =
     let sections = and_parts (p b) (list_all p bs) all in
     and_from (q b) (list_all q bs) (more b sections.0) (all_more p q more bs sections.1)
 
-digit_is_printed : (b : ℕ) → is_digit b ≡ true → is_printable b ≡ true
+pub digit_is_printed : (b : ℕ) → is_digit b ≡ true → is_printable b ≡ true
 digit_is_printed b h =
     let sections = and_parts (nat_le 48 b) (nat_le b 57) h in
     and_from (nat_le 33 b) (nat_le b 126) (le-leb 33 b (omega (arith, leb-true 48 b sections.0))) (le-leb b 126 (omega (arith, leb-true b 57 sections.1)))
@@ -240,7 +223,7 @@ name_byte_is_printed : (b : ℕ) → is_name_byte b ≡ true → is_printable b 
 name_byte_is_printed b h = grind (arith, nat_tests)
 
 -- a name is a word
-name_is_word : (w : List ℕ) → is_name w ≡ true → is_word w ≡ true
+pub name_is_word : (w : List ℕ) → is_name w ≡ true → is_word w ≡ true
 unfolding is_name
 name_is_word [] h = absurd cc
 name_is_word (b ∷ bs) h =
@@ -276,12 +259,12 @@ numeral_from w n some digits short value fits =
     ap (λ (t : Bool). cond t (Some (digits_value 10 w)) None) is ∙ ap (λ (k : ℕ). Some k) value
 
 -- the digits of a number parse to that number
-decimal_is_numeral : (n : ℕ) → n ≤ 4294967295 → numeral (decimal n) ≡ Some n
+pub decimal_is_numeral : (n : ℕ) → n ≤ 4294967295 → numeral (decimal n) ≡ Some n
 decimal_is_numeral n fits =
     numeral_from (decimal n) n (decimal_nonempty n (omega arith)) (digits_of_decimal n) (length-decimal-le 10 n (omega arith) (omega arith) (omega arith)) (decimal_is_IsNumeral n (omega arith)).1 fits
 
 -- the digits of a number are a word
-decimal_is_word : (n : ℕ) → n ≤ 4294967295 → is_word (decimal n) ≡ true
+pub decimal_is_word : (n : ℕ) → n ≤ 4294967295 → is_word (decimal n) ≡ true
 decimal_is_word n fits = and_from _ _ (filled (decimal n) (decimal_nonempty n (omega arith))) (all_more is_digit is_printable digit_is_printed (decimal n) (digits_of_decimal n))
 
 -- ---- the words of arguments
@@ -304,7 +287,6 @@ name_resolves : (p : ArgumentKind) (w : List ℕ) → takes_name p ≡ true → 
 unfolding token_at
 name_resolves argument_kind.Declared w takes h = name_parses w h
 name_resolves argument_kind.Local w takes h = name_parses w h
-name_resolves argument_kind.Count w takes h = absurd cc
 name_resolves argument_kind.Operand w takes h = ap (λ (o : Option ℕ). option_or (option_map (λ (n : ℕ). token.Number n) o) (name w)) (name_no_number w h) ∙ name_parses w h
 name_resolves argument_kind.Variable w takes h = name_parses w h
 name_resolves argument_kind.Dest w takes h = optional_parses w h
@@ -312,9 +294,7 @@ name_resolves (argument_kind.Item k) w takes h = name_parses w h
 name_resolves argument_kind.OptionalFunction w takes h = optional_parses w h
 name_resolves argument_kind.PlainFunction w takes h = name_parses w h
 name_resolves argument_kind.OptionalPlainFunction w takes h = optional_parses w h
-name_resolves argument_kind.State w takes h = absurd cc
-name_resolves argument_kind.Mode w takes h = absurd cc
-name_resolves argument_kind.Detached w takes h = absurd cc
+name_resolves _ w takes h = absurd cc
 
 -- a printed word parses and resolves back
 abbrev Prints : Contents → List (List ℕ) → ArgumentKind → Argument → List ℕ → Type 0
@@ -332,7 +312,6 @@ not_some (Some x) h = absurd cc
 variable_prints : (c : Contents) (locals : List (List ℕ)) (p : ArgumentKind) (a : Argument) → NameLists c locals → takes_name p ≡ true → ((w : List ℕ) → resolve_name (names_of_kind c) locals p w ≡ variable (names_of_kind c) locals w)
     → is_variable c locals a ≡ true → Prints c locals p a (argument_text c locals p a)
 unfolding argument_text
-variable_prints c locals p (argument.Number n) names takes by h = absurd cc
 variable_prints c locals p (argument.Local i) names takes by h =
     let w = name_at locals i in
     name_prints c locals p (argument.Local i) w takes (found_name locals i names.own h)
@@ -343,23 +322,17 @@ variable_prints c locals p (argument.Global i) names takes by h =
     name_prints c locals p (argument.Global i) w takes (found_name c.globals i (names.kinds kind.Global) sections.0)
     (by w ∙ ap (λ (o : Option ℕ). option_or (option_map (λ (i : ℕ). argument.Local i) o) (option_map (λ (i : ℕ). argument.Global i) (index_among c.globals w))) (not_some (index_among locals w) sections.1)
     ∙ ap (option_map (λ (i : ℕ). argument.Global i)) (index_of_name c.globals i sections.0))
-variable_prints c locals p (argument.Item i) names takes by h = absurd cc
-variable_prints c locals p argument.Nothing names takes by h = absurd cc
-variable_prints c locals p (argument.Flag is_set) names takes by h = absurd cc
+variable_prints c locals p _ names takes by h = absurd cc
 
 -- the name of an item, if the argument kind takes items of its kind
 item_prints : (c : Contents) (locals : List (List ℕ)) (p : ArgumentKind) (a : Argument) → NameLists c locals → takes_name p ≡ true → ((w : List ℕ) → resolve_name (names_of_kind c) locals p w ≡ item (names_of_kind c) locals (symbol_kind_at p) w)
     → is_item c locals (symbol_kind_at p) a ≡ true → Prints c locals p a (argument_text c locals p a)
 unfolding argument_text
-item_prints c locals p (argument.Number n) names takes by h = absurd cc
-item_prints c locals p (argument.Local i) names takes by h = absurd cc
-item_prints c locals p (argument.Global i) names takes by h = absurd cc
 item_prints c locals p (argument.Item i) names takes by h =
     let those = names_of_kind c (symbol_kind_at p) in
     let w = name_at those i in
     name_prints c locals p (argument.Item i) w takes (found_name those i (names.kinds (symbol_kind_at p)) h) (by w ∙ ap (option_map (λ (i : ℕ). argument.Item i)) (index_of_name those i h))
-item_prints c locals p argument.Nothing names takes by h = absurd cc
-item_prints c locals p (argument.Flag is_set) names takes by h = absurd cc
+item_prints c locals p _ names takes by h = absurd cc
 
 -- a value
 value_prints : (c : Contents) (locals : List (List ℕ)) (a : Argument) → NameLists c locals → is_value c locals a ≡ true → Prints c locals argument_kind.Operand a (argument_text c locals argument_kind.Operand a)
@@ -367,61 +340,19 @@ unfolding argument_text token_at resolve_name resolve
 value_prints c locals (argument.Number n) names h =
     let fits = leb-true n 4294967295 h in
     (token.Number n, ap (λ (o : Option ℕ). option_or (option_map (λ (n : ℕ). token.Number n) o) (name (decimal n))) (decimal_is_numeral n fits), refl, decimal_is_word n fits)
-value_prints c locals (argument.Local i) names h = variable_prints c locals argument_kind.Operand (argument.Local i) names refl (λ w. refl) h
-value_prints c locals (argument.Global i) names h = variable_prints c locals argument_kind.Operand (argument.Global i) names refl (λ w. refl) h
-value_prints c locals (argument.Item i) names h = absurd cc
-value_prints c locals argument.Nothing names h = absurd cc
-value_prints c locals (argument.Flag is_set) names h = absurd cc
+value_prints c locals a names h = variable_prints c locals argument_kind.Operand a names refl (λ w. refl) h
 
 -- `-`, or what is printed without it
 optional_prints : (c : Contents) (locals : List (List ℕ)) (p : ArgumentKind) (a : Argument) (t : Bool) → token_at p (codes "-") ≡ Some token.Nothing → (is_nothing c locals a || t) ≡ true
     → (t ≡ true → Prints c locals p a (argument_text c locals p a)) → Prints c locals p a (argument_text c locals p a)
 unfolding argument_text resolve
-optional_prints c locals p (argument.Number n) t takes h more = more h
-optional_prints c locals p (argument.Local i) t takes h more = more h
-optional_prints c locals p (argument.Global i) t takes h more = more h
-optional_prints c locals p (argument.Item i) t takes h more = more h
 optional_prints c locals p argument.Nothing t takes h more = (token.Nothing, takes, refl, refl)
-optional_prints c locals p (argument.Flag is_set) t takes h more = more h
-
--- one of two fixed words
-state_prints : (c : Contents) (locals : List (List ℕ)) (a : Argument) → has_word c locals argument_kind.State a ≡ true → Prints c locals argument_kind.State a (argument_text c locals argument_kind.State a)
-unfolding argument_text resolve token_at has_word
-state_prints c locals (argument.Number n) h = absurd cc
-state_prints c locals (argument.Local i) h = absurd cc
-state_prints c locals (argument.Global i) h = absurd cc
-state_prints c locals (argument.Item i) h = absurd cc
-state_prints c locals argument.Nothing h = absurd cc
-state_prints c locals (argument.Flag true) h = (token.Flag true, refl, refl, refl)
-state_prints c locals (argument.Flag false) h = (token.Flag false, refl, refl, refl)
-
-mode_prints : (c : Contents) (locals : List (List ℕ)) (a : Argument) → has_word c locals argument_kind.Mode a ≡ true → Prints c locals argument_kind.Mode a (argument_text c locals argument_kind.Mode a)
-unfolding argument_text resolve token_at has_word
-mode_prints c locals (argument.Number n) h = absurd cc
-mode_prints c locals (argument.Local i) h = absurd cc
-mode_prints c locals (argument.Global i) h = absurd cc
-mode_prints c locals (argument.Item i) h = absurd cc
-mode_prints c locals argument.Nothing h = absurd cc
-mode_prints c locals (argument.Flag true) h = (token.Flag true, refl, refl, refl)
-mode_prints c locals (argument.Flag false) h = (token.Flag false, refl, refl, refl)
-
-detached_prints : (c : Contents) (locals : List (List ℕ)) (a : Argument) → has_word c locals argument_kind.Detached a ≡ true → Prints c locals argument_kind.Detached a (argument_text c locals argument_kind.Detached a)
-unfolding argument_text resolve token_at has_word
-detached_prints c locals (argument.Number n) h = absurd cc
-detached_prints c locals (argument.Local i) h = absurd cc
-detached_prints c locals (argument.Global i) h = absurd cc
-detached_prints c locals (argument.Item i) h = absurd cc
-detached_prints c locals argument.Nothing h = absurd cc
-detached_prints c locals (argument.Flag true) h = (token.Flag true, refl, refl, refl)
-detached_prints c locals (argument.Flag false) h = absurd cc
+optional_prints c locals p _ t takes h more = more h
 
 -- the word of an argument resolves to the argument
 pub word_prints : (c : Contents) (locals : List (List ℕ)) (p : ArgumentKind) (a : Argument) → NameLists c locals → has_word c locals p a ≡ true
     → (parsed : Token) × (token_at p (argument_text c locals p a) ≡ Some parsed) × (resolve (names_of_kind c) locals p parsed ≡ Some a) × (is_word (argument_text c locals p a) ≡ true)
-unfolding has_word token_at resolve_name
-word_prints c locals argument_kind.Declared a names h = absurd cc
-word_prints c locals argument_kind.Local a names h = absurd cc
-word_prints c locals argument_kind.Count a names h = absurd cc
+unfolding has_word token_at resolve_name resolve argument_text
 word_prints c locals argument_kind.Operand a names h = value_prints c locals a names h
 word_prints c locals argument_kind.Variable a names h = variable_prints c locals argument_kind.Variable a names refl (λ w. refl) h
 word_prints c locals argument_kind.Dest a names h = optional_prints c locals argument_kind.Dest a (is_variable c locals a) refl h (λ t. variable_prints c locals argument_kind.Dest a names refl (λ w. refl) t)
@@ -429,17 +360,18 @@ word_prints c locals (argument_kind.Item k) a names h = item_prints c locals (ar
 word_prints c locals argument_kind.OptionalFunction a names h = optional_prints c locals argument_kind.OptionalFunction a (is_item c locals kind.Function a) refl h (λ t. item_prints c locals argument_kind.OptionalFunction a names refl (λ w. refl) t)
 word_prints c locals argument_kind.PlainFunction a names h = item_prints c locals argument_kind.PlainFunction a names refl (λ w. refl) h
 word_prints c locals argument_kind.OptionalPlainFunction a names h = optional_prints c locals argument_kind.OptionalPlainFunction a (is_item c locals kind.Function a) refl h (λ t. item_prints c locals argument_kind.OptionalPlainFunction a names refl (λ w. refl) t)
-word_prints c locals argument_kind.State a names h = state_prints c locals a h
-word_prints c locals argument_kind.Mode a names h = mode_prints c locals a h
-word_prints c locals argument_kind.Detached a names h = detached_prints c locals a h
+word_prints c locals argument_kind.State (argument.Flag true) names h = (token.Flag true, refl, refl, refl)
+word_prints c locals argument_kind.State (argument.Flag false) names h = (token.Flag false, refl, refl, refl)
+word_prints c locals argument_kind.Mode (argument.Flag true) names h = (token.Flag true, refl, refl, refl)
+word_prints c locals argument_kind.Mode (argument.Flag false) names h = (token.Flag false, refl, refl, refl)
+word_prints c locals argument_kind.Detached (argument.Flag true) names h = (token.Flag true, refl, refl, refl)
+word_prints c locals _ _ names h = absurd cc
 
 -- the words of several arguments resolve to them
 pub words_print : (c : Contents) (locals : List (List ℕ)) (argument_kinds : List ArgumentKind) (args : List Argument) → NameLists c locals → have_words c locals argument_kinds args ≡ true
     → (words : List Token) × (tokens_at argument_kinds (argument_texts c locals argument_kinds args) ≡ Some words) × (resolve_all (names_of_kind c) locals argument_kinds words ≡ Some args) × (list_all is_word (argument_texts c locals argument_kinds args) ≡ true)
 unfolding have_words argument_texts tokens_at resolve_all
 words_print c locals [] [] names h = ([], refl, refl, refl)
-words_print c locals [] (a ∷ args) names h = absurd cc
-words_print c locals (p ∷ argument_kinds) [] names h = absurd cc
 words_print c locals (p ∷ argument_kinds) (a ∷ args) names h =
     let sections = and_parts (has_word c locals p a) (have_words c locals argument_kinds args) h in
     let one = word_prints c locals p a names sections.0 in
@@ -450,3 +382,4 @@ words_print c locals (p ∷ argument_kinds) (a ∷ args) names h =
       cons_made (resolve (names_of_kind c) locals p one.0) (resolve_all (names_of_kind c) locals argument_kinds more.0) a args one.2 more.2,
       and_from (is_word (argument_text c locals p a)) (list_all is_word ws) one.3 more.3,
     )
+words_print c locals _ _ names h = absurd cc

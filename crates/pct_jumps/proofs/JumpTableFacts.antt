@@ -96,13 +96,10 @@ closes_inside script func pc close is =
     let inside = close_within (body_of script func) pc close (nested_in script func pc opens_block (opens_if_closed (body_of script func) pc close is)) is in
     (inside.0, omega (arith, inside.1))
 
-opens_by : (script : Script) (func pc : ℕ) (o : Option ℕ) → open_of (body_of script func) pc ≡ o → IfSome o (λ opening. (opening < pc) × (holds (body_of script func) opens_block opening ≡ true))
-opens_by script func pc None is = tt
-opens_by script func pc (Some opening) is = opened_before (body_of script func) pc opening (nested_in script func pc is_end (ends_if_opened (body_of script func) pc opening is)) is
-
 -- a block was opened by an earlier statement
 pub opens_earlier : (script : Script) (func pc : ℕ) (o : Option ℕ) → open_of (body_of script func) pc ≡ o → IfSome o (λ opening. (opening < pc) × (holds (body_of script func) opens_block opening ≡ true))
-opens_earlier script func pc o is = opens_by script func pc o is
+opens_earlier script func pc None is = tt
+opens_earlier script func pc (Some opening) is = opened_before (body_of script func) pc opening (nested_in script func pc is_end (ends_if_opened (body_of script func) pc opening is)) is
 
 last_by : (body : List Stmt) (pc : ℕ) (o : Option ℕ) → are_nested (block.Function ∷ []) (map role_of body) ≡ true → holds body is_end pc ≡ true → open_of body pc ≡ o → o ≡ None → pc < length body → (suc pc ≡ length body) ⊎ (suc pc < length body) → pc + 1 ≡ length body
 last_by body pc o nests end is none within (inl last) = omega (arith, last)

@@ -1,12 +1,12 @@
 -- In a body whose blocks nest, each block that a statement opens is closed by an `end`.
-use Rattle.std.proofs.Common.{◌≡◌, ◌⊎◌, inl, inr, ℕ, zero, suc, ◌+◌, ◌-◌, ◌<◌, ◌≤◌, Bool, true, false, cond, ◌&&◌, ◌||◌, List, [], ◌∷◌, length, map, take, drop, get_or, find, Option, Some, None, refl, sym, ap, ◌∙◌, arith}
+use Rattle.std.proofs.Common.{◌≡◌, ◌⊎◌, inl, inr, ℕ, zero, suc, ◌+◌, ◌-◌, ◌<◌, ◌≤◌, Bool, true, false, cond, ◌||◌, List, [], ◌∷◌, length, map, take, drop, get_or, find, Option, Some, None, refl, sym, ap, ◌∙◌, arith}
 use Rattle.std.specs.Prelude.{is_some, slice_get, slice_range}
 use Rattle.std.specs.List.{range_with_len, count_by}
 use Rattle.std.specs.Option.{option_map_or}
-use Rattle.std.proofs.lemmas.Bool.{false≢true, true≢false, eq-eqb, cases_lt}
+use Rattle.std.proofs.lemmas.Bool.{false≢true, true≢false, and_from, or_left, eq-eqb, cases_lt}
 use Rattle.std.proofs.Math.Nat.{eq-or-lt_of_le}
 use Rattle.std.proofs.lemmas.List.{drop_more, length-drop}
-use Rattle.std.proofs.lemmas.Option.{slice_get_cases}
+use Rattle.std.proofs.lemmas.Option.{slice_get_within, get_or_from_slice_get, slice_get_cases}
 use Rattle.std.proofs.lemmas.List.Sums.{sum_by-cons}
 use Rattle.pct_model.specs.declared.role.Block.{Block}
 use Rattle.pct_model.specs.declared.role.Block.TheVariants as block
@@ -61,18 +61,12 @@ is_nil (b ∷ blocks) = false
 abbrev pub is_based : List Block → Bool
 is_based [] = false
 is_based (block.Function ∷ blocks) = is_nil blocks
-is_based (block.If ∷ blocks) = is_based blocks
-is_based (block.Else ∷ blocks) = is_based blocks
-is_based (block.While ∷ blocks) = is_based blocks
-is_based (block.Push ∷ blocks) = is_based blocks
+is_based (b ∷ blocks) = is_based blocks
 
 based_deep : (blocks : List Block) → is_based blocks ≡ true → 0 < depth blocks
 based_deep [] based = absurd (false≢true based)
-based_deep (block.Function ∷ blocks) based = omega arith
-based_deep (block.If ∷ blocks) based = omega arith
-based_deep (block.Else ∷ blocks) based = omega arith
-based_deep (block.While ∷ blocks) based = omega arith
 based_deep (block.Push ∷ blocks) based = omega (arith, based_deep blocks based)
+based_deep (b ∷ blocks) based = omega arith
 
 -- the roles that statements have
 abbrev pub is_inner : Role → Bool
@@ -102,32 +96,20 @@ based_outside (b ∷ blocks) based = absurd (false≢true based)
 after_opens : (inner b : Block) (blocks : List Block) (roles : List Role) → is_inner (role.Opens inner) ≡ true → is_based (b ∷ blocks) ≡ true → are_nested (inner ∷ b ∷ blocks) roles ≡ true → After b blocks (role.Opens inner) roles
 after_opens block.Function b blocks roles within based nests = absurd (false≢true within)
 after_opens block.Else b blocks roles within based nests = absurd (false≢true within)
-after_opens block.If b blocks roles within based nests = record { left = block.If ∷ b ∷ blocks; nested = nests; deep = omega arith; based = inr based }
-after_opens block.While b blocks roles within based nests = record { left = block.While ∷ b ∷ blocks; nested = nests; deep = omega arith; based = inr based }
-after_opens block.Push b blocks roles within based nests = record { left = block.Push ∷ b ∷ blocks; nested = nests; deep = omega arith; based = inr based }
+after_opens inner b blocks roles within based nests = record { left = inner ∷ b ∷ blocks; nested = nests; deep = omega arith; based = inr based }
 
 after_role : (b : Block) (blocks : List Block) (r : Role) (roles : List Role) → is_inner r ≡ true → is_based (b ∷ blocks) ≡ true → are_nested (b ∷ blocks) (r ∷ roles) ≡ true → After b blocks r roles
 unfolding are_nested change_at inside open_after
 after_role b blocks (role.Declares k) roles within based nests = absurd (false≢true nests)
 after_role b blocks (role.Opens inner) roles within based nests = after_opens inner b blocks roles within based nests
 after_role block.If blocks role.Else roles within based nests = record { left = block.Else ∷ blocks; nested = nests; deep = refl; based = inr based }
-after_role block.Function blocks role.Else roles within based nests = absurd (false≢true nests)
-after_role block.Else blocks role.Else roles within based nests = absurd (false≢true nests)
-after_role block.While blocks role.Else roles within based nests = absurd (false≢true nests)
-after_role block.Push blocks role.Else roles within based nests = absurd (false≢true nests)
+after_role b blocks role.Else roles within based nests = absurd (false≢true nests)
 after_role block.Push blocks role.End roles within based nests = absurd (false≢true nests)
-after_role block.If blocks role.End roles within based nests = record { left = blocks; nested = nests; deep = omega arith; based = inr based }
 after_role block.Function blocks role.End roles within based nests = record { left = blocks; nested = nests; deep = omega arith; based = inl (based_outside blocks based) }
-after_role block.Else blocks role.End roles within based nests = record { left = blocks; nested = nests; deep = omega arith; based = inr based }
-after_role block.While blocks role.End roles within based nests = record { left = blocks; nested = nests; deep = omega arith; based = inr based }
+after_role b blocks role.End roles within based nests = record { left = blocks; nested = nests; deep = omega arith; based = inr based }
 after_role block.Push blocks role.Pop roles within based nests = record { left = blocks; nested = nests; deep = omega arith; based = inr based }
-after_role block.If blocks role.Pop roles within based nests = absurd (false≢true nests)
-after_role block.Function blocks role.Pop roles within based nests = absurd (false≢true nests)
-after_role block.Else blocks role.Pop roles within based nests = absurd (false≢true nests)
-after_role block.While blocks role.Pop roles within based nests = absurd (false≢true nests)
-after_role b blocks role.Return roles within based nests = record { left = b ∷ blocks; nested = nests; deep = refl; based = inr based }
-after_role b blocks role.Plain roles within based nests = record { left = b ∷ blocks; nested = nests; deep = refl; based = inr based }
-after_role b blocks role.Other roles within based nests = record { left = b ∷ blocks; nested = nests; deep = refl; based = inr based }
+after_role b blocks role.Pop roles within based nests = absurd (false≢true nests)
+after_role b blocks r roles within based nests = record { left = b ∷ blocks; nested = nests; deep = refl; based = inr based }
 
 -- a statement that opens a block
 record Opened (roles : List Role) : Type 0 where
@@ -138,12 +120,8 @@ record Opened (roles : List Role) : Type 0 where
 
 opened_by_else : (blocks : List Block) (roles : List Role) → is_based blocks ≡ true → are_nested blocks (role.Else ∷ roles) ≡ true → Opened roles
 unfolding are_nested change_at inside outside open_after
-opened_by_else [] roles based nests = absurd (false≢true nests)
 opened_by_else (block.If ∷ blocks) roles based nests = record { left = block.Else ∷ blocks; nested = nests; deep = omega (arith, based_deep blocks based); based = based }
-opened_by_else (block.Function ∷ blocks) roles based nests = absurd (false≢true nests)
-opened_by_else (block.Else ∷ blocks) roles based nests = absurd (false≢true nests)
-opened_by_else (block.While ∷ blocks) roles based nests = absurd (false≢true nests)
-opened_by_else (block.Push ∷ blocks) roles based nests = absurd (false≢true nests)
+opened_by_else _ roles based nests = absurd (false≢true nests)
 
 opened_by : (inner : Block) (blocks : List Block) (roles : List Role) → counts inner ≡ 1 → is_based (inner ∷ blocks) ≡ true → is_based blocks ≡ true → are_nested blocks (role.Opens inner ∷ roles) ≡ true → Opened roles
 unfolding are_nested change_at inside outside open_after
@@ -329,51 +307,71 @@ closes_by_test body i test e passes =
     let first = found_by test (suc i) (length body - suc i) (suc i + e.at) (omega arith) (omega (arith, e.within)) passes in
     record { close = first.found; is = first.is; after = omega (arith, first.low); before = omega (arith, first.high, e.more) }
 
--- that `end` closes an `else`
-ends_else : (body : List Stmt) (i : ℕ) (e : Ending body i) → closes_else body i (suc i + e.at) ≡ true
-ends_else body i e =
+-- the test of a statement that opens a block
+abbrev pub test_of : List Stmt → ℕ → Stmt → ℕ → Bool
+test_of body i (statement.If v) j = closes body i j
+test_of body i (statement.While v) j = closes body i j
+test_of body i statement.Else j = closes_else body i j
+test_of body i _ j = false
+
+-- the statement at i, and the `if`, `while` and `end` after it up to j
+pub record From (body : List Stmt) (i j : ℕ) (s : Stmt) : Type 0 where
+  pub begun : begins body i j ≡ cond (begins_block s) 1 0 + begins body (suc i) j
+  pub ended : ends body i j ≡ cond (is_end s) 1 0 + ends body (suc i) j
+
+-- the counts without the statement at i
+pub from : (body : List Stmt) (i j : ℕ) (s : Stmt) → slice_get body i ≡ Some s → i < j → From body i j s
+from body i j s is above =
+    let within = slice_get_within body i s is in
+    let at : get_or body i s ≡ s = get_or_from_slice_get body i s s is in
+    let next : i + 1 ≡ suc i = omega arith in
+    let split : drop i body ≡ s ∷ drop (suc i) body = drop_more body i s within ∙ ap (λ x. x ∷ drop (i + 1) body) at ∙ ap (λ k. s ∷ drop k body) next in
+    let span : suc j - i ≡ suc (suc j - suc i) = omega (arith, above) in
+    let prefix : slice_range body i (suc j) ≡ s ∷ slice_range body (suc i) (suc j) = ap (λ n. take n (drop i body)) span ∙ ap (take (suc (suc j - suc i))) split in
+    record {
+      begun = ap (count_by begins_block) prefix ∙ count-cons begins_block s (slice_range body (suc i) (suc j));
+      ended = ap (count_by is_end) prefix ∙ count-cons is_end s (slice_range body (suc i) (suc j));
+    }
+
+-- a block is closed at an `end` up to which there is one `end` more than blocks that begin
+passes_block : (body : List Stmt) (i j : ℕ) (s : Stmt) → slice_get body i ≡ Some s → i < j → begins_block s ≡ true → is_end s ≡ false → holds body is_end j ≡ true → ends body (suc i) j ≡ suc (begins body (suc i) j) → closes body i j ≡ true
+passes_block body i j s is above begun other end count =
+    let sums = from body i j s is above in
+    let b : begins body i j ≡ suc (begins body (suc i) j) = sums.begun ∙ ap (λ x. cond x 1 0 + begins body (suc i) j) begun ∙ omega arith in
+    let e : ends body i j ≡ ends body (suc i) j = sums.ended ∙ ap (λ x. cond x 1 0 + ends body (suc i) j) other ∙ omega arith in
+    or_left _ _ (and_from _ _ end (eq-eqb (ends body i j) (begins body i j) (omega (arith, b, e, count))))
+
+-- what a statement opens is closed at such an `end`
+pub passes : (body : List Stmt) (i j : ℕ) (s : Stmt) → slice_get body i ≡ Some s → i < j → opens_block s ≡ true → holds body is_end j ≡ true → ends body (suc i) j ≡ suc (begins body (suc i) j) → test_of body i s j ≡ true
+passes body i j (statement.If v) is above opens end count = passes_block body i j (statement.If v) is above refl refl end count
+passes body i j (statement.While v) is above opens end count = passes_block body i j (statement.While v) is above refl refl end count
+passes body i j statement.Else is above opens end count = eq-eqb (ends body (suc i) j) (begins body (suc i) j + 1) (omega (arith, count))
+passes body i j _ is above opens end count = absurd (false≢true opens)
+
+-- where the block of a statement closes
+pub closing_by : (body : List Stmt) (i : ℕ) (s : Stmt) → opens_block s ≡ true → closing body i s ≡ first_later body (test_of body i s) i
+closing_by body i (statement.If v) opens = refl
+closing_by body i (statement.While v) opens = refl
+closing_by body i statement.Else opens = refl
+closing_by body i _ opens = absurd (false≢true opens)
+
+closes_opening : (body : List Stmt) (i : ℕ) (s : Stmt) → are_nested (block.Function ∷ []) (map role_of body) ≡ true → i < length body → slice_get body i ≡ Some s
+    → get_or body i s ≡ s → opens_block s ≡ true → ClosesWithin body i (closing body i s)
+closes_opening body i s nests within at is opens =
+    let e = ending body i s nests within is opens in
     let j = suc i + e.at in
     let span : suc j - suc i ≡ suc e.at = omega arith in
-    eq-eqb (ends body (suc i) j) (begins body (suc i) j + 1) (ap (λ n. count_by is_end (take n (drop (suc i) body))) span ∙ e.count ∙ ap (λ n. count_by begins_block (take n (drop (suc i) body)) + 1) (sym span))
-
-or_first : (a b : Bool) → a ≡ true → a || b ≡ true
-or_first true b is = refl
-or_first false b is = absurd (false≢true is)
-
-both : (a b : Bool) → a ≡ true → b ≡ true → a && b ≡ true
-both true b is also = also
-both false b is also = absurd (false≢true is)
-
--- that `end` closes an `if` or a `while`
-ends_block : (body : List Stmt) (i : ℕ) (s : Stmt) → i < length body → get_or body i s ≡ s → is_end s ≡ false → begins_block s ≡ true → (e : Ending body i) → closes body i (suc i + e.at) ≡ true
-ends_block body i s within is other begun e =
-    let j = suc i + e.at in
-    let next : i + 1 ≡ suc i = omega arith in
-    let split : drop i body ≡ s ∷ drop (suc i) body = drop_more body i s within ∙ ap (λ x. x ∷ drop (i + 1) body) is ∙ ap (λ k. s ∷ drop k body) next in
-    let span : suc j - i ≡ suc (suc e.at) = omega arith in
-    let prefix : slice_range body i (suc j) ≡ s ∷ take (suc e.at) (drop (suc i) body) = ap (λ n. take n (drop i body)) span ∙ ap (take (suc (suc e.at))) split in
-    let rest = take (suc e.at) (drop (suc i) body) in
-    let ended : ends body i j ≡ 0 + count_by is_end rest = ap (count_by is_end) prefix ∙ count-cons is_end s rest ∙ ap (λ b. cond b 1 0 + count_by is_end rest) other in
-    let begins_are : begins body i j ≡ 1 + count_by begins_block rest = ap (count_by begins_block) prefix ∙ count-cons begins_block s rest ∙ ap (λ b. cond b 1 0 + count_by begins_block rest) begun in
-    or_first _ _ (both _ _ e.is (eq-eqb (ends body i j) (begins body i j) (omega (arith, ended, begins_are, e.count))))
-
-closes_opening : (body : List Stmt) (i : ℕ) (s : Stmt) → are_nested (block.Function ∷ []) (map role_of body) ≡ true → i < length body → get_or body i s ≡ s → opens_block s ≡ true → ClosesWithin body i (closing body i s)
-closes_opening body i (statement.If v) nests within is opens =
-    let e = ending body i (statement.If v) nests within is opens in
-    closes_by_test body i (closes body i) e (ends_block body i (statement.If v) within is refl refl e)
-closes_opening body i (statement.While v) nests within is opens =
-    let e = ending body i (statement.While v) nests within is opens in
-    closes_by_test body i (closes body i) e (ends_block body i (statement.While v) within is refl refl e)
-closes_opening body i statement.Else nests within is opens =
-    let e = ending body i statement.Else nests within is opens in
-    closes_by_test body i (closes_else body i) e (ends_else body i e)
-closes_opening body i _ nests within is opens = absurd (false≢true opens)
+    let ended : ends body (suc i) j ≡ count_by is_end (take (suc e.at) (drop (suc i) body)) = ap (λ n. count_by is_end (take n (drop (suc i) body))) span in
+    let begun : begins body (suc i) j ≡ count_by begins_block (take (suc e.at) (drop (suc i) body)) =
+    ap (λ n. count_by begins_block (take n (drop (suc i) body))) span in
+    let found = closes_by_test body i (test_of body i s) e (passes body i j s at (omega arith) opens e.is (omega (arith, ended, begun, e.count))) in
+    record { close = found.close; is = closing_by body i s opens ∙ found.is; after = found.after; before = found.before }
 
 closes_by : (body : List Stmt) (i : ℕ) → are_nested (block.Function ∷ []) (map role_of body) ≡ true → holds body opens_block i ≡ true → (((s : Stmt) × (i < length body) × (slice_get body i ≡ Some s) × (get_or body i s ≡ s)) ⊎ ((length body ≤ i) × (slice_get body i ≡ None))) → ClosesWithin body i (close_of body i)
 unfolding close_of
 closes_by body i nests opens (inl here) =
     let opens_here = sym (ap (λ o. option_map_or opens_block o false) here.2) ∙ opens in
-    let found = closes_opening body i here.0 nests here.1 here.3 opens_here in
+    let found = closes_opening body i here.0 nests here.1 here.2 here.3 opens_here in
     record { close = found.close; is = ap (λ o. option_map_or (closing body i) o None) here.2 ∙ found.is; after = found.after; before = found.before }
 closes_by body i nests opens (inr past) = absurd (false≢true (sym (ap (λ o. option_map_or opens_block o false) past.1) ∙ opens))
 

@@ -1,9 +1,9 @@
 -- In a body whose blocks nest, each `end` before the last closes the block of an `if`, an `else` or a `while`.
-use Rattle.std.proofs.Common.{◌≡◌, ◌⊎◌, ◌≢◌, inl, inr, ℕ, zero, suc, ◌+◌, ◌-◌, ◌<◌, ◌≤◌, Bool, true, false, cond, ◌&&◌, ◌||◌, List, [], ◌∷◌, length, map, take, drop, get_or, find, nat_eq, eqb-true, Option, Some, None, refl, sym, ap, ◌∙◌, arith}
+use Rattle.std.proofs.Common.{◌≡◌, ◌⊎◌, ◌≢◌, inl, inr, ℕ, zero, suc, ◌+◌, ◌-◌, ◌<◌, ◌≤◌, Bool, true, false, cond, ◌&&◌, List, [], ◌∷◌, length, map, take, drop, get_or, find, nat_eq, eqb-true, Option, Some, None, refl, sym, ap, ◌∙◌, arith}
 use Rattle.std.specs.Prelude.{is_some, slice_get, slice_range}
 use Rattle.std.specs.List.{range_with_len, count_by}
 use Rattle.std.specs.Option.{option_map_or}
-use Rattle.std.proofs.lemmas.Bool.{false≢true, true≢false, eq-eqb, ne_eqb}
+use Rattle.std.proofs.lemmas.Bool.{false≢true, true≢false, and_parts, and_right, or_from, eq-eqb, ne_eqb}
 use Rattle.std.proofs.Math.Nat.{eq-or-lt_of_le}
 use Rattle.std.proofs.lemmas.List.{drop_more, length-drop}
 use Rattle.std.proofs.lemmas.Option.{slice_get_within, get_or_from_slice_get, slice_get_cases, same_Some}
@@ -19,50 +19,13 @@ use Rattle.pct_model.specs.Nesting.{inside, change_at, open_after, are_nested}
 use Rattle.pct_model.specs.Jumps.{is_if, is_else, is_end, holds, begins, ends, closes, closes_else, first_later, closing, close_of, open_of}
 use Rattle.pct_jumps.specs.JumpTable.{opens_block}
 use Rattle.pct_jumps.proofs.Closing.{tally}
-use Rattle.pct_jumps.proofs.NestedBodies.{begins_block, begun_by, ended_by, begun_is, ended_is, is_based, based_outside, is_inner, inner_is, open_left, count-cons, FoundBy, found_by, closes_within}
+use Rattle.pct_jumps.proofs.NestedBodies.{begins_block, begun_by, ended_by, begun_is, ended_is, is_based, based_outside, is_inner, inner_is, open_left, FoundBy, found_by, closes_within, test_of, from, passes, closing_by}
 
 -- ---- the test that finds where a block closes
-
--- the test of a statement that opens a block
-abbrev test_of : List Stmt → ℕ → Stmt → ℕ → Bool
-test_of body i (statement.If v) j = closes body i j
-test_of body i (statement.While v) j = closes body i j
-test_of body i statement.Else j = closes_else body i j
-test_of body i _ j = false
-
--- the statement at i, and the `if`, `while` and `end` after it up to j
-record From (body : List Stmt) (i j : ℕ) (s : Stmt) : Type 0 where
-  begun : begins body i j ≡ cond (begins_block s) 1 0 + begins body (suc i) j
-  ended : ends body i j ≡ cond (is_end s) 1 0 + ends body (suc i) j
-
-from : (body : List Stmt) (i j : ℕ) (s : Stmt) → slice_get body i ≡ Some s → i < j → From body i j s
-from body i j s is above =
-    let within = slice_get_within body i s is in
-    let at : get_or body i s ≡ s = get_or_from_slice_get body i s s is in
-    let next : i + 1 ≡ suc i = omega arith in
-    let split : drop i body ≡ s ∷ drop (suc i) body = drop_more body i s within ∙ ap (λ x. x ∷ drop (i + 1) body) at ∙ ap (λ k. s ∷ drop k body) next in
-    let span : suc j - i ≡ suc (suc j - suc i) = omega (arith, above) in
-    let prefix : slice_range body i (suc j) ≡ s ∷ slice_range body (suc i) (suc j) = ap (λ n. take n (drop i body)) span ∙ ap (take (suc (suc j - suc i))) split in
-    record {
-      begun = ap (count_by begins_block) prefix ∙ count-cons begins_block s (slice_range body (suc i) (suc j));
-      ended = ap (count_by is_end) prefix ∙ count-cons is_end s (slice_range body (suc i) (suc j));
-    }
-
-and_false : (a b : Bool) → b ≡ false → (a && b) ≡ false
-and_false true b fails_it = fails_it
-and_false false b fails_it = refl
 
 and_if : (a b : Bool) → (a ≡ true → b ≡ false) → (a && b) ≡ false
 and_if true b fails_it = fails_it refl
 and_if false b fails_it = refl
-
-or_false : (a b : Bool) → a ≡ false → b ≡ false → (a || b) ≡ false
-or_false true b fails_it other = absurd (true≢false fails_it)
-or_false false b fails_it other = other
-
-second : (a b : Bool) → (a && b) ≡ true → b ≡ true
-second true b is = is
-second false b is = absurd (false≢true is)
 
 -- a block of depth d, its own included, is not closed at a statement
 fails_block : (body : List Stmt) (i j d : ℕ) (s : Stmt) → slice_get body i ≡ Some s → i < j → begins_block s ≡ true → is_end s ≡ false
@@ -71,9 +34,9 @@ fails_block body i j d s is above begun other count deep deeper =
     let sums = from body i j s is above in
     let b : begins body i j ≡ suc (begins body (suc i) j) = sums.begun ∙ ap (λ x. cond x 1 0 + begins body (suc i) j) begun ∙ omega arith in
     let e : ends body i j ≡ ends body (suc i) j = sums.ended ∙ ap (λ x. cond x 1 0 + ends body (suc i) j) other ∙ omega arith in
-    or_false (holds body is_end j && nat_eq (ends body i j) (begins body i j)) (holds body is_if i && holds body is_else j && nat_eq (ends body i j + 1) (begins body i j))
-    (and_false (holds body is_end j) (nat_eq (ends body i j) (begins body i j)) (ne_eqb (ends body i j) (begins body i j) (λ same. absurd (omega (arith, b, e, count, deep, same)))))
-    (and_if (holds body is_if i && holds body is_else j) (nat_eq (ends body i j + 1) (begins body i j)) (λ both. ne_eqb (ends body i j + 1) (begins body i j) (λ same. absurd (omega (arith, b, e, count, same, deeper (second (holds body is_if i) (holds body is_else j) both))))))
+    or_from (holds body is_end j && nat_eq (ends body i j) (begins body i j)) (holds body is_if i && holds body is_else j && nat_eq (ends body i j + 1) (begins body i j))
+    (and_right (holds body is_end j) (nat_eq (ends body i j) (begins body i j)) (ne_eqb (ends body i j) (begins body i j) (λ same. absurd (omega (arith, b, e, count, deep, same)))))
+    (and_if (holds body is_if i && holds body is_else j) (nat_eq (ends body i j + 1) (begins body i j)) (λ both. ne_eqb (ends body i j + 1) (begins body i j) (λ same. absurd (omega (arith, b, e, count, same, deeper (and_parts (holds body is_if i) (holds body is_else j) both).1)))))
 
 fails_else : (body : List Stmt) (i j d : ℕ) → suc (begins body (suc i) j) ≡ ends body (suc i) j + d → 1 ≤ d → closes_else body i j ≡ false
 fails_else body i j d count deep = ne_eqb (ends body (suc i) j) (begins body (suc i) j + 1) (λ same. absurd (omega (arith, count, deep, same)))
@@ -83,28 +46,6 @@ fails body i j d (statement.If v) is above count deep deeper = fails_block body 
 fails body i j d (statement.While v) is above count deep deeper = fails_block body i j d (statement.While v) is above refl refl count deep deeper
 fails body i j d statement.Else is above count deep deeper = fails_else body i j d count deep
 fails body i j d _ is above count deep deeper = refl
-
-or_true : (a b : Bool) → a ≡ true → (a || b) ≡ true
-or_true true b is = refl
-or_true false b is = absurd (false≢true is)
-
-and_true : (a b : Bool) → a ≡ true → b ≡ true → (a && b) ≡ true
-and_true true b is also = also
-and_true false b is also = absurd (false≢true is)
-
--- a block is closed at an `end` up to which there is one `end` more than blocks that begin
-passes_block : (body : List Stmt) (i j : ℕ) (s : Stmt) → slice_get body i ≡ Some s → i < j → begins_block s ≡ true → is_end s ≡ false → holds body is_end j ≡ true → ends body (suc i) j ≡ suc (begins body (suc i) j) → closes body i j ≡ true
-passes_block body i j s is above begun other end count =
-    let sums = from body i j s is above in
-    let b : begins body i j ≡ suc (begins body (suc i) j) = sums.begun ∙ ap (λ x. cond x 1 0 + begins body (suc i) j) begun ∙ omega arith in
-    let e : ends body i j ≡ ends body (suc i) j = sums.ended ∙ ap (λ x. cond x 1 0 + ends body (suc i) j) other ∙ omega arith in
-    or_true _ _ (and_true _ _ end (eq-eqb (ends body i j) (begins body i j) (omega (arith, b, e, count))))
-
-passes : (body : List Stmt) (i j : ℕ) (s : Stmt) → slice_get body i ≡ Some s → i < j → opens_block s ≡ true → holds body is_end j ≡ true → ends body (suc i) j ≡ suc (begins body (suc i) j) → test_of body i s j ≡ true
-passes body i j (statement.If v) is above opens end count = passes_block body i j (statement.If v) is above refl refl end count
-passes body i j (statement.While v) is above opens end count = passes_block body i j (statement.While v) is above refl refl end count
-passes body i j statement.Else is above opens end count = eq-eqb (ends body (suc i) j) (begins body (suc i) j + 1) (omega (arith, count))
-passes body i j _ is above opens end count = absurd (false≢true opens)
 
 -- ---- the statements that opened the open blocks
 
@@ -123,9 +64,7 @@ abbrev Openers : List Stmt → ℕ → ℕ → List Block → Type 0
 Openers body i d [] = Unit {0}
 Openers body i d (block.Function ∷ blocks) = Unit {0}
 Openers body i d (block.Push ∷ blocks) = Openers body i d blocks
-Openers body i d (block.If ∷ blocks) = Opener body i (suc d) × Openers body i (suc d) blocks
-Openers body i d (block.Else ∷ blocks) = Opener body i (suc d) × Openers body i (suc d) blocks
-Openers body i d (block.While ∷ blocks) = Opener body i (suc d) × Openers body i (suc d) blocks
+Openers body i d (b ∷ blocks) = Opener body i (suc d) × Openers body i (suc d) blocks
 
 -- the counts with one more statement
 counted : (p : Stmt → Bool) (body : List Stmt) (at i : ℕ) (s : Stmt) → slice_get body i ≡ Some s → at < i → count_by p (slice_range body (suc at) (suc i)) ≡ count_by p (slice_range body (suc at) i) + cond (p s) 1 0
@@ -167,9 +106,7 @@ openers_after : (body : List Stmt) (i : ℕ) (s : Stmt) (d e : ℕ) (blocks : Li
 openers_after body i s d e [] is m o = tt
 openers_after body i s d e (block.Function ∷ blocks) is m o = tt
 openers_after body i s d e (block.Push ∷ blocks) is m o = openers_after body i s d e blocks is m o
-openers_after body i s d e (block.If ∷ blocks) is m o = (opener_after body i s d e is m o.0, openers_after body i s (suc d) (suc e) blocks is (moves_in s d e m) o.1)
-openers_after body i s d e (block.Else ∷ blocks) is m o = (opener_after body i s d e is m o.0, openers_after body i s (suc d) (suc e) blocks is (moves_in s d e m) o.1)
-openers_after body i s d e (block.While ∷ blocks) is m o = (opener_after body i s d e is m o.0, openers_after body i s (suc d) (suc e) blocks is (moves_in s d e m) o.1)
+openers_after body i s d e (b ∷ blocks) is m o = (opener_after body i s d e is m o.0, openers_after body i s (suc d) (suc e) blocks is (moves_in s d e m) o.1)
 
 -- a statement that opens a block is its opener
 opener_here : (body : List Stmt) (i : ℕ) (s : Stmt) → slice_get body i ≡ Some s → opens_block s ≡ true → Opener body (suc i) 1
@@ -238,23 +175,20 @@ record Next (body : List Stmt) (i : ℕ) (roles : List Role) : Type 0 where
 next_opens : (body : List Stmt) (i : ℕ) (s : Stmt) (inner b : Block) (blocks : List Block) (roles : List Role) → slice_get body i ≡ Some s → HasRole s (role.Opens inner) → is_based (b ∷ blocks) ≡ true → are_nested (inner ∷ b ∷ blocks) roles ≡ true → Openers body i 0 (b ∷ blocks) → Next body (suc i) roles
 next_opens body i s block.Function b blocks roles at is based nests o = absurd (false≢true is.inner)
 next_opens body i s block.Else b blocks roles at is based nests o = absurd (false≢true is.inner)
-next_opens body i s block.If b blocks roles at is based nests o = record {
-  left = block.If ∷ b ∷ blocks;
-  nested = nests;
-  based = inr based;
-  openers = (opener_here body i s at (begins_opens s (begun_by (role.Opens block.If)) (omega arith) is.begun), openers_after body i s 0 1 (b ∷ blocks) at (moves s (role.Opens block.If) 0 1 is (omega arith) never) o);
-}
-next_opens body i s block.While b blocks roles at is based nests o = record {
-  left = block.While ∷ b ∷ blocks;
-  nested = nests;
-  based = inr based;
-  openers = (opener_here body i s at (begins_opens s (begun_by (role.Opens block.While)) (omega arith) is.begun), openers_after body i s 0 1 (b ∷ blocks) at (moves s (role.Opens block.While) 0 1 is (omega arith) never) o);
-}
 next_opens body i s block.Push b blocks roles at is based nests o = record {
   left = block.Push ∷ b ∷ blocks;
   nested = nests;
   based = inr based;
   openers = openers_after body i s 0 0 (b ∷ blocks) at (moves s (role.Opens block.Push) 0 0 is (omega arith) never) o;
+}
+next_opens body i s inner b blocks roles at is based nests o = record {
+  left = inner ∷ b ∷ blocks;
+  nested = nests;
+  based = inr based;
+  openers = (
+    opener_here body i s at (begins_opens s (begun_by (role.Opens inner)) (omega arith) is.begun),
+    openers_after body i s 0 1 (b ∷ blocks) at (moves s (role.Opens inner) 0 1 is (omega arith) never) o,
+  );
 }
 
 next_stays : (body : List Stmt) (i : ℕ) (s : Stmt) (b : Block) (blocks : List Block) (r : Role) (roles : List Role) → slice_get body i ≡ Some s → Moves s 0 0 → is_based (b ∷ blocks) ≡ true → are_nested (b ∷ blocks) roles ≡ true → Openers body i 0 (b ∷ blocks) → Next body (suc i) roles
@@ -273,25 +207,15 @@ next body i s block.If blocks role.Else roles at is based nests o = record {
   based = inr based;
   openers = (opener_here body i s at (else_opens s is.else), openers_after body i s 1 1 blocks at (moves s role.Else 1 1 is refl (λ yes. omega arith)) o.1);
 }
-next body i s block.Function blocks role.Else roles at is based nests o = absurd (false≢true nests)
-next body i s block.Else blocks role.Else roles at is based nests o = absurd (false≢true nests)
-next body i s block.While blocks role.Else roles at is based nests o = absurd (false≢true nests)
-next body i s block.Push blocks role.Else roles at is based nests o = absurd (false≢true nests)
+next body i s b blocks role.Else roles at is based nests o = absurd (false≢true nests)
 next body i s block.Push blocks role.End roles at is based nests o = absurd (false≢true nests)
 next body i s block.Function blocks role.End roles at is based nests o =
     let none = based_outside blocks based in
     record { left = []; nested = ap (λ (bs : List Block). are_nested bs roles) (sym none) ∙ nests; based = inl refl; openers = tt }
-next body i s block.If blocks role.End roles at is based nests o = next_closes body i s blocks roles at is based nests o.1
-next body i s block.Else blocks role.End roles at is based nests o = next_closes body i s blocks roles at is based nests o.1
-next body i s block.While blocks role.End roles at is based nests o = next_closes body i s blocks roles at is based nests o.1
+next body i s b blocks role.End roles at is based nests o = next_closes body i s blocks roles at is based nests o.1
 next body i s block.Push blocks role.Pop roles at is based nests o = record { left = blocks; nested = nests; based = inr based; openers = openers_after body i s 0 0 blocks at (moves s role.Pop 0 0 is refl never) o }
-next body i s block.If blocks role.Pop roles at is based nests o = absurd (false≢true nests)
-next body i s block.Function blocks role.Pop roles at is based nests o = absurd (false≢true nests)
-next body i s block.Else blocks role.Pop roles at is based nests o = absurd (false≢true nests)
-next body i s block.While blocks role.Pop roles at is based nests o = absurd (false≢true nests)
-next body i s b blocks role.Return roles at is based nests o = next_stays body i s b blocks role.Return roles at (moves s role.Return 0 0 is refl never) based nests o
-next body i s b blocks role.Plain roles at is based nests o = next_stays body i s b blocks role.Plain roles at (moves s role.Plain 0 0 is refl never) based nests o
-next body i s b blocks role.Other roles at is based nests o = next_stays body i s b blocks role.Other roles at (moves s role.Other 0 0 is refl never) based nests o
+next body i s b blocks role.Pop roles at is based nests o = absurd (false≢true nests)
+next body i s b blocks r roles at is based nests o = next_stays body i s b blocks r roles at (moves s r 0 0 is refl never) based nests o
 
 -- ---- the open blocks before a statement
 
@@ -334,15 +258,7 @@ top_opener body i (block.Function ∷ blocks) rest more based nests o =
     let none = based_outside blocks based in
     absurd (false≢true (sym (ap is_based none) ∙ open_left rest blocks more nests (inl none)))
 top_opener body i (block.Push ∷ blocks) rest more based nests o = absurd (false≢true nests)
-top_opener body i (block.If ∷ blocks) rest more based nests o = o.0
-top_opener body i (block.Else ∷ blocks) rest more based nests o = o.0
-top_opener body i (block.While ∷ blocks) rest more based nests o = o.0
-
-closing_by : (body : List Stmt) (i : ℕ) (s : Stmt) → opens_block s ≡ true → closing body i s ≡ first_later body (test_of body i s) i
-closing_by body i (statement.If v) opens = refl
-closing_by body i (statement.While v) opens = refl
-closing_by body i statement.Else opens = refl
-closing_by body i _ opens = absurd (false≢true opens)
+top_opener body i (b ∷ blocks) rest more based nests o = o.0
 
 first_is : (test : ℕ → Bool) (a j : ℕ) (o : Option ℕ) (f : FoundBy test a j o) → ((k : ℕ) → a ≤ k → k < j → test k ≡ false) → (f.found ≡ j) ⊎ (f.found < j) → o ≡ Some j
 first_is test a j o f none (inl same) = f.is ∙ ap Some same

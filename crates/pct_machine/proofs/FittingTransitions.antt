@@ -23,7 +23,7 @@ use Rattle.pct_process.specs.ProcessViews.{ProcessData}
 use Rattle.pct_transitions.specs.Numbers.{AreOnPlaces}
 use Rattle.pct_transitions.specs.ProcessSteps.{with_data}
 use Rattle.pct_transitions.proofs.KeyChoices.{new_fits, left_fits}
-use Rattle.pct_actions.specs.TableFits.{KeysFit}
+use Rattle.pct_actions.specs.KeysFit.{KeysFit}
 use Rattle.pct_actions.specs.ProcessChanges.{AreOnSlots, JoinsFit, Makes}
 
 -- ---- keys

@@ -5,7 +5,7 @@ mod ProcessEnds
 mod PlacesAfter
 mod KeptPlaces
 mod SlotScans
-mod ReadySlots
+pub mod ReadySlots
 mod LegalChoices
 mod Picks
 mod ReadyProcesses

@@ -139,11 +139,11 @@ module _ (slots pid tid i live : ℕ) (o : Transition) (places : List SeenProces
       ap (λ (x : SeenProcess). length x.slots) moved
       ∙ length-moved slots tid o p.slots
       ∙ ap (λ (x : SeenProcess). length x.slots) found.here
-      ∙ All-get_or P places i p (omega (arith, found.within, sound.few, sound.all)) sound.sizes in
+      ∙ All-get_or P places i p (omega (arith, found.within, sound.all)) sound.sizes in
       let rising : RiseWithin 0 made (take live (slice_set places i q)) = subst (RiseWithin 0 made) (sym first_places) (rise_set 0 made i (take live places) p q sound.rising found.at (ap (λ (x : SeenProcess). x.pid) moved)) in
       record {
-        all = all ∙ length-set places i q ∙ sound.all;
-        few = omega (arith, few, sound.few);
+        all = omega (arith, few, all, length-set places i q, sound.all);
+        few = omega (arith, all, length-set places i q, sound.few);
         sizes = sizes size (All-set P places i q sized sound.sizes);
         rising = subst (RiseWithin 0 made) (sym first) (rise_kept (process_kept pid status) (kept_id pid status) 0 made (take live (slice_set places i q)) rising);
       }

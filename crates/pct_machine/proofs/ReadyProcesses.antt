@@ -14,6 +14,7 @@ use Rattle.pct_model.specs.declared.stop.Verdict.TheVariants as verdict
 use Rattle.pct_model.specs.Chosen.{Candidate, item_at, entry_for}
 use Rattle.pct_engine_laws.specs.Seen.{SeenProcess, Seen}
 use Rattle.pct_engine_laws.specs.SeenSteps.{ready_in, candidate_in, has_ready_in, seen_candidates, seen_chosen, seen_verdict, seen_verdict_by}
+use Rattle.pct_engine_laws.proofs.ListFacts.{then-map}
 use Rattle.pct_process.specs.ProcessViews.{thread_on_slot}
 use Rattle.pct_model.specs.declared.schedule.Alt.{Alt}
 use Rattle.pct_machine.specs.declared.scheduler.Draw.{Draw}
@@ -28,10 +29,6 @@ use Rattle.pct_machine.proofs.ReadySlots.{as_many, ready_at}
 
 -- ---- one process
 
-through : {A B C : Type 0} (f : A → B) (g : B → Option C) (o : Option A) → option_and_then g (option_map f o) ≡ option_and_then (λ a. g (f a)) o
-through f g None = refl
-through f g (Some a) = refl
-
 module _ (script : Script) (p : SeenProcess) (set : List ℕ) (are : map (thread_on_slot p.slots) set ≡ map (λ t. Some t) (ready_in script (length p.slots) p)) where
   -- it has as many candidates as slots whose threads are ready
   pub count_is : length set ≡ length (candidates_of script p)
@@ -41,7 +38,7 @@ module _ (script : Script) (p : SeenProcess) (set : List ℕ) (are : map (thread
   pub candidate_at : {T : Type 0} (g : Candidate → Option T) (j : ℕ) (slot : Option ℕ) → slot ≡ slice_get set j → option_and_then g (slice_get (candidates_of script p) j) ≡ option_and_then (λ t. g (candidate_in script (length p.slots) p t)) (option_and_then (thread_on_slot p.slots) slot)
   candidate_at g j slot at =
       ap (option_and_then g) (slice_get-map (candidate_in script (length p.slots) p) (ready_in script (length p.slots) p) j)
-      ∙ through (candidate_in script (length p.slots) p) g (slice_get (ready_in script (length p.slots) p) j)
+      ∙ then-map g (candidate_in script (length p.slots) p) (slice_get (ready_in script (length p.slots) p) j)
       ∙ ap (option_and_then (λ t. g (candidate_in script (length p.slots) p t))) (sym (ready_at p.slots set (ready_in script (length p.slots) p) are j slot at).0)
 
   -- a thread holds its slot

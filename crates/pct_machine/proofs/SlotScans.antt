@@ -2,6 +2,7 @@
 use Rattle.std.proofs.Common.{◌≡◌, ℕ, ◌<◌, ◌≤◌, Bool, true, false, not, ◌&&◌, ◌||◌, cond, List, [], ◌∷◌, length, Some, None, refl, sym, ap, ◌∙◌, inl, inr, arith}
 use Rattle.std.specs.Prelude.{filter, nat_eq, slice_get}
 use Rattle.std.specs.List.{range_with_len, list_any}
+use Rattle.std.proofs.Math.Bool.{and-true}
 use Rattle.std.proofs.lemmas.Bool.{cases_eq, cases_Bool, eq-eqb, ne_eqb, false≢true}
 use Rattle.std.proofs.lemmas.Option.{none-some, same_Some}
 use Rattle.pct_set.specs.Slots.{slots_where, has_slot, with_slot, without_slot}
@@ -69,13 +70,10 @@ module _ (test : ℕ → Bool) (rest : List ℕ) (slot : ℕ) where
       ])
 
 -- before the first slot
-none_where : [] ≡ slots_where (λ _. false)
-unfolding slots_where
-none_where = refl
-
 pub none_outside : (test : ℕ → Bool) (set : List ℕ) → ((s : ℕ) → s < 64 → test s ≡ true → has_slot set s ≡ true) → [] ≡ slots_where (passes_outside test set)
+unfolding slots_where
 none_outside test set covers =
-    none_where ∙ slots_agree (λ _. false) (passes_outside test set) (λ s small. elim (cases_Bool (test s)) [
+    slots_agree (λ _. false) (passes_outside test set) (λ s small. elim (cases_Bool (test s)) [
       | inl passes ↦ rw (passes, covers s small passes) refl
       | inr fails ↦ rw fails refl
     ])
@@ -83,8 +81,5 @@ none_outside test set covers =
 -- after the last one
 pub all_outside : (test : ℕ → Bool) (rest : List ℕ) → slice_get rest 0 ≡ None → slots_where (passes_outside test rest) ≡ slots_where test
 unfolding has_slot
-all_outside test [] none = slots_agree (passes_outside test []) test (λ s small. and_true (test s)) where
-  and_true : (b : Bool) → (b && true) ≡ b
-  and_true true = refl
-  and_true false = refl
+all_outside test [] none = slots_agree (passes_outside test []) test (λ s small. and-true (test s))
 all_outside test (x ∷ xs) none = absurd (none-some x (sym none))

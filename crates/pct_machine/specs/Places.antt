@@ -9,10 +9,10 @@ abbrev pub RiseWithin : ℕ → ℕ → List SeenProcess → Type 0
 RiseWithin low high [] = low ≤ high
 RiseWithin low high (p ∷ ps) = (low < p.pid) × RiseWithin p.pid high ps
 
--- there are eight places, each with this number of slots; the ids of the processes on those in use rise, up to the number of
+-- there are at most eight places, each with this number of slots; the ids of the processes on those in use rise, up to the number of
 -- processes ever made
 pub record AreSound (slots live made : ℕ) (places : List SeenProcess) : Type 0 where
-  pub all : length places ≡ MAX_PROCESSES
-  pub few : live ≤ MAX_PROCESSES
+  pub all : live ≤ length places
+  pub few : length places ≤ MAX_PROCESSES
   pub sizes : All (λ p. length p.slots ≡ slots) places
   pub rising : RiseWithin 0 made (take live places)

@@ -16,7 +16,7 @@ use std::marker::Model;
 /// stopped.
 #[derive(Drop)]
 pub struct Machine {
-    // The processes are on the first `live` places; the others are free.
+    // At most eight, each made with its process. The processes are on the first `live` places; the others are free.
     places: Vec<Place>,
     live: usize,
     // The number of slots of each place.
@@ -47,17 +47,15 @@ impl Machine {
     ghost use Rattle.pct_machine.specs.ProcessSteps.{some_if};
     ghost use Rattle.pct_machine.specs.MachineSteps.{AllCanStep, legal_transition};
 
-    /// The state before the first step, with 1 to 64 thread slots. `NoMemory` is returned if the tables of eight processes do not fit
-    /// into memory: no memory is taken later.
+    /// The state before the first step, with 1 to 64 thread slots. `NoMemory` is returned if the tables of the first process, and room
+    /// for eight places, do not fit into memory.
     pub fn first(alloc: Global, script: &Script, slots: u32) -> Result<Machine, NoMemory>
         requires some { 1 ≤ slots }
         requires few { slots ≤ MAX_SLOTS }
         ensures { IfOk result (λ machine. machine ≡ seen slots (opening script.now)) }
     {
         let mut places = Vec::with_capacity(alloc, MAX_PROCESSES)?;
-        for _ in 0..MAX_PROCESSES {
-            places.push(Place::first(alloc, script, slots)?)?;
-        }
+        places.push(Place::first(alloc, script, slots)?)?;
         Ok(Machine {
             places,
             live: 1,

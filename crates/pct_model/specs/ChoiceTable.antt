@@ -1,6 +1,13 @@
--- The choices of the scheduler for each thread: its enabled transitions, in the order `go`, then the others by the slot of the
--- thread or the place of the key that they name. A thread is enabled if it has a choice. Legality (Step.antt), deadlock
--- (Run.antt) and the scheduler's choice (Chosen.antt) derive from this table.
+-- What each thread may do next: its choices, in the order `go`, then `act`, or the others by the slot or the place of the number
+-- that they name. A thread that holds its slot is ready if it has a choice. Legality (Step.antt), deadlock (Run.antt) and the
+-- scheduler's choice (Chosen.antt) derive from this table. The choices are:
+-- `go`: the thread goes on: it executes its statement or stops at it, fails for lack of room, returns from the call in which it is
+-- suspended, or makes the next stage of its end
+-- `act 0`: it acts upon a request (XSH 2.9.5). The number is for a condition signal that is handed on (pthread_cond_wait, not
+-- implemented)
+-- `new n`: the thread or the key that it creates gets this number
+-- `dtor n`: it calls the destructor of this key
+-- `pick n`: not used yet
 use Rattle.std.specs.Prelude.{ℕ, Bool, true, false, not, ◌&&◌, List, [], ◌∷◌, ◌++◌, if◌then◌else◌, map, nat_eq}
 use Rattle.std.specs.List.{list_any}
 use Rattle.pct_model.specs.declared.script.Script.{Script}
@@ -12,9 +19,9 @@ use Rattle.pct_model.specs.declared.schedule.Alt.TheVariants as alt
 use Rattle.pct_model.specs.declared.state.Status.{Status}
 use Rattle.pct_model.specs.declared.state.Status.TheVariants as status
 use Rattle.pct_model.specs.Cancelability.{is_deliverable, is_asynchronous}
-use Rattle.pct_model.specs.CancelCalls.{called_kind, is_required, is_optional, may_pass}
-use Rattle.pct_model.specs.Keys.{KeyPlace, new_keys, left_keys}
-use Rattle.pct_model.specs.World.{Thread, Process}
+use Rattle.pct_model.specs.CancelCalls.{called_kind, is_required, is_optional, may_return}
+use Rattle.pct_model.specs.Keys.{new_keys, left_keys}
+use Rattle.pct_model.specs.World.{Thread, SharedState, Process}
 use Rattle.pct_model.specs.NextStatement.{NextStatement, NoStatement, StatementIn, next_of}
 use Rattle.pct_model.specs.OtherThreads.{Others, is_ended_thread, others_of}
 use Rattle.pct_model.specs.StopTable.{is_built}
@@ -26,7 +33,7 @@ abbrev pub go_if : Bool → List Alt
 go_if true = alt.Go ∷ []
 go_if false = []
 
--- `act`, if the test holds; no other thread is named
+-- `act 0`, if the test holds: the thread acts upon a request
 abbrev pub act_if : Bool → List Alt
 act_if true = alt.Act 0 ∷ []
 act_if false = []
@@ -50,24 +57,24 @@ abbrev pub is_key_create : Stmt → Bool
 is_key_create (statement.KeyCreate result key destructor) = true
 is_key_create _ = false
 
--- one of these ids for a new thread, or `go` if there is none
+-- `new` for each of these numbers; `go` if there are none
 abbrev pub new_or_go : List ℕ → List Alt
 new_or_go [] = alt.Go ∷ []
-new_or_go (id ∷ ids) = alt.New id ∷ map (λ n. alt.New n) ids
+new_or_go numbers = map (λ n. alt.New n) numbers
 
--- one of these destructors, by the numbers of their keys, or `go` if there is none
+-- `dtor` for each of these numbers of keys; `go` if there are none
 abbrev pub dtor_or_go : List ℕ → List Alt
 dtor_or_go [] = alt.Go ∷ []
-dtor_or_go (key ∷ keys) = alt.Dtor key ∷ map (λ n. alt.Dtor n) keys
+dtor_or_go numbers = map (λ n. alt.Dtor n) numbers
 
 -- ---- the table
 
-module _ (keys : List KeyPlace) (t : Thread) (others : Others) where
-  -- the rows of a running thread at a statement: the first one whose test holds decides. A statement that stops needs no row: a stop is
-  -- made by `go`, and pthread_create and pthread_key_create, the only statements whose choices are others, have no stop of their own
+module _ (shared : SharedState) (t : Thread) (others : Others) where
+  -- the rows of a running thread at a statement: the first whose test holds decides, else `go`. `go` at a statement that stops is the
+  -- stop (StopTable.antt); a row without `go` comes before the stops of the call, which is a choice of this host
   unfoldable pub running_rows : Stmt → List ChoiceRow
   running_rows s =
-      -- a statement that is not implemented is a stop
+      -- a statement that is not implemented stops the run, also with an asynchronous request pending: a choice of this host
       (not (is_built s), alt.Go ∷ [])
       -- XSH 2.9.5.1: with asynchronous cancelability a pending request may be acted upon at any time; `go` is a stop at a call of a
       -- function that is not async-cancel-safe
@@ -75,42 +82,49 @@ module _ (keys : List KeyPlace) (t : Thread) (others : Others) where
       -- XSH 2.9.5.2: a function that shall be a cancellation point: a pending request is acted upon before the function returns. That
       -- this is at the call, before the thread is suspended, is a choice of this host
       ∷ (is_deliverable t.state t.pending && is_required (called_kind s), alt.Act 0 ∷ [])
-      -- XSH 2.9.5.2: a function that may be a cancellation point
+      -- XSH 2.9.5.2: a function that may be a cancellation point. That the thread acts only at the call is a choice of this host
       ∷ (is_deliverable t.state t.pending && is_optional (called_kind s), alt.Go ∷ alt.Act 0 ∷ [])
-      -- XSH pthread_create: the new thread gets one of the ids that are free, or the call fails
+      -- XSH pthread_create: if no slot is free, `go`: the call fails with EAGAIN. That it fails only then, that an ended thread which
+      -- is not joined keeps its slot, and which ids are offered are choices of this host
       ∷ (is_create s, new_or_go others.new_ids)
-      -- XSH pthread_key_create: the new key gets one of the places that are free, or the call fails
-      ∷ (is_key_create s, new_or_go (new_keys keys))
+      -- XSH pthread_key_create: if no place is free, `go`: the call fails with EAGAIN. That it fails only then, and which numbers are
+      -- offered are choices of this host
+      ∷ (is_key_create s, new_or_go (new_keys shared.keys))
       ∷ []
 
   -- the choices of a running thread at a statement
   unfoldable pub running_choices : Stmt → List Alt
   running_choices s = first_row (running_rows s) (alt.Go ∷ [])
 
-  -- the choices of an ending thread, by its cleanup handlers: without one, the order in which the destructors of a pass are called
-  -- is left to the scheduler (XSH 2.9.5.3, pthread_key_create)
+  -- the choices of an ending thread, by its cleanup handlers
   unfoldable pub ending_choices : List (ℕ × ℕ) → List Alt
+  -- XSH 2.9.5.3: cancelability is disabled, so no request is acted upon. The newest handler is called first
   ending_choices (handler ∷ handlers) = alt.Go ∷ []
-  ending_choices [] = dtor_or_go (left_keys keys t.specific)
+  -- XSH pthread_key_create: the order of the destructors is unspecified. No key is left in the pass: `go` is the next pass or the end.
+  -- Which keys are in a pass is a choice of this host (Keys.antt)
+  ending_choices [] = dtor_or_go (left_keys shared.keys t.specific)
 
-  -- the choices of a thread, by its status; one that is suspended at a cancellation point acts upon a pending request, or goes on
-  -- once what it waits for has occurred (XSH 2.9.5.2)
+  -- the choices of a thread, by its status
   unfoldable pub choices_at : NextStatement → Status → List Alt
   choices_at (StatementIn frame s) status.Running = running_choices s
+  -- not reached: each body closes with `end`
   choices_at NoStatement status.Running = []
-  choices_at next (status.AtPoint index) = go_if (may_pass index) ++ act_if (is_deliverable t.state t.pending)
+  -- XSH 2.9.5.2: a suspended thread is awakened by a request and acts upon it; if the event that it waits for occurs before it acts, it
+  -- is unspecified whether it acts or goes on: then both are choices
+  choices_at next (status.AtPoint index) = go_if (may_return index) ++ act_if (is_deliverable t.state t.pending)
   choices_at next (status.Joining id) = go_if (is_ended_thread id others) ++ act_if (is_deliverable t.state t.pending)
   choices_at next status.Ending = ending_choices t.handlers
+  -- cancelability is disabled, a choice of this host
   choices_at next status.Exiting = alt.Go ∷ []
   choices_at next (status.Ended v) = []
-  -- no thread has one of the other statuses yet
+  -- InSem, InWaitPid, Waiting, Reacquire, Forking: not reached yet
   choices_at next _ = []
 
 -- the choices of a thread of a process
 abbrev pub choices_of : Script → Config → Process → Thread → List Alt
-choices_of script config p t = choices_at p.shared.keys t (others_of config.slots p.threads t.id) (next_of script t.frames) t.status
+choices_of script config p t = choices_at p.shared t (others_of config.slots p.threads t.id) (next_of script t.frames) t.status
 
--- ---- membership
+-- ---- equality of choices, and membership
 
 -- the choice is `go`
 abbrev pub is_go : Alt → Bool
@@ -145,7 +159,7 @@ same_choice (alt.New n) other = is_new n other
 same_choice (alt.Pick n) other = is_pick n other
 same_choice (alt.Dtor n) other = is_dtor n other
 
--- the choice is among these
+-- the choice is among these: membership in the list
 abbrev pub offers : List Alt → Alt → Bool
 offers choices choice = list_any (same_choice choice) choices
 

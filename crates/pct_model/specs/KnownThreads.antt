@@ -38,10 +38,7 @@ creates_id tid _ = false
 -- that called fork
 abbrev pub is_known : ℕ → ℕ → List Event → Bool
 is_known pid tid [] = nat_eq 1 pid && nat_eq 1 tid
-is_known pid tid (e ∷ earlier) =
-    if is_in pid e then creates_id tid e.what || is_known pid tid earlier
-    else if is_fork_of pid tid e then true
-    else is_known pid tid earlier
+is_known pid tid (e ∷ earlier) = (is_in pid e && creates_id tid e.what) || (is_fork_of pid tid e || is_known pid tid earlier)
 
 -- ---- the end of their lifetimes
 

@@ -1,5 +1,5 @@
--- The other threads of a process, as the next step of one of its threads depends on them. The tables of stops, of choices and of
--- transitions ask in the words below, and read no slot.
+-- The threads of a process, as the next step of one of them depends on the others. The tables of stops, of choices and of transitions
+-- ask in the words below, and read no slot. The thread itself is among them: its own id names it.
 use Rattle.std.specs.Prelude.{ℕ, Bool, false, not, ◌&&◌, ◌||◌, List, Option, Some, None, is_none, is_some, nat_eq, option_and_then}
 use Rattle.std.specs.List.{list_all, list_any}
 use Rattle.std.specs.Option.{option_map_or}
@@ -10,7 +10,7 @@ use Rattle.pct_model.specs.ThreadSlots.{holds_slot, free_ids, with_id}
 
 -- ---- what a thread sees of the others
 
--- the threads of a process, as one of them sees them
+-- the threads of a process, as one of them sees them, itself included
 pub record Others : Type 0 where
   -- the thread with an id, if the lifetime of the id is not over (XSH 2.9.2)
   pub named : ℕ → Option Thread

@@ -1,7 +1,9 @@
--- The stops: where POSIX leaves the behavior undefined, or this host treats it alike, leaves it out, limits it, or has not built it
--- yet. A stop ends the run.
-use Rattle.std.specs.Prelude.{Bool, true, false, not, ◌&&◌, List, [], ◌∷◌, length, Option, is_none, is_some, nat_eq, nat_lt, option_map, find}
+-- The stops: uses that POSIX leaves undefined, further uses that this host reports as undefined by its choice, its limits, and what is
+-- not implemented; StopTexts.antt has the class of each. A stop ends the run. An unpaired push or pop, and a return between them (XSH
+-- pthread_cleanup_pop), are refused before the run (Nesting.antt, Checks.antt).
+use Rattle.std.specs.Prelude.{ℕ, Bool, true, false, not, ◌&&◌, List, [], ◌∷◌, length, Option, is_none, is_some, nat_eq, nat_lt, option_map, find}
 use Rattle.std.specs.List.{list_any}
+use Rattle.pct_model.specs.declared.statement.Operand.{Operand}
 use Rattle.pct_model.specs.declared.statement.Stmt.{Stmt}
 use Rattle.pct_model.specs.declared.statement.Stmt.TheVariants as statement
 use Rattle.pct_model.specs.declared.frame.Frame.{Frame}
@@ -11,7 +13,7 @@ use Rattle.pct_model.specs.declared.state.Reason.{Reason}
 use Rattle.pct_model.specs.declared.state.Reason.TheVariants as reason
 use Rattle.pct_model.specs.declared.limits.TheConstants.{MAX_FRAMES, MAX_HANDLERS}
 use Rattle.pct_model.specs.declared.stop.Why.{Why}
-use Rattle.pct_model.specs.declared.stop.Why.TheVariants.{Unbuilt, AsyncCall, EnableInHandler, ThreadId, JoinSelf, NotJoinable, JoinTwice, DetachJoined, KeyId, ExitInEnding, ExitTwice, StackFull, CleanupFull}
+use Rattle.pct_model.specs.declared.stop.Why.TheVariants as why
 use Rattle.pct_model.specs.Cancelability.{is_asynchronous}
 use Rattle.pct_model.specs.Jumps.{open_of}
 use Rattle.pct_model.specs.Keys.{key_with}
@@ -43,6 +45,10 @@ has_begun_to_end reason.None = false
 has_begun_to_end (reason.Exit v) = true
 has_begun_to_end reason.Canceled = true
 
+-- the `end` at a pc closes no block, so it closes the function
+abbrev pub closes_function : List Stmt → ℕ → Bool
+closes_function body pc = is_none (open_of body pc)
+
 -- a frame of this kind is that of a cleanup handler or of a destructor
 abbrev pub is_handler_kind : FrameKind → Bool
 is_handler_kind kind.PopHandler = true
@@ -54,22 +60,23 @@ is_handler_kind _ = false
 abbrev pub is_in_handler : List Frame → Bool
 is_in_handler frames = list_any (λ frame. is_handler_kind frame.kind) frames
 
--- the statement belongs to the script language, or is async-cancel-safe (XSH 2.9.5.4)
-abbrev pub is_async_safe : Stmt → Bool
-is_async_safe (statement.Emit v) = true
-is_async_safe (statement.Set d v) = true
-is_async_safe (statement.Add d v) = true
-is_async_safe statement.Nop = true
-is_async_safe (statement.If v) = true
-is_async_safe statement.Else = true
-is_async_safe (statement.While v) = true
-is_async_safe statement.End = true
-is_async_safe (statement.Do f v) = true
-is_async_safe (statement.Return v) = true
-is_async_safe (statement.CancelThread id) = true
-is_async_safe (statement.SetState enable old) = true
-is_async_safe (statement.SetMode asynchronous old) = true
-is_async_safe _ = false
+-- allowed with asynchronous cancelability enabled: the three functions that are async-cancel-safe (XSH 2.9.5.4), and the script
+-- language. That a return which acts as pthread_exit or exit is allowed, is a choice of this host
+abbrev pub is_allowed_asynchronously : Stmt → Bool
+is_allowed_asynchronously (statement.Emit v) = true
+is_allowed_asynchronously (statement.Set d v) = true
+is_allowed_asynchronously (statement.Add d v) = true
+is_allowed_asynchronously statement.Nop = true
+is_allowed_asynchronously (statement.If v) = true
+is_allowed_asynchronously statement.Else = true
+is_allowed_asynchronously (statement.While v) = true
+is_allowed_asynchronously statement.End = true
+is_allowed_asynchronously (statement.Do f v) = true
+is_allowed_asynchronously (statement.Return v) = true
+is_allowed_asynchronously (statement.CancelThread id) = true
+is_allowed_asynchronously (statement.SetState enable old) = true
+is_allowed_asynchronously (statement.SetMode asynchronous old) = true
+is_allowed_asynchronously _ = false
 
 -- the statement is implemented
 abbrev pub is_built : Stmt → Bool
@@ -92,57 +99,75 @@ is_built (statement.ThreadExit v) = true
 is_built statement.TestCancel = true
 is_built (statement.SetState enable old) = true
 is_built (statement.SetMode asynchronous old) = true
-is_built (statement.PointCall index) = true
+is_built (statement.Push f v) = true
+is_built (statement.Pop v) = true
 is_built (statement.KeyCreate result key destructor) = true
 is_built (statement.KeyDelete key) = true
 is_built (statement.SetSpecific key v) = true
 is_built (statement.GetSpecific d key) = true
-is_built (statement.Push f v) = true
-is_built (statement.Pop v) = true
+is_built (statement.PointCall index) = true
 is_built _ = false
 
 -- ---- the table
 
 module _ (body : List Stmt) (shared : SharedState) (t : Thread) (others : Others) where
-  -- the own stops of each statement, in the order in which they are tested
+  -- the value of an operand
+  abbrev pub value : Frame → Operand → ℕ
+  value frame operand = value_of shared.globals frame operand
+
+  -- the own stops of each statement, in the order in which they are tested. `others` is the threads of the process as this thread sees
+  -- them, itself included: its own id names it, so a self-detach and a self-cancel are no stops of their own. No row yet:
+  -- ForkChildCall, NotOwner, CondTwoMutexes, ForkInEnding
   unfoldable pub stops_of : Frame → Stmt → List StopTest
-  -- XSH 2.9.2: the lifetime of the thread id is over; an id that no thread ever had is treated alike. XSH pthread_join: a join of the
-  -- calling thread, of a thread that is not joinable, or of one that another thread is joining is undefined
+  -- XSH exit: a second call is undefined. XSH pthread_create: a return from `main` in the initial thread is an implicit call of exit;
+  -- the `end` that closes `main` is `return 0`
+  stops_of frame statement.End = (closes_function body frame.pc && exits_twice frame.kind shared, why.ExitTwice) ∷ []
+  -- a limit of this host
+  stops_of frame (statement.Do f v) = (is_stack_full t.frames, why.StackFull) ∷ []
+  -- as for `end`
+  stops_of frame (statement.Return v) = (exits_twice frame.kind shared, why.ExitTwice) ∷ []
+  -- XSH pthread_join: undefined if the id does not refer to a joinable thread: no thread had it, or its lifetime is over (ThreadId,
+  -- XSH 2.9.2), or the thread is detached (NotJoinable); if it is the caller (JoinSelf); or if another join of it is in progress
+  -- (JoinTwice). "Joined" is the return of pthread_join, not its call: this host's reading. The order of the tests is a choice of this host
   stops_of frame (statement.Join id d) =
-      (no_live_thread (value_of shared.globals frame id) others, ThreadId)
-      ∷ (nat_eq (value_of shared.globals frame id) t.id, JoinSelf)
-      ∷ (is_detached_thread (value_of shared.globals frame id) others, NotJoinable)
-      ∷ (others.another_joins (value_of shared.globals frame id), JoinTwice)
+      (no_live_thread (value frame id) others, why.ThreadId)
+      ∷ (nat_eq (value frame id) t.id, why.JoinSelf)
+      ∷ (is_detached_thread (value frame id) others, why.NotJoinable)
+      ∷ (others.another_joins (value frame id), why.JoinTwice)
       ∷ []
-  -- XSH 2.9.2, pthread_detach; that a thread which another is joining may not be detached is a choice of this host
+  -- XSH pthread_detach: as for pthread_join; that a detach during a join is a stop is a choice of this host
   stops_of frame (statement.Detach id) =
-      (no_live_thread (value_of shared.globals frame id) others, ThreadId)
-      ∷ (is_detached_thread (value_of shared.globals frame id) others, NotJoinable)
-      ∷ (others.another_joins (value_of shared.globals frame id), DetachJoined)
+      (no_live_thread (value frame id) others, why.ThreadId)
+      ∷ (is_detached_thread (value frame id) others, why.NotJoinable)
+      ∷ (others.another_joins (value frame id), why.DetachJoined)
       ∷ []
-  -- XSH 2.9.2
-  stops_of frame (statement.CancelThread id) = (no_live_thread (value_of shared.globals frame id) others, ThreadId) ∷ []
-  -- XSH 2.9.5.3: a cleanup handler or a destructor may not enable cancelability; that this includes a handler which
-  -- pthread_cleanup_pop called is a choice of this host
-  stops_of frame (statement.SetState enable old) = (enable && is_in_handler t.frames, EnableInHandler) ∷ []
-  -- XSH pthread_key_delete, pthread_getspecific: a key that was not made, or was deleted
-  stops_of frame (statement.KeyDelete key) = (is_none (key_with (value_of shared.globals frame key) shared.keys), KeyId) ∷ []
-  stops_of frame (statement.SetSpecific key v) = (is_none (key_with (value_of shared.globals frame key) shared.keys), KeyId) ∷ []
-  stops_of frame (statement.GetSpecific d key) = (is_none (key_with (value_of shared.globals frame key) shared.keys), KeyId) ∷ []
-  -- XSH pthread_exit: a call from a cleanup handler or a destructor that pthread_exit called is undefined; that this includes one
-  -- which a request called is a choice of this host
-  stops_of frame (statement.ThreadExit v) = (has_begun_to_end t.reason, ExitInEnding) ∷ []
-  -- XSH exit: a second call is undefined, and a return from `main` is a call of exit
-  stops_of frame (statement.Return v) = (exits_twice frame.kind shared, ExitTwice) ∷ []
-  stops_of frame statement.End = (is_none (open_of body frame.pc) && exits_twice frame.kind shared, ExitTwice) ∷ []
+  -- XSH 2.9.2, for pthread_cancel: the lifetime of the id is over; an id that no thread had is treated alike
+  stops_of frame (statement.CancelThread id) = (no_live_thread (value frame id) others, why.ThreadId) ∷ []
+  -- XSH pthread_exit: a call from a handler or destructor that ran as a result of an implicit or explicit call of pthread_exit; that
+  -- this includes one which a request called is a choice of this host. A thread that has begun to end runs nothing else, so its
+  -- reason decides
+  stops_of frame (statement.ThreadExit v) = (has_begun_to_end t.reason, why.ExitInEnding) ∷ []
+  -- XSH 2.9.5.3: a cleanup handler or a destructor may not enable cancelability; also if the state is enabled already, and in a handler
+  -- that pthread_cleanup_pop called: choices of this host
+  stops_of frame (statement.SetState enable old) = (enable && is_in_handler t.frames, why.EnableInHandler) ∷ []
   -- limits of this host
-  stops_of frame (statement.Do f v) = (is_stack_full t.frames, StackFull) ∷ []
-  stops_of frame (statement.Pop v) = (not (nat_eq (value_of shared.globals frame v) 0) && is_stack_full t.frames, StackFull) ∷ []
-  stops_of frame (statement.Push f v) = (not (nat_lt (length t.handlers) MAX_HANDLERS), CleanupFull) ∷ []
+  stops_of frame (statement.Push f v) = (not (nat_lt (length t.handlers) MAX_HANDLERS), why.CleanupFull) ∷ []
+  stops_of frame (statement.Pop v) = (not (nat_eq (value frame v) 0) && is_stack_full t.frames, why.StackFull) ∷ []
+  -- XSH pthread_key_delete: any use after the deletion; XSH pthread_getspecific: for set and get also a key that was never made;
+  -- pthread_key_delete of such a key is treated alike
+  stops_of frame (statement.KeyDelete key) = (is_none (key_with (value frame key) shared.keys), why.KeyId) ∷ []
+  stops_of frame (statement.SetSpecific key v) = (is_none (key_with (value frame key) shared.keys), why.KeyId) ∷ []
+  stops_of frame (statement.GetSpecific d key) = (is_none (key_with (value frame key) shared.keys), why.KeyId) ∷ []
+  -- no other implemented statement has a stop of its own
   stops_of frame s = []
 
   -- the stop of a running thread at a statement, if there is one: whether the statement is implemented is tested first. XSH 2.9.5.4
   -- has the functions that are async-cancel-safe; that a call of another one with asynchronous cancelability is a stop is a choice of
   -- this host
   unfoldable pub stop_at : Frame → Stmt → Option Why
-  stop_at frame s = first_stop ((not (is_built s), Unbuilt) ∷ (is_asynchronous t.state t.mode && not (is_async_safe s), AsyncCall) ∷ stops_of frame s)
+  stop_at frame s =
+      first_stop (
+      (not (is_built s), why.Unbuilt)
+      ∷ (is_asynchronous t.state t.mode && not (is_allowed_asynchronously s), why.AsyncCall)
+      ∷ stops_of frame s
+      )

@@ -6,9 +6,10 @@ use Rattle.pct_model.specs.declared.keyword.Keyword.{Keyword}
 use Rattle.pct_model.specs.declared.keyword.Keyword.TheVariants as keyword
 use Rattle.pct_model.specs.Keywords.{keyword_text}
 
--- `undefined`: POSIX leaves the behavior undefined, or this host treats it alike by its choice (each DetachJoined, an ExitInEnding in
--- what a cancellation request called, an EnableInHandler in a handler that a pop called). `profile`: this host leaves the behavior
--- out, limits it, or has not built it yet
+-- `undefined`: POSIX leaves the behavior undefined, or this host treats it alike by its choice (each DetachJoined and AsyncCall, an
+-- ExitInEnding in what a cancellation request called, an EnableInHandler in a handler that a pop called, a ThreadId at pthread_cancel
+-- and a KeyId at pthread_key_delete of a number that no thread or no key ever had). `profile`: this host leaves the behavior out,
+-- limits it, or has not built it yet
 abbrev pub class_of_stop : Why → Keyword
 class_of_stop why.Unbuilt = keyword.Profile
 class_of_stop why.ForkChildCall = keyword.Profile

@@ -1,7 +1,8 @@
--- The transition that a choice makes. It is defined for each statement and status. In states that no run reaches, the rows
--- without a transition of their own change nothing.
+-- The transition that a choice makes. It is defined for each statement and status: statements that are not implemented, and statuses
+-- that no run reaches, change nothing; legality (Step.antt) admits only choices of ChoiceTable.antt.
 use Rattle.std.specs.Prelude.{ℕ, suc, List, Option, Some, None}
 use Rattle.pct_model.specs.declared.script.Script.{Script}
+use Rattle.pct_model.specs.declared.statement.Operand.{Operand}
 use Rattle.pct_model.specs.declared.statement.Stmt.{Stmt}
 use Rattle.pct_model.specs.declared.statement.Stmt.TheVariants as statement
 use Rattle.pct_model.specs.declared.schedule.Alt.{Alt}
@@ -40,43 +41,62 @@ stops_or None other = other
 -- ---- the table
 
 module _ (passes : ℕ) (body : List Stmt) (shared : SharedState) (t : Thread) (others : Others) (choice : Alt) where
+  -- the value of an operand
+  abbrev pub value : Frame → Operand → ℕ
+  value frame operand = value_of shared.globals frame operand
+
   -- a running thread at a statement that does not stop
   unfoldable pub runs : Frame → Stmt → Transition
-  runs frame (statement.Emit v) = emits (suc frame.pc) (value_of shared.globals frame v)
-  runs frame (statement.Set d v) = sets (suc frame.pc) d (value_of shared.globals frame v)
-  runs frame (statement.Add d v) = adds (suc frame.pc) d (variable_value shared.globals frame d) (value_of shared.globals frame v)
+  -- the script language. XSH pthread_create: a return from the start routine acts as pthread_exit, one from `main` as exit
+  runs frame (statement.Emit v) = emits (suc frame.pc) (value frame v)
+  runs frame (statement.Set d v) = sets (suc frame.pc) d (value frame v)
+  runs frame (statement.Add d v) = adds (suc frame.pc) d (variable_value shared.globals frame d) (value frame v)
   runs frame statement.Nop = jumps (suc frame.pc)
-  runs frame (statement.If v) = jumps (after_test body frame.pc (value_of shared.globals frame v))
+  runs frame (statement.If v) = jumps (after_test body frame.pc (value frame v))
   runs frame statement.Else = jumps (after_block body frame.pc)
-  runs frame (statement.While v) = jumps (after_test body frame.pc (value_of shared.globals frame v))
+  runs frame (statement.While v) = jumps (after_test body frame.pc (value frame v))
   runs frame statement.End = ends_block (open_of body frame.pc) body frame
-  runs frame (statement.Do f v) = calls (suc frame.pc) f (value_of shared.globals frame v)
-  runs frame (statement.Return v) = returns_by frame.kind (value_of shared.globals frame v)
-  runs frame (statement.Create result id f v detached) = creates_by choice (suc frame.pc) result id f (value_of shared.globals frame v) detached
-  runs frame (statement.Join id d) = begins_join (value_of shared.globals frame id)
-  runs frame (statement.Detach id) = detaches (suc frame.pc) (value_of shared.globals frame id)
-  runs frame (statement.CancelThread id) = requests (suc frame.pc) (value_of shared.globals frame id)
+  runs frame (statement.Do f v) = calls (suc frame.pc) f (value frame v)
+  runs frame (statement.Return v) = returns_by frame.kind (value frame v)
+  -- XSH pthread_create, pthread_join, pthread_detach. A join is two transitions, its call and its return, also if the target has
+  -- ended; it never fails with EDEADLK; the id is stored before the new thread runs: choices of this host
+  runs frame (statement.Create result id f v detached) = creates_by choice (suc frame.pc) result id f (value frame v) detached
+  runs frame (statement.Join id d) = begins_join (value frame id)
+  runs frame (statement.Detach id) = detaches (suc frame.pc) (value frame id)
+  -- XSH pthread_cancel, pthread_self, pthread_exit
+  runs frame (statement.CancelThread id) = requests (suc frame.pc) (value frame id)
   runs frame (statement.SelfId d) = gets_self (suc frame.pc) d t.id
+  runs frame (statement.ThreadExit v) = ends_by_exit (value frame v)
+  -- XSH pthread_testcancel, pthread_setcancelstate
   runs frame statement.TestCancel = tests_cancel (suc frame.pc)
   runs frame (statement.SetState enable old) = sets_state (suc frame.pc) enable old t.state
   runs frame (statement.SetMode asynchronous old) = sets_mode (suc frame.pc) asynchronous old t.mode
-  runs frame (statement.PointCall index) = calls_point (suc frame.pc) index (point_kind index)
+  -- XSH pthread_cleanup_pop
+  runs frame (statement.Push f v) = pushes (suc frame.pc) f (value frame v)
+  runs frame (statement.Pop v) = pops (suc frame.pc) (value frame v) t.handlers
+  -- XSH pthread_key_create, pthread_key_delete, pthread_getspecific. No call fails with ENOMEM: a choice of this host
   runs frame (statement.KeyCreate result key destructor) = creates_key_by choice (suc frame.pc) result key destructor
-  runs frame (statement.KeyDelete key) = deletes_key (suc frame.pc) (value_of shared.globals frame key)
-  runs frame (statement.SetSpecific key v) = sets_specific (suc frame.pc) (value_of shared.globals frame key) (value_of shared.globals frame v)
-  runs frame (statement.GetSpecific d key) = gets_specific (suc frame.pc) d (value_at (key_place (value_of shared.globals frame key)) t.specific)
-  runs frame (statement.ThreadExit v) = ends_by_exit (value_of shared.globals frame v)
-  runs frame (statement.Push f v) = pushes (suc frame.pc) f (value_of shared.globals frame v)
-  runs frame (statement.Pop v) = pops (suc frame.pc) (value_of shared.globals frame v) t.handlers
+  runs frame (statement.KeyDelete key) = deletes_key (suc frame.pc) (value frame key)
+  runs frame (statement.SetSpecific key v) = sets_specific (suc frame.pc) (value frame key) (value frame v)
+  runs frame (statement.GetSpecific d key) = gets_specific (suc frame.pc) d (value_at (key_place (value frame key)) t.specific)
+  -- XSH 2.9.5.2. A thread is suspended at each generic point that is required, and never at an optional one: a choice of this host
+  runs frame (statement.PointCall index) = calls_point (suc frame.pc) index (point_kind index)
+  -- a statement that is not implemented is a stop
   runs frame s = no_change
 
   -- what a thread does as it goes on by the choice, by its status
   unfoldable pub transition_at : NextStatement → Status → Transition
+  -- the stop, or what the statement does
   transition_at (StatementIn frame s) status.Running = stops_or (stop_at body shared t others frame s) (runs frame s)
+  -- XSH 2.9.5.2: the event that the thread waits for has occurred
   transition_at next (status.AtPoint index) = passes_point index next
+  -- XSH pthread_join: the target has terminated
   transition_at next (status.Joining id) = joins_at (exit_value_with id others) id next
+  -- XSH 2.9.5.3, pthread_exit, pthread_key_create: cleanup handlers, then destructors, then the end
   transition_at next status.Ending = goes_on_ending others.is_last passes shared.keys t choice t.handlers
+  -- XSH exit
   transition_at next status.Exiting = ends_process shared.exit_functions shared.exit_value
+  -- no choice is offered to any other thread (ChoiceTable.antt)
   transition_at next _ = no_change
 
 -- by the choice `act` a thread acts upon a request, and by every other choice it goes on

@@ -122,6 +122,7 @@ pub enum Keyword {
 impl Keyword {
     /// The word's text.
     #[tactic(auto, unfolding(crate::specs::Keywords::keyword_text))]
+    #[inline(always)]
     pub fn text(self) -> &'static [u8]
         ensures { result.now ≡ keyword_text self }
     {

@@ -2,13 +2,14 @@
 use Rattle.std.proofs.Common.{◌≡◌, ℕ, zero, suc, ◌+◌, ◌*◌, ◌<◌, false, List, [], ◌∷◌, map, length, get_or, replicate, Option, Some, None, refl, sym, ap, ◌∙◌, arith}
 use native.Mathlib.Nat.{zero-mod}
 use Rattle.std.specs.Prelude.{slice_set}
-use Rattle.std.proofs.lemmas.List.{map-set, set-set, get_or-map, get_or-replicate, get_or-set_same, length-map, length-replicate}
+use Rattle.std.proofs.lemmas.List.{map-set, get_or-replicate, length-replicate}
 use Rattle.pct_model.specs.declared.script.Script.{Script}
+use Rattle.pct_model.specs.declared.state.FrameKind.TheVariants.{Main}
 use Rattle.pct_model.specs.Names.{names_of, main_of}
 use Rattle.pct_model.specs.Keys.{no_keys, no_values}
-use Rattle.pct_threads.specs.Slots.{Held, Slot, unused, new_held, created, with_change, with_frame_word}
+use Rattle.pct_threads.specs.Slots.{Held, Slot, unused, created, with_change, with_call_alone}
 use Rattle.pct_threads.specs.Tables.{slot_at, next_id_at, on_held, with_created}
-use Rattle.pct_threads.proofs.TableLemmas.{length-on_slot}
+use Rattle.pct_threads.proofs.TableLemmas.{length-on_slot, on_slot-then}
 use Rattle.pct_keys.specs.Tables.{Table, new_table}
 use Rattle.pct_engine_laws.specs.Seen.{SeenSlot}
 use Rattle.pct_engine_laws.proofs.OpeningSeen.{first_on_slot, first_thread, first_slots, one_thread_on_first}
@@ -19,58 +20,38 @@ map-replicate : {A B : Type 0} (f : A → B) (n : ℕ) (x : A) → map f (replic
 map-replicate f zero x = refl
 map-replicate f (suc n) x = ap (λ ys. f x ∷ ys) (map-replicate f n x)
 
--- the first slot, after its first thread was created with this function
-abbrev first_slot : ℕ → Slot
-first_slot func = record { made = 1; here = Some (new_held 1 func 0 false) }
+-- the table of the first thread
+abbrev pub first_table : ℕ → ℕ → List Slot
+first_table n func = on_held 0 (with_call_alone func 0 Main) (with_created 0 func 0 false (replicate n unused))
 
--- the table after the creation of the first thread
-created-first : (n func : ℕ) → 0 < n → with_created 0 func 0 false (replicate n unused) ≡ slice_set (replicate n unused) 0 (first_slot func)
-created-first n func some =
+-- the first slot, after its thread was created with this function and an id
+abbrev first_slot : ℕ → ℕ → Slot → Slot
+first_slot func id s = with_change (with_call_alone func 0 Main) (created id func 0 false s)
+
+first_table-is : (n func : ℕ) → 0 < n → first_table n func ≡ slice_set (replicate n unused) 0 (first_slot func 1 unused)
+first_table-is n func some =
     let empty : List Slot = replicate n unused in
     let id : 1 + 0 + length empty * 0 ≡ 1 = omega arith in
-    ap (λ (s : Slot). slice_set empty 0 (created (1 + 0 + length empty * s.made) func 0 false s)) (get_or-replicate n 0 unused unused some)
-    ∙ ap (λ (k : ℕ). slice_set empty 0 (created k func 0 false unused)) id
+    on_slot-then 0 (created (next_id_at empty 0) func 0 false) (with_change (with_call_alone func 0 Main)) empty
+    ∙ ap (λ (s : Slot). slice_set empty 0 (first_slot func (1 + 0 + length empty * s.made) s)) (get_or-replicate n 0 unused unused some)
+    ∙ ap (λ (k : ℕ). slice_set empty 0 (first_slot func k unused)) id
 
--- and after its frame became that of `main`
-threads-first : (n func : ℕ) → 0 < n → on_held 0 (with_frame_word 0 2 0) (with_created 0 func 0 false (replicate n unused)) ≡ slice_set (replicate n unused) 0 (with_change (with_frame_word 0 2 0) (first_slot func))
-threads-first n func some =
-    let empty : List Slot = replicate n unused in
-    let inside : 0 < length empty = omega (arith, length-replicate n unused) in
-    ap (on_held 0 (with_frame_word 0 2 0)) (created-first n func some)
-    ∙ ap (λ (s : Slot). slice_set (slice_set empty 0 (first_slot func)) 0 (with_change (with_frame_word 0 2 0) s)) (get_or-set_same empty 0 (first_slot func) unused inside)
-    ∙ set-set empty 0 (first_slot func) (with_change (with_frame_word 0 2 0) (first_slot func))
-
--- no slot has data
-no_rows : (n : ℕ) (slots : List SeenSlot) → ((j : ℕ) (d : SeenSlot) → j < length slots → with_row no_values (get_or slots j d) ≡ get_or slots j d) → with_rows (replicate n no_values) slots ≡ slots
-no_rows n [] none = refl
-no_rows zero (s ∷ slots) none = refl
-no_rows (suc n) (s ∷ slots) none = ap (λ (x : SeenSlot). x ∷ with_rows (replicate n no_values) slots) (none 0 s (omega arith)) ∙ ap (λ (rest : List SeenSlot). s ∷ rest) (no_rows n slots (λ j d low. none (suc j) d (omega (arith, low))))
-
-none_on : (s : Slot) → with_row no_values (slot_view s) ≡ slot_view s
-none_on s = by s.here where
+-- no thread has data
+no_data : (n : ℕ) (threads : List Slot) → slots_of (replicate n no_values) threads ≡ map slot_view threads
+no_data n [] = refl
+no_data zero (s ∷ threads) = refl
+no_data (suc n) (s ∷ threads) = ap (λ (x : SeenSlot). x ∷ slots_of (replicate n no_values) threads) (by s.here) ∙ ap (λ (rest : List SeenSlot). slot_view s ∷ rest) (no_data n threads) where
   by : (o : Option Held) → with_row no_values (record { made = s.made; here = threads_of o }) ≡ record { made = s.made; here = threads_of o }
   by None = refl
   by (Some h) = refl
 
--- what is kept of the table
-slots-first : (script : Script) (n : ℕ) → 0 < n → map slot_view (on_held 0 (with_frame_word 0 2 0) (with_created 0 (main_of (names_of script.funcs)) 0 false (replicate n unused))) ≡ first_slots n (first_thread script)
-slots-first script n some =
-    ap (map slot_view) (threads-first n (main_of (names_of script.funcs)) some)
-    ∙ map-set slot_view (replicate n unused) 0 (with_change (with_frame_word 0 2 0) (first_slot (main_of (names_of script.funcs))))
-    ∙ ap (λ (rows : List SeenSlot). slice_set rows 0 (first_on_slot (first_thread script))) (map-replicate slot_view n unused)
-
--- the table of the first thread
-abbrev pub first_table : ℕ → ℕ → List Slot
-first_table n func = on_held 0 (with_frame_word 0 2 0) (with_created 0 func 0 false (replicate n unused))
-
 -- the slots of the first process
 slots-of_first : (script : Script) (n : ℕ) → 0 < n → slots_of (replicate n no_values) (first_table n (main_of (names_of script.funcs))) ≡ first_slots n (first_thread script)
 slots-of_first script n some =
-    let threads : List Slot = first_table n (main_of (names_of script.funcs)) in
-    no_rows n (map slot_view threads) (λ j d low.
-    let inside : j < length threads = rw (← length-map threads slot_view) low in
-    ap (with_row no_values) (get_or-map slot_view threads j unused d inside) ∙ none_on (slot_at threads j) ∙ sym (get_or-map slot_view threads j unused d inside))
-    ∙ slots-first script n some
+    no_data n (first_table n (main_of (names_of script.funcs)))
+    ∙ ap (map slot_view) (first_table-is n (main_of (names_of script.funcs)) some)
+    ∙ map-set slot_view (replicate n unused) 0 (first_slot (main_of (names_of script.funcs)) 1 unused)
+    ∙ ap (λ (rows : List SeenSlot). slice_set rows 0 (first_on_slot (first_thread script))) (map-replicate slot_view n unused)
 
 -- the data of the first process
 pub data-first : (script : Script) (n func : ℕ) (threads : List Slot) (keys : Table) (globals owners counts : List ℕ) → 0 < n → func ≡ main_of (names_of script.funcs) → threads ≡ first_table n func → keys ≡ new_table n
@@ -90,5 +71,5 @@ rows-first n func threads keys made none =
     ∙ length-replicate n no_values
     ∙ sym (length-replicate n unused)
     ∙ sym (length-on_slot 0 (created (next_id_at (replicate n unused) 0) func 0 false) (replicate n unused))
-    ∙ sym (length-on_slot 0 (with_change (with_frame_word 0 2 0)) (with_created 0 func 0 false (replicate n unused)))
+    ∙ sym (length-on_slot 0 (with_change (with_call_alone func 0 Main)) (with_created 0 func 0 false (replicate n unused)))
     ∙ sym (ap length made)

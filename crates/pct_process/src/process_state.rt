@@ -3,7 +3,7 @@
 use crate::numbers::Numbers;
 use pct_io::NoMemory;
 use pct_keys::Keys;
-use pct_model::{Script, main_of};
+use pct_model::{FrameKind, Script, main_of};
 use pct_set::SlotSet;
 use pct_threads::Threads;
 use std::alloc::Global;
@@ -55,8 +55,7 @@ impl ProcessState {
         let main = main_of(script.funcs.as_slice()) as u32;
         let mut threads = Threads::new(alloc, slots)?;
         threads.create(0, main, 0, false);
-        // Word 2 of a frame is the number of its kind; that of `Main` is 0.
-        threads.set_frame_word(0, 0, 2, 0);
+        threads.call_alone(0, main, 0, FrameKind::Main);
         Ok(ProcessState {
             threads,
             keys: Keys::new(alloc, slots)?,

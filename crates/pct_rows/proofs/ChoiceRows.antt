@@ -11,8 +11,8 @@ use Rattle.pct_model.specs.declared.statement.Dest.TheVariants as destination
 use Rattle.pct_model.specs.declared.statement.Operand.TheVariants as operand
 use Rattle.pct_model.specs.declared.statement.Stmt.TheVariants as statement
 use Rattle.pct_model.specs.declared.stop.Why.TheVariants as why
-use Rattle.pct_model.specs.Keys.{KeyPlace, no_keys}
-use Rattle.pct_model.specs.World.{Thread, Process, World, first_process, new_frame, new_thread}
+use Rattle.pct_model.specs.Keys.{KeyPlace}
+use Rattle.pct_model.specs.World.{Thread, Process, World, first_process, new_frame, new_thread, new_shared}
 use Rattle.pct_model.specs.ThreadSlots.{slot_of}
 use Rattle.pct_model.specs.OtherThreads.{Others, others_of}
 use Rattle.pct_model.specs.ChoiceTable.{running_choices}
@@ -85,7 +85,7 @@ abbrev nobody : Others
 nobody = others_of 0 [] 1
 
 -- a new thread gets one of the ids of the free slots, by rising slot; without one the call fails
-new_thread_ids : map (λ ids. running_choices no_keys (ready 1) (record nobody { new_ids = ids }) (statement.Create destination.Drop destination.Drop 0 (operand.Num 0) false)) ((5 ∷ 2 ∷ []) ∷ [] ∷ []) ≡ (alt.New 5 ∷ alt.New 2 ∷ []) ∷ (alt.Go ∷ []) ∷ []
+new_thread_ids : map (λ ids. running_choices (new_shared smallest) (ready 1) (record nobody { new_ids = ids }) (statement.Create destination.Drop destination.Drop 0 (operand.Num 0) false)) ((5 ∷ 2 ∷ []) ∷ [] ∷ []) ≡ (alt.New 5 ∷ alt.New 2 ∷ []) ∷ (alt.Go ∷ []) ∷ []
 unfolding runs_on_literals
 new_thread_ids = refl
 
@@ -97,6 +97,6 @@ abbrev all_but_the_last : List KeyPlace
 all_but_the_last = replicate 127 (place_with 1) ++ record { made = 2; key = None } ∷ []
 
 -- a new key is on the last place, with its third number; with no place left the call fails
-creates_the_last_key : (running_choices all_but_the_last (ready 1) nobody (statement.KeyCreate destination.Drop destination.Drop None) ≡ alt.New 384 ∷ []) × (running_choices (replicate 128 (place_with 1)) (ready 1) nobody (statement.KeyCreate destination.Drop destination.Drop None) ≡ alt.Go ∷ [])
+creates_the_last_key : map (λ keys. running_choices (record (new_shared smallest) { keys = keys }) (ready 1) nobody (statement.KeyCreate destination.Drop destination.Drop None)) (all_but_the_last ∷ replicate 128 (place_with 1) ∷ []) ≡ (alt.New 384 ∷ []) ∷ (alt.Go ∷ []) ∷ []
 unfolding runs_on_literals
-creates_the_last_key = (refl, refl)
+creates_the_last_key = refl

@@ -1,11 +1,11 @@
 -- Each byte of a line whose words parse is allowed.
-use Rattle.std.proofs.Common.{◌≡◌, ◌≤◌, ℕ, zero, suc, Bool, true, false, not, ◌&&◌, ◌||◌, cond, List, [], ◌∷◌, Option, Some, None, length, filter, refl, sym, ap, ◌∙◌, position, option_map, nat_le, get_or, leb-true, le-leb, arith, true≢false}
+use Rattle.std.proofs.Common.{◌≡◌, ℕ, zero, suc, Bool, true, false, not, ◌&&◌, ◌||◌, cond, List, [], ◌∷◌, Option, Some, None, length, filter, refl, sym, ap, ◌∙◌, position, option_map, nat_le, get_or, true≢false}
 use Rattle.std.specs.Prelude.{is_some, find, bytes_eq, codes}
 use Rattle.std.specs.List.{list_all, slice_split, onto_first}
 use Rattle.std.specs.Str.Parse.{digits_value}
 use Rattle.std.proofs.lemmas.List.Quantifiers.{position-Some}
 use Rattle.std.specs.Option.{option_or, option_map_or}
-use Rattle.std.proofs.lemmas.Bool.{and_parts, and_from}
+use Rattle.std.proofs.lemmas.Bool.{and_parts, and_from, or_right}
 use Rattle.std.proofs.lemmas.Option.{option_and_then_some}
 use Rattle.pct_model.specs.declared.line_kind.LineKind.{LineKind}
 use Rattle.pct_model.specs.declared.line_kind.LineKind.TheVariants as line_kind
@@ -21,7 +21,8 @@ use Rattle.pct_model.specs.LineParsing.{is_blank, is_empty, is_allowed, is_numer
 use Rattle.pct_model.specs.Points.{Row, points, point_at, point_of}
 use Rattle.pct_model.proofs.Bytes.{same_bytes}
 use Rattle.pct_grammar.proofs.SharedWords.{is_printable}
-use Rattle.pct_grammar.proofs.CanonLineParsing.{name_is_word}
+use Rattle.pct_grammar.proofs.TokensResolve.{all_more, digit_is_printed, name_is_word}
+use Rattle.pct_grammar.proofs.OptionFacts.{mapped_some}
 use Rattle.pct_script.specs.Fitting.{fits}
 use Rattle.pct_script.proofs.Fitting.{fits_is}
 
@@ -65,21 +66,11 @@ either : (P : Type 0) (s t : Bool) → (s || t) ≡ true → (s ≡ true → P) 
 either P true t h left right = left refl
 either P false t h left right = right h
 
-or_right : (s t : Bool) → t ≡ true → (s || t) ≡ true
-or_right true t is = refl
-or_right false t is = is
-
 printable_allowed : (b : ℕ) → is_printable b ≡ true → is_allowed b ≡ true
 printable_allowed b is = or_right (is_blank b) (is_printable b) is
 
-all_allowed : (p : ℕ → Bool) → ((b : ℕ) → p b ≡ true → is_allowed b ≡ true) → (w : List ℕ) → list_all p w ≡ true → allowed w ≡ true
-all_allowed p each [] all = refl
-all_allowed p each (b ∷ w) all =
-    let both = and_parts (p b) (list_all p w) all in
-    and_from (is_allowed b) (allowed w) (each b both.0) (all_allowed p each w both.1)
-
 name_allowed : (w : List ℕ) → is_name w ≡ true → allowed w ≡ true
-name_allowed w is = all_allowed is_printable printable_allowed w (and_parts (not (is_empty w)) (list_all is_printable w) (name_is_word w is)).1
+name_allowed w is = all_more is_printable is_allowed printable_allowed w (and_parts (not (is_empty w)) (list_all is_printable w) (name_is_word w is)).1
 
 -- a fixed word
 fixed_allowed : (word w : List ℕ) → allowed word ≡ true → bytes_eq w word ≡ true → allowed w ≡ true
@@ -87,15 +78,8 @@ fixed_allowed word w fine is = ap allowed (same_bytes w word is) ∙ fine
 
 -- ---- tokens
 
-in_range : (low high b : ℕ) → 33 ≤ low → high ≤ 126 → (nat_le low b && nat_le b high) ≡ true → is_printable b ≡ true
-in_range low high b least most h =
-    let both = and_parts (nat_le low b) (nat_le b high) h in
-    let above : low ≤ b = leb-true low b both.0 in
-    let below : b ≤ high = leb-true b high both.1 in
-    and_from (nat_le 33 b) (nat_le b 126) (le-leb 33 b (omega arith)) (le-leb b 126 (omega arith))
-
 digit_allowed : (b : ℕ) → is_digit b ≡ true → is_allowed b ≡ true
-digit_allowed b is = printable_allowed b (in_range 48 57 b (omega arith) (omega arith) is)
+digit_allowed b is = printable_allowed b (digit_is_printed b is)
 
 cond_is : {X : Type 0} (t : Bool) (x : X) → is_some (cond t (Some x) None) ≡ true → t ≡ true
 cond_is true x is = refl
@@ -106,7 +90,7 @@ unfolding numeral
 numeral_allowed w is =
     let parts = and_parts (not (is_empty w) && list_all is_digit w && nat_le (length w) 10) (nat_le (digits_value 10 w) 4294967295) (cond_is (is_numeral w) (digits_value 10 w) is) in
     let digits = and_parts (not (is_empty w) && list_all is_digit w) (nat_le (length w) 10) parts.0 in
-    all_allowed is_digit digit_allowed w (and_parts (not (is_empty w)) (list_all is_digit w) digits.0).1
+    all_more is_digit is_allowed digit_allowed w (and_parts (not (is_empty w)) (list_all is_digit w) digits.0).1
 
 count_is : (o : Option ℕ) → option_map_or (λ n. nat_le n 32767) o false ≡ true → is_some o ≡ true
 count_is None is = absurd cc
@@ -128,25 +112,19 @@ fitting_allowed argument_kind.OptionalPlainFunction w is = optional_allowed w is
 fitting_allowed argument_kind.State w is = either_allowed (codes "enable") (codes "disable") w refl refl is
 fitting_allowed argument_kind.Mode w is = either_allowed (codes "asynchronous") (codes "deferred") w refl refl is
 fitting_allowed argument_kind.Detached w is = fixed_allowed (codes "detached") w refl is
-fitting_allowed argument_kind.Declared w is = name_allowed w is
-fitting_allowed argument_kind.Local w is = name_allowed w is
-fitting_allowed argument_kind.Variable w is = name_allowed w is
-fitting_allowed (argument_kind.Item k) w is = name_allowed w is
-fitting_allowed argument_kind.PlainFunction w is = name_allowed w is
+fitting_allowed _ w is = name_allowed w is
 
 token_step : (o : Option Token) (others : Option (List Token)) (P : Type 0) → is_some (o >>= λ t. option_map (λ ts. t ∷ ts) others) ≡ true → (is_some o ≡ true → is_some others ≡ true → P) → P
-token_step None others P is then = absurd cc
-token_step (Some t) None P is then = absurd cc
 token_step (Some t) (Some ts) P is then = then refl refl
+token_step _ _ P is then = absurd cc
 
 tokens_allowed : (argument_kinds : List ArgumentKind) (words : List (List ℕ)) → is_some (tokens_at argument_kinds words) ≡ true → list_all allowed words ≡ true
 unfolding tokens_at
-tokens_allowed [] [] is = refl
 tokens_allowed [] (w ∷ words) is = absurd cc
-tokens_allowed (p ∷ argument_kinds) [] is = refl
 tokens_allowed (p ∷ argument_kinds) (w ∷ words) is =
     token_step (token_at p w) (tokens_at argument_kinds words) (list_all allowed (w ∷ words) ≡ true) is
     (λ first later. and_from (allowed w) (list_all allowed words) (fitting_allowed p w (fits_is p w ∙ first)) (tokens_allowed argument_kinds words later))
+tokens_allowed _ _ is = refl
 
 -- ---- the first word
 
@@ -198,15 +176,12 @@ kind_allowed w is =
 
 -- ---- a line
 
-map_is : {A B : Type 0} (f : A → B) (o : Option A) → is_some (option_map f o) ≡ true → is_some o ≡ true
-map_is f None is = is
-map_is f (Some x) is = refl
-
 by_kind : (w : List ℕ) (words : List (List ℕ)) (o : Option LineKind) → line_kind_of w ≡ o → is_some (o >>= λ f. parsed_as f words) ≡ true → list_all allowed (w ∷ words) ≡ true
 by_kind w words None at is = absurd cc
 by_kind w words (Some f) at is =
     and_from (allowed w) (list_all allowed words) (kind_allowed w (ap is_some at))
-    (tokens_allowed ((syntax_of f).argument_kinds (length words)) words (map_is _ (tokens_at ((syntax_of f).argument_kinds (length words)) words) is))
+    (tokens_allowed ((syntax_of f).argument_kinds (length words)) words
+    (sym (mapped_some _ (tokens_at ((syntax_of f).argument_kinds (length words)) words)) ∙ is))
 
 words_allowed : (words : List (List ℕ)) → is_some (parsed_words words) ≡ true → list_all allowed words ≡ true
 unfolding parsed_words
@@ -214,9 +189,8 @@ words_allowed [] is = refl
 words_allowed (w ∷ words) is = by_kind w words (line_kind_of w) refl is
 
 only_if : {X : Type 0} (t : Bool) (o : Option X) → (is_some o ≡ true → t ≡ true) → o ≡ cond t o None
-only_if true o fine = refl
-only_if false None fine = refl
 only_if false (Some x) fine = absurd (true≢false (sym (fine refl)))
+only_if _ _ fine = refl
 
 -- a line is parsed by its words alone
 pub parsed_by_words : (bytes : List ℕ) → parsed_words (words_in bytes) ≡ parsed bytes

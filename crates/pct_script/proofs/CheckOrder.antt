@@ -27,9 +27,7 @@ alone (Some f) = refl
 
 grouped : (s n t late : Option Fault) → option_or (option_or s (option_or n (option_or t None))) late ≡ option_or s (option_or (option_or n (option_or t late)) None)
 grouped None None None late = sym (alone late)
-grouped None None (Some t) late = refl
-grouped None (Some n) t late = refl
-grouped (Some s) n t late = refl
+grouped _ _ _ late = refl
 
 -- the first fault of a text is the first in the order of the checks
 pub in_order : (text : List ℕ) → fault_in_order text ≡ first_fault text

@@ -9,10 +9,6 @@ use Rattle.pct_model.proofs.Bytes.{same_bytes}
 keyword_found : (f : LineKind) → is_no_point f ≡ true → line_kind_of (syntax_of f).keyword ≡ Some f
 unfolding line_kind_of line_kinds syntax_of declaration_syntax
 keyword_found (line_kind.Declares kind.Global) h = refl
-keyword_found (line_kind.Declares kind.Mutex) h = refl
-keyword_found (line_kind.Declares kind.Cond) h = refl
-keyword_found (line_kind.Declares kind.Sem) h = refl
-keyword_found (line_kind.Declares kind.Function) h = refl
 keyword_found (line_kind.Point index) h = absurd cc
 keyword_found _ h = refl
 

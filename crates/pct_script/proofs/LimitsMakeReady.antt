@@ -1,7 +1,7 @@
 -- The `fn` lines of a text that exceeds no limit have a name and at most 8 locals.
 use Rattle.std.proofs.Common.{◌≡◌, ℕ, ◌≤◌, Bool, true, false, not, ◌&&◌, ◌||◌, cond, List, [], ◌∷◌, Option, Some, None, length, refl, ap, arith, nat_le, nat_lt, le-leb, filter, filter_map, suc}
 use Rattle.std.specs.List.{list_all, cons_option, slice_split, onto_first, enumerate_from}
-use Rattle.std.proofs.lemmas.Bool.{and_from, ltb-false}
+use Rattle.std.proofs.lemmas.Bool.{and_from, or_parts, ltb-false}
 use Rattle.std.proofs.lemmas.List.FromFn.{length-enumerate_from}
 use Rattle.pct_model.specs.declared.line_kind.SymbolKind.TheVariants as kind
 use Rattle.pct_model.specs.declared.refusal.ParseWhy.TheVariants.{TooMany}
@@ -18,10 +18,6 @@ not_wrong : (t : Bool) (n : ℕ) (others : Option ℕ) → cond t (Some n) other
 not_wrong true n others e = absurd cc
 not_wrong false n others e = (refl, e)
 
-last_false : (a b : Bool) → (a || b) ≡ false → b ≡ false
-last_false true b e = absurd cc
-last_false false b e = e
-
 few_enough : (n : ℕ) → nat_lt 8 n ≡ false → nat_le n 8 ≡ true
 few_enough n e = le-leb n 8 (ltb-false 8 n e)
 
@@ -34,7 +30,7 @@ ready_or l true e from few =
 
 not_many : (before : List ParsedLine) (line : ParsedLine) → exceeds_limit before line ≡ false → has_many_locals line ≡ false
 unfolding exceeds_limit
-not_many before line e = last_false _ (has_many_locals line) e
+not_many before line e = (or_parts _ (has_many_locals line) e).1
 
 each_ready : (before : List ParsedLine) (lines : List Line) → EachParsed lines → first_wrong exceeds_limit before lines ≡ None → list_all is_ready lines ≡ true
 unfolding first_wrong

@@ -5,7 +5,7 @@ use Rattle.std.specs.Option.{option_map_or}
 use Rattle.std.proofs.lemmas.Bool.{and_parts}
 use Rattle.std.proofs.lemmas.List.{length-drop}
 use Rattle.std.proofs.lemmas.List.Sums.{sum_by-cons}
-use Rattle.std.proofs.lemmas.Option.{same_Some}
+use Rattle.std.proofs.lemmas.Option.{same_Some, cond_some}
 use Rattle.pct_model.specs.declared.line_kind.LineKind.{LineKind}
 use Rattle.pct_model.specs.declared.line_kind.LineKind.TheVariants as line_kind
 use Rattle.pct_model.specs.declared.line_kind.SymbolKind.TheVariants as kind
@@ -100,9 +100,7 @@ by_count F f n false e g = sym (ap (λ (t : Bool). cond {A = Option Counts} t No
 
 by_locals : (f : ℕ → Counts) (n : ℕ) (t many : Bool) → cond many None (option_map f (cond t None (Some (n + 1)))) ≡ cond (t || false || many) None (Some (f (n + 1)))
 by_locals f n true true = refl
-by_locals f n true false = refl
-by_locals f n false true = refl
-by_locals f n false false = refl
+by_locals f n _ _ = refl
 
 role_counted : (c : Counts) (r : Role) (many : Bool) → cond (declares_by kind.Function r && many) None (with_role c r) ≡ cond (is_past c r many) None (Some (counted c r))
 role_counted c (role.Declares kind.Global) many = by_count (λ t. t || false || false || false || false || false || false) (λ n. record c { globals = n }) c.globals (nat_le 32 c.globals) refl refl
@@ -110,13 +108,7 @@ role_counted c (role.Declares kind.Mutex) many = by_count (λ t. t || false || f
 role_counted c (role.Declares kind.Cond) many = by_count (λ t. t || false || false || false || false) (λ n. record c { conds = n }) c.conds (nat_le 32 c.conds) refl refl
 role_counted c (role.Declares kind.Sem) many = by_count (λ t. t || false || false || false) (λ n. record c { sems = n }) c.sems (nat_le 32 c.sems) refl refl
 role_counted c (role.Declares kind.Function) many = by_locals (λ n. record c { functions = n }) c.functions (nat_le 64 c.functions) many
-role_counted c (role.Opens b) many = by_count (λ t. t || false) (λ n. record c { statements = n }) c.statements (nat_le 2000 c.statements) refl refl
-role_counted c role.Else many = by_count (λ t. t || false) (λ n. record c { statements = n }) c.statements (nat_le 2000 c.statements) refl refl
-role_counted c role.End many = by_count (λ t. t || false) (λ n. record c { statements = n }) c.statements (nat_le 2000 c.statements) refl refl
-role_counted c role.Pop many = by_count (λ t. t || false) (λ n. record c { statements = n }) c.statements (nat_le 2000 c.statements) refl refl
-role_counted c role.Return many = by_count (λ t. t || false) (λ n. record c { statements = n }) c.statements (nat_le 2000 c.statements) refl refl
-role_counted c role.Plain many = by_count (λ t. t || false) (λ n. record c { statements = n }) c.statements (nat_le 2000 c.statements) refl refl
-role_counted c role.Other many = by_count (λ t. t || false) (λ n. record c { statements = n }) c.statements (nat_le 2000 c.statements) refl refl
+role_counted c _ many = by_count (λ t. t || false) (λ n. record c { statements = n }) c.statements (nat_le 2000 c.statements) refl refl
 
 -- ---- the names on a `fn` line
 
@@ -132,81 +124,24 @@ all_local (suc k) = all_local k
 named_kinds : (f : LineKind) (k : ℕ) → declares_by kind.Function (syntax_of f).role ≡ true → list_all is_name_kind ((syntax_of f).argument_kinds k) ≡ true
 unfolding syntax_of declaration_syntax
 named_kinds (line_kind.Declares kind.Function) k e = all_local (k - 2)
-named_kinds (line_kind.Declares kind.Global) k e = absurd cc
-named_kinds (line_kind.Declares kind.Mutex) k e = absurd cc
-named_kinds (line_kind.Declares kind.Cond) k e = absurd cc
-named_kinds (line_kind.Declares kind.Sem) k e = absurd cc
-named_kinds line_kind.Emit k e = absurd cc
-named_kinds line_kind.Set k e = absurd cc
-named_kinds line_kind.Add k e = absurd cc
-named_kinds line_kind.Nop k e = absurd cc
-named_kinds line_kind.If k e = absurd cc
-named_kinds line_kind.Else k e = absurd cc
-named_kinds line_kind.While k e = absurd cc
-named_kinds line_kind.End k e = absurd cc
-named_kinds line_kind.Do k e = absurd cc
-named_kinds line_kind.Return k e = absurd cc
-named_kinds line_kind.Create k e = absurd cc
-named_kinds line_kind.Join k e = absurd cc
-named_kinds line_kind.Detach k e = absurd cc
-named_kinds line_kind.CancelThread k e = absurd cc
-named_kinds line_kind.SelfId k e = absurd cc
-named_kinds line_kind.ThreadExit k e = absurd cc
-named_kinds line_kind.TestCancel k e = absurd cc
-named_kinds line_kind.SetState k e = absurd cc
-named_kinds line_kind.SetMode k e = absurd cc
-named_kinds line_kind.Push k e = absurd cc
-named_kinds line_kind.Pop k e = absurd cc
-named_kinds line_kind.KeyCreate k e = absurd cc
-named_kinds line_kind.KeyDelete k e = absurd cc
-named_kinds line_kind.SetSpecific k e = absurd cc
-named_kinds line_kind.GetSpecific k e = absurd cc
-named_kinds line_kind.Lock k e = absurd cc
-named_kinds line_kind.Unlock k e = absurd cc
-named_kinds line_kind.CondWait k e = absurd cc
-named_kinds line_kind.Signal k e = absurd cc
-named_kinds line_kind.Broadcast k e = absurd cc
-named_kinds line_kind.SemWait k e = absurd cc
-named_kinds line_kind.SemPost k e = absurd cc
-named_kinds line_kind.AtFork k e = absurd cc
-named_kinds line_kind.Fork k e = absurd cc
-named_kinds line_kind.WaitPid k e = absurd cc
-named_kinds line_kind.AtExit k e = absurd cc
-named_kinds line_kind.ProcExit k e = absurd cc
-named_kinds line_kind.ProcExitNow k e = absurd cc
-named_kinds (line_kind.Point index) k e = absurd cc
-
-by_name : (w : List ℕ) (x : Token) (t : Bool) → cond t (Some (token.Name w)) None ≡ Some x → x ≡ token.Name w
-by_name w x true e = sym (same_Some (token.Name w) x e)
-by_name w x false e = absurd cc
+named_kinds _ k e = absurd cc
 
 name_there : (p : ArgumentKind) (w : List ℕ) (x : Token) → is_name_kind p ≡ true → token_at p w ≡ Some x → x ≡ token.Name w
 unfolding token_at
-name_there argument_kind.Declared w x t e = by_name w x (is_name w) e
-name_there argument_kind.Local w x t e = by_name w x (is_name w) e
-name_there argument_kind.Count w x t e = absurd cc
-name_there argument_kind.Operand w x t e = absurd cc
-name_there argument_kind.Variable w x t e = absurd cc
-name_there argument_kind.Dest w x t e = absurd cc
-name_there (argument_kind.Item k) w x t e = absurd cc
-name_there argument_kind.OptionalFunction w x t e = absurd cc
-name_there argument_kind.PlainFunction w x t e = absurd cc
-name_there argument_kind.OptionalPlainFunction w x t e = absurd cc
-name_there argument_kind.State w x t e = absurd cc
-name_there argument_kind.Mode w x t e = absurd cc
-name_there argument_kind.Detached w x t e = absurd cc
+name_there argument_kind.Declared w x t e = sym (cond_some (is_name w) (token.Name w) x e).1
+name_there argument_kind.Local w x t e = sym (cond_some (is_name w) (token.Name w) x e).1
+name_there _ w x t e = absurd cc
 
 all_names : (argument_kinds : List ArgumentKind) (words : List (List ℕ)) (parsed : List Token) → list_all is_name_kind argument_kinds ≡ true → tokens_at argument_kinds words ≡ Some parsed → length (names_in parsed) ≡ length parsed
 unfolding tokens_at
 all_names [] [] parsed t e = ap (λ ws. length (names_in ws)) (sym (same_Some [] parsed e)) ∙ ap length (same_Some [] parsed e)
-all_names [] (w ∷ words) parsed t e = absurd cc
-all_names (p ∷ argument_kinds) [] parsed t e = absurd cc
 all_names (p ∷ argument_kinds) (w ∷ words) parsed t e =
     let sections = and_parts (is_name_kind p) (list_all is_name_kind argument_kinds) t in
     let b = bind_some (token_at p w) (λ first. option_map (λ others. first ∷ others) (tokens_at argument_kinds words)) parsed e in
     let m = map_some (λ others. b.0 ∷ others) (tokens_at argument_kinds words) parsed b.2 in
     let whole : token.Name w ∷ m.0 ≡ parsed = ap (λ x. x ∷ m.0) (sym (name_there p w b.0 sections.0 b.1)) ∙ m.2 in
     subst (λ ws. length (names_in ws) ≡ length ws) whole (ap suc (all_names argument_kinds words m.0 sections.1 m.1))
+all_names _ _ parsed t e = absurd cc
 
 by_words : (ws : List (List ℕ)) (s : ParsedLine) → parsed_words ws ≡ Some s → declares kind.Function s ≡ true → length (names_in s.tokens) ≡ length s.tokens
 unfolding parsed_words
@@ -238,10 +173,9 @@ each_named (l ∷ lines) = one_named l lines (parsed l.1) refl (each_named lines
 -- ---- lines
 
 one_fewer_by : (n : ℕ) (s t : Bool) → nat_lt 9 n ≡ s → nat_lt 8 (n - 1) ≡ t → s ≡ t
-one_fewer_by n true true e f = refl
 one_fewer_by n true false e f = absurd (omega (arith, ltb-true 9 n e, ltb-false 8 (n - 1) f))
 one_fewer_by n false true e f = absurd (omega (arith, ltb-false 9 n e, ltb-true 8 (n - 1) f))
-one_fewer_by n false false e f = refl
+one_fewer_by n _ _ e f = refl
 
 one_fewer : (n : ℕ) → nat_lt 9 n ≡ nat_lt 8 (n - 1)
 one_fewer n = one_fewer_by n (nat_lt 9 n) (nat_lt 8 (n - 1)) refl refl

@@ -1,14 +1,12 @@
 -- The outlines of lines, line by line, and of lines that are not misspelled.
-use Rattle.std.proofs.Common.{◌≡◌, ℕ, suc, true, List, [], ◌∷◌, ◌++◌, Option, Some, None, length, refl, sym, ap, ◌∙◌, option_map, filter_map}
+use Rattle.std.proofs.Common.{◌≡◌, ℕ, true, List, [], ◌∷◌, ◌++◌, Option, Some, None, length, refl, sym, ap, ◌∙◌, option_map, filter_map}
 use Rattle.std.specs.Prelude.{is_some, slice_get, Result, Ok, Err}
 use Rattle.std.specs.List.{list_all, cons_option}
 use Rattle.std.proofs.lemmas.Bool.{and_parts}
-use Rattle.std.proofs.lemmas.Option.{same_Some}
 use Rattle.pct_model.specs.declared.refusal.ParseWhy.{ParseWhy}
 use Rattle.pct_model.specs.declared.refusal.ParseWhy.TheVariants.{Unclosed}
 use Rattle.pct_model.specs.declared.role.Block.{Block}
 use Rattle.pct_model.specs.declared.role.Change.{Change}
-use Rattle.pct_model.specs.declared.line_kind.ArgumentKind.{ArgumentKind}
 use Rattle.pct_model.specs.declared.parsed_line.ParsedLine.{ParsedLine}
 use Rattle.pct_model.specs.declared.parsed_line.Token.{Token}
 use Rattle.pct_model.specs.LineKinds.{syntax_of, line_kind_of}
@@ -16,9 +14,10 @@ use Rattle.pct_model.specs.Checks.{roles}
 use Rattle.pct_model.specs.Nesting.{Blocks, change_at, kinds_of, open_after_line, faulty_or, nesting_in, nesting}
 use Rattle.pct_model.specs.Spelling.{Fault}
 use Rattle.pct_model.specs.Sections.{Line, parsed_numbered, role_in}
-use Rattle.pct_model.specs.LineParsing.{Numbered, is_allowed, words_in, token_at, tokens_at, parsed_as, parsed_words, parsed}
+use Rattle.pct_model.specs.LineParsing.{Numbered, is_allowed, words_in, tokens_at, parsed_as, parsed_words, parsed}
 use Rattle.pct_script.specs.declared.scan.LineOutline.{LineOutline}
 use Rattle.pct_script.specs.Outlines.{outline_of_words, outline_numbered, outlines_in, outline_roles, outline_of, outlines_of}
+use Rattle.pct_grammar.proofs.TokensResolve.{words_at_lengths}
 use Rattle.pct_grammar.proofs.OptionSteps.{bind_some, map_some, cond_cases}
 
 -- ---- line by line
@@ -37,16 +36,6 @@ outline_later n line lines e = ap (λ (o : Option LineOutline). cons_option (opt
 
 -- ---- lines that are not misspelled
 
-same_length : (argument_kinds : List ArgumentKind) (words : List (List ℕ)) (parsed : List Token) → tokens_at argument_kinds words ≡ Some parsed → length parsed ≡ length words
-unfolding tokens_at
-same_length [] [] parsed e = sym (ap length (same_Some [] parsed e))
-same_length [] (w ∷ words) parsed e = absurd cc
-same_length (p ∷ argument_kinds) [] parsed e = absurd cc
-same_length (p ∷ argument_kinds) (w ∷ words) parsed e =
-    let b = bind_some (token_at p w) (λ first. option_map (λ others. first ∷ others) (tokens_at argument_kinds words)) parsed e in
-    let m = map_some (λ others. b.0 ∷ others) (tokens_at argument_kinds words) parsed b.2 in
-    sym (ap (λ ws. length ws) m.2) ∙ ap suc (same_length argument_kinds words m.0 m.1)
-
 abbrev kept : LineOutline → Option LineOutline
 kept h = Some h
 
@@ -56,8 +45,8 @@ by_words [] s e = absurd cc
 by_words (w ∷ words) s e =
     let b = bind_some (line_kind_of w) (λ f. parsed_as f words) s e in
     let m = map_some (λ (parsed : List Token). record { line_kind = b.0; tokens = parsed }) (tokens_at ((syntax_of b.0).argument_kinds (length words)) words) s b.2 in
-    let same = same_length ((syntax_of b.0).argument_kinds (length words)) words m.0 m.1 in
-    ap (option_map {U = LineOutline} (λ f. record { line_kind = f; token_count = length words })) b.1 ∙ ap (λ n. kept (record { line_kind = b.0; token_count = n })) (sym same) ∙ ap (λ (line : ParsedLine). Some (outline_of line)) m.2
+    let lengths = words_at_lengths ((syntax_of b.0).argument_kinds (length words)) words m.0 m.1 in
+    ap (option_map {U = LineOutline} (λ f. record { line_kind = f; token_count = length words })) b.1 ∙ ap (λ n. kept (record { line_kind = b.0; token_count = n })) (lengths.0 ∙ sym lengths.1) ∙ ap (λ (line : ParsedLine). Some (outline_of line)) m.2
 
 outline_parsed : (bytes : List ℕ) (s : ParsedLine) → parsed bytes ≡ Some s → outline_of_words (words_in bytes) ≡ Some (outline_of s)
 unfolding parsed

@@ -73,11 +73,10 @@ none_named_here false p names none = refl
 
 none_named : (argument_kinds : List ArgumentKind) (words : List Token) → no_plain argument_kinds ≡ true → plain_names argument_kinds words ≡ []
 unfolding plain_names
-none_named [] words none = refl
-none_named (p ∷ argument_kinds) [] none = refl
 none_named (p ∷ argument_kinds) (w ∷ words) none =
     let both = and_parts (not (asks_plain p)) (no_plain argument_kinds) none in
     ap₂ (λ a b. a ++ b) (none_named_here (asks_plain p) p (names_in (w ∷ [])) both.0) (none_named argument_kinds words both.1)
+none_named _ _ none = refl
 
 same_kinds : (n : ℕ) (p : ArgumentKind) → asks_plain p ≡ false → no_plain (replicate n p) ≡ true
 same_kinds zero p none = refl
@@ -85,10 +84,6 @@ same_kinds (suc n) p none = and_from (not (asks_plain p)) (no_plain (replicate n
 
 kinds_ask : (f : LineKind) (n : ℕ) → has_plain_arguments f ≡ false → no_plain ((syntax_of f).argument_kinds n) ≡ true
 unfolding syntax_of declaration_syntax
-kinds_ask (line_kind.Declares kind.Global) n none = refl
-kinds_ask (line_kind.Declares kind.Mutex) n none = refl
-kinds_ask (line_kind.Declares kind.Cond) n none = refl
-kinds_ask (line_kind.Declares kind.Sem) n none = refl
 kinds_ask (line_kind.Declares kind.Function) n none = same_kinds (n - 2) argument_kind.Local refl
 kinds_ask line_kind.Create n none = same_kinds (min 1 (n - 4)) argument_kind.Detached refl
 kinds_ask line_kind.AtFork n none = absurd cc

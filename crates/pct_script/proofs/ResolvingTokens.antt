@@ -1,12 +1,12 @@
 -- Resolving the tokens of a statement, token by token.
-use Rattle.std.proofs.Common.{◌≡◌, ℕ, suc, ◌-◌, ◌<◌, ◌≤◌, Bool, true, false, not, List, [], ◌∷◌, ◌++◌, Option, Some, None, length, drop, min, replicate, refl, sym, ap, ◌∙◌, arith, option_map, append_assoc, append-nil}
+use Rattle.std.proofs.Common.{◌≡◌, ℕ, suc, ◌-◌, ◌<◌, ◌≤◌, true, false, List, [], ◌∷◌, ◌++◌, Option, Some, None, length, drop, min, replicate, refl, sym, ap, ◌∙◌, arith, option_map, append_assoc, append-nil}
 use Rattle.std.specs.Prelude.{slice_get}
+use Rattle.std.proofs.lemmas.Bool.{true≢false, not-true}
 use Rattle.std.proofs.lemmas.List.{length-append, length-replicate}
 use Rattle.std.proofs.lemmas.Option.{slice_get_within}
 use Rattle.pct_model.specs.declared.line_kind.LineKind.{LineKind}
 use Rattle.pct_model.specs.declared.line_kind.LineKind.TheVariants as line_kind
 use Rattle.pct_model.specs.declared.line_kind.SymbolKind.{SymbolKind}
-use Rattle.pct_model.specs.declared.line_kind.SymbolKind.TheVariants as kind
 use Rattle.pct_model.specs.declared.line_kind.ArgumentKind.{ArgumentKind}
 use Rattle.pct_model.specs.declared.line_kind.ArgumentKind.TheVariants as argument_kind
 use Rattle.pct_model.specs.declared.parsed_line.Argument.{Argument}
@@ -14,8 +14,9 @@ use Rattle.pct_model.specs.declared.parsed_line.ParsedLine.{ParsedLine}
 use Rattle.pct_model.specs.declared.parsed_line.Token.{Token}
 use Rattle.pct_model.specs.Lines.{◌>>=◌}
 use Rattle.pct_model.specs.Contents.{resolve, resolve_all}
-use Rattle.pct_model.specs.LineKinds.{syntax_of, declaration_syntax}
+use Rattle.pct_model.specs.LineKinds.{syntax_of}
 use Rattle.pct_model.specs.Sections.{is_declaration, is_statement, role_in, argument_kinds_in}
+use Rattle.pct_grammar.proofs.SharedWords.{role_of_kind}
 use Rattle.pct_script.proofs.FaultyWords.{argument_kind_first, past_kinds}
 
 -- what was resolved, and then what is left to resolve
@@ -34,23 +35,15 @@ few_detached n p = omega (arith, length-replicate (min 1 (n - 4)) p)
 
 -- a statement has at most 5 argument kinds
 few_kinds : (f : LineKind) (n : ℕ) → is_declaration (syntax_of f).role ≡ false → length ((syntax_of f).argument_kinds n) ≤ 5
-unfolding syntax_of declaration_syntax
-few_kinds (line_kind.Declares kind.Global) n other = absurd cc
-few_kinds (line_kind.Declares kind.Mutex) n other = absurd cc
-few_kinds (line_kind.Declares kind.Cond) n other = absurd cc
-few_kinds (line_kind.Declares kind.Sem) n other = absurd cc
-few_kinds (line_kind.Declares kind.Function) n other = absurd cc
+unfolding syntax_of
+few_kinds (line_kind.Declares k) n other = absurd (true≢false (sym (ap is_declaration (role_of_kind k)) ∙ other))
 few_kinds line_kind.Create n other = omega (arith, few_detached n argument_kind.Detached)
 few_kinds _ n other = omega arith
-
-not_true : (t : Bool) → not t ≡ true → t ≡ false
-not_true false h = refl
-not_true true h = absurd cc
 
 -- if there is an argument kind for one more argument, there are fewer than 5 arguments
 pub room_left : (line : ParsedLine) (n : ℕ) (p : ArgumentKind) → is_statement line ≡ true → slice_get (argument_kinds_in line) n ≡ Some p → n < 5
 room_left line n p is here =
-    omega (arith, slice_get_within (argument_kinds_in line) n p here, few_kinds line.line_kind (length line.tokens) (not_true (is_declaration (role_in line)) is))
+    omega (arith, slice_get_within (argument_kinds_in line) n p here, few_kinds line.line_kind (length line.tokens) (not-true (is_declaration (role_in line)) is))
 
 -- the argument kind of the next token
 pub the_argument_kind : (line : ParsedLine) (words : List Token) (n m : ℕ) (o : Option ArgumentKind) → words ≡ line.tokens → n ≡ m → o ≡ slice_get ((syntax_of line.line_kind).argument_kinds (length words)) n → slice_get (argument_kinds_in line) m ≡ o

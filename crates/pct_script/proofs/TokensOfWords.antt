@@ -1,5 +1,5 @@
 -- Parsing the words of a line, word by word.
-use Rattle.std.proofs.Common.{◌≡◌, ℕ, suc, ◌+◌, List, [], ◌∷◌, ◌++◌, Option, Some, None, drop, refl, sym, ap, ◌∙◌, append_assoc, arith, option_map}
+use Rattle.std.proofs.Common.{◌≡◌, ℕ, suc, ◌+◌, List, [], ◌∷◌, ◌++◌, Option, Some, None, drop, ap, ◌∙◌, arith, option_map}
 use Rattle.std.specs.Prelude.{slice_get}
 use Rattle.std.proofs.lemmas.List.{append-nil}
 use Rattle.std.proofs.lemmas.Option.{slice_get_cases}
@@ -7,15 +7,8 @@ use Rattle.pct_model.specs.declared.line_kind.ArgumentKind.{ArgumentKind}
 use Rattle.pct_model.specs.declared.parsed_line.Token.{Token}
 use Rattle.pct_model.specs.Lines.{◌>>=◌}
 use Rattle.pct_model.specs.LineParsing.{token_at, tokens_at}
+use Rattle.pct_script.proofs.ResolvingTokens.{onto, regroup}
 use Rattle.pct_script.proofs.FaultyWords.{argument_kind_first, past}
-
--- items before the items of a step
-abbrev pub onto : {A : Type 0} → List A → Option (List A) → Option (List A)
-onto xs o = option_map (λ ys. xs ++ ys) o
-
-pub onto_cons : {A : Type 0} (xs : List A) (x : A) (o : Option (List A)) → onto xs (option_map (λ ys. x ∷ ys) o) ≡ onto (xs ++ x ∷ []) o
-onto_cons xs x None = refl
-onto_cons xs x (Some ys) = ap (λ zs. Some zs) (sym (append_assoc xs (x ∷ []) ys))
 
 -- a word past the last argument kind
 pub words_past : (items : List Token) (argument_kinds : List ArgumentKind) (at : ℕ) (w : List ℕ) (words : List (List ℕ)) → slice_get argument_kinds at ≡ None → onto items (tokens_at (drop at argument_kinds) (w ∷ words)) ≡ None
@@ -38,7 +31,7 @@ word_right items argument_kinds at p w words x here e =
     let next : suc at ≡ at + 1 = omega arith in
     ap (λ ps. onto items (tokens_at ps (w ∷ words))) (argument_kind_first argument_kinds at p here)
     ∙ ap (λ (o : Option Token). onto items (o >>= λ first. option_map (λ others. first ∷ others) (tokens_at (drop (suc at) argument_kinds) words))) e
-    ∙ onto_cons items x (tokens_at (drop (suc at) argument_kinds) words) ∙ ap (λ n. onto (items ++ x ∷ []) (tokens_at (drop n argument_kinds) words)) next
+    ∙ regroup items x (tokens_at (drop (suc at) argument_kinds) words) ∙ ap (λ n. onto (items ++ x ∷ []) (tokens_at (drop n argument_kinds) words)) next
 
 -- after the last word no argument kind is left
 pub words_end : (items : List Token) (argument_kinds : List ArgumentKind) (at : ℕ) → slice_get argument_kinds at ≡ None → onto items (tokens_at (drop at argument_kinds) []) ≡ Some items

@@ -3,8 +3,9 @@
 use Rattle.std.specs.Prelude.{ℕ, ◌+◌, ◌-◌, Bool, true, false, not, ◌&&◌, if◌then◌else◌, List, [], ◌∷◌, length, Option, Some, None, is_some, option_map, option_and_then, slice_index_or, slice_set, nat_eq}
 use Rattle.std.specs.Option.{option_map_or}
 use Rattle.pct_model.specs.declared.frame.Frame.{Frame}
-use Rattle.pct_model.specs.declared.state.FrameKind.TheVariants as kind
-use Rattle.pct_model.specs.Actions.{without_first}
+use Rattle.pct_model.specs.declared.state.FrameKind.{FrameKind}
+use Rattle.pct_model.specs.declared.state.FrameKind.TheVariants.{Start, Call}
+use Rattle.pct_model.specs.Actions.{at_pc, set_local, without_first}
 use Rattle.pct_model.specs.ThreadSlots.{is_ended_status}
 use Rattle.pct_model.specs.World.{new_frame}
 use Rattle.pct_threads.specs.declared.record.Thread.{Thread}
@@ -60,7 +61,7 @@ is_reclaimable held = is_ended_status held.thread.status && not held.detached
 
 -- the frame with this number, counted from the oldest
 abbrev pub frame_at : List Frame → ℕ → Frame
-frame_at frames number = slice_index_or frames (length frames - 1 - number) (new_frame 0 0 kind.Call)
+frame_at frames number = slice_index_or frames (length frames - 1 - number) (new_frame 0 0 Call)
 
 -- the frames after a change of one of them
 abbrev pub on_frame : ℕ → (Frame → Frame) → List Frame → List Frame
@@ -72,9 +73,25 @@ on_frame number change frames = slice_set frames (length frames - 1 - number) (c
 abbrev pub with_record : Thread → Held → Held
 with_record thread held = record held { thread = thread }
 
--- with a new frame
+-- with a new frame of a kind
+abbrev pub with_call : ℕ → ℕ → FrameKind → Held → Held
+with_call func arg kind held = record held { frames = new_frame func arg kind ∷ held.frames }
+
+-- with a new frame, of the kind with this number
 abbrev pub with_frame : ℕ → ℕ → ℕ → Held → Held
-with_frame func arg number held = record held { frames = new_frame func arg (kind_of number) ∷ held.frames }
+with_frame func arg number = with_call func arg (kind_of number)
+
+-- with one frame, of a kind
+abbrev pub with_call_alone : ℕ → ℕ → FrameKind → Held → Held
+with_call_alone func arg kind held = record held { frames = new_frame func arg kind ∷ [] }
+
+-- with its newest frame at a program counter
+abbrev pub with_pc : ℕ → Held → Held
+with_pc pc held = record held { frames = at_pc pc held.frames }
+
+-- with a new value of a local of its newest frame
+abbrev pub with_local : ℕ → ℕ → Held → Held
+with_local i value held = record held { frames = set_local i value held.frames }
 
 -- without its newest frame
 abbrev pub without_frame : Held → Held
@@ -98,7 +115,7 @@ after_detach held = if is_ended_status held.thread.status then None else Some (r
 
 -- a new thread, with one frame of its start routine (XSH pthread_create)
 abbrev pub new_held : ℕ → ℕ → ℕ → Bool → Held
-new_held id func arg detached = record { id = id; detached = detached; frames = new_frame func arg kind.Start ∷ []; thread = new_record }
+new_held id func arg detached = record { id = id; detached = detached; frames = new_frame func arg Start ∷ []; thread = new_record }
 
 -- ---- changes of a slot
 

@@ -1,11 +1,12 @@
 //! One slot of a table. Frames are kept oldest first. A slot that is free keeps the data of its last thread, which no call
 //! reads.
 
-ghost use Rattle.std.specs.Prelude.{◌≡◌, ◌<◌, ◌≤◌, length, slice_set};
+ghost use Rattle.std.specs.Prelude.{◌≡◌, ◌<◌, ◌≤◌, length, reverse, slice_set};
+ghost use Rattle.pct_model.specs.Actions.{at_pc, set_local};
 ghost use Rattle.pct_model.specs.ThreadSlots.{is_ended_status};
 ghost use Rattle.pct_threads.specs.declared.row.TheConstants.{MAX_DEPTH};
 
-use crate::frame_words::{kind_of, new_frame, with_word, word_of};
+use crate::frame_words::{new_frame, with_word, word_of};
 use crate::{Place, Thread};
 use arrayvec::ArrayVec;
 use pct_model::{Frame, FrameKind, Status};
@@ -39,7 +40,7 @@ impl Row {
     ghost use Rattle.std.specs.Borrow.{sem};
     ghost use Rattle.pct_threads.specs.declared.row.TheConstants.{MAX_DEPTH};
     ghost use Rattle.pct_threads.specs.FrameWords.{frame_word_of};
-    ghost use Rattle.pct_threads.specs.Slots.{unused, is_occupied, has_id, frames_of, place_of, frame_at, with_frame, without_frame, without_frames, with_frame_word, after_end, after_detach, after_change, with_change, freed, created};
+    ghost use Rattle.pct_threads.specs.Slots.{unused, is_occupied, has_id, frames_of, place_of, frame_at, with_call, with_call_alone, with_pc, with_local, without_frame, without_frames, with_frame_word, after_end, after_detach, after_change, with_change, freed, created};
     ghost use Rattle.pct_threads.specs.Lends.{LendsRecord};
 
     /// The slot on which no thread was created.
@@ -182,12 +183,34 @@ impl Row {
     }
 
     /// The thread has a new frame.
-    pub(crate) fn push_frame(&mut self, func: u32, arg: u32, kind: u32)
+    pub(crate) fn call(&mut self, func: u32, arg: u32, kind: FrameKind)
         requires occupied { is_occupied self.old ≡ true }
         requires room { length (frames_of self.old) < MAX_DEPTH }
-        ensures { self.new ≡ with_change (with_frame func arg kind) self.old }
+        ensures { self.new ≡ with_change (with_call func arg kind) self.old }
     {
-        self.frames.push(new_frame(func, arg, kind_of(kind)));
+        self.frames.push(new_frame(func, arg, kind));
+    }
+
+    /// The thread has a new frame in the place of all others.
+    pub(crate) fn call_alone(&mut self, func: u32, arg: u32, kind: FrameKind)
+        ensures { self.new ≡ with_change (with_call_alone func arg kind) self.old }
+    {
+        self.frames.clear();
+        self.frames.push(new_frame(func, arg, kind));
+    }
+
+    /// The newest frame of the thread, if there is one, is at a program counter.
+    pub(crate) fn set_pc(&mut self, pc: u32)
+        ensures { self.new ≡ with_change (with_pc pc) self.old }
+    {
+        set_top_pc(&mut self.frames, pc);
+    }
+
+    /// A local of the newest frame of the thread has a new value, if there is one.
+    pub(crate) fn set_local(&mut self, i: u32, value: u32)
+        ensures { self.new ≡ with_change (with_local i value) self.old }
+    {
+        set_top_local(&mut self.frames, i, value);
     }
 
     /// The thread loses its newest frame.
@@ -232,6 +255,30 @@ fn set_frame(frames: &mut ArrayVec<Frame, MAX_DEPTH>, index: usize, frame: Frame
     ensures { frames.new.items ≡ slice_set frames.old.items index frame }
 {
     frames[index] = frame;
+}
+
+// The newest frame, if there is one, is at a program counter.
+fn set_top_pc(frames: &mut ArrayVec<Frame, MAX_DEPTH>, pc: u32)
+    ensures { reverse frames.new.items ≡ at_pc pc (reverse frames.old.items) }
+{
+    prove!(frames.len() <= MAX_DEPTH);
+    if let Some(mut frame) = frames.pop() {
+        frame.pc = pc;
+        frames.push(frame);
+    }
+}
+
+// A local of the newest frame has a new value, if there is one.
+fn set_top_local(frames: &mut ArrayVec<Frame, MAX_DEPTH>, i: u32, value: u32)
+    ensures { reverse frames.new.items ≡ set_local i value (reverse frames.old.items) }
+{
+    prove!(frames.len() <= MAX_DEPTH);
+    if let Some(mut frame) = frames.pop() {
+        if (i as usize) < frame.locals.len() {
+            frame.locals[i as usize] = value;
+        }
+        frames.push(frame);
+    }
 }
 
 // Whether the status is that of an ended thread.

@@ -4,10 +4,11 @@ ghost use Rattle.std.specs.Prelude.{◌≡◌, ◌<◌, ◌&&◌, not, true, nat
 ghost use Rattle.pct_threads.specs.Slots.{freed};
 ghost use Rattle.pct_set.specs.Slots.{with_slot, without_slot};
 
+use crate::frame_words::kind_of;
 use crate::row::Row;
 use crate::{Place, Thread};
 use pct_io::NoMemory;
-use pct_model::Frame;
+use pct_model::{Frame, FrameKind};
 use pct_set::SlotSet;
 use std::alloc::Global;
 use std::marker::Model;
@@ -46,7 +47,7 @@ impl Threads {
     ghost use Rattle.pct_set.specs.Slots.{slots_where};
     ghost use Rattle.pct_threads.specs.declared.row.TheConstants.{MAX_DEPTH};
     ghost use Rattle.pct_threads.specs.FrameWords.{frame_word_of};
-    ghost use Rattle.pct_threads.specs.Slots.{unused, has_id, frame_at, with_frame, without_frame, without_frames, with_frame_word, freed};
+    ghost use Rattle.pct_threads.specs.Slots.{unused, has_id, frame_at, with_call, with_frame, with_call_alone, with_pc, with_local, without_frame, without_frames, with_frame_word, freed};
     ghost use Rattle.pct_threads.specs.Tables.{slot_at, is_occupied_at, is_free_at, place_at, thread_at, frames_at, is_reclaimable_at, next_id_at, on_slot, on_held, with_created, with_end, with_detach, replica_of};
     ghost use Rattle.pct_threads.specs.Lends.{LendsThread};
 
@@ -81,7 +82,10 @@ impl Threads {
         ensures within { result < length self.now }
         ensures few { length self.now ≤ MAX_SLOTS }
     {
-        id.saturating_sub(1) % self.slot_count()
+        let index = id.saturating_sub(1);
+        let count = self.slot_count();
+        // A division is dear, and few ids are above the number of slots.
+        if index < count { index } else { index % count }
     }
 
     /// Whether the slot is occupied.
@@ -258,7 +262,41 @@ impl Threads {
         requires kind { kind < 8 }
         ensures { self.new ≡ on_held slot (with_frame func arg kind) self.old }
     {
-        self.rows[slot as usize].push_frame(func, arg, kind);
+        self.call(slot, func, arg, kind_of(kind));
+    }
+
+    /// The same with a kind: adds a frame of `func`, at its first statement, to a thread with fewer than 17 frames. The frame's
+    /// first local is `arg`, its other locals are 0.
+    pub fn call(&mut self, slot: u32, func: u32, arg: u32, kind: FrameKind)
+        requires occupied { is_occupied_at self.old slot ≡ true }
+        requires room { length (frames_at self.old slot) < MAX_DEPTH }
+        ensures { self.new ≡ on_held slot (with_call func arg kind) self.old }
+    {
+        self.rows[slot as usize].call(func, arg, kind);
+    }
+
+    /// Adds a frame as `call` does, after it removed all others.
+    pub fn call_alone(&mut self, slot: u32, func: u32, arg: u32, kind: FrameKind)
+        requires { is_occupied_at self.old slot ≡ true }
+        ensures { self.new ≡ on_held slot (with_call_alone func arg kind) self.old }
+    {
+        self.rows[slot as usize].call_alone(func, arg, kind);
+    }
+
+    /// Sets the program counter of the newest frame. Nothing changes if the thread has no frame.
+    pub fn set_pc(&mut self, slot: u32, pc: u32)
+        requires { is_occupied_at self.old slot ≡ true }
+        ensures { self.new ≡ on_held slot (with_pc pc) self.old }
+    {
+        self.rows[slot as usize].set_pc(pc);
+    }
+
+    /// Sets a local of the newest frame. Nothing changes if the thread has no frame, or the frame no such local.
+    pub fn set_local(&mut self, slot: u32, i: u32, value: u32)
+        requires { is_occupied_at self.old slot ≡ true }
+        ensures { self.new ≡ on_held slot (with_local i value) self.old }
+    {
+        self.rows[slot as usize].set_local(i, value);
     }
 
     /// Removes the newest frame of a thread that has a frame.

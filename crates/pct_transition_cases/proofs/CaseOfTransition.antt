@@ -34,7 +34,7 @@ use Rattle.pct_model.specs.NextStatement.{NextStatement, StatementIn}
 use Rattle.pct_model.specs.OtherThreads.{Others, exit_value_of}
 use Rattle.pct_model.specs.ProcessExit.{exits, returns_by, ends_process}
 use Rattle.pct_model.specs.ScriptStatements.{jumps, emits, sets, adds, calls, after_block, after_test, after_end}
-use Rattle.pct_model.specs.StopTable.{StopTest, first_stop, is_stack_full, has_begun_to_end, is_in_handler, is_async_safe, is_built, stops_of, stop_at}
+use Rattle.pct_model.specs.StopTable.{StopTest, first_stop, is_stack_full, has_begun_to_end, is_in_handler, is_allowed_asynchronously, is_built, stops_of, stop_at}
 use Rattle.pct_model.specs.ThreadCalls.{creates, fails_to_create, creates_by, begins_join, ends_join, joins_at, detaches, gets_self}
 use Rattle.pct_model.specs.ThreadEnds.{end_value, ends_by_exit, ends_thread, calls_destructor, due_keys, goes_on_ending}
 use Rattle.pct_model.specs.Transitions.{goes_on, acts}
@@ -61,7 +61,7 @@ none_applies : (body : List Stmt) (shared : SharedState) (t : Thread) (others : 
 unfolding stop_at
 none_applies body shared t others frame s none =
     let own : Bool = list_any (λ (test : StopTest). test.0) (stops_of body shared t others frame s) in
-    let called : Bool = is_asynchronous t.state t.mode && not (is_async_safe s) in
+    let called : Bool = is_asynchronous t.state t.mode && not (is_allowed_asynchronously s) in
     let all : (not (is_built s) || (called || own)) ≡ false = no_stop ((not (is_built s), Unbuilt) ∷ (called, AsyncCall) ∷ stops_of body shared t others frame s) none in
     (or_parts called own (or_parts (not (is_built s)) (called || own) all).1).1
 
@@ -123,14 +123,14 @@ module _ (passes : ℕ) (body : List Stmt) (shared : SharedState) (t : Thread) (
   request_case frame id None is none = absurd (true≢false none)
   request_case frame id (Some target) is none = request_sent frame id target is
 
-  create_case : (choice : Alt) (frame : Frame) (result id : Dest) (f : ℕ) (v : Operand) (detached : Bool) → (offered ≡ true → Offered shared.keys t others (StatementIn frame (statement.Create result id f v detached)) status.Running choice)
+  create_case : (choice : Alt) (frame : Frame) (result id : Dest) (f : ℕ) (v : Operand) (detached : Bool) → (offered ≡ true → Offered shared t others (StatementIn frame (statement.Create result id f v detached)) status.Running choice)
       → Case (StatementIn frame (statement.Create result id f v detached)) status.Running (creates_by choice (suc frame.pc) result id f (value frame v) detached)
   unfolding creates fails_to_create
   create_case (alt.New n) frame result id f v detached may = thread_made frame result id f v detached n (λ known. id_among (may known))
   create_case alt.Go frame result id f v detached may = thread_not_made frame result id f v detached
   create_case _ frame result id f v detached may = rests (StatementIn frame (statement.Create result id f v detached)) status.Running (λ known. refl)
 
-  create_key_case : (choice : Alt) (frame : Frame) (result key : Dest) (destructor : Option ℕ) → (offered ≡ true → Offered shared.keys t others (StatementIn frame (statement.KeyCreate result key destructor)) status.Running choice)
+  create_key_case : (choice : Alt) (frame : Frame) (result key : Dest) (destructor : Option ℕ) → (offered ≡ true → Offered shared t others (StatementIn frame (statement.KeyCreate result key destructor)) status.Running choice)
       → Case (StatementIn frame (statement.KeyCreate result key destructor)) status.Running (creates_key_by choice (suc frame.pc) result key destructor)
   unfolding creates_key fails_to_create_key
   create_key_case (alt.New n) frame result key destructor may = key_made frame result key destructor n (λ known. key_among (may known))
@@ -154,7 +154,7 @@ module _ (passes : ℕ) (body : List Stmt) (shared : SharedState) (t : Thread) (
   pop_case frame v [] is none = rests (StatementIn frame (statement.Pop v)) status.Running (λ known. refl)
   pop_case frame v ((f, a) ∷ handlers) is none = pop_by frame v f a handlers is (nat_eq (value frame v) 0) none
 
-  running_case : (choice : Alt) (frame : Frame) (s : Stmt) → (offered ≡ true → Offered shared.keys t others (StatementIn frame s) status.Running choice) → stop_at body shared t others frame s ≡ None
+  running_case : (choice : Alt) (frame : Frame) (s : Stmt) → (offered ≡ true → Offered shared t others (StatementIn frame s) status.Running choice) → stop_at body shared t others frame s ≡ None
       → Case (StatementIn frame s) status.Running (runs passes body shared t others choice frame s)
   unfolding runs emits sets adds jumps calls gets_self ends_by_exit pushes sets_state sets_mode tests_cancel deletes_key sets_specific gets_specific stops_of
   running_case choice frame (statement.Emit v) may none = emitted frame v
@@ -241,7 +241,7 @@ module _ (passes : ℕ) (body : List Stmt) (shared : SharedState) (t : Thread) (
     pass_by due true false is past = ended_case due (λ some. ltb-false t.pass passes past) others.is_last refl
     pass_by due false more is limit = let nothing : due ≡ 0 = eqb-true due 0 (not-false (nat_eq due 0) is) in ended_case due (λ some. absurd (omega (arith, some, nothing))) others.is_last refl
 
-  ending_case : (choice : Alt) (next : NextStatement) → (offered ≡ true → Offered shared.keys t others next status.Ending choice) → (handlers : List (ℕ × ℕ)) → t.handlers ≡ handlers
+  ending_case : (choice : Alt) (next : NextStatement) → (offered ≡ true → Offered shared t others next status.Ending choice) → (handlers : List (ℕ × ℕ)) → t.handlers ≡ handlers
       → Case next status.Ending (goes_on_ending others.is_last passes shared.keys t choice handlers)
   unfolding goes_on_ending
   ending_case choice next may ((f, a) ∷ handlers) is = handler_run next f a handlers is
@@ -258,7 +258,7 @@ module _ (passes : ℕ) (body : List Stmt) (shared : SharedState) (t : Thread) (
   -- ---- the table
 
   -- where the thread goes on
-  pub going_case : (choice : Alt) (next : NextStatement) (s : Status) → (offered ≡ true → Offered shared.keys t others next s choice) → Case next s (transition_at passes body shared t others choice next s)
+  pub going_case : (choice : Alt) (next : NextStatement) (s : Status) → (offered ≡ true → Offered shared t others next s choice) → Case next s (transition_at passes body shared t others choice next s)
   unfolding transition_at
   going_case choice (StatementIn frame s) status.Running may = stop_case frame s (stop_at body shared t others frame s) (runs passes body shared t others choice frame s) (running_case choice frame s may)
   going_case choice next (status.AtPoint index) may = point_passed_case index next
@@ -267,17 +267,17 @@ module _ (passes : ℕ) (body : List Stmt) (shared : SharedState) (t : Thread) (
   going_case choice next status.Exiting may = exit_case next shared.exit_functions shared.exit_value
   going_case choice next s may = rests next s (λ known. offered_alive (may known))
 
-  acting_case : (n : ℕ) (next : NextStatement) (s : Status) → (offered ≡ true → Offered shared.keys t others next s (alt.Act n)) → Case next s (acts_on_request s)
+  acting_case : (n : ℕ) (next : NextStatement) (s : Status) → (offered ≡ true → Offered shared t others next s (alt.Act n)) → Case next s (acts_on_request s)
   unfolding acts_on_request
   acting_case n next status.Running may = canceled next (λ known. act_enabled (may known))
   acting_case n next (status.AtPoint index) may = canceled_at_point next index (λ known. act_enabled (may known))
   acting_case n next (status.Joining id) may = canceled_in_join next id (λ known. act_enabled (may known))
   acting_case n next s may = rests next s (λ known. offered_alive (may known))
 
-  by_choice : (choice : Alt) (next : NextStatement) (s : Status) → (offered ≡ true → Offered shared.keys t others next s choice) → Case next s (acts_or choice s (transition_at passes body shared t others choice next s))
+  by_choice : (choice : Alt) (next : NextStatement) (s : Status) → (offered ≡ true → Offered shared t others next s choice) → Case next s (acts_or choice s (transition_at passes body shared t others choice next s))
   by_choice (alt.Act n) next s may = acting_case n next s may
   by_choice choice next s may = going_case choice next s may
 
   -- the case of the transition that a choice makes
-  pub case_of : (choice : Alt) (next : NextStatement) (s : Status) → (offered ≡ true → offers (choices_at shared.keys t others next s) choice ≡ true) → Case next s (acts_or choice s (transition_at passes body shared t others choice next s))
-  case_of choice next s legal = by_choice choice next s (λ known. offered_of shared.keys t others choice next s (legal known))
+  pub case_of : (choice : Alt) (next : NextStatement) (s : Status) → (offered ≡ true → offers (choices_at shared t others next s) choice ≡ true) → Case next s (acts_or choice s (transition_at passes body shared t others choice next s))
+  case_of choice next s legal = by_choice choice next s (λ known. offered_of shared t others choice next s (legal known))

@@ -15,51 +15,51 @@ use Rattle.pct_model.specs.declared.statement.Operand.{Operand}
 use Rattle.pct_model.specs.declared.statement.Stmt.{Stmt}
 use Rattle.pct_model.specs.declared.statement.Stmt.TheVariants as statement
 use Rattle.pct_model.specs.Cancelability.{is_deliverable, is_asynchronous}
-use Rattle.pct_model.specs.CancelCalls.{called_kind, is_required, is_optional, may_pass}
+use Rattle.pct_model.specs.CancelCalls.{called_kind, is_required, is_optional, may_return}
 use Rattle.pct_model.specs.ChoiceTable.{ChoiceRow, first_row, go_if, act_if, new_or_go, dtor_or_go, is_create, is_key_create, running_rows, running_choices, ending_choices, choices_at, same_choice, offers}
-use Rattle.pct_model.specs.Keys.{KeyPlace, new_keys, left_keys}
+use Rattle.pct_model.specs.Keys.{new_keys, left_keys}
 use Rattle.pct_model.specs.NextStatement.{NextStatement, StatementIn}
 use Rattle.pct_model.specs.OtherThreads.{Others, is_ended_thread}
 use Rattle.pct_model.specs.ThreadSlots.{is_ended_status}
-use Rattle.pct_model.specs.World.{Thread}
+use Rattle.pct_model.specs.World.{Thread, SharedState}
 
 -- ---- the cases
 
 -- a choice that is offered to a thread, and what is known of the thread then. A new case is needed only for a choice of a new kind
-pub data Offered (keys : List KeyPlace) (t : Thread) (others : Others) : NextStatement → Status → Alt → Type 0 where
+pub data Offered (shared : SharedState) (t : Thread) (others : Others) : NextStatement → Status → Alt → Type 0 where
   -- the thread goes on
-  may_go : (next : NextStatement) (s : Status) → is_ended_status s ≡ false → Offered keys t others next s alt.Go
+  may_go : (next : NextStatement) (s : Status) → is_ended_status s ≡ false → Offered shared t others next s alt.Go
   -- it acts upon a request
-  may_act : (next : NextStatement) (s : Status) → is_ended_status s ≡ false → t.state ≡ Enable → Offered keys t others next s (alt.Act 0)
+  may_act : (next : NextStatement) (s : Status) → is_ended_status s ≡ false → t.state ≡ Enable → Offered shared t others next s (alt.Act 0)
   -- it creates a thread, or makes a key, with one of the numbers that are free
   may_create : (frame : Frame) (result id : Dest) (f : ℕ) (v : Operand) (detached : Bool) (n : ℕ) → list_any (nat_eq n) others.new_ids ≡ true
-      → Offered keys t others (StatementIn frame (statement.Create result id f v detached)) status.Running (alt.New n)
-  may_make_key : (frame : Frame) (result key : Dest) (destructor : Option ℕ) (n : ℕ) → list_any (nat_eq n) (new_keys keys) ≡ true
-      → Offered keys t others (StatementIn frame (statement.KeyCreate result key destructor)) status.Running (alt.New n)
+      → Offered shared t others (StatementIn frame (statement.Create result id f v detached)) status.Running (alt.New n)
+  may_make_key : (frame : Frame) (result key : Dest) (destructor : Option ℕ) (n : ℕ) → list_any (nat_eq n) (new_keys shared.keys) ≡ true
+      → Offered shared t others (StatementIn frame (statement.KeyCreate result key destructor)) status.Running (alt.New n)
   -- it has no handler, and calls the destructor of a key that is left in its pass
-  may_destroy : (next : NextStatement) (k : ℕ) → t.handlers ≡ [] → list_any (nat_eq k) (left_keys keys t.specific) ≡ true → Offered keys t others next status.Ending (alt.Dtor k)
+  may_destroy : (next : NextStatement) (k : ℕ) → t.handlers ≡ [] → list_any (nat_eq k) (left_keys shared.keys t.specific) ≡ true → Offered shared t others next status.Ending (alt.Dtor k)
 
 -- ---- what each case has
 
-module _ {keys : List KeyPlace} {t : Thread} {others : Others} where
+module _ {shared : SharedState} {t : Thread} {others : Others} where
   -- a thread that has a choice does not have the status of its end
-  pub offered_alive : {next : NextStatement} {s : Status} {choice : Alt} → Offered keys t others next s choice → is_ended_status s ≡ false
+  pub offered_alive : {next : NextStatement} {s : Status} {choice : Alt} → Offered shared t others next s choice → is_ended_status s ≡ false
   offered_alive (may_go next s alive) = alive
   offered_alive (may_act next s alive enabled) = alive
   offered_alive _ = refl
 
   -- a thread that may act upon a request has its cancelability enabled
-  pub act_enabled : {next : NextStatement} {s : Status} {n : ℕ} → Offered keys t others next s (alt.Act n) → t.state ≡ Enable
+  pub act_enabled : {next : NextStatement} {s : Status} {n : ℕ} → Offered shared t others next s (alt.Act n) → t.state ≡ Enable
   act_enabled (may_act next s alive enabled) = enabled
 
   -- the id of a new thread, the number of a new key, and the key of a destructor are among those that are offered
-  pub id_among : {frame : Frame} {result id : Dest} {f : ℕ} {v : Operand} {detached : Bool} {n : ℕ} → Offered keys t others (StatementIn frame (statement.Create result id f v detached)) status.Running (alt.New n) → list_any (nat_eq n) others.new_ids ≡ true
+  pub id_among : {frame : Frame} {result id : Dest} {f : ℕ} {v : Operand} {detached : Bool} {n : ℕ} → Offered shared t others (StatementIn frame (statement.Create result id f v detached)) status.Running (alt.New n) → list_any (nat_eq n) others.new_ids ≡ true
   id_among (may_create frame result id f v detached n among) = among
 
-  pub key_among : {frame : Frame} {result key : Dest} {destructor : Option ℕ} {n : ℕ} → Offered keys t others (StatementIn frame (statement.KeyCreate result key destructor)) status.Running (alt.New n) → list_any (nat_eq n) (new_keys keys) ≡ true
+  pub key_among : {frame : Frame} {result key : Dest} {destructor : Option ℕ} {n : ℕ} → Offered shared t others (StatementIn frame (statement.KeyCreate result key destructor)) status.Running (alt.New n) → list_any (nat_eq n) (new_keys shared.keys) ≡ true
   key_among (may_make_key frame result key destructor n among) = among
 
-  pub left_among : {next : NextStatement} {s : Status} {k : ℕ} → Offered keys t others next s (alt.Dtor k) → list_any (nat_eq k) (left_keys keys t.specific) ≡ true
+  pub left_among : {next : NextStatement} {s : Status} {k : ℕ} → Offered shared t others next s (alt.Dtor k) → list_any (nat_eq k) (left_keys shared.keys t.specific) ≡ true
   left_among (may_destroy next k none among) = among
 
 -- ---- lists of choices
@@ -122,24 +122,24 @@ asynchronous_enabled Disable mode is = absurd (false≢true is)
 
 -- ---- the table
 
-module _ (keys : List KeyPlace) (t : Thread) (others : Others) (choice : Alt) where
+module _ (shared : SharedState) (t : Thread) (others : Others) (choice : Alt) where
   -- a running thread
-  id_offered : (frame : Frame) (s : Stmt) → is_create s ≡ true → (n : ℕ) → list_any (nat_eq n) others.new_ids ≡ true → Offered keys t others (StatementIn frame s) status.Running (alt.New n)
+  id_offered : (frame : Frame) (s : Stmt) → is_create s ≡ true → (n : ℕ) → list_any (nat_eq n) others.new_ids ≡ true → Offered shared t others (StatementIn frame s) status.Running (alt.New n)
   id_offered frame (statement.Create result id f v detached) is n among = may_create frame result id f v detached n among
   id_offered frame _ is n among = absurd (false≢true is)
 
-  key_offered : (frame : Frame) (s : Stmt) → is_key_create s ≡ true → (n : ℕ) → list_any (nat_eq n) (new_keys keys) ≡ true → Offered keys t others (StatementIn frame s) status.Running (alt.New n)
+  key_offered : (frame : Frame) (s : Stmt) → is_key_create s ≡ true → (n : ℕ) → list_any (nat_eq n) (new_keys shared.keys) ≡ true → Offered shared t others (StatementIn frame s) status.Running (alt.New n)
   key_offered frame (statement.KeyCreate result key destructor) is n among = may_make_key frame result key destructor n among
   key_offered frame _ is n among = absurd (false≢true is)
 
-  running_offered : (frame : Frame) (s : Stmt) → offers (running_choices keys t others s) choice ≡ true → Offered keys t others (StatementIn frame s) status.Running choice
+  running_offered : (frame : Frame) (s : Stmt) → offers (running_choices shared t others s) choice ≡ true → Offered shared t others (StatementIn frame s) status.Running choice
   unfolding running_choices running_rows
   running_offered frame s =
-      let P : Alt → Type 0 = Offered keys t others (StatementIn frame s) status.Running in
+      let P : Alt → Type 0 = Offered shared t others (StatementIn frame s) status.Running in
       let go : P alt.Go = may_go (StatementIn frame s) status.Running refl in
       let act : t.state ≡ Enable → P (alt.Act 0) = λ enabled. may_act (StatementIn frame s) status.Running refl enabled in
       let delivered : (kind : Bool) → is_deliverable t.state t.pending && kind ≡ true → P (alt.Act 0) = λ kind both. act (deliverable_enabled t.state t.pending (and_parts (is_deliverable t.state t.pending) kind both).0) in
-      first_row_has (λ choices. offers choices choice ≡ true → P choice) (running_rows keys t others s) (alt.Go ∷ []) (
+      first_row_has (λ choices. offers choices choice ≡ true → P choice) (running_rows shared t others s) (alt.Go ∷ []) (
         λ unbuilt. each_has P choice (alt.Go ∷ []) (go, tt),
         (
           λ asynchronous. go_or_act_has P choice true t.pending go (λ pending. act (asynchronous_enabled t.state t.mode asynchronous)),
@@ -147,7 +147,7 @@ module _ (keys : List KeyPlace) (t : Thread) (others : Others) (choice : Alt) wh
             λ required. each_has P choice (alt.Act 0 ∷ []) (delivered (is_required (called_kind s)) required, tt),
             (
               λ optional. each_has P choice (alt.Go ∷ alt.Act 0 ∷ []) (go, (delivered (is_optional (called_kind s)) optional, tt)),
-              (λ creates. new_or_go_has P choice others.new_ids go (id_offered frame s creates), (λ creates. new_or_go_has P choice (new_keys keys) go (key_offered frame s creates), tt)),
+              (λ creates. new_or_go_has P choice others.new_ids go (id_offered frame s creates), (λ creates. new_or_go_has P choice (new_keys shared.keys) go (key_offered frame s creates), tt)),
             ),
           ),
         ),
@@ -155,22 +155,22 @@ module _ (keys : List KeyPlace) (t : Thread) (others : Others) (choice : Alt) wh
       (each_has P choice (alt.Go ∷ []) (go, tt))
 
   -- a thread that is suspended at a cancellation point
-  suspended_offered : (next : NextStatement) (s : Status) → is_ended_status s ≡ false → (passes : Bool) → offers (go_if passes ++ act_if (is_deliverable t.state t.pending)) choice ≡ true → Offered keys t others next s choice
+  suspended_offered : (next : NextStatement) (s : Status) → is_ended_status s ≡ false → (passes : Bool) → offers (go_if passes ++ act_if (is_deliverable t.state t.pending)) choice ≡ true → Offered shared t others next s choice
   suspended_offered next s alive passes offered =
-      go_or_act_has (Offered keys t others next s) choice passes (is_deliverable t.state t.pending) (may_go next s alive) (λ delivered. may_act next s alive (deliverable_enabled t.state t.pending delivered)) offered
+      go_or_act_has (Offered shared t others next s) choice passes (is_deliverable t.state t.pending) (may_go next s alive) (λ delivered. may_act next s alive (deliverable_enabled t.state t.pending delivered)) offered
 
   -- a thread that is ending
-  ending_offered : (next : NextStatement) (handlers : List (ℕ × ℕ)) → t.handlers ≡ handlers → offers (ending_choices keys t others handlers) choice ≡ true → Offered keys t others next status.Ending choice
+  ending_offered : (next : NextStatement) (handlers : List (ℕ × ℕ)) → t.handlers ≡ handlers → offers (ending_choices shared t others handlers) choice ≡ true → Offered shared t others next status.Ending choice
   unfolding ending_choices
-  ending_offered next (handler ∷ handlers) is offered = each_has (Offered keys t others next status.Ending) choice (alt.Go ∷ []) (may_go next status.Ending refl, tt) offered
-  ending_offered next [] none offered = dtor_or_go_has (Offered keys t others next status.Ending) choice (left_keys keys t.specific) (may_go next status.Ending refl) (λ k among. may_destroy next k none among) offered
+  ending_offered next (handler ∷ handlers) is offered = each_has (Offered shared t others next status.Ending) choice (alt.Go ∷ []) (may_go next status.Ending refl, tt) offered
+  ending_offered next [] none offered = dtor_or_go_has (Offered shared t others next status.Ending) choice (left_keys shared.keys t.specific) (may_go next status.Ending refl) (λ k among. may_destroy next k none among) offered
 
   -- the case of a choice that is offered
-  pub offered_of : (next : NextStatement) (s : Status) → offers (choices_at keys t others next s) choice ≡ true → Offered keys t others next s choice
+  pub offered_of : (next : NextStatement) (s : Status) → offers (choices_at shared t others next s) choice ≡ true → Offered shared t others next s choice
   unfolding choices_at
   offered_of (StatementIn frame s) status.Running offered = running_offered frame s offered
-  offered_of next (status.AtPoint index) offered = suspended_offered next (status.AtPoint index) refl (may_pass index) offered
+  offered_of next (status.AtPoint index) offered = suspended_offered next (status.AtPoint index) refl (may_return index) offered
   offered_of next (status.Joining id) offered = suspended_offered next (status.Joining id) refl (is_ended_thread id others) offered
   offered_of next status.Ending offered = ending_offered next t.handlers refl offered
-  offered_of next status.Exiting offered = each_has (Offered keys t others next status.Exiting) choice (alt.Go ∷ []) (may_go next status.Exiting refl, tt) offered
+  offered_of next status.Exiting offered = each_has (Offered shared t others next status.Exiting) choice (alt.Go ∷ []) (may_go next status.Exiting refl, tt) offered
   offered_of next _ offered = absurd (false≢true offered)

@@ -10,17 +10,16 @@ use Rattle.pct_model.specs.declared.statement.Stmt.TheVariants as statement
 use Rattle.pct_model.specs.Cancelability.{is_deliverable, is_asynchronous}
 use Rattle.pct_model.specs.CancelCalls.{called_kind}
 use Rattle.pct_model.specs.ChoiceTable.{go_if, act_if, running_rows, running_choices}
-use Rattle.pct_model.specs.Keys.{KeyPlace}
 use Rattle.pct_model.specs.OtherThreads.{Others}
 use Rattle.pct_model.specs.StopTable.{is_built}
-use Rattle.pct_model.specs.World.{Thread}
+use Rattle.pct_model.specs.World.{Thread, SharedState}
 use Rattle.pct_transitions.specs.Listed.{statement_choices}
 
 -- a statement that is not implemented has `go` alone
-unbuilt_goes : (keys : List KeyPlace) (others : Others) (s : Stmt) → statement_choices keys others s ≡ cond (not (is_built s)) (alt.Go ∷ []) (statement_choices keys others s)
-unbuilt_goes keys others (statement.Create result id f v detached) = refl
-unbuilt_goes keys others (statement.KeyCreate result key destructor) = refl
-unbuilt_goes keys others s = either (not (is_built s)) where
+unbuilt_goes : (shared : SharedState) (others : Others) (s : Stmt) → statement_choices shared others s ≡ cond (not (is_built s)) (alt.Go ∷ []) (statement_choices shared others s)
+unbuilt_goes shared others (statement.Create result id f v detached) = refl
+unbuilt_goes shared others (statement.KeyCreate result key destructor) = refl
+unbuilt_goes shared others s = either (not (is_built s)) where
   either : (b : Bool) → alt.Go ∷ [] ≡ cond b (alt.Go ∷ []) (alt.Go ∷ [])
   either true = refl
   either false = refl
@@ -39,9 +38,9 @@ at_kind (Some kinds.Required) others = alt.Act 0 ∷ []
 at_kind (Some kinds.Optional) others = alt.Go ∷ alt.Act 0 ∷ []
 at_kind None others = others
 
-module _ (keys : List KeyPlace) (t : Thread) (others : Others) (s : Stmt) where
+module _ (shared : SharedState) (t : Thread) (others : Others) (s : Stmt) where
   -- with asynchronous cancelability
-  pub asynchronous_row : is_asynchronous t.state t.mode ≡ true → go_if true ++ act_if (t.pending && is_built s) ≡ running_choices keys t others s
+  pub asynchronous_row : is_asynchronous t.state t.mode ≡ true → go_if true ++ act_if (t.pending && is_built s) ≡ running_choices shared t others s
   unfolding running_choices running_rows
   asynchronous_row is = rw is (by t.pending (is_built s)) where
     by : (pending built : Bool) → go_if true ++ act_if (pending && built) ≡ cond (not built) (alt.Go ∷ []) (alt.Go ∷ act_if pending)
@@ -51,13 +50,13 @@ module _ (keys : List KeyPlace) (t : Thread) (others : Others) (s : Stmt) where
     by false false = refl
 
   -- where a request is acted upon at points
-  pub requested_row : (kind : Option PointKind) → is_asynchronous t.state t.mode ≡ false → is_deliverable t.state t.pending ≡ true → called_kind s ≡ kind → at_kind kind (statement_choices keys others s) ≡ running_choices keys t others s
+  pub requested_row : (kind : Option PointKind) → is_asynchronous t.state t.mode ≡ false → is_deliverable t.state t.pending ≡ true → called_kind s ≡ kind → at_kind kind (statement_choices shared others s) ≡ running_choices shared t others s
   unfolding running_choices running_rows
   requested_row (Some kinds.Required) deferred deliverable is = rw (call_is_built s kinds.Required is, deferred, deliverable, is) refl
   requested_row (Some kinds.Optional) deferred deliverable is = rw (call_is_built s kinds.Optional is, deferred, deliverable, is) refl
-  requested_row None deferred deliverable is = rw (deferred, deliverable, is) (unbuilt_goes keys others s)
+  requested_row None deferred deliverable is = rw (deferred, deliverable, is) (unbuilt_goes shared others s)
 
   -- where no request is acted upon
-  pub statement_row : is_asynchronous t.state t.mode ≡ false → is_deliverable t.state t.pending ≡ false → statement_choices keys others s ≡ running_choices keys t others s
+  pub statement_row : is_asynchronous t.state t.mode ≡ false → is_deliverable t.state t.pending ≡ false → statement_choices shared others s ≡ running_choices shared t others s
   unfolding running_choices running_rows
-  statement_row deferred none = rw (deferred, none) (unbuilt_goes keys others s)
+  statement_row deferred none = rw (deferred, none) (unbuilt_goes shared others s)

@@ -1,9 +1,10 @@
 -- The choices of a thread that makes a key, and of one that calls destructors.
-use Rattle.std.proofs.Common.{◌≡◌, ℕ, ◌+◌, ◌-◌, ◌*◌, ◌%◌, ◌<◌, ◌≤◌, Bool, true, false, not, ◌&&◌, ◌||◌, cond, List, [], ◌∷◌, map, filter, length, get_or, Option, Some, None, refl, sym, ap, ◌∙◌, inl, inr, arith, zero-add, nat_eq}
+use Rattle.std.proofs.Common.{◌≡◌, ℕ, ◌+◌, ◌-◌, ◌*◌, ◌%◌, ◌<◌, ◌≤◌, Bool, true, false, not, ◌&&◌, cond, List, [], ◌∷◌, map, filter, length, get_or, Option, Some, None, refl, sym, ap, ◌∙◌, inl, inr, arith, zero-add, nat_eq}
 use Rattle.std.specs.Prelude.{slice_get, is_some, is_none, option_map, option_and_then}
 use Rattle.std.proofs.lemmas.Option.{none-some, same_Some, slice_get-map, slice_get_past}
 use Rattle.std.specs.List.{list_any, range_with_len}
 use Rattle.std.specs.Option.{option_map_or}
+use Rattle.std.proofs.Math.Bool.{and-true, and-false}
 use Rattle.std.proofs.lemmas.Bool.{cases_Bool, and_parts, eqb-true, false≢true, true≢false}
 use Rattle.std.proofs.lemmas.List.Folds.{list_any_at, list_any_none}
 use Rattle.std.proofs.lemmas.List.{length-map}
@@ -13,12 +14,12 @@ use Rattle.std.proofs.Math.Nat.{add-mul-mod_self_left, mod-eq_of_lt}
 use Rattle.pct_model.specs.declared.limits.TheConstants.{MAX_KEYS}
 use Rattle.pct_model.specs.declared.schedule.Alt.{Alt}
 use Rattle.pct_model.specs.declared.schedule.Alt.TheVariants as alt
-use Rattle.pct_model.specs.ChoiceTable.{new_or_go, dtor_or_go, same_choice, offers}
+use Rattle.pct_model.specs.ChoiceTable.{same_choice, offers}
 use Rattle.pct_model.specs.Keys.{Key, KeyPlace, KeyValues, key_place, key_at, next_key, if_number, key_with, number_at, free_places, new_keys, value_at, is_left, left_places, left_keys}
 use Rattle.pct_engine_laws.proofs.ListFacts.{any-map, any-filter, map-map}
 use Rattle.pct_keys.specs.Tables.{Table, IsSound}
 use Rattle.pct_transitions.specs.Numbers.{AreOnPlaces}
-use Rattle.pct_transitions.proofs.ListedChoices.{IsNoNew, swapped}
+use Rattle.pct_transitions.proofs.ListedChoices.{swapped}
 
 -- ---- the places
 
@@ -37,15 +38,14 @@ one_place test k low only = by (test k) refl where
         | inr other ↦ other
       ])
 
--- a number among those of the places that pass a test
-among_places : (number : ℕ → ℕ) (test : ℕ → Bool) (n k : ℕ) → k < 128 → ((p : ℕ) → p < 128 → test p ≡ true → n ≡ number p → p ≡ k) → list_any (nat_eq n) (map number (filter test (range_with_len 0 MAX_KEYS))) ≡ (test k && nat_eq n (number k))
-among_places number test n k low only =
+-- a number among those of the places that pass a test, each of which has a number of its own
+among_places : (number : ℕ → ℕ) (test : ℕ → Bool) (n : ℕ) → ((p : ℕ) → p < 128 → test p ≡ true → key_place (number p) ≡ p)
+    → list_any (nat_eq n) (map number (filter test (range_with_len 0 MAX_KEYS))) ≡ (test (key_place n) && nat_eq n (number (key_place n)))
+among_places number test n own =
     any-map (nat_eq n) number (filter test (range_with_len 0 MAX_KEYS))
     ∙ any-filter (λ p. nat_eq n (number p)) test (range_with_len 0 MAX_KEYS)
-    ∙ one_place (λ p. test p && nat_eq n (number p)) k low (λ p small passes. let parts = and_parts (test p) (nat_eq n (number p)) passes in only p small parts.0 (eqb-true n (number p) parts.1))
-
-pub place_below : (n : ℕ) → key_place n < 128
-place_below n = omega arith
+    ∙ one_place (λ p. test p && nat_eq n (number p)) (key_place n) (omega arith) (λ p small passes.
+    let parts = and_parts (test p) (nat_eq n (number p)) passes in sym (ap key_place (eqb-true n (number p) parts.1) ∙ own p small parts.0))
 
 -- the place of the next key on a place
 place_of_next : (p made : ℕ) → p < 128 → key_place (1 + p + 128 * made) ≡ p
@@ -59,7 +59,7 @@ module _ (places : List KeyPlace) (n : ℕ) where
   -- a number is among those of new keys exactly if its place has no key and it is the next one there
   pub new_among : list_any (nat_eq n) (new_keys places) ≡ (is_none (key_at places (key_place n)) && nat_eq n (next_key places (key_place n)))
   unfolding free_places
-  new_among = among_places (next_key places) (λ p. is_none (key_at places p)) n (key_place n) (place_below n) (λ p small free is. sym (ap key_place is ∙ place_of_next p _ small))
+  new_among = among_places (next_key places) (λ p. is_none (key_at places p)) n (λ p small free. place_of_next p _ small)
 
   -- then it is offered
   pub new_offered : offers (map (λ n. alt.New n) (new_keys places)) (alt.New n) ≡ (is_none (key_at places (key_place n)) && nat_eq n (next_key places (key_place n)))
@@ -75,21 +75,19 @@ module _ (places : List KeyPlace) (n : ℕ) where
 
 module _ (places : List KeyPlace) (own : KeyValues) (n : ℕ) where
   has_key : (o : Option Key) (p : ℕ) (in_pass value : Bool) → key_at places p ≡ o → (in_pass && (option_map_or (λ key. is_some key.destructor) o false && value)) ≡ true → (key : Key) × (key_at places p ≡ Some key) × (number_at places p ≡ key.number)
-  has_key None p in_pass value at left = absurd (false≢true (sym (none_left in_pass) ∙ left)) where
-    none_left : (b : Bool) → (b && (false && value)) ≡ false
-    none_left true = refl
-    none_left false = refl
+  has_key None p true value at left = absurd (false≢true left)
+  has_key None p false value at left = absurd (false≢true left)
   has_key (Some key) p in_pass value at left = (key, at, ap (λ (o : Option Key). option_map_or (λ key. key.number) o 0) at)
 
-  left_place : AreOnPlaces places → (p : ℕ) → p < 128 → is_left places own p ≡ true → n ≡ number_at places p → p ≡ key_place n
-  left_place on p small left is =
+  left_place : AreOnPlaces places → (p : ℕ) → p < 128 → is_left places own p ≡ true → key_place (number_at places p) ≡ p
+  left_place on p small left =
       let key = has_key (key_at places p) p (option_map_or (λ in_pass. in_pass) (slice_get own.in_pass p) false) (not (nat_eq (value_at p own) 0)) refl left in
-      sym (ap key_place (is ∙ key.2) ∙ on p key.0 small key.1)
+      ap key_place key.2 ∙ on p key.0 small key.1
 
   -- a number is among those of the keys that are left exactly if the key on its place is left and has it
   pub left_among : AreOnPlaces places → list_any (nat_eq n) (left_keys places own) ≡ (is_left places own (key_place n) && nat_eq n (number_at places (key_place n)))
   unfolding left_places
-  left_among on = among_places (number_at places) (is_left places own) n (key_place n) (place_below n) (left_place on)
+  left_among on = among_places (number_at places) (is_left places own) n (left_place on)
 
   -- then it is offered
   pub left_offered : AreOnPlaces places → offers (map (λ n. alt.Dtor n) (left_keys places own)) (alt.Dtor n) ≡ (is_left places own (key_place n) && nat_eq n (number_at places (key_place n)))
@@ -100,49 +98,17 @@ module _ (places : List KeyPlace) (own : KeyValues) (n : ℕ) where
   left_fits on among = (and_parts (is_left places own (key_place n)) (nat_eq n (number_at places (key_place n))) (sym (left_among on) ∙ among)).0
 
   by_key : (o : Option Key) (in_pass value : Bool) → let left : Bool = in_pass && (option_map_or (λ key. is_some key.destructor) o false && value) in (left && nat_eq n (option_map_or (λ key. key.number) o 0)) ≡ (is_some (if_number n o) && left)
-  by_key None in_pass value = none_left in_pass where
-    none_left : (b : Bool) → ((b && (false && value)) && nat_eq n 0) ≡ false
-    none_left true = refl
-    none_left false = refl
+  by_key None true value = refl
+  by_key None false value = refl
   by_key (Some key) in_pass value = ap (λ b. (in_pass && (is_some key.destructor && value)) && b) (swapped n key.number) ∙ either (nat_eq key.number n) (in_pass && (is_some key.destructor && value)) where
     either : (same left : Bool) → (left && same) ≡ (is_some (cond same (Some key) None) && left)
-    either true true = refl
-    either true false = refl
-    either false true = refl
-    either false false = refl
+    either true left = and-true left
+    either false left = and-false left
 
   -- the same, by the key with the number
   pub left_by_key : (is_left places own (key_place n) && nat_eq n (number_at places (key_place n))) ≡ (is_some (key_with n places) && is_left places own (key_place n))
   unfolding key_with
   left_by_key = by_key (key_at places (key_place n)) (option_map_or (λ in_pass. in_pass) (slice_get own.in_pass (key_place n)) false) (not (nat_eq (value_at (key_place n) own) 0))
-
--- ---- other choices
-
--- the choice calls no destructor
-abbrev pub IsNoDtor : Alt → Type 0
-IsNoDtor choice = (key : ℕ) → choice ≡ alt.Dtor key → ⊥
-
-never_new : (choice : Alt) (n : ℕ) → IsNoNew choice → same_choice choice (alt.New n) ≡ false
-never_new alt.Go n other = refl
-never_new (alt.Act m) n other = refl
-never_new (alt.New m) n other = absurd (other m refl)
-never_new (alt.Pick m) n other = refl
-never_new (alt.Dtor m) n other = refl
-
-never_dtor : (choice : Alt) (n : ℕ) → IsNoDtor choice → same_choice choice (alt.Dtor n) ≡ false
-never_dtor alt.Go n other = refl
-never_dtor (alt.Act m) n other = refl
-never_dtor (alt.New m) n other = refl
-never_dtor (alt.Pick m) n other = refl
-never_dtor (alt.Dtor m) n other = absurd (other m refl)
-
-pub no_new_offered : (choice : Alt) (numbers : List ℕ) → IsNoNew choice → offers (map (λ n. alt.New n) numbers) choice ≡ false
-no_new_offered choice [] other = refl
-no_new_offered choice (n ∷ numbers) other = ap (λ b. b || offers (map (λ n. alt.New n) numbers) choice) (never_new choice n other) ∙ no_new_offered choice numbers other
-
-pub no_dtor_offered : (choice : Alt) (numbers : List ℕ) → IsNoDtor choice → offers (map (λ n. alt.Dtor n) numbers) choice ≡ false
-no_dtor_offered choice [] other = refl
-no_dtor_offered choice (n ∷ numbers) other = ap (λ b. b || offers (map (λ n. alt.Dtor n) numbers) choice) (never_dtor choice n other) ∙ no_dtor_offered choice numbers other
 
 -- ---- the places of keys
 
@@ -162,38 +128,37 @@ is_none-not : {T : Type 0} (o : Option T) → is_none o ≡ not (is_some o)
 is_none-not None = refl
 is_none-not (Some x) = refl
 
-module _ (places : List KeyPlace) where
-  -- no place is free
-  pub none_free : (o : Option ℕ) → is_some o ≡ false → o ≡ slice_get (free_places places) 0 → alt.Go ∷ [] ≡ new_or_go (new_keys places)
-  none_free o none at = by (free_places places) o none at where
-    by : (free : List ℕ) (o : Option ℕ) → is_some o ≡ false → o ≡ slice_get free 0 → alt.Go ∷ [] ≡ new_or_go (map (next_key places) free)
-    by [] o none at = refl
-    by (p ∷ free) o none at = absurd (true≢false (sym (ap is_some at) ∙ none))
+-- of choices that name the numbers of some places, or `go` if there is none
+module _ (choose : ℕ → Alt) (number : ℕ → ℕ) where
+  -- no place is there
+  pub none_there : (go : List ℕ → List Alt) → alt.Go ∷ [] ≡ go [] → (places : List ℕ) (o : Option ℕ) → is_some o ≡ false → o ≡ slice_get places 0
+      → alt.Go ∷ [] ≡ go (map number places)
+  none_there go none [] o out at = none
+  none_there go none (p ∷ places) o out at = absurd (true≢false (sym (ap is_some at) ∙ out))
 
   -- a place is
-  pub some_free : (o : Option ℕ) → is_some o ≡ true → o ≡ slice_get (free_places places) 0 → map (λ n. alt.New n) (new_keys places) ≡ new_or_go (new_keys places)
-  some_free o some at = by (free_places places) o some at where
-    by : (free : List ℕ) (o : Option ℕ) → is_some o ≡ true → o ≡ slice_get free 0 → map (λ n. alt.New n) (map (next_key places) free) ≡ new_or_go (map (next_key places) free)
-    by [] o some at = absurd (true≢false (sym some ∙ ap is_some at))
-    by (p ∷ free) o some at = refl
+  pub some_there : (go : List ℕ → List Alt) → ((n : ℕ) (ns : List ℕ) → map choose (n ∷ ns) ≡ go (n ∷ ns)) → (places : List ℕ) (o : Option ℕ)
+      → is_some o ≡ true → o ≡ slice_get places 0 → map choose (map number places) ≡ go (map number places)
+  some_there go some [] o there at = absurd (true≢false (sym there ∙ ap is_some at))
+  some_there go some (p ∷ places) o there at = some (number p) (map number places)
 
-  -- the new key at an index
-  pub new_at : (o : Option ℕ) (n : ℕ) → o ≡ slice_get (free_places places) n → option_map (λ p. alt.New (next_key places p)) o ≡ slice_get (map (λ k. alt.New k) (new_keys places)) n
-  new_at o n at =
-      ap (option_map (λ p. alt.New (next_key places p))) at
-      ∙ sym (slice_get-map (λ p. alt.New (next_key places p)) (free_places places) n)
-      ∙ sym (ap (λ (choices : List Alt). slice_get choices n) (map-map (λ k. alt.New k) (next_key places) (free_places places)))
-
-  few_where : (test : ℕ → Bool) → length (filter test (range_with_len 0 MAX_KEYS)) ≤ 128
-  few_where test = omega (arith, length-filter test (range_with_len 0 MAX_KEYS), count_by-le-length test (range_with_len 0 MAX_KEYS), length-range_with_len 0 MAX_KEYS)
+  -- the choice at an index
+  pub choice_at : (places : List ℕ) (o : Option ℕ) (n : ℕ) → o ≡ slice_get places n
+      → option_map (λ p. choose (number p)) o ≡ slice_get (map choose (map number places)) n
+  choice_at places o n at =
+      ap (option_map (λ p. choose (number p))) at
+      ∙ sym (slice_get-map (λ p. choose (number p)) places n)
+      ∙ sym (ap (λ (choices : List Alt). slice_get choices n) (map-map choose number places))
 
   -- there are not more than places
-  pub new_past : (n : ℕ) → 128 ≤ n → None ≡ slice_get (map (λ k. alt.New k) (new_keys places)) n
-  unfolding free_places
-  new_past n past =
-      let few : length (free_places places) ≤ 128 = few_where (λ p. is_none (key_at places p)) in
-      sym (slice_get_past (map (λ k. alt.New k) (new_keys places)) n (omega (arith, past, few, length-map (new_keys places) (λ k. alt.New k), length-map (free_places places) (next_key places))))
+  pub none_past : (test : ℕ → Bool) (n : ℕ) → 128 ≤ n → None ≡ slice_get (map choose (map number (filter test (range_with_len 0 MAX_KEYS)))) n
+  none_past test n past =
+      let all : List ℕ = range_with_len 0 MAX_KEYS in
+      let few : length (filter test all) ≤ 128 = omega (arith, length-filter test all, count_by-le-length test all, length-range_with_len 0 MAX_KEYS) in
+      sym (slice_get_past (map choose (map number (filter test all))) n
+      (omega (arith, past, few, length-map (map number (filter test all)) choose, length-map (filter test all) number)))
 
+module _ (places : List KeyPlace) where
   -- a number that is offered for a new key, by what is read of its place
   pub new_by_place : (n place next : ℕ) (live : Bool) → place ≡ key_place n → live ≡ is_some (key_at places place) → next ≡ next_key places place → (not live && nat_eq next n) ≡ offers (map (λ k. alt.New k) (new_keys places)) (alt.New n)
   new_by_place n place next live at lives is =
@@ -209,33 +174,6 @@ module _ (places : List KeyPlace) where
       ∙ ap (λ b. b && nat_eq n (next_key places (key_place n))) (is_none-not (key_at places (key_place n)) ∙ ap not (ap (λ (p : ℕ). is_some (key_at places p)) (sym at) ∙ live)))
 
   module _ (own : KeyValues) where
-    -- no key is left
-    pub none_left : (o : Option ℕ) → is_some o ≡ false → o ≡ slice_get (left_places places own) 0 → alt.Go ∷ [] ≡ dtor_or_go (left_keys places own)
-    none_left o none at = by (left_places places own) o none at where
-      by : (left : List ℕ) (o : Option ℕ) → is_some o ≡ false → o ≡ slice_get left 0 → alt.Go ∷ [] ≡ dtor_or_go (map (number_at places) left)
-      by [] o none at = refl
-      by (p ∷ left) o none at = absurd (true≢false (sym (ap is_some at) ∙ none))
-
-    -- a key is
-    pub some_left : (o : Option ℕ) → is_some o ≡ true → o ≡ slice_get (left_places places own) 0 → map (λ k. alt.Dtor k) (left_keys places own) ≡ dtor_or_go (left_keys places own)
-    some_left o some at = by (left_places places own) o some at where
-      by : (left : List ℕ) (o : Option ℕ) → is_some o ≡ true → o ≡ slice_get left 0 → map (λ k. alt.Dtor k) (map (number_at places) left) ≡ dtor_or_go (map (number_at places) left)
-      by [] o some at = absurd (true≢false (sym some ∙ ap is_some at))
-      by (p ∷ left) o some at = refl
-
-    -- the key at an index
-    pub left_at : (o : Option ℕ) (n : ℕ) → o ≡ slice_get (left_places places own) n → option_map (λ p. alt.Dtor (number_at places p)) o ≡ slice_get (map (λ k. alt.Dtor k) (left_keys places own)) n
-    left_at o n at =
-        ap (option_map (λ p. alt.Dtor (number_at places p))) at
-        ∙ sym (slice_get-map (λ p. alt.Dtor (number_at places p)) (left_places places own) n)
-        ∙ sym (ap (λ (choices : List Alt). slice_get choices n) (map-map (λ k. alt.Dtor k) (number_at places) (left_places places own)))
-
-    pub left_past : (n : ℕ) → 128 ≤ n → None ≡ slice_get (map (λ k. alt.Dtor k) (left_keys places own)) n
-    unfolding left_places
-    left_past n past =
-        let few : length (left_places places own) ≤ 128 = few_where (is_left places own) in
-        sym (slice_get_past (map (λ k. alt.Dtor k) (left_keys places own)) n (omega (arith, past, few, length-map (left_keys places own) (λ k. alt.Dtor k), length-map (left_places places own) (number_at places))))
-
     -- a number that is offered for a destructor, by the key with it
     pub none_by_key : (n : ℕ) → AreOnPlaces places → key_with n places ≡ None → false ≡ offers (map (λ k. alt.Dtor k) (left_keys places own)) (alt.Dtor n)
     none_by_key n on none = sym (left_offered places own n on ∙ left_by_key places own n ∙ ap (λ (o : Option Key). is_some o && is_left places own (key_place n)) none)

@@ -8,47 +8,37 @@ use Rattle.std.proofs.Math.Nat.{add-mul-mod_self_left, mod-eq_of_lt}
 use Rattle.pct_model.specs.declared.schedule.Alt.{Alt}
 use Rattle.pct_model.specs.declared.schedule.Alt.TheVariants as alt
 use Rattle.pct_model.specs.ChoiceTable.{new_or_go, same_choice, offers}
+use Rattle.pct_engine_laws.proofs.ListFacts.{any_agree, any_never, any-map, any_and, map-map}
 use Rattle.pct_set.specs.Slots.{has_slot}
 use Rattle.pct_threads.specs.Slots.{Slot}
 use Rattle.pct_threads.specs.Tables.{slot_at, next_id_at}
 
--- a list that is mapped twice
-mapped_twice : {A B C : Type 0} (g : B → C) (f : A → B) (xs : List A) → map g (map f xs) ≡ map (λ x. g (f x)) xs
-mapped_twice g f [] = refl
-mapped_twice g f (x ∷ xs) = ap (λ ys. g (f x) ∷ ys) (mapped_twice g f xs)
-
 -- with a free slot, they are the ids of the next threads
 pub news_listed : (threads : List Slot) (free : List ℕ) → 0 < length free → map (λ s. alt.New (next_id_at threads s)) free ≡ new_or_go (map (next_id_at threads) free)
 news_listed threads [] some = absurd (omega arith)
-news_listed threads (s ∷ free) some = ap (λ (rest : List Alt). alt.New (next_id_at threads s) ∷ rest) (sym (mapped_twice (λ n. alt.New n) (next_id_at threads) free))
+news_listed threads (s ∷ free) some = ap (λ (rest : List Alt). alt.New (next_id_at threads s) ∷ rest) (sym (map-map (λ n. alt.New n) (next_id_at threads) free))
 
 -- ---- membership
 
--- the choice is none of them
-abbrev pub IsNoNew : Alt → Type 0
-IsNoNew choice = (id : ℕ) → choice ≡ alt.New id → ⊥
+-- a choice that creates no thread and makes no key, and one that calls no destructor
+pub never_new : (choice : Alt) → ((m : ℕ) → choice ≡ alt.New m → ⊥) → (n : ℕ) → same_choice choice (alt.New n) ≡ false
+never_new (alt.New m) other n = absurd (other m refl)
+never_new _ other n = refl
 
-never_new : (threads : List Slot) (choice : Alt) (s : ℕ) → IsNoNew choice → same_choice choice (alt.New (next_id_at threads s)) ≡ false
-never_new threads alt.Go s other = refl
-never_new threads (alt.Act n) s other = refl
-never_new threads (alt.New n) s other = absurd (other n refl)
-never_new threads (alt.Pick n) s other = refl
-never_new threads (alt.Dtor n) s other = refl
+pub never_dtor : (choice : Alt) → ((m : ℕ) → choice ≡ alt.Dtor m → ⊥) → (n : ℕ) → same_choice choice (alt.Dtor n) ≡ false
+never_dtor (alt.Dtor m) other n = absurd (other m refl)
+never_dtor _ other n = refl
 
--- no other choice is offered
-pub other_offered : (threads : List Slot) (choice : Alt) (free : List ℕ) → IsNoNew choice → offers (map (λ s. alt.New (next_id_at threads s)) free) choice ≡ false
-other_offered threads choice [] other = refl
-other_offered threads choice (s ∷ free) other =
-    ap (λ b. b || offers (map (λ s. alt.New (next_id_at threads s)) free) choice) (never_new threads choice s other) ∙ other_offered threads choice free other
+-- a choice that is never one that names a number is not offered
+pub none_offered : (choose : ℕ → Alt) (choice : Alt) → ((n : ℕ) → same_choice choice (choose n) ≡ false) → (numbers : List ℕ)
+    → offers (map choose numbers) choice ≡ false
+none_offered choose choice never numbers =
+    any-map (same_choice choice) choose numbers ∙ any_agree (λ n. same_choice choice (choose n)) (λ n. false) never numbers ∙ any_never numbers
 
-and_false : (b : Bool) → (b && false) ≡ false
-and_false true = refl
-and_false false = refl
-
-either_and : (a b c : Bool) → ((a && c) || (b && c)) ≡ ((a || b) && c)
-either_and true b true = refl
-either_and true b false = and_false b
-either_and false b c = refl
+-- two tests that agree on each item
+same_on : (p q : ℕ → Bool) (xs : List ℕ) → All (λ x. p x ≡ q x) xs → list_any p xs ≡ list_any q xs
+same_on p q [] same = refl
+same_on p q (x ∷ xs) same = λ i. same 0 x (omega arith) i || same_on p q xs (All-tail (λ x. p x ≡ q x) x xs same) i
 
 -- the slot of an id, and the id of the next thread on it
 module _ (threads : List Slot) (id k : ℕ) (is : (id - 1) % length threads ≡ k) where
@@ -68,16 +58,12 @@ module _ (threads : List Slot) (id k : ℕ) (is : (id - 1) % length threads ≡ 
       ]
 
   -- the id is offered exactly if its slot is free and it is the next one there
-  offered : (free : List ℕ) → All (λ s. s < length threads) free → offers (map (λ s. alt.New (next_id_at threads s)) free) (alt.New id) ≡ (list_any (λ s. nat_eq s k) free && nat_eq id (next_id_at threads k))
-  offered [] within = refl
-  offered (s ∷ free) within =
-      ap (λ b. b || offers (map (λ s. alt.New (next_id_at threads s)) free) (alt.New id)) (agrees s (within 0 s (omega arith)))
-      ∙ ap (λ b. (nat_eq s k && nat_eq id (next_id_at threads k)) || b) (offered free (All-tail (λ s. s < length threads) s free within))
-      ∙ either_and (nat_eq s k) (list_any (λ s. nat_eq s k) free) (nat_eq id (next_id_at threads k))
-
   pub id_offered : (free : List ℕ) → All (λ s. s < length threads) free → offers (map (λ s. alt.New (next_id_at threads s)) free) (alt.New id) ≡ (has_slot free k && nat_eq id (next_id_at threads k))
   unfolding has_slot
-  id_offered free within = offered free within
+  id_offered free within =
+      any-map (same_choice (alt.New id)) (λ s. alt.New (next_id_at threads s)) free
+      ∙ same_on (λ s. nat_eq id (next_id_at threads s)) (λ s. nat_eq s k && nat_eq id (next_id_at threads k)) free (λ i d inside. agrees _ (within i d inside))
+      ∙ any_and (λ s. nat_eq s k) (nat_eq id (next_id_at threads k)) free
 
 pub swapped : (a b : ℕ) → nat_eq a b ≡ nat_eq b a
 swapped a b =
@@ -101,6 +87,5 @@ id_on_held threads id k free is within has = sym (id_offered threads id k is fre
 
 -- no thread gets the id 0
 pub zero_offered : (threads : List Slot) (id : ℕ) (free : List ℕ) → id ≡ 0 → false ≡ offers (map (λ s. alt.New (next_id_at threads s)) free) (alt.New id)
-zero_offered threads id [] is = refl
-zero_offered threads id (s ∷ free) is =
-    zero_offered threads id free is ∙ ap (λ b. b || offers (map (λ s. alt.New (next_id_at threads s)) free) (alt.New id)) (sym (ne_eqb id (next_id_at threads s) (λ e. omega (arith, e, is))))
+zero_offered threads id free is =
+    sym (none_offered (λ s. alt.New (next_id_at threads s)) (alt.New id) (λ s. ne_eqb id (next_id_at threads s) (λ e. omega (arith, e, is))) free)

@@ -3,8 +3,9 @@ use Rattle.std.specs.Prelude.{ℕ, ◌<◌, List, [], ◌∷◌, All, map}
 use Rattle.pct_model.specs.declared.schedule.Alt.{Alt}
 use Rattle.pct_model.specs.declared.schedule.Alt.TheVariants as alt
 use Rattle.pct_model.specs.declared.statement.Stmt.{Stmt}
-use Rattle.pct_model.specs.Keys.{KeyPlace, new_keys, left_keys}
+use Rattle.pct_model.specs.Keys.{new_keys, left_keys}
 use Rattle.pct_model.specs.OtherThreads.{Others}
+use Rattle.pct_model.specs.World.{SharedState}
 use Rattle.pct_model.specs.ChoiceTable.{first_row, is_create, is_key_create, new_or_go}
 use Rattle.pct_threads.specs.Slots.{Slot}
 use Rattle.pct_threads.specs.Tables.{next_id_at}
@@ -29,5 +30,5 @@ AreWithin slots (choices.Dtor slot) = slot < slots
 AreWithin slots _ = Unit {0}
 
 -- the choices of a running thread at a statement, where it acts upon no request
-abbrev pub statement_choices : List KeyPlace → Others → Stmt → List Alt
-statement_choices keys others s = first_row ((is_create s, new_or_go others.new_ids) ∷ (is_key_create s, new_or_go (new_keys keys)) ∷ []) (alt.Go ∷ [])
+abbrev pub statement_choices : SharedState → Others → Stmt → List Alt
+statement_choices shared others s = first_row ((is_create s, new_or_go others.new_ids) ∷ (is_key_create s, new_or_go (new_keys shared.keys)) ∷ []) (alt.Go ∷ [])

@@ -1,7 +1,6 @@
 //! The choices of the scheduler for each thread.
 
 ghost use Rattle.std.specs.Prelude.{◌≡◌, ◌<◌, ◌++◌, ℕ, true, false, List, All, is_some, length, map, slice_get};
-ghost use Rattle.pct_model.specs.declared.script.Script.{Script};
 ghost use Rattle.pct_model.specs.declared.schedule.Alt.TheVariants as alt;
 ghost use Rattle.pct_model.specs.declared.state.Status.TheVariants as status;
 ghost use Rattle.pct_model.specs.World.{Thread, SharedState};
@@ -17,11 +16,10 @@ ghost use Rattle.pct_transitions.specs.Numbers.{IdsFit, NextKeysFit, NumbersFit}
 ghost use Rattle.pct_transitions.specs.Contexts.{IsContext, IsWhole};
 ghost use Rattle.pct_transitions.specs.Listed.{listed, statement_choices, AreWithin};
 ghost use Rattle.pct_transitions.specs.declared.choice_table.Choices.TheVariants as choices;
-ghost use Rattle.pct_transitions.specs.Positions.{next_at, HasRow, IsPosition};
+ghost use Rattle.pct_transitions.specs.Positions.{next_at};
 
-use crate::cancel_calls::{called_kind, may_pass};
+use crate::cancel_calls::{called_kind, may_return};
 use crate::context::Context;
-use crate::position::Position;
 use crate::stop_table::is_built;
 use pct_keys::{Keys, key_place};
 use pct_model::{Alt, MAX_KEYS, PointKind, Status, Stmt};
@@ -203,18 +201,18 @@ fn nth_dtor(keys: &Keys, slot: u32, n: usize) -> Option<Alt>
 pub(crate) fn choices_at(context: &Context) -> Choices
     requires { IsWhole context.now }
     ensures value { (shared : SharedState) (t : Thread) (others : Others) → IsContext shared t others context.now
-        → listed context.now.threads.now context.now.position.keys.now result ≡ choices_at context.now.position.keys.now.places t others (next_of context.now.program.now.script t.frames) t.status }
+        → listed context.now.threads.now context.now.position.keys.now result ≡ choices_at shared t others (next_of context.now.program.now.script t.frames) t.status }
     ensures within { AreWithin (length context.now.threads.now) result }
 {
     let cancel = &context.position.thread.cancel;
     match context.position.thread.status {
         Status::Running => at_next(context),
-        Status::AtPoint(index) => go_or_act(may_pass(index), cancel.deliverable()),
+        Status::AtPoint(index) => go_or_act(may_return(index), cancel.deliverable()),
         Status::Joining(id) => go_or_act(
             context.exit_value_with(id).is_some(),
             cancel.deliverable(),
         ),
-        Status::Ending => ending_choices(&context.position),
+        Status::Ending => ending_choices(context),
         Status::Exiting => Choices::Go,
         _ => Choices::None,
     }
@@ -226,7 +224,7 @@ pub(crate) fn choices_at(context: &Context) -> Choices
 fn at_next(context: &Context) -> Choices
     requires { IsWhole context.now }
     ensures value { (shared : SharedState) (t : Thread) (others : Others) → IsContext shared t others context.now
-        → listed context.now.threads.now context.now.position.keys.now result ≡ choices_at context.now.position.keys.now.places t others (next_at context.now.position.next) status.Running }
+        → listed context.now.threads.now context.now.position.keys.now result ≡ choices_at shared t others (next_at context.now.position.next) status.Running }
     ensures within { AreWithin (length context.now.threads.now) result }
 {
     match &context.position.next {
@@ -237,12 +235,13 @@ fn at_next(context: &Context) -> Choices
 
 // The choices of an ending thread: the keys that are left in its pass, after its cleanup handlers, and else `go`.
 #[tactic(auto, unfolding(pct_model::specs::ChoiceTable::ending_choices))]
-fn ending_choices(position: &Position) -> Choices
-    requires { HasRow position.now }
-    ensures value { (script : Script) (t : Thread) (threads : List Slot) (others : Others) → IsPosition script position.now t
-        → listed threads position.now.keys.now result ≡ ending_choices position.now.keys.now.places t others t.handlers }
-    ensures within { (slots : ℕ) → position.now.slot < slots → AreWithin slots result }
+fn ending_choices(context: &Context) -> Choices
+    requires { IsWhole context.now }
+    ensures value { (shared : SharedState) (t : Thread) (others : Others) → IsContext shared t others context.now
+        → listed context.now.threads.now context.now.position.keys.now result ≡ ending_choices shared t others t.handlers }
+    ensures within { AreWithin (length context.now.threads.now) result }
 {
+    let position = &context.position;
     if position.thread.handlers.len() == 0 {
         dtor_or_go(position.keys, position.slot)
     } else {
@@ -255,7 +254,7 @@ fn ending_choices(position: &Position) -> Choices
 fn running_choices(context: &Context, statement: &Stmt) -> Choices
     requires { IsWhole context.now }
     ensures value { (shared : SharedState) (t : Thread) (others : Others) → IsContext shared t others context.now
-        → listed context.now.threads.now context.now.position.keys.now result ≡ running_choices context.now.position.keys.now.places t others statement.now }
+        → listed context.now.threads.now context.now.position.keys.now result ≡ running_choices shared t others statement.now }
     ensures within { AreWithin (length context.now.threads.now) result }
 {
     let cancel = &context.position.thread.cancel;
@@ -275,7 +274,7 @@ fn running_choices(context: &Context, statement: &Stmt) -> Choices
 fn requested_choices(context: &Context, statement: &Stmt) -> Choices
     requires { IsWhole context.now }
     ensures value { (shared : SharedState) (t : Thread) (others : Others) → is_asynchronous t.state t.mode ≡ false → is_deliverable t.state t.pending ≡ true → IsContext shared t others context.now
-        → listed context.now.threads.now context.now.position.keys.now result ≡ running_choices context.now.position.keys.now.places t others statement.now }
+        → listed context.now.threads.now context.now.position.keys.now result ≡ running_choices shared t others statement.now }
     ensures within { AreWithin (length context.now.threads.now) result }
 {
     match called_kind(statement) {
@@ -290,7 +289,7 @@ fn requested_choices(context: &Context, statement: &Stmt) -> Choices
 fn statement_choices(context: &Context, statement: &Stmt) -> Choices
     requires { IsWhole context.now }
     ensures value { (shared : SharedState) (t : Thread) (others : Others) → IsContext shared t others context.now
-        → listed context.now.threads.now context.now.position.keys.now result ≡ statement_choices context.now.position.keys.now.places others statement.now }
+        → listed context.now.threads.now context.now.position.keys.now result ≡ statement_choices shared others statement.now }
     ensures within { AreWithin (length context.now.threads.now) result }
 {
     match statement {

@@ -1,14 +1,14 @@
-//! The stops: where POSIX leaves the behavior undefined, or this host's profile of POSIX excludes it.
+//! The stops: uses that POSIX leaves undefined, further uses that this host reports as undefined by its choice, its limits, and
+//! what is not implemented.
 
 ghost use Rattle.std.specs.Prelude.{◌≡◌, ◌∷◌, [], List, length, not, reverse, nat_eq, nat_lt, is_none};
 ghost use Rattle.pct_model.specs.declared.stop.Why.TheVariants as why;
 ghost use Rattle.pct_model.specs.declared.frame.Frame.{Frame as FrameRecord};
 ghost use Rattle.pct_model.specs.declared.limits.TheConstants.{MAX_HANDLERS};
-ghost use Rattle.pct_model.specs.Jumps.{open_of};
 ghost use Rattle.pct_model.specs.World.{Thread, SharedState, body_of};
 ghost use Rattle.pct_model.specs.OtherThreads.{Others, no_live_thread, is_detached_thread};
 ghost use Rattle.pct_model.specs.Keys.{key_with};
-ghost use Rattle.pct_model.specs.StopTable.{stop_at, stops_of, first_stop, is_stack_full, has_begun_to_end, exits_twice, is_handler_kind, is_in_handler, is_async_safe, is_built};
+ghost use Rattle.pct_model.specs.StopTable.{stop_at, stops_of, first_stop, is_stack_full, has_begun_to_end, exits_twice, closes_function, is_handler_kind, is_in_handler, is_allowed_asynchronously, is_built};
 ghost use Rattle.pct_transitions.specs.Contexts.{IsContext, IsWhole, SeesOthers};
 
 use crate::context::Context;
@@ -27,7 +27,9 @@ pub(crate) fn stop_at(context: &Context, at: &At) -> Option<Why>
 {
     if !is_built(at.statement) {
         Some(Why::Unbuilt)
-    } else if context.position.thread.cancel.async_on() && !is_async_safe(at.statement) {
+    } else if context.position.thread.cancel.async_on()
+        && !is_allowed_asynchronously(at.statement)
+    {
         Some(Why::AsyncCall)
     } else {
         own_stop(context, at)
@@ -165,9 +167,10 @@ fn is_handler_kind(kind: FrameKind) -> bool
     )
 }
 
-// Whether the statement belongs to the script language, or is async-cancel-safe (XSH 2.9.5.4).
-fn is_async_safe(statement: &Stmt) -> bool
-    ensures { result ≡ is_async_safe statement.now }
+// Whether the statement is allowed with asynchronous cancelability enabled: a call of a function that is async-cancel-safe
+// (XSH 2.9.5.4), or a statement of the script language.
+fn is_allowed_asynchronously(statement: &Stmt) -> bool
+    ensures { result ≡ is_allowed_asynchronously statement.now }
 {
     matches!(
         statement,
@@ -207,9 +210,9 @@ fn exits_twice(kind: FrameKind, exit_value: Option<u32>) -> bool
     }
 }
 
-// Whether no block is closed at the frame's program counter, as at the `end` of the function.
+// Whether an `end` at the frame's program counter closes no block, so that it closes the function.
 fn closes_function(program: &Program, frame: &Frame) -> bool
-    ensures { result ≡ is_none (open_of (body_of program.now.script frame.now.func) frame.now.pc) }
+    ensures { result ≡ closes_function (body_of program.now.script frame.now.func) frame.now.pc }
 {
     program.jumps.open_of(frame.func, frame.pc).is_none()
 }
@@ -239,12 +242,12 @@ pub(crate) fn is_built(statement: &Stmt) -> bool
             | Stmt::TestCancel
             | Stmt::SetState { .. }
             | Stmt::SetMode { .. }
-            | Stmt::PointCall(_)
+            | Stmt::Push(_, _)
+            | Stmt::Pop(_)
             | Stmt::KeyCreate { .. }
             | Stmt::KeyDelete(_)
             | Stmt::SetSpecific(_, _)
             | Stmt::GetSpecific(_, _)
-            | Stmt::Push(_, _)
-            | Stmt::Pop(_)
+            | Stmt::PointCall(_)
     )
 }

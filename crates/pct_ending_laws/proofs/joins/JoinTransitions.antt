@@ -109,4 +109,4 @@ kind_of script config p t choice =
 
 -- a thread that has a choice does not have the status of its end
 pub moves_alive : (script : Script) (config : Config) (p : Process) (t : Thread) (choice : Alt) → offers (choices_of script config p t) choice ≡ true → is_ended_status t.status ≡ false
-moves_alive script config p t choice offered = offered_alive (offered_of p.shared.keys t (others_of config.slots p.threads t.id) choice (next_of script t.frames) t.status offered)
+moves_alive script config p t choice offered = offered_alive (offered_of p.shared t (others_of config.slots p.threads t.id) choice (next_of script t.frames) t.status offered)

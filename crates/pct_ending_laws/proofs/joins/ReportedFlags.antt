@@ -1,5 +1,6 @@
 -- A thread that was made, and that its process inherited, is known, and it is joined or detached exactly if the events report so.
-use mathlib.Core.Bool.{and-true, or-false, or_assoc}
+use mathlib.Core.Bool.{and-true, or-false, or_assoc, and_comm}
+use mathlib.Core.Path.{fun_ext}
 use Rattle.std.proofs.Common.{◌≡◌, ℕ, Bool, true, false, not, ◌&&◌, ◌||◌, cond, List, [], ◌∷◌, map, reverse, find, nat_eq, Option, Some, None, option_and_then, refl, sym, ap, ◌∙◌, subst, eqb-true}
 use Rattle.std.specs.List.{list_any}
 use Rattle.std.specs.Option.{option_map_or}
@@ -18,7 +19,7 @@ use Rattle.pct_model.specs.ChoiceTable.{choices_of, offers}
 use Rattle.pct_model.specs.TransitionTable.{transition_by}
 use Rattle.pct_model.specs.Actions.{thread_moved, changed}
 use Rattle.pct_model.specs.Run.{Run, event_of, run}
-use Rattle.pct_model.specs.KnownThreads.{is_in, creates_id, is_known, detaches_id, is_detached, joins_id, is_joined}
+use Rattle.pct_model.specs.KnownThreads.{makes_process, is_in, is_fork_of, creates_id, is_known, detaches_id, is_detached, joins_id, is_joined}
 use Rattle.pct_model.specs.ThreadSlots.{holds_slot}
 use Rattle.pct_ending_laws.proofs.lift.KeyedLists.{found_passes}
 use Rattle.pct_ending_laws.proofs.lift.TakenSteps.{AfterEveryRun}
@@ -37,7 +38,7 @@ use Rattle.pct_ending_laws.proofs.joins.NamedThreads.{names_join, names_detach, 
 pub record Flag : Type 0 where
   of : Thread → Bool
   new : NewThread → Bool
-  sets : ℕ → What → Bool
+  sets : ℕ → Event → Bool
   names : ℕ → Action → Bool
   inherits : Bool
   replica : Bool → Bool → Bool
@@ -46,7 +47,7 @@ pub record Flag : Type 0 where
   none : start false ≡ false
   initial : (script : Script) → start true ≡ of (initial_thread script)
   created : (n : NewThread) → of (created_thread n) ≡ new n
-  reports : (script : Script) (config : Config) (p : Process) (e : Entry) (t : Thread) → offers (choices_of script config p t) e.alt ≡ true → (id : ℕ) → list_any (sets id) (reverse (transition_by script config p t e.alt).events)
+  reports : (script : Script) (config : Config) (p : Process) (e : Entry) (t : Thread) → offers (choices_of script config p t) e.alt ≡ true → (id : ℕ) → list_any (λ w. sets id (event_of e w)) (reverse (transition_by script config p t e.alt).events)
       ≡ (names id (naming (kind_of script config p t e.alt)) || option_map_or (λ n. nat_eq n.id id && new n) (transition_by script config p t e.alt).created false)
   changes : (script : Script) (config : Config) (p : Process) (e : Entry) (t u : Thread) → of (thread_moved e.tid (transition_by script config p t e.alt) u) ≡ ((names u.id (naming (kind_of script config p t e.alt)) && holds_slot (unnamed e.tid (transition_by script config p t e.alt) u)) || of u)
   named : (id : ℕ) (a : Action) → names id a ≡ true → releases id a ≡ true
@@ -54,13 +55,13 @@ pub record Flag : Type 0 where
 module _ (flag : Flag) where
   -- what the events report
   abbrev pub reading : ℕ → Reading Bool
-  reading id = record { start = λ initial. flag.start (initial && nat_eq 1 id); next = λ e k. flag.sets id e.what || k; inherits = λ e. flag.inherits && nat_eq e.tid id; born = flag.replica }
+  reading id = record { start = λ initial. flag.start (initial && nat_eq 1 id); next = λ e k. flag.sets id e || k; inherits = λ e. flag.inherits && nat_eq e.tid id; born = flag.replica }
 
   -- after the events of a step
-  set_later : (e : Entry) (id : ℕ) (added : List What) (k : Bool) → after_own (reading id) (map (event_of e) added) k ≡ (list_any (flag.sets id) added || k)
+  set_later : (e : Entry) (id : ℕ) (added : List What) (k : Bool) → after_own (reading id) (map (event_of e) added) k ≡ (list_any (λ w. flag.sets id (event_of e w)) added || k)
   set_later e id [] k = refl
   set_later e id (w ∷ added) k =
-      ap (λ (rest : Bool). flag.sets id w || rest) (set_later e id added k) ∙ sym (or_assoc (flag.sets id w) (list_any (flag.sets id) added) k)
+      ap (λ (rest : Bool). flag.sets id (event_of e w) || rest) (set_later e id added k) ∙ sym (or_assoc (flag.sets id (event_of e w)) (list_any (λ x. flag.sets id (event_of e x)) added) k)
 
   -- the thread was made, its process inherited it, and the flag is set
   abbrev pub is_set : Option Thread → Bool
@@ -95,9 +96,9 @@ module _ (flag : Flag) where
 
     -- what the events of the step report, and those before it
     abbrev later : ℕ → Bool
-    later id = list_any (flag.sets id) (reverse o.events) || k id
+    later id = list_any (λ w. flag.sets id (event_of e w)) (reverse o.events) || k id
 
-    reports : (id : ℕ) → list_any (flag.sets id) (reverse o.events) ≡ (names id || creates id)
+    reports : (id : ℕ) → list_any (λ w. flag.sets id (event_of e w)) (reverse o.events) ≡ (names id || creates id)
     reports = flag.reports script config p e t moves.offered
 
     -- of a thread that was not made
@@ -152,7 +153,7 @@ abbrev known_flag : Flag
 known_flag = record {
   of = λ t. true;
   new = λ n. true;
-  sets = creates_id;
+  sets = λ id e. creates_id id e.what || (makes_process e.pid e.what && nat_eq e.tid id);
   names = λ id a. false;
   inherits = true;
   replica = λ parent k. true;
@@ -160,21 +161,25 @@ known_flag = record {
   none = refl;
   initial = λ script. refl;
   created = λ n. refl;
-  reports = λ script config p e t offered id. reports_created script config p t e.alt offered id;
+  reports = λ script config p e t offered id. reports_created script config p t e.alt offered e.pid id (nat_eq e.tid id);
   changes = λ script config p e t u. refl;
   named = λ id a is. absurd (false≢true is);
 }
 
-known_reading : (tid pid : ℕ) (events : List Event) → is_known pid tid events ≡ reported_by (reading known_flag tid) pid events
-known_reading tid = is_reading (reading known_flag tid) (λ pid events. is_known pid tid events) (λ pid. refl) (λ pid e earlier. refl)
+known_event : (own fork own_fork creates k : Bool) → (own ≡ true → fork ≡ own_fork) → ((own && creates) || (fork || k)) ≡ cond own ((creates || own_fork) || k) (cond fork true k)
+known_event true fork own_fork creates k is = sym (or_assoc creates fork k) ∙ ap (λ (b : Bool). (creates || b) || k) (is refl)
+known_event false true own_fork creates k is = refl
+known_event false false own_fork creates k is = refl
 
-known_here : (found : Option Thread) → is_set known_flag found ≡ option_map_or (λ t. not t.gone) found false
-known_here None = refl
-known_here (Some t) = and-true (not t.gone)
+known_reading : (tid pid : ℕ) (events : List Event) → is_known pid tid events ≡ reported_by (reading known_flag tid) pid events
+known_reading tid = is_reading (reading known_flag tid) (λ pid events. is_known pid tid events) (λ pid. refl) (λ pid e earlier.
+    known_event (is_in pid e) (is_fork_of pid tid e) (makes_process e.pid e.what && nat_eq e.tid tid) (creates_id tid e.what) (is_known pid tid earlier)
+    (λ own. and_comm (nat_eq e.tid tid) (makes_process pid e.what) ∙ ap (λ n. makes_process n e.what && nat_eq e.tid tid) (sym (eqb-true e.pid pid own))))
 
 -- after every run, the known threads are those that were made and that their processes inherited
 pub known_of_run : (script : Script) (config : Config) → AfterEveryRun script config (λ r. (pid tid : ℕ) → is_known pid tid r.events ≡ option_map_or (λ t. not t.gone) (made_thread pid tid r.world) false)
-known_of_run script config entries r is pid tid = known_reading tid pid r.events ∙ flag_of_run known_flag script config entries r is pid tid ∙ known_here (made_thread pid tid r.world)
+known_of_run script config entries r is pid tid = known_reading tid pid r.events ∙ flag_of_run known_flag script config entries r is pid tid
+    ∙ ap (λ (here : Thread → Bool). option_map_or here (made_thread pid tid r.world) false) (fun_ext (λ t. and-true (not t.gone)))
 
 -- ---- joined threads
 
@@ -186,7 +191,7 @@ abbrev joined_flag : Flag
 joined_flag = record {
   of = λ t. t.joined;
   new = λ n. false;
-  sets = joins_id;
+  sets = λ id e. joins_id id e.what;
   names = names_join;
   inherits = false;
   replica = λ parent k. k;
@@ -214,7 +219,7 @@ abbrev detached_flag : Flag
 detached_flag = record {
   of = λ t. t.detached;
   new = λ n. n.detached;
-  sets = detaches_id;
+  sets = λ id e. detaches_id id e.what;
   names = names_detach;
   inherits = true;
   replica = λ parent k. parent || k;

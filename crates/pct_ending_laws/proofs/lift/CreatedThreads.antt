@@ -1,6 +1,6 @@
 -- What each transition creates, by the tables: no process, and a thread only with an id that is offered.
 use mathlib.Core.Bool.{and-true, or-false}
-use Rattle.std.proofs.Common.{◌≡◌, ℕ, true, false, ◌&&◌, List, reverse, nat_eq, Option, Some, refl, sym, ◌∙◌, subst}
+use Rattle.std.proofs.Common.{◌≡◌, ℕ, Bool, true, false, ◌&&◌, ◌||◌, List, reverse, nat_eq, Option, Some, refl, sym, ◌∙◌, subst}
 use Rattle.std.specs.Prelude.{IfSome}
 use Rattle.std.specs.List.{list_any}
 use Rattle.std.specs.Option.{option_map_or}
@@ -27,12 +27,12 @@ use Rattle.pct_transition_cases.proofs.TransitionCases.{TransitionCase, thread_m
 pub record CreatesOnly (pid : ℕ) (ids : List ℕ) (o : Transition) : Type 0 where
   pub no_process : list_any (makes_process pid) (reverse o.events) ≡ false
   pub new_id : IfSome o.created (λ new. list_any (nat_eq new.id) ids ≡ true)
-  pub reports : (tid : ℕ) → list_any (creates_id tid) (reverse o.events) ≡ option_map_or (λ new. nat_eq new.id tid && true) o.created false
+  pub reports : (tid : ℕ) (same : Bool) → list_any (λ w. creates_id tid w || (makes_process pid w && same)) (reverse o.events) ≡ option_map_or (λ new. nat_eq new.id tid && true) o.created false
 
 module _ (pid passes : ℕ) (body : List Stmt) (shared : SharedState) (t : Thread) (others : Others) where
   case_creates : {next : NextStatement} {s : Status} {o : Transition} → TransitionCase passes body shared t others true next s o → CreatesOnly pid others.new_ids o
-  case_creates (thread_made frame result id f v detached n among) = record { no_process = refl; new_id = among refl; reports = λ tid. or-false (nat_eq n tid) ∙ sym (and-true (nat_eq n tid)) }
-  case_creates _ = record { no_process = refl; new_id = tt; reports = λ tid. refl }
+  case_creates (thread_made frame result id f v detached n among) = record { no_process = refl; new_id = among refl; reports = λ tid same. or-false (nat_eq n tid || false) ∙ or-false (nat_eq n tid) ∙ sym (and-true (nat_eq n tid)) }
+  case_creates _ = record { no_process = refl; new_id = tt; reports = λ tid same. refl }
 
 -- ---- the results
 
@@ -52,6 +52,6 @@ module _ (script : Script) (config : Config) (p : Process) (t : Thread) (choice 
   creates_with_next_id new is =
       subst (λ (created : Option NewThread). IfSome created (λ (x : NewThread). list_any (nat_eq x.id) (free_ids config.slots p.threads) ≡ true)) is (all_of_it 0).new_id
 
-  -- the thread that it creates is the one that its events report
-  pub reports_created : (tid : ℕ) → list_any (creates_id tid) (reverse (transition_by script config p t choice).events) ≡ option_map_or (λ new. nat_eq new.id tid && true) (transition_by script config p t choice).created false
-  reports_created = (all_of_it 0).reports
+  -- the thread that it creates is the one that its events report, also as a replica in a process that they make
+  pub reports_created : (pid tid : ℕ) (same : Bool) → list_any (λ w. creates_id tid w || (makes_process pid w && same)) (reverse (transition_by script config p t choice).events) ≡ option_map_or (λ new. nat_eq new.id tid && true) (transition_by script config p t choice).created false
+  reports_created pid = (all_of_it pid).reports

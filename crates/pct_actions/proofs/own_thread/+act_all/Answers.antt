@@ -1,9 +1,9 @@
-use Rattle.std.proofs.Common.{◌≡◌, ◌+◌, List, [], ◌∷◌, drop, length, ap, sym, ◌∙◌, subst, arith}
+use Rattle.std.proofs.Common.{◌≡◌, ◌+◌, List, [], ◌∷◌, drop, length, refl, ap, sym, ◌∙◌, subst, arith}
 use Rattle.pct_model.specs.declared.transition.Action.{Action}
 use Rattle.pct_model.specs.Actions.{thread_after, for_each}
 use Rattle.pct_engine_laws.specs.Seen.{SeenSlot}
 use Rattle.pct_actions.specs.ProcessParts.{on_threads, with_slot, OwnFits}
-use Rattle.pct_actions.proofs.ChangedSlots.{on_slot-here, then_here, same_here}
+use Rattle.pct_actions.proofs.ChangedSlots.{then_here, same_here}
 use Rattle.pct_actions.proofs.OwnThread.{first_action, rest_actions}
 use Rattle.pct_actions.proofs.RestItems.{drop_item, drop_none}
 use Rattle.pct_actions.proofs.own_thread.+act_all.Goals as goal
@@ -28,7 +28,7 @@ returns-in-Some t c =
     let rest : drop c.args.from c.args.actions.now ≡ c.in-Some.action ∷ drop (c.args.from + 1) c.args.actions.now = drop_item c.args.actions.now c.args.from c.in-Some.action (sym c.in-Some.ensures.value) in
     c.act_all.ensures
     ∙ ap (with_slot c.args.slot (on_threads g)) c.act.ensures
-    ∙ ap (λ (slots : List SeenSlot). record p { slots = slots }) (then_here c.args.slot p.slots s c.requires.here (on_threads f) (on_threads g) ∙ sym (on_slot-here c.args.slot p.slots s c.requires.here (on_threads (λ t. g (f t)))))
+    ∙ ap (λ (slots : List SeenSlot). record p { slots = slots }) (then_here c.args.slot p.slots s c.requires.here (on_threads f) (on_threads g) (on_threads (λ t. g (f t))) refl)
     ∙ ap (λ (actions : List Action). with_slot c.args.slot (on_threads (for_each thread_after actions)) p) (sym rest)
 
 pub returns-in_default : goal.returns-in_default
@@ -36,4 +36,4 @@ returns-in_default t c =
     let p = c.args.process.now in
     let s : SeenSlot = record { made = c.requires.made; here = c.requires.thread ∷ [] } in
     sym (ap (λ (actions : List Action). with_slot c.args.slot (on_threads (for_each thread_after actions)) p) (drop_none c.args.actions.now c.args.from (sym c.in_default.ensures.value))
-    ∙ ap (λ (slots : List SeenSlot). record p { slots = slots }) (on_slot-here c.args.slot p.slots s c.requires.here (on_threads (λ t. t)) ∙ same_here c.args.slot p.slots s c.requires.here))
+    ∙ ap (λ (slots : List SeenSlot). record p { slots = slots }) (same_here c.args.slot p.slots s c.requires.here (on_threads (λ t. t)) refl))

@@ -1,11 +1,11 @@
 use Rattle.std.proofs.Common.{[], sym, ap, ◌∙◌, subst}
 use Rattle.pct_model.specs.Actions.{thread_at, thread_after, for_each}
 use Rattle.pct_actions.specs.ProcessParts.{on_threads, settled, with_slot, OwnFits}
-use Rattle.pct_actions.proofs.OwnThread.{no_actions, no_actions_after, next_actions, own_parts}
+use Rattle.pct_actions.proofs.OwnThread.{own_changed, next_actions, own_parts}
 use Rattle.pct_actions.proofs.own_thread.make_own.Goals as goal
 
 pub go_on-requires : goal.go_on-requires
-go_on-requires c = no_actions c.args.slot c.args.process.now c.args.transition.now.actions c.requires
+go_on-requires c = record { made = c.requires.made; thread = c.requires.thread; here = c.requires.here; fits = tt; keys = tt }
 
 pub act_all-requires : goal.act_all-requires
 act_all-requires c =
@@ -17,7 +17,7 @@ settle-requires c =
     let o = c.args.transition.now in
     let p = c.args.process.now in
     subst (OwnFits c.args.slot []) (sym (c.act_all.ensures ∙ ap (with_slot c.args.slot (on_threads (for_each thread_after o.actions))) c.go_on.ensures))
-    (no_actions_after c.args.slot (with_slot c.args.slot (on_threads (thread_at o.next)) p) (for_each thread_after o.actions) o.actions (next_actions c.args.slot p o.next o.actions c.requires))
+    (own_changed c.args.slot (with_slot c.args.slot (on_threads (thread_at o.next)) p) (for_each thread_after o.actions) o.actions [] (next_actions c.args.slot p o.next o.actions c.requires) tt tt)
 
 pub returns : goal.returns
 returns c =

@@ -1,5 +1,6 @@
 use Rattle.std.proofs.Common.{◌≡◌, ℕ, suc, List, [], ◌∷◌, Some, None, length, refl, sym, ap, ◌∙◌, subst, arith}
 use Rattle.std.specs.Prelude.{slice_get, option_and_then}
+use Rattle.std.proofs.lemmas.List.{nil_from_length}
 use Rattle.pct_model.specs.World.{Thread}
 use Rattle.pct_model.specs.Chosen.{entry_for}
 use Rattle.pct_engine_laws.specs.Seen.{SeenProcess}
@@ -13,19 +14,15 @@ use Rattle.pct_machine.proofs.ReadyProcesses.{count_is, candidate_at, slot_held}
 use Rattle.pct_machine.proofs.StepsOfProcess.{thread_of}
 use Rattle.pct_machine.proofs.candidates.+pick.Goals as goal
 
-no_places : (ps : List SeenProcess) → length ps ≡ 0 → ps ≡ []
-no_places [] none = refl
-no_places (p ∷ ps) none = absurd (omega (arith, none))
-
 pub returns-then-before-eq0-clause-value : goal.returns-then-before-eq0-clause-value
 returns-then-before-eq0-clause-value t c =
     none_here c.args.before c.args.draw c.if-before-eq0.true
-    ∙ ap (λ (ps : List SeenProcess). pick_after c.args.before c.args.draw (candidates_among c.args.program.now.script ps)) (sym (no_places c.args.places.now c.in_default.ensures.cases))
+    ∙ ap (λ (ps : List SeenProcess). pick_after c.args.before c.args.draw (candidates_among c.args.program.now.script ps)) (sym (nil_from_length c.args.places.now c.in_default.ensures.cases))
 
 pub returns-in_default-clause-value : goal.returns-in_default-clause-value
 returns-in_default-clause-value t c =
     one_before c.args.before c.args.draw (omega (arith, c.if-before-eq0.false))
-    ∙ ap (λ (ps : List SeenProcess). pick_after c.args.before c.args.draw (candidates_among c.args.program.now.script ps)) (sym (no_places c.args.places.now c.in_default.ensures.cases))
+    ∙ ap (λ (ps : List SeenProcess). pick_after c.args.before c.args.draw (candidates_among c.args.program.now.script ps)) (sym (nil_from_length c.args.places.now c.in_default.ensures.cases))
 
 pub pick-requires : goal.pick-requires
 pick-requires t c =

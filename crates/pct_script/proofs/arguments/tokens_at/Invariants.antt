@@ -1,7 +1,7 @@
 use Rattle.std.proofs.Common.{◌≡◌, ◌+◌, ◌≤◌, length, drop}
 use Rattle.pct_model.specs.LineKinds.{syntax_of}
 use Rattle.pct_model.specs.LineParsing.{tokens_at, words_in}
-use Rattle.pct_script.proofs.TokensOfWords.{onto}
+use Rattle.pct_script.proofs.ResolvingTokens.{onto}
 use Rattle.pct_script.proofs.arguments.tokens_at.Given as goal
 
 abbrev pub invariant-loop-word : goal.invariant-loop-word

@@ -5,7 +5,7 @@ use Rattle.pct_transitions.proofs.choice_table.choices_at.Goals as goal
 pub returns-in-Running-clause-value : goal.returns-in-Running-clause-value
 returns-in-Running-clause-value c = λ shared t others is.
     let position = is.position_is in
-    c.at_next.ensures.value shared t others is ∙ (λ i. choices_at c.args.context.now.position.keys.now.places t others (position.next_is i) ((sym c.in-Running.is ∙ position.status_is) i))
+    c.at_next.ensures.value shared t others is ∙ (λ i. choices_at shared t others (position.next_is i) ((sym c.in-Running.is ∙ position.status_is) i))
 
 pub returns-in-Joining-clause-within : goal.returns-in-Joining-clause-within
 returns-in-Joining-clause-within c = c.go_or_act-in-Joining.ensures.within (length c.args.context.now.threads.now)

@@ -18,14 +18,14 @@ returns-after-cancel-clause-value c = λ shared t others is.
       | then-cancel w ↦ w.go_or_act-is ∙ w.is_built.ensures ∙ ap (λ b. b && is_built s) (sym w.if-cancel.true ∙ position.pending_is)
       | else-cancel w ↦ w.go_or_act-is ∙ w.if-cancel.false ∙ ap (λ b. b && is_built s) (sym w.if-cancel.false ∙ position.pending_is)
     ] in
-    c.go_or_act.ensures.value context.threads.now keys ∙ ap (λ b. go_if true ++ act_if b) act ∙ asynchronous_row keys.places t others s asynchronous
+    c.go_or_act.ensures.value context.threads.now keys ∙ ap (λ b. go_if true ++ act_if b) act ∙ asynchronous_row shared t others s asynchronous
 
 pub returns-else-deliverable-clause-value : goal.returns-else-deliverable-clause-value
 returns-else-deliverable-clause-value c = λ shared t others is.
     let position = is.position_is in
     let deferred : is_asynchronous t.state t.mode ≡ false = sym (λ i. is_asynchronous (position.state_is i) (position.mode_is i)) ∙ sym c.async_on.ensures ∙ c.if-async_on.false in
     let none : is_deliverable t.state t.pending ≡ false = sym (λ i. is_deliverable (position.state_is i) (position.pending_is i)) ∙ sym c.deliverable.ensures ∙ c.if-deliverable.false in
-    c.statement_choices.ensures.value shared t others is ∙ statement_row c.args.context.now.position.keys.now.places t others c.args.statement.now deferred none
+    c.statement_choices.ensures.value shared t others is ∙ statement_row shared t others c.args.statement.now deferred none
 
 pub returns-after-cancel-clause-within : goal.returns-after-cancel-clause-within
 returns-after-cancel-clause-within c = c.go_or_act.ensures.within (length c.args.context.now.threads.now)

@@ -15,7 +15,7 @@ returns c = λ t at.
     let p = c.args.process.now in
     let is = c.new-context.ensures.context t at in
     let others = others_in (length p.slots) p.slots t.id in
-    let choices = c.choices_at.ensures.value p.shared t others is ∙ (λ i. choices_at (is.shared_is.keys_are i) t others (next_of (c.new-context.ensures.program i).script t.frames) t.status) in
+    let choices = c.choices_at.ensures.value p.shared t others is ∙ (λ i. choices_at p.shared t others (next_of (c.new-context.ensures.program i).script t.frames) t.status) in
     let context = c.new-context.result in
     let these = listed context.threads.now context.position.keys.now c.choices_at.result in
     ap (λ (n : ℕ). nat_lt 0 n) (c.count.ensures context.threads.now) ∙ enabled_by_count these ∙ ap (λ (xs : List Alt). is_enabled xs) choices

@@ -29,7 +29,7 @@ returns-then-not-step-clause-legal c =
     let p : SeenProcess = c.index_mut.result.now in
     let found : IsFound e.pid c.in-Some.index s.live s.places.items p = is_found e.pid c.in-Some.index s.live s.places.items p (subst (λ (v : Seen). position (is_live_seen e.pid) v.processes ≡ Some c.in-Some.index) (sym c.self.view_is) (sym c.in-Some.ensures)) c.index_mut.ensures.value in
     let running : is_some c.args.self.now.stop ≡ false = subst (λ (v : Seen). is_some v.stop ≡ false) c.self.view_is (sym c.if-is_some.ensures) in
-    is_taken c.args.program.now.script c.args.program.now.config c.args.self.now e running c.if-entry-gt-MAX_WORKER.false p (subst (λ (v : Seen). find (is_live_seen e.pid) v.processes ≡ Some p) c.self.view_is found.first)
+    is_taken c.args.program.now.script c.args.program.now.config c.args.self.now e running c.if-entry-gt-MAX_WORKER.false (Some p) (subst (λ (v : Seen). find (is_live_seen e.pid) v.processes ≡ Some p) c.self.view_is found.first)
     ∙ c.if-not-step.ensures.taken
 
 pub returns-clause-legal : goal.returns-clause-legal
@@ -39,7 +39,7 @@ returns-clause-legal c =
     let p : SeenProcess = c.index_mut.result.now in
     let found : IsFound e.pid c.in-Some.index s.live s.places.items p = is_found e.pid c.in-Some.index s.live s.places.items p (subst (λ (v : Seen). position (is_live_seen e.pid) v.processes ≡ Some c.in-Some.index) (sym c.self.view_is) (sym c.in-Some.ensures)) c.index_mut.ensures.value in
     let running : is_some c.args.self.now.stop ≡ false = subst (λ (v : Seen). is_some v.stop ≡ false) c.self.view_is (sym c.if-is_some.ensures) in
-    is_taken c.args.program.now.script c.args.program.now.config c.args.self.now e running c.if-entry-gt-MAX_WORKER.false p (subst (λ (v : Seen). find (is_live_seen e.pid) v.processes ≡ Some p) c.self.view_is found.first)
+    is_taken c.args.program.now.script c.args.program.now.config c.args.self.now e running c.if-entry-gt-MAX_WORKER.false (Some p) (subst (λ (v : Seen). find (is_live_seen e.pid) v.processes ≡ Some p) c.self.view_is found.first)
     ∙ c.if-not-step.ensures.taken
 
 pub invariant_of-self-2 : goal.invariant_of-self-2

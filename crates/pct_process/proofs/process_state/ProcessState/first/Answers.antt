@@ -2,9 +2,10 @@ use Rattle.std.proofs.Common.{false, List, length, map, replicate, ap, ◌∙◌
 use Rattle.pct_model.specs.declared.script.Func.{Func}
 use Rattle.pct_model.specs.declared.script.SemDecl.{SemDecl}
 use Rattle.pct_model.specs.declared.name.Name.{Name}
+use Rattle.pct_model.specs.declared.state.FrameKind.TheVariants.{Main}
 use Rattle.pct_model.specs.Names.{main_of, names_of}
 use Rattle.pct_model.proofs.StaticFacts.{few_functions}
-use Rattle.pct_threads.specs.Slots.{Slot, with_frame_word}
+use Rattle.pct_threads.specs.Slots.{with_call_alone}
 use Rattle.pct_threads.specs.Tables.{on_held, with_created}
 use Rattle.pct_process.proofs.FirstProcess.{data-first, rows-first}
 use Rattle.pct_process.proofs.process_state.ProcessState.first.Goals as goal
@@ -17,10 +18,10 @@ overflow_cast-main c =
 
 pub returns : goal.returns
 returns c =
-    data-first c.args.script.now c.args.slots c.main_of-main.result c.set_frame_word.new.self c.in_ok-new.field-0 c.in_ok-new-2.field-0 c.in_ok-new-3.field-0 c.in_ok-counts_of.field-0
+    data-first c.args.script.now c.args.slots c.main_of-main.result c.call_alone.new.self c.in_ok-new.field-0 c.in_ok-new-2.field-0 c.in_ok-new-3.field-0 c.in_ok-counts_of.field-0
     (omega (arith, c.requires.some))
     (c.main_of-main.ensures.value ∙ ap (λ (funcs : List Func). main_of (names_of funcs)) c.as_slice.ensures)
-    (c.set_frame_word.ensures ∙ ap (λ (slots : List Slot). on_held 0 (with_frame_word 0 2 0) slots) (c.create.ensures.table ∙ ap (with_created 0 c.main_of-main.result 0 false) c.in_ok-threads.ensures))
+    (c.call_alone.ensures ∙ ap (on_held 0 (with_call_alone c.main_of-main.result 0 Main)) (c.create.ensures.table ∙ ap (with_created 0 c.main_of-main.result 0 false) c.in_ok-threads.ensures))
     c.in_ok-new.ensures
     (c.in_ok-new-2.ensures ∙ ap (λ (names : List Name). replicate (length names) 0) c.as_slice-2.ensures)
     (c.in_ok-new-3.ensures ∙ ap (λ (names : List Name). replicate (length names) 0) c.as_slice-3.ensures)
@@ -28,6 +29,6 @@ returns c =
 
 pub invariant_of-result : goal.invariant_of-result
 invariant_of-result c =
-    rows-first c.args.slots c.main_of-main.result c.set_frame_word.new.self c.in_ok-new.field-0
-    (c.set_frame_word.ensures ∙ ap (λ (slots : List Slot). on_held 0 (with_frame_word 0 2 0) slots) (c.create.ensures.table ∙ ap (with_created 0 c.main_of-main.result 0 false) c.in_ok-threads.ensures))
+    rows-first c.args.slots c.main_of-main.result c.call_alone.new.self c.in_ok-new.field-0
+    (c.call_alone.ensures ∙ ap (on_held 0 (with_call_alone c.main_of-main.result 0 Main)) (c.create.ensures.table ∙ ap (with_created 0 c.main_of-main.result 0 false) c.in_ok-threads.ensures))
     c.in_ok-new.ensures

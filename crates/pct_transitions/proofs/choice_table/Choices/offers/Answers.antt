@@ -1,11 +1,12 @@
 use Rattle.std.proofs.Common.{sym, ap, ◌∙◌}
+use Rattle.pct_model.specs.declared.schedule.Alt.TheVariants as alt
 use Rattle.pct_model.specs.ChoiceTable.{offers}
 use Rattle.pct_model.specs.Keys.{new_keys, left_keys}
 use Rattle.pct_keys.specs.Tables.{row_at}
+use Rattle.pct_threads.specs.Tables.{next_id_at}
 use Rattle.pct_transitions.specs.Listed.{listed}
 use Rattle.pct_transitions.specs.declared.choice_table.Choices.{Choices}
-use Rattle.pct_transitions.proofs.KeyChoices.{no_new_offered, no_dtor_offered}
-use Rattle.pct_transitions.proofs.ListedChoices.{other_offered}
+use Rattle.pct_transitions.proofs.ListedChoices.{never_new, never_dtor, none_offered}
 use Rattle.pct_transitions.proofs.choice_table.Choices.offers.Goals as goal
 
 pub returns-in-New-choice : goal.returns-in-New-choice
@@ -13,18 +14,23 @@ returns-in-New-choice c = c.offers_id.ensures c.args.keys.now ∙ sym (λ i. off
 
 pub returns-in_default-choice : goal.returns-in_default-choice
 returns-in_default-choice c =
-    sym (ap (λ (choices : Choices). offers (listed c.args.threads.now c.args.keys.now choices) c.args.choice) c.in-New.is ∙ other_offered c.args.threads.now c.args.choice c.in-New.free c.in_default-choice.not-New)
+    sym (ap (λ (choices : Choices). offers (listed c.args.threads.now c.args.keys.now choices) c.args.choice) c.in-New.is
+    ∙ none_offered (λ s. alt.New (next_id_at c.args.threads.now s)) c.args.choice
+    (λ s. never_new c.args.choice c.in_default-choice.not-New (next_id_at c.args.threads.now s)) c.in-New.free)
 
 pub returns-in-New-choice-2 : goal.returns-in-New-choice-2
 returns-in-New-choice-2 c = c.offers_new_key.ensures c.args.threads.now ∙ sym (λ i. offers (listed c.args.threads.now c.args.keys.now (c.in-NewKey.is i)) (c.in-New-choice-2.is i))
 
 pub returns-in_default-choice-2 : goal.returns-in_default-choice-2
 returns-in_default-choice-2 c =
-    sym (ap (λ (choices : Choices). offers (listed c.args.threads.now c.args.keys.now choices) c.args.choice) c.in-NewKey.is ∙ no_new_offered c.args.choice (new_keys c.args.keys.now.places) c.in_default-choice-2.not-New)
+    sym (ap (λ (choices : Choices). offers (listed c.args.threads.now c.args.keys.now choices) c.args.choice) c.in-NewKey.is
+    ∙ none_offered (λ n. alt.New n) c.args.choice (never_new c.args.choice c.in_default-choice-2.not-New) (new_keys c.args.keys.now.places))
 
 pub returns-in-Dtor-choice : goal.returns-in-Dtor-choice
 returns-in-Dtor-choice c = c.offers_dtor.ensures c.args.threads.now ∙ sym (λ i. offers (listed c.args.threads.now c.args.keys.now (c.in-Dtor.is i)) (c.in-Dtor-choice.is i))
 
 pub returns-in_default-choice-3 : goal.returns-in_default-choice-3
 returns-in_default-choice-3 c =
-    sym (ap (λ (choices : Choices). offers (listed c.args.threads.now c.args.keys.now choices) c.args.choice) c.in-Dtor.is ∙ no_dtor_offered c.args.choice (left_keys c.args.keys.now.places (row_at c.args.keys.now c.in-Dtor.slot)) c.in_default-choice-3.not-Dtor)
+    sym (ap (λ (choices : Choices). offers (listed c.args.threads.now c.args.keys.now choices) c.args.choice) c.in-Dtor.is
+    ∙ none_offered (λ n. alt.Dtor n) c.args.choice
+    (never_dtor c.args.choice c.in_default-choice-3.not-Dtor) (left_keys c.args.keys.now.places (row_at c.args.keys.now c.in-Dtor.slot)))
