@@ -80,7 +80,7 @@ module _ (slots : List SeenSlot) (on : AreOnSlots slots) (f : Thread → Thread)
   pub none_changed : ((t : Thread) → f t ≡ t) → map (slot_changed f) slots ≡ slots
   none_changed same = each_agrees (slot_changed f) (λ x. x) slots (λ j x at. slot_stays j x at (λ t is. same t)) ∙ map-id slots
 
-  -- no thread leaves its slot, if the change keeps what tells whether it holds it
+  -- no thread leaves its slot, if the change keeps whether the thread holds it
   pub none_leaves : ((t : Thread) → holds_slot (f t) ≡ holds_slot t) → map (on_threads f) slots ≡ map (slot_changed f) slots
   none_leaves same = each_agrees (on_threads f) (slot_changed f) slots (λ j x at i. record { made = x.made; here = all j x.here (on j x at) i }) where
     all : (j : ℕ) (ts : List Thread) → All (IsOnSlot (length slots) j) ts → map f ts ≡ filter holds_slot (map f ts)

@@ -1,5 +1,5 @@
 -- The limits that a transition keeps. An engine with tables of a fixed size makes the actions one after another and relies on
--- these: where all of them fit, each one finds room in its turn, and no thread loses its slot before its last action.
+-- these: where all of them fit, each one finds room in its turn.
 use Rattle.std.specs.Prelude.{◌≡◌, ℕ, suc, ◌-◌, ◌<◌, ◌≤◌, false, List, [], ◌∷◌, IfSome}
 use Rattle.pct_model.specs.declared.limits.TheConstants.{MAX_STATEMENTS, MAX_FRAMES, MAX_HANDLERS, MAX_PASSES}
 use Rattle.pct_model.specs.declared.transition.Action.{Action}

@@ -1,4 +1,4 @@
--- The places that are kept as those from the first on are gone through: they are moved to the front, in their order.
+-- The places that are kept, of those from the first on: they become the first ones, in their order.
 use Rattle.std.proofs.Common.{◌≡◌, ℕ, ◌+◌, ◌<◌, ◌≤◌, List, [], ◌∷◌, ◌++◌, length, take, drop, flat_map, slice_set, get_or, sym, ap, ◌∙◌, append-nil, subst, arith}
 use Rattle.std.specs.List.{All, swap}
 use Rattle.std.proofs.lemmas.List.{take_more, take_more_set, take-set-le, drop_more, drop-set-lt, get_or-set_same, length-set}

@@ -10,7 +10,7 @@ use pct_transitions::{Program, choice_by, takes};
 use std::alloc::Global;
 use std::marker::Model;
 
-/// The numbers of a process.
+/// The ids and the end of a process, and whether it is restricted.
 #[derive(Clone, Copy)]
 pub struct ProcessEntry {
     /// Its id.

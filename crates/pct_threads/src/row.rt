@@ -261,10 +261,11 @@ fn set_frame(frames: &mut ArrayVec<Frame, MAX_DEPTH>, index: usize, frame: Frame
 fn set_top_pc(frames: &mut ArrayVec<Frame, MAX_DEPTH>, pc: u32)
     ensures { reverse frames.new.items ≡ at_pc pc (reverse frames.old.items) }
 {
-    prove!(frames.len() <= MAX_DEPTH);
-    if let Some(mut frame) = frames.pop() {
+    let depth = frames.len();
+    if depth > 0 {
+        let mut frame = frames[depth - 1];
         frame.pc = pc;
-        frames.push(frame);
+        set_frame(frames, depth - 1, frame);
     }
 }
 
@@ -272,13 +273,22 @@ fn set_top_pc(frames: &mut ArrayVec<Frame, MAX_DEPTH>, pc: u32)
 fn set_top_local(frames: &mut ArrayVec<Frame, MAX_DEPTH>, i: u32, value: u32)
     ensures { reverse frames.new.items ≡ set_local i value (reverse frames.old.items) }
 {
-    prove!(frames.len() <= MAX_DEPTH);
-    if let Some(mut frame) = frames.pop() {
-        if (i as usize) < frame.locals.len() {
-            frame.locals[i as usize] = value;
-        }
-        frames.push(frame);
+    let depth = frames.len();
+    if depth > 0 {
+        let frame = with_local(frames[depth - 1], i, value);
+        set_frame(frames, depth - 1, frame);
     }
+}
+
+// The frame with another value of a local, if it has the local.
+fn with_local(frame: Frame, i: u32, value: u32) -> Frame
+    ensures { result ≡ record frame { locals = slice_set frame.locals i value } }
+{
+    let mut changed = frame;
+    if (i as usize) < changed.locals.len() {
+        changed.locals[i as usize] = value;
+    }
+    changed
 }
 
 // Whether the status is that of an ended thread.

@@ -57,7 +57,7 @@ module _ (passes : ℕ) (body : List Stmt) (shared : SharedState) (t : Thread) (
   value frame v = value_of shared.globals frame v
 
   -- the transition of a thread at a statement, with a status. Where the choice that makes it is known to be offered, `offered` is true,
-  -- and the case has what this tells of the thread
+  -- and the case has what is known of the thread then
   pub data TransitionCase : NextStatement → Status → Transition → Type 0 where
     -- it changes nothing
     rests : (next : NextStatement) (s : Status) → (offered ≡ true → is_ended_status s ≡ false) → TransitionCase next s no_change

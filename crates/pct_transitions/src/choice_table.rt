@@ -191,7 +191,8 @@ fn nth_dtor(keys: &Keys, slot: u32, n: usize) -> Option<Alt>
 }
 
 /// The choices of a thread in this context. A running thread with a next statement has `go`, or
-/// at pthread_create an id for a new thread, where a slot is free; where it may act upon a pending request it has `go` and
+/// at pthread_create an id for a new thread, where a slot is free, and at pthread_key_create a number for a new key, where a place
+/// is free; where it may act upon a pending request it has `go` and
 /// `act`, and where it must, `act` alone. One that is suspended at a cancellation point has `go`, if what it waits for may occur
 /// at any time, and one that joins another, once that has ended; both have `act`, if a request is pending and cancelability is
 /// enabled. One that is ending has the keys that are left in its pass, after its cleanup handlers, and else `go`; one that exits its

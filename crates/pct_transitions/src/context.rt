@@ -16,8 +16,7 @@ use pct_threads::Threads;
 /// What the next step of a thread depends on: the thread, what it shares with the other threads of its process, and their
 /// table. In a contract, `IsContext` says of which thread this is the context.
 ///
-/// The calls that take a context on the way of every step are inline: its parts then stay in registers, and are read where they are
-/// needed.
+/// A call that takes a context in every step is best inline: a context that is passed by reference is written to memory as a whole.
 #[derive(Clone, Copy)]
 pub(crate) struct Context<'a> {
     pub program: &'a Program,

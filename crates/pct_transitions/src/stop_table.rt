@@ -17,8 +17,8 @@ use crate::program::Program;
 use pct_keys::Keys;
 use pct_model::{Frame, FrameKind, MAX_FRAMES, MAX_HANDLERS, Reason, Stmt, Why};
 
-/// The stop of a running thread at this statement of its top frame: whether the statement is implemented is tested first, and then
-/// the statement's own stops in their order. `None` if the statement does not stop.
+/// The stop of a running thread at this statement of its top frame: whether the statement is implemented is tested first, then
+/// whether it may be executed with asynchronous cancelability, and then the statement's own stops in their order. `None` if the statement does not stop.
 #[tactic(auto, unfolding(pct_model::specs::StopTable::stop_at))]
 pub(crate) fn stop_at(context: &Context, at: &At) -> Option<Why>
     requires { IsWhole context.now }

@@ -81,7 +81,7 @@ pub data Kind (tid : ℕ) (threads : List Thread) (s : Status) : Transition → 
   detaches_one : (next id : ℕ) (target : Thread) → s ≡ status.Running → with_id id threads ≡ Some target → is_joined_by_one id threads ≡ false → Kind tid threads s (detaches next id)
   -- it sends one a request
   requests_one : (next id : ℕ) (target : Thread) → s ≡ status.Running → with_id id threads ≡ Some target → Kind tid threads s (requests next id)
-  -- it leaves pthread_join to end
+  -- it begins to end in pthread_join
   cancels : (id : ℕ) → s ≡ status.Joining id → Kind tid threads s (acts_on_request (status.Joining id))
 
 -- ---- the table
