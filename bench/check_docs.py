@@ -53,6 +53,7 @@ SPOKEN = {
     "thread-specific data": {"pthread_key_create", "pthread_key_delete", "pthread_setspecific", "pthread_getspecific"},
     "mutexes": {"pthread_mutex_lock", "pthread_mutex_unlock"},
     "condition variables": {"pthread_cond_wait", "pthread_cond_signal", "pthread_cond_broadcast"},
+    "condition waits": {"pthread_cond_wait", "pthread_cond_signal", "pthread_cond_broadcast"},
     "semaphores": {"sem_wait", "sem_post"},
     "processes": {"fork", "waitpid", "exit", "_exit"},
     "fork handlers": {"pthread_atfork"},

@@ -4,7 +4,7 @@
  * Standard: 2.9.5.4
  * Row:      pthread_mutex_lock with asynchronous type
  * Script:   examples/library_asynchronous_lock.pct
- * Host:     planned: stops the run at the call, as `undefined async_call`, unless the thread acts before the call
+ * Host:     stops the run at the call, as `undefined async_call`, unless the thread acts before the call
  */
 #define _XOPEN_SOURCE 700
 #include <pthread.h>

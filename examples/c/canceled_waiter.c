@@ -2,8 +2,8 @@
  *
  * Standard: 2.9.5.3, pthread_cond_wait
  * Row:      Canceled waiters
- * Script:   examples/library_canceled_waiter.pct
- * Host:     planned: the handler owns the mutex
+ * Script:   examples/library_canceled_waiter.replay
+ * Host:     the handler owns the mutex
  */
 #define _XOPEN_SOURCE 700
 #include <pthread.h>

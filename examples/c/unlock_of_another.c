@@ -3,7 +3,7 @@
  * Standard: pthread_mutex_lock
  * Row:      Unlocks by other threads
  * Script:   examples/library_unlock_of_another.pct
- * Host:     planned: stops the run, as `undefined not_owner`
+ * Host:     stops the run, as `undefined not_owner`
  */
 #define _XOPEN_SOURCE 700
 #include <pthread.h>

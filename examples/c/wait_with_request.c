@@ -4,7 +4,7 @@
  * Standard: 2.9.5.2, 2.9.5.3, pthread_cond_wait
  * Row:      Requests pending at condition waits
  * Script:   examples/library_wait_with_request.pct
- * Host:     planned: the other thread is the owner first: never
+ * Host:     the other thread is the owner first: never
  */
 #define _XOPEN_SOURCE 700
 #include <pthread.h>

@@ -3,7 +3,7 @@
  * Standard: pthread_cond_wait
  * Row:      Condition waits with two mutexes
  * Script:   examples/library_wait_with_two_mutexes.pct
- * Host:     planned: stops the run at the second wait, as `undefined cond_two_mutexes`
+ * Host:     stops the run at the second wait, as `undefined cond_two_mutexes`
  */
 #define _XOPEN_SOURCE 700
 #include <pthread.h>

@@ -3,7 +3,7 @@
  * Standard: pthread_cond_wait
  * Row:      Condition waits without the mutex
  * Script:   examples/library_wait_without_mutex.pct
- * Host:     planned: stops the run, as `undefined not_owner`
+ * Host:     stops the run, as `undefined not_owner`
  */
 #define _XOPEN_SOURCE 700
 #include <pthread.h>

@@ -3,6 +3,7 @@ mod TwoChanges
 mod ChangedSlots
 mod TableSlots
 mod OwnThread
+mod ScannedThreads
 mod NamedThreads
 mod FittingActions
 mod NewThreads

@@ -1,12 +1,14 @@
--- The slots of a process after a change of the thread that an action names, and after a key was deleted.
-use Rattle.std.proofs.Common.{◌≡◌, ℕ, ◌<◌, Bool, true, false, not, ◌&&◌, cond, List, [], ◌∷◌, map, filter, length, Option, Some, None, refl, sym, ap, ◌∙◌, subst, arith, mod-lt, ◌-◌, ◌≤◌, inl, inr}
+-- The slots of a process after a change of the threads that an action names, and after a key was deleted.
+use Rattle.std.proofs.Common.{◌≡◌, ℕ, ◌<◌, Bool, true, false, not, ◌&&◌, ◌||◌, cond, List, [], ◌∷◌, map, filter, length, Option, Some, None, refl, sym, ap, ◌∙◌, subst, arith, mod-lt, ◌-◌, ◌≤◌, inl, inr}
 use Rattle.std.specs.Prelude.{All, IfSome, nat_eq, is_some, option_map, option_and_then}
 use Rattle.std.specs.Option.{option_map_or}
 use Rattle.std.proofs.lemmas.Bool.{and_from, cases_lt, false≢true}
-use Rattle.std.proofs.lemmas.List.{set-get_or}
+use Rattle.std.proofs.lemmas.List.{set-get_or, map-id}
 use Rattle.std.proofs.lemmas.List.Elements.{All-head}
+use Rattle.pct_model.specs.declared.state.Cause.TheVariants.{Signalled, Broadcast}
 use Rattle.pct_model.specs.declared.transition.Action.{Action}
 use Rattle.pct_model.specs.declared.transition.Action.TheVariants as action
+use Rattle.pct_model.specs.CondCalls.{is_waiting_on, unblocked}
 use Rattle.pct_model.specs.Keys.{KeyValues, without_value}
 use Rattle.pct_model.specs.World.{Thread}
 use Rattle.pct_model.specs.ThreadSlots.{is_ended_status, holds_slot, slot_of, is_live_thread}
@@ -17,18 +19,28 @@ use Rattle.pct_threads.proofs.TableLemmas.{within-occupied, occupied-test}
 use Rattle.pct_keys.specs.Tables.{Table, row_at}
 use Rattle.pct_engine_laws.specs.Seen.{SeenSlot}
 use Rattle.pct_engine_laws.specs.SeenSteps.{thread_with}
+use Rattle.pct_engine_laws.proofs.ThreadChanges.{unblocked_ended}
 use Rattle.pct_process.specs.ThreadViews.{thread_of, threads_of, slot_view, with_specific}
 use Rattle.pct_process.specs.ProcessViews.{with_row, slots_of, thread_on_slot}
 use Rattle.pct_process.proofs.ViewedSlots.{own, length-slots_of, slot_here, thread_on_slot-is, thread_with-is}
 use Rattle.pct_actions.specs.ProcessChanges.{IsOnSlot, AreOnSlots, JoinFits}
 use Rattle.pct_actions.specs.ProcessParts.{on_threads, slot_changed}
-use Rattle.pct_actions.specs.SharedChanges.{forgotten, slot_named, on_named, requested, named_on, NameFits}
+use Rattle.pct_actions.specs.SharedChanges.{forgotten, slot_named, on_named, requested, woken, woken_from, named_on, NameFits}
 use Rattle.pct_actions.proofs.ChangedSlots.{none_changed, none_leaves, one_changed}
 use Rattle.pct_actions.proofs.TableSlots.{seen_at, changed_thread}
 
--- ---- a key that is deleted
+-- ---- a change of all threads
 
--- a slot where no thread keeps its value of it
+-- the slots after a change of each slot and of each row
+all_with : (to : KeyValues → KeyValues) (change : Slot → Slot) (f : Thread → Thread) → ((row : KeyValues) (s : Slot) → with_row (to row) (slot_view (change s)) ≡ on_threads f (with_row row (slot_view s)))
+    → (rows : List KeyValues) (threads : List Slot) → length rows ≡ length threads → slots_of (map to rows) (map change threads) ≡ map (on_threads f) (slots_of rows threads)
+all_with to change f same rows [] fit = refl
+all_with to change f same [] (s ∷ threads) fit = absurd (omega (arith, fit))
+all_with to change f same (row ∷ rows) (s ∷ threads) fit =
+    ap (λ (x : SeenSlot). x ∷ slots_of (map to rows) (map change threads)) (same row s)
+    ∙ ap (λ (rest : List SeenSlot). on_threads f (with_row row (slot_view s)) ∷ rest) (all_with to change f same rows threads (omega (arith, fit)))
+
+-- a slot where no thread keeps its value of a key that is deleted
 forgotten_here : (place : ℕ) (row : KeyValues) (made : ℕ) (o : Option Held) → with_row (without_value place row) (record { made = made; here = threads_of o }) ≡ on_threads (λ t. record t { specific = without_value place t.specific }) (with_row row (record { made = made; here = threads_of o }))
 forgotten_here place row made None = refl
 forgotten_here place row made (Some h) = refl
@@ -36,15 +48,30 @@ forgotten_here place row made (Some h) = refl
 -- all slots
 pub key_forgotten : (place : ℕ) (rows : List KeyValues) (threads : List Slot) → length rows ≡ length threads
     → slots_of (map (without_value place) rows) threads ≡ map (on_threads (λ t. record t { specific = without_value place t.specific })) (slots_of rows threads)
-key_forgotten place rows [] fit = refl
-key_forgotten place [] (s ∷ threads) fit = absurd (omega (arith, fit))
-key_forgotten place (row ∷ rows) (s ∷ threads) fit =
-    ap (λ (x : SeenSlot). x ∷ slots_of (map (without_value place) rows) threads) (forgotten_here place row s.made s.here)
-    ∙ ap (λ (rest : List SeenSlot). on_threads (λ t. record t { specific = without_value place t.specific }) (with_row row (slot_view s)) ∷ rest) (key_forgotten place rows threads (omega (arith, fit)))
+key_forgotten place rows threads fit =
+    ap (slots_of (map (without_value place) rows)) (sym (map-id threads))
+    ∙ all_with (without_value place) (λ s. s) (λ t. record t { specific = without_value place t.specific }) (λ row s. forgotten_here place row s.made s.here) rows threads fit
+
+-- a slot whose thread is unblocked by a broadcast, if it waits on a condition variable
+broadcast_here : (c : ℕ) (row : KeyValues) (made : ℕ) (o : Option Held) → with_row row (record { made = made; here = threads_of (option_map (woken_from c) o) }) ≡ on_threads (named_after (action.WakeAll c)) (with_row row (record { made = made; here = threads_of o }))
+unfolding named_after
+broadcast_here c row made None = refl
+broadcast_here c row made (Some h) = λ i. record { made = made; here = by (is_waiting_on c h.thread.status) i } where
+  by : (b : Bool) → with_specific row (thread_of (cond b (woken Broadcast h) h)) ∷ [] ≡ cond b (with_specific row (thread_of (woken Broadcast h))) (with_specific row (thread_of h)) ∷ []
+  by true = refl
+  by false = refl
+
+-- a thread keeps its slot after it was unblocked
+still_holds : (c : ℕ) (t : Thread) → holds_slot (named_after (action.WakeAll c) t) ≡ holds_slot t
+unfolding named_after
+still_holds c t = by (is_waiting_on c t.status) where
+  by : (b : Bool) → holds_slot (cond b (record t { status = unblocked Broadcast t.status }) t) ≡ holds_slot t
+  by true = ap (λ (e : Bool). not t.gone && not (e && (t.joined || t.detached))) (unblocked_ended Broadcast t.status)
+  by false = refl
 
 -- ---- a thread that is named
 
--- a thread that holds its slot, after an action that names it: it was joined, became detached, or has a request pending
+-- a thread that holds its slot, after an action that names it: it was joined, became detached, has a request pending, or was unblocked
 module _ (row : KeyValues) (id : ℕ) (h : Held) (named : nat_eq h.id id ≡ true) (holds : holds_slot (thread_of h) ≡ true) where
   abbrev t : Thread
   t = with_specific row (thread_of h)
@@ -70,6 +97,13 @@ module _ (row : KeyValues) (id : ℕ) (h : Held) (named : nat_eq h.id id ≡ tru
     by : (e : Bool) → map (with_specific row) (thread_of (cond e h (record h { thread = record h.thread { cancel = record h.thread.cancel { pending = true } } })) ∷ []) ≡ filter holds_slot (cond (not e) (record t { pending = true }) t ∷ [])
     by true = sym (ap (λ (b : Bool). cond b (t ∷ []) []) holds)
     by false = sym (ap (λ (b : Bool). cond b (record t { pending = true } ∷ []) []) holds)
+
+  woken_here : map (with_specific row) (thread_of (woken Signalled h) ∷ []) ≡ filter holds_slot (named_after (action.Wake id) t ∷ [])
+  unfolding named_after
+  woken_here =
+      sym (ap (λ (b : Bool). filter holds_slot (cond b (record t { status = unblocked Signalled t.status }) t ∷ [])) live
+      ∙ ap (λ (e : Bool). cond (not (e && h.detached)) (record t { status = unblocked Signalled t.status } ∷ []) []) (unblocked_ended Signalled h.thread.status)
+      ∙ ap (λ (b : Bool). cond b (record t { status = unblocked Signalled t.status } ∷ []) []) holds)
 
 -- a table has the slot of each id, if it has a slot
 no_slots : (id : ℕ) (rows : List KeyValues) (f : SeenSlot → SeenSlot) (threads : List Slot) → length threads ≤ slot_of (length threads) id → slots_of rows threads ≡ map f (slots_of rows threads)
@@ -182,5 +216,16 @@ module _ (keys : Table) (threads : List Slot) (fit : length keys.rows ≡ length
       (λ x other. ap (λ (b : Bool). cond (b && holds_slot x) (record x { detached = true }) x) other)
       (λ h here named holds. ap (λ (o : Option Held). map (with_specific row) (threads_of (option_and_then after_detach o))) here ∙ detached_here row id h named holds)
       ∙ ap (map (slot_changed (named_after (action.Detach id)))) same
+  named_is (action.Wake id) same fits =
+      let row : KeyValues = row_at keys (slot_of (length threads) id) in
+      on_named_is keys threads fit (on same) id (with_change (woken Signalled)) (named_after (action.Wake id)) refl
+      (λ x other. ap (λ (b : Bool). cond (b && holds_slot x) (record x { status = unblocked Signalled x.status }) x) other)
+      (λ h here named holds. ap (λ (o : Option Held). map (with_specific row) (threads_of (option_map (woken Signalled) o))) here ∙ woken_here row id h named holds)
+      ∙ ap (map (slot_changed (named_after (action.Wake id)))) same
+  named_is (action.WakeAll c) same fits =
+      ap (λ (rows : List KeyValues). slots_of rows (map (with_change (woken_from c)) threads)) (sym (map-id keys.rows))
+      ∙ all_with (λ row. row) (with_change (woken_from c)) (named_after (action.WakeAll c)) (λ row s. broadcast_here c row s.made s.here) keys.rows threads fit
+      ∙ ap (map (on_threads (named_after (action.WakeAll c)))) same
+      ∙ none_leaves old before (named_after (action.WakeAll c)) (still_holds c)
   named_is (action.DeleteKey k) same fits = same ∙ none_leaves old before (named_after (action.DeleteKey k)) (λ t. refl)
   named_is _ same fits = same ∙ sym (none_changed old before (λ t. t) (λ t. refl))

@@ -1,8 +1,11 @@
--- What an action changes in the tables beside the thread that makes it: in what the threads share, and in a thread that it names.
+-- What an action changes in the tables beside the thread that makes it: in what the threads share, and in the threads that it names.
 use Rattle.std.specs.Prelude.{◌≡◌, ℕ, true, if◌then◌else◌, List, map, length, Option, Some, None, IfSome}
 use Rattle.std.specs.Option.{option_map_or}
+use Rattle.pct_model.specs.declared.state.Cause.{Cause}
+use Rattle.pct_model.specs.declared.state.Cause.TheVariants as cause
 use Rattle.pct_model.specs.declared.transition.Action.{Action}
 use Rattle.pct_model.specs.declared.transition.Action.TheVariants as action
+use Rattle.pct_model.specs.CondCalls.{is_waiting_on, unblocked}
 use Rattle.pct_model.specs.Keys.{key_place, without_value}
 use Rattle.pct_model.specs.ThreadSlots.{slot_of}
 use Rattle.pct_threads.specs.Slots.{Held, Slot, has_id, after_detach, after_change, with_change, freed}
@@ -17,7 +20,7 @@ unfoldable pub forgotten : Action → List SeenSlot → List SeenSlot
 forgotten (action.DeleteKey k) slots = map (on_threads (λ t. record t { specific = without_value (key_place k) t.specific })) slots
 forgotten _ slots = slots
 
--- ---- a thread that is named
+-- ---- threads that are named
 
 -- the slot of the thread with an id, if the thread holds it
 abbrev pub slot_named : ℕ → List Slot → Option ℕ
@@ -31,11 +34,21 @@ on_named id change threads = option_map_or (λ target. on_slot target change thr
 abbrev pub requested : Held → Held
 requested h = if h.thread.ended then h else record h { thread = record h.thread { cancel = record h.thread.cancel { pending = true } } }
 
--- the table of threads after an action, which may name a thread
+-- a thread that is unblocked, if it waits on a condition variable
+abbrev pub woken : Cause → Held → Held
+woken why h = record h { thread = record h.thread { status = unblocked why h.thread.status } }
+
+-- a thread that is unblocked by a broadcast, if it waits on condition variable c
+abbrev pub woken_from : ℕ → Held → Held
+woken_from c h = if is_waiting_on c h.thread.status then woken cause.Broadcast h else h
+
+-- the table of threads after an action, which may name a thread, or the threads that wait on a condition variable
 unfoldable pub named_on : Action → List Slot → List Slot
 named_on (action.EndJoin id) threads = on_named id freed threads
 named_on (action.Request id) threads = on_named id (with_change requested) threads
 named_on (action.Detach id) threads = on_named id (after_change after_detach) threads
+named_on (action.Wake id) threads = on_named id (with_change (woken cause.Signalled)) threads
+named_on (action.WakeAll c) threads = map (with_change (woken_from c)) threads
 named_on _ threads = threads
 
 -- an action fits the table of threads: a thread that was joined has ended, and is not detached

@@ -1,14 +1,16 @@
-//! What an action changes in the thread that it names.
+//! What an action changes in the threads that it names.
 
-ghost use Rattle.std.specs.Prelude.{◌≡◌, IfSome, length, true};
+ghost use Rattle.std.specs.Prelude.{◌≡◌, IfSome, length, map, true};
+ghost use Rattle.pct_model.specs.declared.state.Cause.TheVariants as cause;
+ghost use Rattle.pct_model.specs.CondCalls.{is_waiting_on, unblocked};
 ghost use Rattle.pct_threads.specs.Slots.{after_detach, after_change, with_change, freed};
 ghost use Rattle.pct_threads.specs.Tables.{is_occupied_at, is_reclaimable_at, on_held};
-ghost use Rattle.pct_actions.specs.SharedChanges.{slot_named, named_on, on_named, requested, NameFits};
+ghost use Rattle.pct_actions.specs.SharedChanges.{slot_named, named_on, on_named, requested, woken, woken_from, NameFits};
 
-use pct_model::Action;
+use pct_model::{Action, Cause, Status};
 use pct_threads::Threads;
 
-/// Makes the change of an action in the thread that it names, if it names one. Whom a thread joins is known by its status.
+/// Makes the change of an action in the threads that it names, if it names some. Whom a thread joins is known by its status.
 #[tactic(auto, unfolding(crate::specs::SharedChanges::named_on))]
 pub(crate) fn name(threads: &mut Threads, action: Action)
     requires { NameFits action threads.old }
@@ -19,6 +21,8 @@ pub(crate) fn name(threads: &mut Threads, action: Action)
         Action::EndJoin(id) => end_join(threads, id),
         Action::Request(id) => request(threads, id),
         Action::Detach(id) => detach(threads, id),
+        Action::Wake(id) => wake(threads, id),
+        Action::WakeAll(cond) => wake_all(threads, cond),
         _ => {}
     }
 }
@@ -54,6 +58,30 @@ fn detach(threads: &mut Threads, id: u32)
     }
 }
 
+// The thread with an id is unblocked by a signal, if it waits on a condition variable.
+fn wake(threads: &mut Threads, id: u32)
+    ensures table { threads.new ≡ on_named id (with_change (woken cause.Signalled)) threads.old }
+    ensures length { length threads.new ≡ length threads.old }
+{
+    if let Some(target) = slot_named(threads, id) {
+        wake_on(threads, target);
+    }
+}
+
+// Each thread that waits on a condition variable is unblocked by a broadcast.
+fn wake_all(threads: &mut Threads, cond: u32)
+    ensures table { threads.new ≡ map (with_change (woken_from cond)) threads.old }
+    ensures length { length threads.new ≡ length threads.old }
+{
+    // A table has at most 64 slots.
+    let _count = threads.slot_count();
+    let mut rest = threads.occupied();
+    while let Some(slot) = rest.nth(0) {
+        wake_waiter_on(threads, slot, cond);
+        rest.remove(slot);
+    }
+}
+
 // A request for the thread on a slot is pending, unless that thread has ended.
 fn request_on(threads: &mut Threads, slot: u32)
     requires { is_occupied_at threads.old slot ≡ true }
@@ -62,6 +90,48 @@ fn request_on(threads: &mut Threads, slot: u32)
 {
     if !threads.read(slot).ended {
         threads.write(slot).cancel.request();
+    }
+}
+
+// The thread on a slot is unblocked by a signal, if it waits on a condition variable.
+fn wake_on(threads: &mut Threads, slot: u32)
+    requires { is_occupied_at threads.old slot ≡ true }
+    ensures table { threads.new ≡ on_held slot (woken cause.Signalled) threads.old }
+    ensures length { length threads.new ≡ length threads.old }
+{
+    let thread = threads.write(slot);
+    thread.status = unblocked(Cause::Signalled, thread.status);
+}
+
+// The thread on a slot is unblocked by a broadcast, if it waits on this condition variable.
+fn wake_waiter_on(threads: &mut Threads, slot: u32, cond: u32)
+    requires { is_occupied_at threads.old slot ≡ true }
+    ensures table { threads.new ≡ on_held slot (woken_from cond) threads.old }
+    ensures length { length threads.new ≡ length threads.old }
+{
+    let thread = threads.write(slot);
+    if is_waiting_on(cond, thread.status) {
+        thread.status = unblocked(Cause::Broadcast, thread.status);
+    }
+}
+
+// The status is that of a thread that waits on the condition variable with this index.
+fn is_waiting_on(cond: u32, status: Status) -> bool
+    ensures { result ≡ is_waiting_on cond status }
+{
+    match status {
+        Status::Waiting(waited, _) => waited == cond,
+        _ => false,
+    }
+}
+
+// The status of a thread, after it was unblocked if it waited.
+fn unblocked(why: Cause, status: Status) -> Status
+    ensures { result ≡ unblocked why status }
+{
+    match status {
+        Status::Waiting(cond, mutex) => Status::Reacquire(cond, mutex, why),
+        _ => status,
     }
 }
 

@@ -2,6 +2,7 @@
 
 ghost use Rattle.std.specs.Prelude.{◌≡◌, ◌<◌, ◌≤◌, ◌∷◌, [], ℕ, suc, List, length, Some, None, true};
 ghost use Rattle.pct_model.specs.declared.limits.TheConstants.{MAX_FRAMES, MAX_HANDLERS, MAX_PASSES};
+ghost use Rattle.pct_model.specs.declared.state.Cause.TheVariants as cause;
 ghost use Rattle.pct_model.specs.declared.state.Status.TheVariants as status;
 ghost use Rattle.pct_model.specs.Actions.{frames_written, at_pc, without_first, thread_at, thread_after};
 ghost use Rattle.pct_model.specs.Cancelability.{ending_state, ending_mode};
@@ -12,7 +13,7 @@ ghost use Rattle.pct_engine_laws.specs.Fitting.{Fits};
 ghost use Rattle.pct_actions.specs.OwnChanges.{on_own, unless_reclaimed};
 
 use pct_cleanup::Handlers;
-use pct_model::{Action, Dest, FrameKind, Mode, Reason, State, Status};
+use pct_model::{Action, Cause, Dest, FrameKind, Mode, Reason, State, Status};
 use pct_threads::Threads;
 
 /// The thread on a slot goes on at a program counter, if there is one.
@@ -46,6 +47,9 @@ pub(crate) fn act(threads: &mut Threads, slot: u32, action: Action)
         Action::SetMode(mode) => set_mode(threads, slot, mode),
         Action::BeginPoint(index) => set_status(threads, slot, Status::AtPoint(index)),
         Action::BeginJoin(id) => set_status(threads, slot, Status::Joining(id)),
+        Action::BeginWait(cond, mutex) => set_status(threads, slot, Status::Waiting(cond, mutex)),
+        Action::LeaveWait(cond, mutex) => leave_wait(threads, slot, cond, mutex),
+        Action::BeginSem(sem) => set_status(threads, slot, Status::InSem(sem)),
         Action::BeginPass => begin_pass(threads, slot),
         Action::BeginEnd(why) => begin_end(threads, slot, why),
         Action::EndThread(value) => end_thread(threads, slot, value),
@@ -114,6 +118,15 @@ fn leave(threads: &mut Threads, slot: u32, status: Status)
     ensures { threads.new ≡ on_own slot (λ t. record t { status = status; frames = without_first t.frames }) threads.old }
 {
     leave_frame(threads, slot);
+    set_status(threads, slot, status);
+}
+
+// The thread acts upon a request in a condition wait.
+fn leave_wait(threads: &mut Threads, slot: u32, cond: u32, mutex: u32)
+    requires { is_occupied_at threads.old slot ≡ true }
+    ensures { threads.new ≡ on_own slot (λ t. record t { status = status.Reacquire cond mutex cause.Canceled }) threads.old }
+{
+    let status = Status::Reacquire(cond, mutex, Cause::Canceled);
     set_status(threads, slot, status);
 }
 

@@ -1,4 +1,4 @@
-//! What an action changes in what the threads of a process share, and in the thread that it names.
+//! What an action changes in what the threads of a process share, and in the threads that it names.
 
 ghost use Rattle.std.specs.Prelude.{◌≡◌, ◌∷◌, [], drop, map};
 ghost use Rattle.pct_model.specs.Actions.{for_each, globals_written, shared_after};
@@ -44,6 +44,8 @@ fn act_on_shared(process: &mut ProcessState, action: Action)
             let _made = process.keys.create(key_place(key), dtor);
         }
         Action::DeleteKey(key) => delete_key(process, key),
+        Action::OwnMutex(mutex, id) => process.owners.set(mutex, id),
+        Action::SetCount(sem, count) => process.counts.set(sem, count),
         Action::BeginExit(value) => process.exit_value = Some(value),
         _ => {}
     }

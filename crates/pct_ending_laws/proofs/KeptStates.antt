@@ -16,6 +16,8 @@ use Rattle.pct_ending_laws.proofs.joins.NewestEvents.{newest_of_run}
 use Rattle.pct_ending_laws.proofs.joins.JoiningThreads.{JoinsOne, joins_of_processes}
 use Rattle.pct_ending_laws.proofs.joins.ReportedFlags.{known_of_run, joined_of_run, detached_of_run}
 use Rattle.pct_ending_laws.proofs.joins.LawfulJoins.{joins_of_run}
+use Rattle.pct_ending_laws.proofs.owners.OwnersOfRun.{owners_of_run, owners_kept}
+use Rattle.pct_ending_laws.proofs.waits.WaitsOfRun.{waits_of_run, hand_ons_of_run, calls_of_run, waits_kept_of_run}
 
 -- each thread that is suspended in pthread_join
 pub kept_joins_of_run : (script : Script) (config : Config) (entries : List Entry) (r : Run) → run script config entries ≡ Some r
@@ -40,6 +42,7 @@ pub every_run_keeps_laws : RunsKeepLaws
 every_run_keeps_laws script config entries r is = record {
   once = once_of_run script config entries r is;
   joins = joins_of_run script config entries r is;
+  conds = record { owners = owners_of_run script config entries r is; waits = waits_of_run script config entries r is; hand_ons = hand_ons_of_run script config entries r is };
 }
 
 -- the invariant of the state after every run
@@ -52,5 +55,8 @@ every_state_is_kept script config entries r is = record {
   joined = joined_of_run script config entries r is;
   detached = detached_of_run script config entries r is;
   joins = kept_joins_of_run script config entries r is;
+  owners = owners_kept script config entries r is;
+  waits = waits_kept_of_run script config entries r is;
+  calls_release = calls_of_run script config entries r is;
   last = λ pid p made tid t found here exits. last_kept script config entries r is pid p made tid t found here exits.ended exits.exits;
 }

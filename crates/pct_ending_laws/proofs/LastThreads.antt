@@ -6,7 +6,6 @@ use Rattle.std.proofs.lemmas.Option.{none-some, cond_some}
 use Rattle.pct_model.specs.declared.schedule.Entry.{Entry}
 use Rattle.pct_model.specs.declared.schedule.Config.{Config}
 use Rattle.pct_model.specs.declared.script.Script.{Script}
-use Rattle.pct_model.specs.declared.state.Status.{Status}
 use Rattle.pct_model.specs.declared.transition.Transition.{Transition}
 use Rattle.pct_model.specs.Actions.{named_after, moved, thread_moved, changed}
 use Rattle.pct_model.specs.NextStatement.{next_of, body_at}
@@ -16,7 +15,7 @@ use Rattle.pct_model.specs.ThreadSummary.{ThreadSummary}
 use Rattle.pct_model.specs.TransitionTable.{transition_by}
 use Rattle.pct_model.specs.World.{Thread, Process, thread_with}
 use Rattle.pct_ending_laws.proofs.lift.KeyedLists.{found_at, item_passes}
-use Rattle.pct_ending_laws.proofs.lift.ChangedThreads.{all_keep, named_keeps, other_threads}
+use Rattle.pct_ending_laws.proofs.lift.ChangedThreads.{all_keep, same_settled, named_keeps, other_threads}
 use Rattle.pct_ending_laws.proofs.lift.TakenSteps.{AfterEveryRun}
 use Rattle.pct_ending_laws.proofs.lift.MadeThreads.{IsLive}
 use Rattle.pct_ending_laws.proofs.lift.ThreadsAfter.{initial_thread, Moves, mover, is_mover, each_after}
@@ -44,13 +43,13 @@ LastExits threads = (id : ℕ) (t : Thread) → find (λ u. nat_eq u.id id) thre
 -- ---- one thread
 
 -- what decides it of a thread
-abbrev view : Thread → Bool × Bool × Status
-view t = (t.gone, t.ended, t.status)
+abbrev view : Thread → Bool × Bool × Bool
+view t = (t.gone, t.ended, is_ended_status t.status)
 
 -- a thread after a transition of the one with an id, if it is that one or not
 moved_view : (tid : ℕ) (o : Transition) (t : Thread) (live : Bool) → is_live_thread tid t ≡ live → view (thread_moved tid o t) ≡ view (cond live (moved o t) t)
 moved_view tid o t live is =
-    all_keep view named_after (named_keeps view (λ t j p d s. refl)) o.actions (cond (is_live_thread tid t) (moved o t) t) ∙ ap (λ (b : Bool). view (cond b (moved o t) t)) is
+    all_keep view named_after (named_keeps view (λ t j p d k s is. ap (λ (b : Bool). (t.gone, t.ended, b)) (same_settled is_ended_status (λ c m why. refl) s t.status is))) o.actions (cond (is_live_thread tid t) (moved o t) t) ∙ ap (λ (b : Bool). view (cond b (moved o t) t)) is
 
 -- a thread that is not the one with an id that holds its slot has ended, if each thread that holds its slot has ended or has the id
 ended_by : (here is_end reclaimed ended same : Bool) → here ≡ true → (is_end ≡ true → ended ≡ true) → (same && (here && not (is_end && reclaimed))) ≡ false → (not (here && not (is_end && reclaimed)) || (ended || same)) ≡ true → ended ≡ true
@@ -85,10 +84,10 @@ module _ (script : Script) (config : Config) (p : Process) (e : Entry) (t : Thre
 
   module _ (others : OthersEnded) (ends : (moved o t).ended ≡ true) (none : o.created ≡ None) where
     moved_ended : (id : ℕ) (u : Thread) → thread_with id p ≡ Some u → (live : Bool) → is_live_thread e.tid u ≡ live → (thread_moved e.tid o u).gone ≡ false → (thread_moved e.tid o u).ended ≡ true
-    moved_ended id u is true live present = ap (λ (v : Bool × Bool × Status). v.1) (moved_view e.tid o u true live) ∙ ap (λ (x : Thread). (moved o x).ended) (is_mover script config p e t moves id u is live).0 ∙ ends
+    moved_ended id u is true live present = ap (λ (v : Bool × Bool × Bool). v.1) (moved_view e.tid o u true live) ∙ ap (λ (x : Thread). (moved o x).ended) (is_mover script config p e t moves id u is live).0 ∙ ends
     moved_ended id u is false live present =
         let same : view (thread_moved e.tid o u) ≡ view u = moved_view e.tid o u false live in
-        ap (λ (v : Bool × Bool × Status). v.1) same ∙ others id u is (sym (ap (λ (v : Bool × Bool × Status). v.0) same) ∙ present) live
+        ap (λ (v : Bool × Bool × Bool). v.1) same ∙ others id u is (sym (ap (λ (v : Bool × Bool × Bool). v.0) same) ∙ present) live
 
     all_ended : AllEnded next.threads
     all_ended = each_after script config p e t moves (λ id w. w.gone ≡ false → w.ended ≡ true) (λ id u is. moved_ended id u is (is_live_thread e.tid u) refl) (λ id new makes present. absurd (none-some new (sym none ∙ makes)))
@@ -143,10 +142,10 @@ module _ (script : Script) (config : Config) (p : Process) (e : Entry) (t : Thre
   moved_exits : (id : ℕ) (u : Thread) → thread_with id p ≡ Some u → (live : Bool) → is_live_thread e.tid u ≡ live → ExitsAfterEnd (thread_moved e.tid o u) → AllEnded next.threads
   moved_exits id u is true live exits =
       let same : view (thread_moved e.tid o u) ≡ view (moved o t) = moved_view e.tid o u true live ∙ ap (λ (x : Thread). view (moved o x)) (is_mover script config p e t moves id u is live).0 in
-      it_exits t.ended refl (sym (ap (λ (v : Bool × Bool × Status). v.1) same) ∙ exits.1) (sym (ap (λ (v : Bool × Bool × Status). is_ended_status v.2) same) ∙ exits.2)
+      it_exits t.ended refl (sym (ap (λ (v : Bool × Bool × Bool). v.1) same) ∙ exits.1) (sym (ap (λ (v : Bool × Bool × Bool). v.2) same) ∙ exits.2)
   moved_exits id u is false live exits =
       let same : view (thread_moved e.tid o u) ≡ view u = moved_view e.tid o u false live in
-      ended_stay (last id u is (sym (ap (λ (v : Bool × Bool × Status). v.0) same) ∙ exits.0, sym (ap (λ (v : Bool × Bool × Status). v.1) same) ∙ exits.1, sym (ap (λ (v : Bool × Bool × Status). is_ended_status v.2) same) ∙ exits.2))
+      ended_stay (last id u is (sym (ap (λ (v : Bool × Bool × Bool). v.0) same) ∙ exits.0, sym (ap (λ (v : Bool × Bool × Bool). v.1) same) ∙ exits.1, sym (ap (λ (v : Bool × Bool × Bool). v.2) same) ∙ exits.2))
 
   pub last_after : LastExits next.threads
   last_after = each_after script config p e t moves (λ id w. ExitsAfterEnd w → AllEnded next.threads) (λ id u is. moved_exits id u is (is_live_thread e.tid u) refl) (λ id new makes exits. absurd (false≢true exits.1))

@@ -4,6 +4,8 @@ pub mod lift
 pub mod keys
 pub mod thread
 pub mod ThreadsOfRun
+pub mod owners
 pub mod LastThreads
 pub mod joins
+pub mod waits
 pub mod KeptStates

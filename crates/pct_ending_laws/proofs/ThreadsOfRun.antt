@@ -8,14 +8,18 @@ use Rattle.pct_model.specs.declared.schedule.Config.{Config}
 use Rattle.pct_model.specs.declared.schedule.Entry.{Entry}
 use Rattle.pct_model.specs.declared.script.Script.{Script}
 use Rattle.pct_model.specs.declared.frame.Frame.{Frame}
+use Rattle.pct_model.specs.declared.state.Cause.{Cause}
+use Rattle.pct_model.specs.declared.state.Cause.TheVariants as cause
 use Rattle.pct_model.specs.declared.state.FrameKind.TheVariants as kind
+use Rattle.pct_model.specs.declared.state.Reason.{Reason}
 use Rattle.pct_model.specs.declared.state.Status.{Status}
 use Rattle.pct_model.specs.declared.state.Status.TheVariants as status
 use Rattle.pct_model.specs.declared.transition.Action.{Action}
 use Rattle.pct_model.specs.declared.transition.Action.TheVariants as action
 use Rattle.pct_model.specs.Actions.{named_after}
 use Rattle.pct_model.specs.ChoiceTable.{choices_of, offers}
-use Rattle.pct_model.specs.Kept.{is_exiting, ThreadKept, KeysKept}
+use Rattle.pct_model.specs.CondCalls.{is_waiting_on, unblocked}
+use Rattle.pct_model.specs.Kept.{is_exiting, has_left_wait, ThreadKept, KeysKept}
 use Rattle.pct_model.specs.Keys.{key_place}
 use Rattle.pct_model.specs.Names.{main_of, names_of}
 use Rattle.pct_model.specs.Once.{MayCome, Once}
@@ -33,7 +37,7 @@ use Rattle.pct_ending_laws.proofs.lift.ReportedBy.{Reading, reported_by, own_aft
 use Rattle.pct_ending_laws.proofs.lift.EveryThread.{OfEveryThread, of_made_thread, IsThreadRule, every_thread}
 use Rattle.pct_ending_laws.proofs.keys.KeysOfProcesses.{KeysFit, keys_of_run}
 use Rattle.pct_ending_laws.proofs.thread.Passes.{leaves_pass}
-use Rattle.pct_ending_laws.proofs.thread.ThreadRule.{summary, summary_reading, AllMayCome, Fits, Keeps}
+use Rattle.pct_ending_laws.proofs.thread.ThreadRule.{summary, summary_reading, AllMayCome, ByStatus, Fits, Keeps}
 use Rattle.pct_ending_laws.proofs.thread.NamedFunctions.{names_functions}
 use Rattle.pct_ending_laws.proofs.thread.Statements.{new_fits}
 use Rattle.pct_ending_laws.proofs.thread.Transitions.{transition_keeps, created_fits}
@@ -47,11 +51,21 @@ module _ (script : Script) (passes : ℕ) where
   named_if true changed t s changed_fits fits = changed_fits
   named_if false changed t s changed_fits fits = fits
 
+  -- one that is unblocked by a signal or a broadcast: where it is suspended stays the same
+  unblocked_by : (why : Cause) → ((c m : ℕ) → has_left_wait (status.Reacquire c m why) ≡ false) → (st : Status) (reason : Reason) (frames : List Frame) (handlers : List (ℕ × ℕ)) (s : ThreadSummary) → ByStatus script st reason frames handlers s → ByStatus script (unblocked why st) reason frames handlers s
+  unblocked_by why stays (status.Waiting c m) reason frames handlers s by = (by.0, by.1, λ leaves. absurd (false≢true (sym (stays c m) ∙ leaves)))
+  unblocked_by why stays _ reason frames handlers s by = by
+
+  unblocked_fits : (why : Cause) → ((c m : ℕ) → has_left_wait (status.Reacquire c m why) ≡ false) → (t : Thread) (s : ThreadSummary) → Fits script passes t s → Fits script passes (record t { status = unblocked why t.status }) s
+  unblocked_fits why stays t s fits = record { agrees = fits.agrees; placed = fits.placed; by_status = unblocked_by why stays t.status t.reason t.frames t.handlers s fits.by_status; in_passes = fits.in_passes }
+
   named_fits : (a : Action) (t : Thread) (s : ThreadSummary) → Fits script passes t s → Fits script passes (named_after a t) s
   unfolding named_after
   named_fits (action.EndJoin id) t s fits = named_if (is_live_thread id t) (record t { joined = true }) t s fits fits
   named_fits (action.Request id) t s fits = named_if (is_live_thread id t && not t.ended) (record t { pending = true }) t s fits fits
   named_fits (action.Detach id) t s fits = named_if (is_live_thread id t) (record t { detached = true }) t s fits fits
+  named_fits (action.Wake id) t s fits = named_if (is_live_thread id t) (record t { status = unblocked cause.Signalled t.status }) t s (unblocked_fits cause.Signalled (λ c m. refl) t s fits) fits
+  named_fits (action.WakeAll c) t s fits = named_if (is_waiting_on c t.status) (record t { status = unblocked cause.Broadcast t.status }) t s (unblocked_fits cause.Broadcast (λ c m. refl) t s fits) fits
   named_fits (action.DeleteKey k) t s fits = record {
     agrees = fits.agrees;
     placed = fits.placed;

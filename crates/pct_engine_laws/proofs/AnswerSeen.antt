@@ -5,11 +5,10 @@ use Rattle.std.proofs.lemmas.List.Folds.{flat_map-map}
 use Rattle.pct_model.specs.declared.script.Script.{Script}
 use Rattle.pct_model.specs.declared.schedule.Config.{Config}
 use Rattle.pct_model.specs.World.{Thread, Process}
-use Rattle.pct_model.specs.ThreadSlots.{holds_slot, slot_of, is_on, is_free, next_id, free_ids, is_live_thread, with_id}
+use Rattle.pct_model.specs.ThreadSlots.{holds_slot, slot_of, is_on, is_free, next_id, free_ids, by_slot, is_live_thread, with_id}
 use Rattle.pct_model.specs.NextStatement.{next_of}
-use Rattle.pct_model.specs.OtherThreads.{Others, is_joining, is_joined_by_one, is_last, others_of}
+use Rattle.pct_model.specs.OtherThreads.{Others, is_joining, is_joined_by_one, waiters_among, is_last, others_of}
 use Rattle.pct_model.specs.ChoiceTable.{choices_at, choices_of}
-use Rattle.pct_model.specs.Chosen.{by_slot}
 use Rattle.pct_engine_laws.specs.Seen.{SeenSlot, seen_slot, seen_process}
 use Rattle.pct_engine_laws.specs.SeenSteps.{threads_on, thread_on, thread_with, is_joined_in, is_empty, new_id_on, new_ids_from, is_last_in, others_in, choices_in}
 use Rattle.pct_engine_laws.proofs.ListFacts.{find_agree, find-filter, any_agree, any-filter, any-flat_map, any_swap, any_and, all_none, map-filter}
@@ -116,9 +115,10 @@ others_seen slots tid threads some =
     let joined : (id : ℕ) → is_joined_by_one id threads ≡ is_joined_in id rows = λ id.
     sym (ap (list_any (λ (t : Thread). is_joining id t.status)) (threads_seen slots threads) ∙ any_by_slot slots (λ t. is_joining id t.status) threads some) in
     let ids : free_ids slots threads ≡ new_ids_from slots 0 rows = new_ids_seen slots threads in
+    let waiting : (c : ℕ) → waiters_among c (by_slot slots threads) ≡ waiters_among c (threads_on rows) = λ c. sym (ap (waiters_among c) (threads_seen slots threads)) in
     let last : is_last tid threads ≡ is_last_in tid rows =
     sym (ap (list_all (λ (t : Thread). t.ended || nat_eq t.id tid)) (threads_seen slots threads) ∙ all_by_slot slots (λ t. t.ended || nat_eq t.id tid) threads some) in
-    λ i. record { named = λ id. named id i; another_joins = λ id. joined id i; new_ids = ids i; is_last = last i }
+    λ i. record { named = λ id. named id i; another_joins = λ id. joined id i; new_ids = ids i; waiters = λ c. waiting c i; is_last = last i }
 
 -- the choices of a thread of a process
 pub choices_seen : (script : Script) (config : Config) (p : Process) (t : Thread) → 0 < config.slots → choices_of script config p t ≡ choices_in script config.slots (seen_process config.slots p) t

@@ -6,8 +6,9 @@ use Rattle.pct_model.specs.declared.script.Script.{Script}
 use Rattle.pct_model.specs.declared.schedule.Alt.{Alt}
 use Rattle.pct_model.specs.declared.schedule.Config.{Config}
 use Rattle.pct_model.specs.World.{Thread, ProcessEnd, Process, World, was_reaped}
+use Rattle.pct_model.specs.ThreadSlots.{by_slot}
 use Rattle.pct_model.specs.ChoiceTable.{choices_of, is_enabled}
-use Rattle.pct_model.specs.Chosen.{Candidate, by_slot, ready_of, candidate, candidates, item_at, entry_for, chosen}
+use Rattle.pct_model.specs.Chosen.{Candidate, ready_of, candidate, candidates, item_at, entry_for, chosen}
 use Rattle.pct_engine_laws.specs.Seen.{SeenProcess, seen_process, seen}
 use Rattle.pct_engine_laws.specs.SeenSteps.{threads_on, ready_in, candidate_in, seen_candidates, seen_chosen}
 use Rattle.pct_engine_laws.proofs.ListFacts.{flat_map_agree, flat_map-filter}

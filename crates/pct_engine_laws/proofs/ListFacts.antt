@@ -1,7 +1,8 @@
 -- Lists that are filtered, mapped, joined and searched.
 use Rattle.std.proofs.Common.{◌≡◌, ℕ, ◌+◌, Bool, true, false, not, ◌&&◌, ◌||◌, cond, List, [], ◌∷◌, ◌++◌, Option, Some, None, map, filter, find, flat_map, count_by, option_map, option_and_then, ◌⊎◌, inl, inr, refl, sym, ap, ◌∙◌, subst}
-use Rattle.std.specs.List.{list_any, list_all}
+use Rattle.std.specs.List.{list_any, list_all, All}
 use Rattle.std.proofs.lemmas.Bool.{and_left, and_right, or_left, or_right, false≢true}
+use Rattle.std.proofs.lemmas.List.Elements.{All-nil, All-append, All-head, All-tail}
 use Rattle.std.proofs.lemmas.Option.{none-some, same_Some}
 use Rattle.std.proofs.Math.Path.{fun_ext}
 use Rattle.std.proofs.lemmas.List.Folds.{fold-map, list_any-append}
@@ -161,6 +162,11 @@ flat_filter_cons f x false kept ys e = e
 pub flat_map-filter : {A B : Type 0} (f : A → List B) (q : A → Bool) (xs : List A) → flat_map f (filter q xs) ≡ flat_map (λ a. cond (q a) (f a) []) xs
 flat_map-filter f q [] = refl
 flat_map-filter f q (x ∷ xs) = flat_filter_cons f x (q x) (filter q xs) (flat_map (λ a. cond (q a) (f a) []) xs) (flat_map-filter f q xs)
+
+-- what holds of each item of each list holds of those of the joined list
+pub All-flat_map : {A B : Type 0} (P : B → Type 0) (f : A → List B) (xs : List A) → All (λ a. All P (f a)) xs → All P (flat_map f xs)
+All-flat_map P f [] each = All-nil P
+All-flat_map P f (x ∷ xs) each = All-append P (f x) (flat_map f xs) (All-head (λ a. All P (f a)) x xs each) (All-flat_map P f xs (All-tail (λ a. All P (f a)) x xs each))
 
 -- lists that are joined twice
 pub flat_map-flat_map : {A B C : Type 0} (g : B → List C) (f : A → List B) (xs : List A) → flat_map g (flat_map f xs) ≡ flat_map (λ a. flat_map g (f a)) xs

@@ -16,6 +16,7 @@ use Rattle.pct_model.specs.declared.schedule.Alt.TheVariants as alt
 use Rattle.pct_model.specs.declared.schedule.Config.{Config}
 use Rattle.pct_model.specs.declared.schedule.Entry.{Entry}
 use Rattle.pct_model.specs.declared.state.Status.{Status}
+use Rattle.pct_model.specs.declared.state.Status.TheVariants as status
 use Rattle.pct_model.specs.declared.transition.Action.{Action}
 use Rattle.pct_model.specs.declared.transition.Action.TheVariants as action
 use Rattle.pct_model.specs.declared.transition.NewThread.{NewThread}
@@ -25,18 +26,19 @@ use Rattle.pct_model.specs.World.{Thread, SharedState, ProcessEnd, Process, Worl
 use Rattle.pct_model.specs.Actions.{shared_after, process_after, has_ended, orphaned, other_process_after, for_each, thread_moved, thread_created, threads_moved, changed, is_live_process, after_transition}
 use Rattle.pct_model.specs.ChoiceTable.{choices_of, offers}
 use Rattle.pct_model.specs.NextStatement.{NextStatement, next_of, body_at}
-use Rattle.pct_model.specs.OtherThreads.{Others, others_of}
-use Rattle.pct_model.specs.ThreadSlots.{holds_slot, is_on, is_free, next_id, free_ids, is_live_thread}
+use Rattle.pct_model.specs.OtherThreads.{Waiter, Others, waiter_by, waiters_among, others_of}
+use Rattle.pct_model.specs.ThreadSlots.{holds_slot, is_on, is_free, next_id, free_ids, by_slot, is_live_thread}
 use Rattle.pct_model.specs.TransitionTable.{transition_by}
 use Rattle.pct_model.specs.Step.{Successor, step}
 use Rattle.pct_model.specs.Run.{Run, run_step, run_from, run}
 use Rattle.pct_model.proofs.LegalSteps.{step_legal}
 use Rattle.pct_engine_laws.specs.RunNumbers.{IsChoiceWithin, IsEntryWithin}
+use Rattle.pct_engine_laws.proofs.ListFacts.{any-map, All-flat_map}
 use Rattle.pct_engine_laws.proofs.LongerRuns.{run_parts, run_step-is, run_after}
 use Rattle.pct_engine_laws.proofs.KeyNumbers.{HasFewOn, new_keys_within, left_keys_within, few_keys_more, few_keys_after, no_keys_few}
 use Rattle.pct_engine_laws.proofs.WhatTransitionsMake.{Creates, MakesWith, transition_makes}
 use Rattle.pct_engine_laws.proofs.ThreadChanges.{transition_keeps}
-use Rattle.pct_transition_cases.proofs.OfferedChoices.{Offered, may_go, may_act, may_create, may_make_key, may_destroy, offered_of}
+use Rattle.pct_transition_cases.proofs.OfferedChoices.{Offered, may_go, may_act, may_create, may_make_key, may_pick, may_hand_on, may_destroy, offered_of}
 
 -- ---- the numbers of a process
 
@@ -72,6 +74,25 @@ free_within slots n threads few within =
     subst (λ (s : ℕ). next_id slots threads s ≤ 64 + 64 * n) at
     (next_within slots (count_by (is_on slots i) threads) i (length threads) n few below (count_by-le-length (is_on slots i) threads) within))))
 
+-- ---- the ids of waiters
+
+waiter_if : (P : ℕ → Type 0) (id m : ℕ) (waits : Bool) → P id → All (λ (w : Waiter). P w.id) (cond waits (record { id = id; mutex = m } ∷ []) [])
+waiter_if P id m true has = All-cons (λ (w : Waiter). P w.id) _ [] has (All-nil (λ (w : Waiter). P w.id))
+waiter_if P id m false has = All-nil (λ (w : Waiter). P w.id)
+
+waiter_has : (P : ℕ → Type 0) (c id : ℕ) (s : Status) → P id → All (λ (w : Waiter). P w.id) (waiter_by c id s)
+waiter_has P c id (status.Waiting k m) has = waiter_if P id m (nat_eq k c) has
+waiter_has P c id _ has = All-nil (λ (w : Waiter). P w.id)
+
+-- what the ids of all threads have, those of the waiters have
+waiting_within : (P : ℕ → Type 0) (slots c : ℕ) (threads : List Thread) → All (λ (t : Thread). P t.id) threads → All (λ (w : Waiter). P w.id) (waiters_among c (by_slot slots threads))
+waiting_within P slots c threads all =
+    let all_slots : List ℕ = range_with_len 0 slots in
+    let holds_on : ℕ → Thread → Bool = λ s t. is_on slots s t && holds_slot t in
+    All-flat_map (λ (w : Waiter). P w.id) (λ (t : Thread). waiter_by c t.id t.status) (by_slot slots threads)
+    (All-weaker (λ (t : Thread). P t.id) (λ t. All (λ (w : Waiter). P w.id) (waiter_by c t.id t.status)) (λ t has. waiter_has P c t.id t.status has) (by_slot slots threads)
+    (All-flat_map (λ (t : Thread). P t.id) (λ s. filter (holds_on s) threads) all_slots (λ i d low. All-filter (holds_on (get_or all_slots i d)) (λ (t : Thread). P t.id) threads all)))
+
 -- ---- the numbers of a choice
 
 -- what all numbers have, one among them has
@@ -82,13 +103,20 @@ all_among P n (k ∷ numbers) all among = elim (or_cases (nat_eq n k) (list_any 
   | inr later ↦ all_among P n numbers (All-tail P k numbers all) later
 ]
 
-case_within : (limit : ℕ) (shared : SharedState) (t : Thread) (others : Others) → All (λ (n : ℕ). n ≤ limit) others.new_ids → All (λ (n : ℕ). n ≤ limit) (new_keys shared.keys) → All (λ (n : ℕ). n ≤ limit) (left_keys shared.keys t.specific)
+-- the same of the thread ids of waiters
+waiter_among : (P : ℕ → Type 0) (n : ℕ) (waiters : List Waiter) → All (λ (w : Waiter). P w.id) waiters → list_any (λ waiter. nat_eq n waiter.id) waiters ≡ true → P n
+waiter_among P n waiters all among = all_among P n (map (λ w. w.id) waiters) (All-map P (λ (w : Waiter). w.id) waiters all) (any-map (nat_eq n) (λ (w : Waiter). w.id) waiters ∙ among)
+
+case_within : (limit : ℕ) (shared : SharedState) (t : Thread) (others : Others)
+    → ((c : ℕ) → All (λ (w : Waiter). w.id ≤ limit) (others.waiters c)) → All (λ (n : ℕ). n ≤ limit) others.new_ids → All (λ (n : ℕ). n ≤ limit) (new_keys shared.keys) → All (λ (n : ℕ). n ≤ limit) (left_keys shared.keys t.specific)
     → {next : NextStatement} {s : Status} {choice : Alt} → Offered shared t others next s choice → IsChoiceWithin limit choice
-case_within limit shared t others ids made left (may_go next s alive) = tt
-case_within limit shared t others ids made left (may_act next s alive enabled) = omega arith
-case_within limit shared t others ids made left (may_create frame result id f v detached n among) = all_among (λ (k : ℕ). k ≤ limit) n others.new_ids ids among
-case_within limit shared t others ids made left (may_make_key frame result key destructor n among) = all_among (λ (k : ℕ). k ≤ limit) n (new_keys shared.keys) made among
-case_within limit shared t others ids made left (may_destroy next k none among) = all_among (λ (n : ℕ). n ≤ limit) k (left_keys shared.keys t.specific) left among
+case_within limit shared t others waiting ids made left (may_go next s alive) = tt
+case_within limit shared t others waiting ids made left (may_act next s alive enabled) = omega arith
+case_within limit shared t others waiting ids made left (may_create frame result id f v detached n among) = all_among (λ (k : ℕ). k ≤ limit) n others.new_ids ids among
+case_within limit shared t others waiting ids made left (may_make_key frame result key destructor n among) = all_among (λ (k : ℕ). k ≤ limit) n (new_keys shared.keys) made among
+case_within limit shared t others waiting ids made left (may_pick frame c n among) = waiter_among (λ (k : ℕ). k ≤ limit) n (others.waiters c) (waiting c) among
+case_within limit shared t others waiting ids made left (may_hand_on next c m n enabled among) = waiter_among (λ (k : ℕ). k ≤ limit) n (others.waiters c) (waiting c) among
+case_within limit shared t others waiting ids made left (may_destroy next k none among) = all_among (λ (n : ℕ). n ≤ limit) k (left_keys shared.keys t.specific) left among
 
 module _ (script : Script) (config : Config) (p : Process) (t : Thread) (choice : Alt) (n : ℕ) (slots : config.slots ≤ 64) (has : HasFew n p.pid p.threads p.shared.keys) (offered : offers (choices_of script config p t) choice ≡ true) where
   -- what it sees of the others
@@ -99,11 +127,18 @@ module _ (script : Script) (config : Config) (p : Process) (t : Thread) (choice 
   unfolding others_of
   ids_within = free_within config.slots n p.threads slots has.few
 
+  waiters_within : (c : ℕ) → All (λ (w : Waiter). w.id ≤ 64 + 64 * n) (others.waiters c)
+  unfolding others_of
+  waiters_within c = waiting_within (λ (id : ℕ). id ≤ 64 + 64 * n) config.slots c p.threads has.ids
+
   -- a choice that the thread is offered
   choice_within : IsChoiceWithin (128 + 128 * n) choice
   choice_within =
-      let more : All (λ (id : ℕ). id ≤ 128 + 128 * n) others.new_ids = All-weaker (λ (id : ℕ). id ≤ 64 + 64 * n) (λ id. id ≤ 128 + 128 * n) (λ id small. omega (arith, small)) others.new_ids ids_within in
-      case_within (128 + 128 * n) p.shared t others more (new_keys_within n p.shared.keys has.keys_few) (left_keys_within n p.shared.keys has.keys_few t.specific)
+      let within : (id : ℕ) → id ≤ 64 + 64 * n → id ≤ 128 + 128 * n = λ id small. omega (arith, small) in
+      let more : All (λ (id : ℕ). id ≤ 128 + 128 * n) others.new_ids = All-weaker (λ (id : ℕ). id ≤ 64 + 64 * n) (λ id. id ≤ 128 + 128 * n) within others.new_ids ids_within in
+      let waiting : (c : ℕ) → All (λ (w : Waiter). w.id ≤ 128 + 128 * n) (others.waiters c) =
+      λ c. All-weaker (λ (w : Waiter). w.id ≤ 64 + 64 * n) (λ w. w.id ≤ 128 + 128 * n) (λ w. within w.id) (others.waiters c) (waiters_within c) in
+      case_within (128 + 128 * n) p.shared t others waiting more (new_keys_within n p.shared.keys has.keys_few) (left_keys_within n p.shared.keys has.keys_few t.specific)
       (offered_of p.shared t others choice (next_of script t.frames) t.status offered)
 
   -- what its transition makes

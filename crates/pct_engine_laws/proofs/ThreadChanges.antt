@@ -1,5 +1,5 @@
 -- The slots of a process after a transition of one of its threads.
-use Rattle.std.proofs.Common.{◌≡◌, ℕ, ◌+◌, ◌-◌, ◌<◌, Bool, true, false, not, ◌&&◌, cond, List, [], ◌∷◌, ◌++◌, map, filter, count_by, Option, Some, None, nat_eq, slice_set, refl, sym, ap, ◌∙◌, mod-lt, ne_eqb, eq-eqb, append-nil, arith}
+use Rattle.std.proofs.Common.{◌≡◌, ℕ, ◌+◌, ◌-◌, ◌<◌, Bool, true, false, not, ◌&&◌, ◌||◌, cond, List, [], ◌∷◌, ◌++◌, map, filter, count_by, Option, Some, None, nat_eq, slice_set, refl, sym, ap, ◌∙◌, mod-lt, ne_eqb, eq-eqb, append-nil, arith}
 use Rattle.std.specs.List.{range_with_len}
 use Rattle.std.specs.Option.{option_map_or}
 use Rattle.std.proofs.Math.Path.{fun_ext}
@@ -10,9 +10,14 @@ use Rattle.pct_model.specs.declared.transition.Action.{Action}
 use Rattle.pct_model.specs.declared.transition.Action.TheVariants as action
 use Rattle.pct_model.specs.declared.transition.NewThread.{NewThread}
 use Rattle.pct_model.specs.declared.transition.Transition.{Transition}
+use Rattle.pct_model.specs.declared.state.Cause.{Cause}
+use Rattle.pct_model.specs.declared.state.Cause.TheVariants.{Broadcast, Signalled}
 use Rattle.pct_model.specs.declared.state.FrameKind.TheVariants.{Start}
+use Rattle.pct_model.specs.declared.state.Status.{Status}
+use Rattle.pct_model.specs.declared.state.Status.TheVariants.{Waiting}
+use Rattle.pct_model.specs.CondCalls.{is_waiting_on, unblocked}
 use Rattle.pct_model.specs.World.{Thread, new_frame, new_thread}
-use Rattle.pct_model.specs.ThreadSlots.{holds_slot, slot_of, is_on, is_live_thread}
+use Rattle.pct_model.specs.ThreadSlots.{is_ended_status, holds_slot, slot_of, is_on, is_live_thread}
 use Rattle.pct_model.specs.Actions.{thread_at, thread_after, named_after, for_each, moved, thread_moved, thread_created, threads_moved}
 use Rattle.pct_engine_laws.specs.Seen.{SeenSlot, seen_slot, slot_with, on_slot, with_created, slots_moved}
 use Rattle.pct_engine_laws.proofs.ListFacts.{count_agree, count-map, filter_changed, map-map}
@@ -108,12 +113,22 @@ transition_keeps_id o t = actions_keep_id o.actions (thread_at o.next t) ∙ goi
 nothing_keeps : KeepsSlots (λ t. t)
 nothing_keeps = record { same_id = λ t. refl; reclaimed = λ t gone. gone }
 
+-- the status after an unblocking is that of an ended thread exactly if the one before is
+pub unblocked_ended : (why : Cause) (s : Status) → is_ended_status (unblocked why s) ≡ is_ended_status s
+unblocked_ended why (Waiting c m) = refl
+unblocked_ended why s = refl
+
 -- an action on the threads that it names
 pub named_keeps : (a : Action) → KeepsSlots (named_after a)
 unfolding named_after
 named_keeps (action.EndJoin id) = on_thread_keeps id (λ t. record t { joined = true }) (λ t. refl)
 named_keeps (action.Request id) = passing_keeps (λ t. is_live_thread id t && not t.ended) (λ t. record t { pending = true }) (record { same_id = λ t. refl; reclaimed = λ t gone. gone })
 named_keeps (action.Detach id) = on_thread_keeps id (λ t. record t { detached = true }) (λ t. refl)
+named_keeps (action.Wake id) = on_thread_keeps id (λ t. record t { status = unblocked Signalled t.status }) (λ t. refl)
+named_keeps (action.WakeAll c) = passing_keeps (λ t. is_waiting_on c t.status) (λ t. record t { status = unblocked Broadcast t.status }) (record {
+  same_id = λ t. refl;
+  reclaimed = λ t gone. ap (λ (ended : Bool). not t.gone && not (ended && (t.joined || t.detached))) (unblocked_ended Broadcast t.status) ∙ gone;
+})
 named_keeps (action.DeleteKey k) = record { same_id = λ t. refl; reclaimed = λ t gone. gone }
 named_keeps _ = nothing_keeps
 

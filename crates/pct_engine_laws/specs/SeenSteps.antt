@@ -1,5 +1,5 @@
 -- Transitions, verdicts and the choices of the scheduler, of what an engine keeps of a state.
-use Rattle.std.specs.Prelude.{ℕ, ◌+◌, ◌*◌, Bool, true, false, not, ◌&&◌, ◌||◌, if◌then◌else◌, List, [], ◌∷◌, ◌++◌, map, filter, flat_map, Option, Some, None, is_some, is_none, nat_eq, option_map, option_and_then, find, slice_get}
+use Rattle.std.specs.Prelude.{ℕ, ◌+◌, ◌*◌, Bool, true, false, not, ◌&&◌, ◌||◌, if◌then◌else◌, List, [], ◌∷◌, ◌++◌, map, filter, flat_map, Option, Some, None, is_some, is_none, nat_eq, option_and_then, find, slice_get}
 use Rattle.std.specs.List.{list_all, list_any}
 use Rattle.pct_model.specs.declared.script.Script.{Script}
 use Rattle.pct_model.specs.declared.schedule.Alt.{Alt}
@@ -12,7 +12,7 @@ use Rattle.pct_model.specs.declared.transition.Transition.{Transition}
 use Rattle.pct_model.specs.World.{Thread}
 use Rattle.pct_model.specs.ThreadSlots.{slot_of}
 use Rattle.pct_model.specs.NextStatement.{next_of, body_at}
-use Rattle.pct_model.specs.OtherThreads.{Others, is_joining}
+use Rattle.pct_model.specs.OtherThreads.{Others, is_joining, waiters_among}
 use Rattle.pct_model.specs.ChoiceTable.{choices_at, offers, is_enabled}
 use Rattle.pct_model.specs.TransitionTable.{transition_at, acts_or}
 use Rattle.pct_model.specs.Chosen.{Candidate, item_at, entry_for}
@@ -58,7 +58,7 @@ is_last_in id rows = list_all (λ t. t.ended || nat_eq t.id id) (threads_on rows
 
 -- what the thread with an id sees of the others
 unfoldable pub others_in : ℕ → List SeenSlot → ℕ → Others
-others_in slots rows tid = record { named = λ id. thread_with slots id rows; another_joins = λ id. is_joined_in id rows; new_ids = new_ids_from slots 0 rows; is_last = is_last_in tid rows }
+others_in slots rows tid = record { named = λ id. thread_with slots id rows; another_joins = λ id. is_joined_in id rows; new_ids = new_ids_from slots 0 rows; waiters = λ c. waiters_among c (threads_on rows); is_last = is_last_in tid rows }
 
 -- ---- one thread
 

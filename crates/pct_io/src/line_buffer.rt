@@ -13,7 +13,7 @@ const MOST_DIGITS: usize = 20;
 /// Writes the text so that it ends at `end`, and returns where it starts. It is `None` exactly if the text does not fit
 /// before `end`.
 #[inline(always)]
-pub(crate) fn prepend(text: &[u8], buffer: &mut [u8], end: usize) -> Option<usize>
+pub fn prepend(text: &[u8], buffer: &mut [u8], end: usize) -> Option<usize>
     requires { end ≤ length buffer.old }
     ensures { Prepends buffer.old buffer.new end text.now result }
 {
@@ -27,7 +27,7 @@ pub(crate) fn prepend(text: &[u8], buffer: &mut [u8], end: usize) -> Option<usiz
 
 /// Writes the number in decimal, as `prepend` writes a text.
 #[inline(always)]
-pub(crate) fn prepend_number(number: u64, buffer: &mut [u8], end: usize) -> Option<usize>
+pub fn prepend_number(number: u64, buffer: &mut [u8], end: usize) -> Option<usize>
     requires { end ≤ length buffer.old }
     ensures { Prepends buffer.old buffer.new end (decimal number) result }
 {

@@ -4,7 +4,6 @@ mod LegalEntries
 mod ProcessEnds
 mod PlacesAfter
 mod KeptPlaces
-mod SlotScans
 pub mod ReadySlots
 mod LegalChoices
 mod Picks

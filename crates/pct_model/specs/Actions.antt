@@ -4,7 +4,8 @@
 use Rattle.std.specs.Prelude.{ℕ, suc, Bool, true, not, ◌&&◌, if◌then◌else◌, List, [], ◌∷◌, ◌++◌, map, Option, Some, None, is_some, nat_eq, slice_set}
 use Rattle.pct_model.specs.declared.frame.Frame.{Frame}
 use Rattle.pct_model.specs.declared.state.FrameKind.TheVariants.{Start}
-use Rattle.pct_model.specs.declared.state.Status.TheVariants.{Running, AtPoint, Joining, Ending, Exiting, Ended}
+use Rattle.pct_model.specs.declared.state.Cause.TheVariants as cause
+use Rattle.pct_model.specs.declared.state.Status.TheVariants.{Running, AtPoint, Joining, InSem, Waiting, Reacquire, Ending, Exiting, Ended}
 use Rattle.pct_model.specs.declared.statement.Dest.{Dest}
 use Rattle.pct_model.specs.declared.statement.Dest.TheVariants as destination
 use Rattle.pct_model.specs.declared.stop.Why.{Why}
@@ -13,6 +14,7 @@ use Rattle.pct_model.specs.declared.transition.Action.TheVariants as action
 use Rattle.pct_model.specs.declared.transition.NewThread.{NewThread}
 use Rattle.pct_model.specs.declared.transition.Transition.{Transition}
 use Rattle.pct_model.specs.Cancelability.{ending_state, ending_mode}
+use Rattle.pct_model.specs.CondCalls.{is_waiting_on, unblocked}
 use Rattle.pct_model.specs.Keys.{key_place, with_key, without_key, with_value, without_value, with_pass}
 use Rattle.pct_model.specs.World.{Thread, SharedState, ProcessEnd, Process, World, new_frame, new_thread}
 use Rattle.pct_model.specs.ThreadSlots.{is_live_thread}
@@ -56,6 +58,9 @@ thread_after (action.SetState state) t = record t { state = state }
 thread_after (action.SetMode mode) t = record t { mode = mode }
 thread_after (action.BeginPoint index) t = record t { status = AtPoint index }
 thread_after (action.BeginJoin id) t = record t { status = Joining id }
+thread_after (action.BeginWait c m) t = record t { status = Waiting c m }
+thread_after (action.LeaveWait c m) t = record t { status = Reacquire c m cause.Canceled }
+thread_after (action.BeginSem s) t = record t { status = InSem s }
 thread_after (action.SetSpecific k v) t = record t { specific = with_value (key_place k) v t.specific }
 thread_after action.BeginPass t = record t { pass = suc t.pass; specific = with_pass t.specific }
 thread_after (action.TakeKey k) t = record t { specific = without_value (key_place k) t.specific }
@@ -67,12 +72,15 @@ thread_after _ t = t
 
 -- ---- the threads of its process
 
--- any thread of the process after an action, which may name it, or name a key
+-- any thread of the process after an action, which may name it, a key, or a condition variable
 unfoldable pub named_after : Action → Thread → Thread
 named_after (action.EndJoin id) t = if is_live_thread id t then record t { joined = true } else t
 -- a request for a thread that has ended changes nothing, which is a choice of this host
 named_after (action.Request id) t = if is_live_thread id t && not t.ended then record t { pending = true } else t
 named_after (action.Detach id) t = if is_live_thread id t then record t { detached = true } else t
+-- a thread that waits on a condition variable is unblocked: by a signal, or with all others by a broadcast (XSH pthread_cond_signal)
+named_after (action.Wake id) t = if is_live_thread id t then record t { status = unblocked cause.Signalled t.status } else t
+named_after (action.WakeAll c) t = if is_waiting_on c t.status then record t { status = unblocked cause.Broadcast t.status } else t
 -- no thread keeps its value of a key that is deleted
 named_after (action.DeleteKey k) t = record t { specific = without_value (key_place k) t.specific }
 named_after _ t = t
@@ -94,6 +102,8 @@ unfoldable pub shared_after : Action → SharedState → SharedState
 shared_after (action.Write d v) s = record s { globals = globals_written d v s.globals }
 shared_after (action.MakeKey k destructor) s = record s { keys = with_key (key_place k) k destructor s.keys }
 shared_after (action.DeleteKey k) s = record s { keys = without_key (key_place k) s.keys }
+shared_after (action.OwnMutex m id) s = record s { owners = slice_set s.owners m id }
+shared_after (action.SetCount sem n) s = record s { counts = slice_set s.counts sem n }
 shared_after (action.BeginExit v) s = record s { exit_value = Some v }
 shared_after _ s = s
 

@@ -8,6 +8,7 @@ use Rattle.pct_model.specs.declared.point.PointKind.TheVariants as kinds
 use Rattle.pct_model.specs.declared.point.PointWait.{PointWait}
 use Rattle.pct_model.specs.declared.point.PointWait.TheVariants as wait
 use Rattle.pct_model.specs.declared.point.TheConstants.{TESTCANCEL_POINT}
+use Rattle.pct_model.specs.declared.state.Cause.TheVariants as cause
 use Rattle.pct_model.specs.declared.state.Mode.{Mode}
 use Rattle.pct_model.specs.declared.state.Mode.TheVariants.{Deferred, Asynchronous}
 use Rattle.pct_model.specs.declared.state.Reason.TheVariants.{Canceled}
@@ -23,6 +24,8 @@ use Rattle.pct_model.specs.declared.transition.Transition.{Transition}
 use Rattle.pct_model.specs.NextStatement.{NextStatement, StatementIn}
 use Rattle.pct_model.specs.Points.{point_at}
 use Rattle.pct_model.specs.ThreadCalls.{join_point}
+use Rattle.pct_model.specs.CondCalls.{cond_wait_point, leaves_wait, hands_on}
+use Rattle.pct_model.specs.SemCalls.{sem_wait_point}
 use Rattle.pct_model.specs.Transitions.{goes_on, acts, no_change}
 
 -- ---- pthread_cancel
@@ -78,6 +81,8 @@ point_kind index = option_map (λ point. point.kind) (point_at index)
 -- the kind of the cancellation point that an implemented statement calls, if it calls one
 unfoldable pub called_kind : Stmt → Option PointKind
 called_kind (statement.Join id d) = point_kind join_point
+called_kind (statement.CondWait c m) = point_kind cond_wait_point
+called_kind (statement.SemWait s) = point_kind sem_wait_point
 called_kind statement.TestCancel = point_kind testcancel_point
 called_kind (statement.PointCall index) = point_kind index
 called_kind s = None
@@ -115,9 +120,14 @@ passes_point index next = no_change
 -- ---- acting upon a request
 
 -- a thread acts upon a request, by its status: it begins to end (XSH 2.9.5.3). One that is suspended in pthread_join leaves its
--- target joinable (XSH pthread_join). That the request stays pending is a choice of this host.
-unfoldable pub acts_on_request : Status → Transition
-acts_on_request status.Running = acts (action.BeginEnd Canceled ∷ []) (what.EndingCanceled ∷ [])
-acts_on_request (status.AtPoint index) = acts (action.BeginEnd Canceled ∷ []) (what.EndingCanceled ∷ [])
-acts_on_request (status.Joining id) = acts (action.BeginEnd Canceled ∷ []) (what.EndingCanceled ∷ [])
-acts_on_request _ = no_change
+-- target joinable (XSH pthread_join), and one in sem_wait leaves the count as it is. One that is suspended in pthread_cond_wait has to own
+-- its mutex first, and a signal that unblocked it is handed on to thread u. That the request stays pending is a choice of this host.
+unfoldable pub acts_on_request : ℕ → Status → Transition
+acts_on_request u status.Running = acts (action.BeginEnd Canceled ∷ []) (what.EndingCanceled ∷ [])
+acts_on_request u (status.AtPoint index) = acts (action.BeginEnd Canceled ∷ []) (what.EndingCanceled ∷ [])
+acts_on_request u (status.Joining id) = acts (action.BeginEnd Canceled ∷ []) (what.EndingCanceled ∷ [])
+acts_on_request u (status.InSem s) = acts (action.BeginEnd Canceled ∷ []) (what.EndingCanceled ∷ [])
+acts_on_request u (status.Waiting c m) = leaves_wait c m
+acts_on_request u (status.Reacquire c m cause.Signalled) = hands_on u c m
+acts_on_request u (status.Reacquire c m cause.Broadcast) = leaves_wait c m
+acts_on_request u _ = no_change

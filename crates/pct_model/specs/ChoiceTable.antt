@@ -3,12 +3,12 @@
 -- scheduler's choice (Chosen.antt) derive from this table. The choices are:
 -- `go`: the thread goes on: it executes its statement or stops at it, fails for lack of room, returns from the call in which it is
 -- suspended, or makes the next stage of its end
--- `act 0`: it acts upon a request (XSH 2.9.5). The number is for a condition signal that is handed on (pthread_cond_wait, not
--- implemented)
+-- `act 0`: it acts upon a request (XSH 2.9.5)
+-- `act n`: it does so in pthread_cond_wait, after a signal unblocked it; the signal is handed on to the thread with this id
 -- `new n`: the thread or the key that it creates gets this number
 -- `dtor n`: it calls the destructor of this key
--- `pick n`: not used yet
-use Rattle.std.specs.Prelude.{ℕ, Bool, true, false, not, ◌&&◌, List, [], ◌∷◌, ◌++◌, if◌then◌else◌, map, nat_eq}
+-- `pick n`: by pthread_cond_signal it unblocks the thread with this id
+use Rattle.std.specs.Prelude.{ℕ, Bool, true, false, not, ◌&&◌, List, [], ◌∷◌, ◌++◌, if◌then◌else◌, map, nat_eq, nat_lt, slice_index}
 use Rattle.std.specs.List.{list_any}
 use Rattle.pct_model.specs.declared.script.Script.{Script}
 use Rattle.pct_model.specs.declared.statement.Stmt.{Stmt}
@@ -16,6 +16,8 @@ use Rattle.pct_model.specs.declared.statement.Stmt.TheVariants as statement
 use Rattle.pct_model.specs.declared.schedule.Alt.{Alt}
 use Rattle.pct_model.specs.declared.schedule.Config.{Config}
 use Rattle.pct_model.specs.declared.schedule.Alt.TheVariants as alt
+use Rattle.pct_model.specs.declared.state.Cause.{Cause}
+use Rattle.pct_model.specs.declared.state.Cause.TheVariants as cause
 use Rattle.pct_model.specs.declared.state.Status.{Status}
 use Rattle.pct_model.specs.declared.state.Status.TheVariants as status
 use Rattle.pct_model.specs.Cancelability.{is_deliverable, is_asynchronous}
@@ -23,7 +25,8 @@ use Rattle.pct_model.specs.CancelCalls.{called_kind, is_required, is_optional, m
 use Rattle.pct_model.specs.Keys.{new_keys, left_keys}
 use Rattle.pct_model.specs.World.{Thread, SharedState, Process}
 use Rattle.pct_model.specs.NextStatement.{NextStatement, NoStatement, StatementIn, next_of}
-use Rattle.pct_model.specs.OtherThreads.{Others, is_ended_thread, others_of}
+use Rattle.pct_model.specs.MutexCalls.{is_free_mutex, is_blocked}
+use Rattle.pct_model.specs.OtherThreads.{Waiter, Others, is_ended_thread, others_of}
 use Rattle.pct_model.specs.StopTable.{is_built}
 
 -- ---- parts of the table
@@ -57,6 +60,33 @@ abbrev pub is_key_create : Stmt → Bool
 is_key_create (statement.KeyCreate result key destructor) = true
 is_key_create _ = false
 
+-- the statement is pthread_cond_signal
+abbrev pub is_signal : Stmt → Bool
+is_signal (statement.Signal c) = true
+is_signal _ = false
+
+-- the threads that wait on the condition variable that the statement signals, if it is pthread_cond_signal
+abbrev pub waiters_to_signal : Others → Stmt → List Waiter
+waiters_to_signal others (statement.Signal c) = others.waiters c
+waiters_to_signal others _ = []
+
+-- `pick` for each of these waiters; `go` if there are none
+abbrev pub pick_or_go : List Waiter → List Alt
+pick_or_go [] = alt.Go ∷ []
+pick_or_go waiters = map (λ waiter. alt.Pick waiter.id) waiters
+
+-- `act` for each of these waiters; `act 0` if there are none
+abbrev pub hand_on_or_act : List Waiter → List Alt
+hand_on_or_act [] = alt.Act 0 ∷ []
+hand_on_or_act waiters = map (λ waiter. alt.Act waiter.id) waiters
+
+-- the choices by which a thread acts upon a request after it was unblocked on a condition variable, by the cause, where these threads
+-- wait on it
+abbrev pub unblocked_acts : Cause → List Waiter → List Alt
+unblocked_acts cause.Signalled waiters = hand_on_or_act waiters
+unblocked_acts cause.Broadcast waiters = alt.Act 0 ∷ []
+unblocked_acts cause.Canceled waiters = []
+
 -- `new` for each of these numbers; `go` if there are none
 abbrev pub new_or_go : List ℕ → List Alt
 new_or_go [] = alt.Go ∷ []
@@ -84,12 +114,16 @@ module _ (shared : SharedState) (t : Thread) (others : Others) where
       ∷ (is_deliverable t.state t.pending && is_required (called_kind s), alt.Act 0 ∷ [])
       -- XSH 2.9.5.2: a function that may be a cancellation point. That the thread acts only at the call is a choice of this host
       ∷ (is_deliverable t.state t.pending && is_optional (called_kind s), alt.Go ∷ alt.Act 0 ∷ [])
+      -- XSH pthread_mutex_lock: the thread blocks until the mutex has no owner. It is no cancellation point
+      ∷ (is_blocked s shared, [])
       -- XSH pthread_create: if no slot is free, `go`: the call fails with EAGAIN. That it fails only then, that an ended thread which
       -- is not joined keeps its slot, and which ids are offered are choices of this host
       ∷ (is_create s, new_or_go others.new_ids)
       -- XSH pthread_key_create: if no place is free, `go`: the call fails with EAGAIN. That it fails only then, and which numbers are
       -- offered are choices of this host
       ∷ (is_key_create s, new_or_go (new_keys shared.keys))
+      -- XSH pthread_cond_signal: one of the threads that wait is unblocked; if none waits, `go`: the call has no effect
+      ∷ (is_signal s, pick_or_go (waiters_to_signal others s))
       ∷ []
 
   -- the choices of a running thread at a statement
@@ -113,11 +147,20 @@ module _ (shared : SharedState) (t : Thread) (others : Others) where
   -- is unspecified whether it acts or goes on: then both are choices
   choices_at next (status.AtPoint index) = go_if (may_return index) ++ act_if (is_deliverable t.state t.pending)
   choices_at next (status.Joining id) = go_if (is_ended_thread id others) ++ act_if (is_deliverable t.state t.pending)
+  -- XSH sem_wait: the thread is suspended until the count is above 0
+  choices_at next (status.InSem s) = go_if (nat_lt 0 (slice_index shared.counts s)) ++ act_if (is_deliverable t.state t.pending)
+  -- XSH pthread_cond_wait: the thread is blocked until a signal or a broadcast unblocks it. It is not unblocked otherwise, which the
+  -- standard allows (spurious wakeups): a choice of this host
+  choices_at next (status.Waiting c m) = act_if (is_deliverable t.state t.pending)
+  -- XSH pthread_cond_wait: a thread that was unblocked returns, or begins to end, once it can own the mutex. One that was unblocked by a
+  -- signal or a broadcast may still act upon a request (XSH 2.9.5.2); if it was by a signal, another thread gets the signal, if one waits
+  choices_at next (status.Reacquire c m why) =
+      go_if (is_free_mutex m shared) ++ (if is_deliverable t.state t.pending then unblocked_acts why (others.waiters c) else [])
   choices_at next status.Ending = ending_choices t.handlers
   -- cancelability is disabled, a choice of this host
   choices_at next status.Exiting = alt.Go ∷ []
   choices_at next (status.Ended v) = []
-  -- InSem, InWaitPid, Waiting, Reacquire, Forking: not reached yet
+  -- InWaitPid, Forking: not reached yet
   choices_at next _ = []
 
 -- the choices of a thread of a process

@@ -1,23 +1,18 @@
 -- The scheduler: the entry that two numbers choose. The first number chooses a thread among those that are ready, the second
 -- one of its choices.
-use Rattle.std.specs.Prelude.{ℕ, ◌%◌, ◌&&◌, if◌then◌else◌, List, [], length, map, filter, flat_map, Option, None, is_none, slice_get, option_map, option_and_then}
-use Rattle.std.specs.List.{range_with_len}
+use Rattle.std.specs.Prelude.{ℕ, ◌%◌, if◌then◌else◌, List, [], length, map, filter, flat_map, Option, None, is_none, slice_get, option_map, option_and_then}
 use Rattle.pct_model.specs.declared.script.Script.{Script}
 use Rattle.pct_model.specs.declared.schedule.Alt.{Alt}
 use Rattle.pct_model.specs.declared.schedule.Config.{Config}
 use Rattle.pct_model.specs.declared.schedule.Entry.{Entry}
 use Rattle.pct_model.specs.World.{Thread, Process, World}
-use Rattle.pct_model.specs.ThreadSlots.{holds_slot, is_on}
+use Rattle.pct_model.specs.ThreadSlots.{by_slot}
 use Rattle.pct_model.specs.ChoiceTable.{choices_of, is_enabled}
 use Rattle.pct_model.specs.Actions.{has_ended}
 
 -- the item at an index modulo the length of a list; the empty list has none
 abbrev pub item_at : {T : Type 0} → List T → ℕ → Option T
 item_at items n = slice_get items (n % length items)
-
--- the threads of a process that hold a slot, by rising slot
-abbrev pub by_slot : ℕ → List Thread → List Thread
-by_slot slots threads = flat_map (λ s. filter (λ t. is_on slots s t && holds_slot t) threads) (range_with_len 0 slots)
 
 -- the threads of a process that are ready, by rising slot; a process that has ended has none
 abbrev pub ready_of : Script → Config → Process → List Thread

@@ -1,14 +1,16 @@
 -- The invariant of reachable states: what each state that a run reaches keeps, beside the events that led to it.
 use Rattle.std.specs.Prelude.{◌≡◌, ◌≢◌, ℕ, ◌+◌, ◌*◌, ◌<◌, nat_eq, Bool, true, false, not, ◌&&◌, ◌||◌, Option, Some, None, is_some}
-use Rattle.std.specs.Prelude.{List, [], ◌∷◌, ◌++◌, length, map, slice_get, All}
+use Rattle.std.specs.Prelude.{List, [], ◌∷◌, ◌++◌, length, map, slice_get, slice_index, All}
 use Rattle.std.specs.List.{list_any}
-use Rattle.std.specs.Option.{option_map_or}
+use Rattle.std.specs.Option.{IsSomeAnd, option_map_or}
 use Rattle.pct_model.specs.declared.event.Event.{Event}
-use Rattle.pct_model.specs.declared.event.What.TheVariants.{Called}
+use Rattle.pct_model.specs.declared.event.What.{What}
+use Rattle.pct_model.specs.declared.event.What.TheVariants as what
 use Rattle.pct_model.specs.declared.frame.Frame.{Frame}
 use Rattle.pct_model.specs.declared.limits.TheConstants.{MAX_KEYS}
 use Rattle.pct_model.specs.declared.script.Script.{Script}
 use Rattle.pct_model.specs.declared.schedule.Config.{Config}
+use Rattle.pct_model.specs.declared.state.Cause.TheVariants as cause
 use Rattle.pct_model.specs.declared.state.FrameKind.{FrameKind}
 use Rattle.pct_model.specs.declared.state.FrameKind.TheVariants as kind
 use Rattle.pct_model.specs.declared.state.State.TheVariants.{Disable}
@@ -16,9 +18,11 @@ use Rattle.pct_model.specs.declared.state.Status.{Status}
 use Rattle.pct_model.specs.declared.state.Status.TheVariants as status
 use Rattle.pct_model.specs.declared.statement.Stmt.TheVariants as statement
 use Rattle.pct_model.specs.CancelCalls.{point_kind, is_required}
+use Rattle.pct_model.specs.CondCalls.{cond_wait_point}
 use Rattle.pct_model.specs.Keys.{Key, KeyPlace, key_at, value_at}
 use Rattle.pct_model.specs.KnownThreads.{is_known, is_detached, is_joined, newest_event}
 use Rattle.pct_model.specs.LineParsing.{is_empty}
+use Rattle.pct_model.specs.MutexOwners.{owner_of}
 use Rattle.pct_model.specs.NextStatement.{NextStatement, StatementIn, next_of}
 use Rattle.pct_model.specs.Once.{is_pair}
 use Rattle.pct_model.specs.OpenPushes.{open_pushes}
@@ -27,6 +31,7 @@ use Rattle.pct_model.specs.ThreadCalls.{join_point}
 use Rattle.pct_model.specs.ThreadNumbers.{NumbersThreads}
 use Rattle.pct_model.specs.ThreadSlots.{is_ended_status}
 use Rattle.pct_model.specs.ThreadSummary.{ThreadSummary, summary_of}
+use Rattle.pct_model.specs.WaitStages.{WaitStage, NoWait, InWait, Leaving, LeavingSignal, wait_stage}
 use Rattle.pct_model.specs.World.{Thread, Process, World, made_process, thread_with, made_thread, body_of}
 
 -- ---- handlers
@@ -108,6 +113,28 @@ abbrev pub is_call_of : ℕ → NextStatement → Bool
 is_call_of index (StatementIn frame (statement.PointCall i)) = nat_eq i index && is_required (point_kind index)
 is_call_of index _ = false
 
+-- the next statement is sem_wait of the semaphore with an index
+abbrev pub is_sem_wait_of : ℕ → NextStatement → Bool
+is_sem_wait_of s (StatementIn frame (statement.SemWait sem)) = nat_eq sem s
+is_sem_wait_of s _ = false
+
+-- the next statement is pthread_cond_wait of the condition variable and the mutex with these indexes
+abbrev pub is_cond_wait_of : ℕ → ℕ → NextStatement → Bool
+is_cond_wait_of c m (StatementIn frame (statement.CondWait cond mutex)) = nat_eq cond c && nat_eq mutex m
+is_cond_wait_of c m _ = false
+
+-- a thread with this status is suspended at its next statement, if it is suspended in sem_wait or in pthread_cond_wait
+abbrev pub IsSuspendedAt : NextStatement → Status → Type 0
+IsSuspendedAt next (status.InSem s) = is_sem_wait_of s next ≡ true
+IsSuspendedAt next (status.Waiting c m) = is_cond_wait_of c m next ≡ true
+IsSuspendedAt next (status.Reacquire c m why) = is_cond_wait_of c m next ≡ true
+IsSuspendedAt next _ = Unit {0}
+
+-- a thread with this status acted upon a request in a condition wait, and does not own its mutex yet
+abbrev pub has_left_wait : Status → Bool
+has_left_wait (status.Reacquire c m cause.Canceled) = true
+has_left_wait _ = false
+
 -- a thread with this status and these frames has begun to end and does not exit its process: it is Ending or Ended, or its bottom
 -- frame is that of a handler or of a destructor
 abbrev pub is_ending : Status → List Frame → Bool
@@ -174,6 +201,10 @@ pub record ThreadKept (script : Script) (keys : List KeyPlace) (t : Thread) (s :
   pub joining : (id : ℕ) → t.status ≡ status.Joining id → is_join (next_of script t.frames) ≡ true
   -- the next statement of a thread that is suspended at a generic cancellation point is a call of this point, which is a required one
   pub at_point : (index : ℕ) → t.status ≡ status.AtPoint index → is_call_of index (next_of script t.frames) ≡ true
+  -- the next statement of a thread that is suspended in sem_wait or in pthread_cond_wait is this call
+  pub suspended : IsSuspendedAt (next_of script t.frames) t.status
+  -- a thread that acted upon a request in a condition wait has not begun to end before it owns its mutex
+  pub leaving : has_left_wait t.status ≡ true → has_begun_to_end t.reason ≡ false
   -- the number of its passes over destructors
   pub passes : s.passes ≡ t.pass
   -- the destructor of a key whose place is in the current pass was not called in it (XSH pthread_key_create)
@@ -223,7 +254,7 @@ EachThread w Is = (pid : ℕ) → EachThreadIn pid w (Is pid)
 -- thread tid of process pid is suspended in pthread_join for thread id of the process
 pub record IsSuspendedInJoin (pid tid id : ℕ) (w : World) (events : List Event) : Type 0 where
   -- its newest event is that of the call
-  pub newest : newest_event pid tid events ≡ Some (Called join_point)
+  pub newest : newest_event pid tid events ≡ Some (what.Called join_point)
   -- the thread that it joins was made, is not gone, is another one, and is neither joined nor detached
   pub target : Thread
   pub made : made_thread pid id w ≡ Some target
@@ -233,6 +264,47 @@ pub record IsSuspendedInJoin (pid tid id : ℕ) (w : World) (events : List Event
   pub joinable : target.detached ≡ false
   -- no other thread of the process is suspended in pthread_join for it
   pub alone : EachThreadIn pid w (λ second u. u.status ≡ status.Joining id → second ≡ tid)
+
+-- ---- mutexes and condition waits
+
+-- the mutexes of a process: those of the script, with the owners that the events report
+pub record OwnersKept (script : Script) (pid : ℕ) (p : Process) (events : List Event) : Type 0 where
+  pub mutexes : length p.shared.owners ≡ length script.mutexes
+  pub owners : (m : ℕ) → slice_index p.shared.owners m ≡ owner_of pid m events
+
+-- a thread leaves its wait on condition variable c with mutex m, and may have handed on a signal
+abbrev pub is_leaving : ℕ → ℕ → WaitStage → Bool
+is_leaving c m (Leaving cond mutex) = nat_eq cond c && nat_eq mutex m
+is_leaving c m (LeavingSignal cond mutex) = nat_eq cond c && nat_eq mutex m
+is_leaving c m _ = false
+
+-- how far the newest condition wait of a thread with this status is: it is unfinished exactly if the thread is Waiting or Reacquire
+abbrev pub WaitKept : Status → WaitStage → Type 0
+WaitKept (status.Waiting c m) stage = stage ≡ InWait m
+WaitKept (status.Reacquire c m cause.Signalled) stage = stage ≡ InWait m
+WaitKept (status.Reacquire c m cause.Broadcast) stage = stage ≡ InWait m
+WaitKept (status.Reacquire c m cause.Canceled) stage = is_leaving c m stage ≡ true
+WaitKept _ stage = stage ≡ NoWait
+
+-- the event is a call of pthread_cond_wait
+abbrev pub is_wait_call : What → Bool
+is_wait_call (what.Called index) = nat_eq index cond_wait_point
+is_wait_call _ = false
+
+-- the event is that a mutex is released
+abbrev pub is_release : What → Bool
+is_release (what.Released m) = true
+is_release _ = false
+
+-- the second event is of the thread of the first one, and is that a mutex is released
+abbrev pub IsReleaseAfter : Event → Event → Type 0
+IsReleaseAfter call e = (e.pid ≡ call.pid) × (e.tid ≡ call.tid) × (is_release e.what ≡ true)
+
+-- each call of pthread_cond_wait among some events is directly followed by a release of the same thread, where this event, if there is
+-- one, follows the newest of them
+abbrev pub CallsRelease : Option Event → List Event → Type 0
+CallsRelease following [] = Unit {0}
+CallsRelease following (e ∷ earlier) = (is_wait_call e.what ≡ true → IsSomeAnd following (IsReleaseAfter e)) × CallsRelease (Some e) earlier
 
 -- ---- states
 
@@ -260,5 +332,11 @@ pub record Kept (script : Script) (config : Config) (w : World) (events : List E
   pub detached : EachThread w (λ pid tid t. t.detached ≡ is_detached pid tid events)
   -- each thread that is suspended in pthread_join
   pub joins : EachThread w (λ pid tid t. (id : ℕ) → t.status ≡ status.Joining id → IsSuspendedInJoin pid tid id w events)
+  -- each mutex of the script has an owner or none in each process, and it is the one that the events report
+  pub owners : EachProcess w (λ pid p. OwnersKept script pid p events)
+  -- the condition wait of each thread is unfinished exactly if the thread is in it
+  pub waits : EachThread w (λ pid tid t. WaitKept t.status (wait_stage pid tid events))
+  -- each call of pthread_cond_wait releases its mutex at once
+  pub calls_release : CallsRelease None events
   -- if a thread exits its process after its own end, each thread of the process has ended (XSH pthread_exit)
   pub last : EachProcess w (λ pid p. EachThreadOf p (λ tid t. ExitsAfterItsEnd t (summary_of pid tid events) → HasOnlyEnded p))

@@ -1,6 +1,7 @@
 -- The laws that the events of every run keep.
 use Rattle.std.specs.Prelude.{ℕ, List}
 use Rattle.pct_model.specs.declared.event.Event.{Event}
+use Rattle.pct_model.specs.CondLaw.{CondLaw}
 use Rattle.pct_model.specs.JoinLaw.{JoinLaw}
 use Rattle.pct_model.specs.Once.{Once}
 
@@ -13,3 +14,6 @@ pub record Laws (events : List Event) (passes slots : ℕ) : Type 0 where
   -- each join that returns gets the value of a thread that has ended, no thread is joined twice or while it is detached, and no
   -- request or detach names a thread outside the lifetime of its id
   pub joins : JoinLaw events
+  -- a mutex is acquired while no thread owns it, and released by its owner; a condition wait ends with its mutex owned again, also if a
+  -- request ends it; and a signal is handed on as a thread leaves its wait by a request
+  pub conds : CondLaw events

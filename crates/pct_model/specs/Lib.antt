@@ -28,6 +28,9 @@ pub mod CleanupHandlers
 pub mod ThreadCalls
 pub mod CancelCalls
 pub mod KeyCalls
+pub mod MutexCalls
+pub mod CondCalls
+pub mod SemCalls
 pub mod ThreadEnds
 pub mod ProcessExit
 pub mod StopTable
@@ -41,6 +44,9 @@ pub mod KnownThreads
 pub mod ThreadSummary
 pub mod Once
 pub mod JoinLaw
+pub mod MutexOwners
+pub mod WaitStages
+pub mod CondLaw
 pub mod Laws
 pub mod Kept
 pub mod Chosen

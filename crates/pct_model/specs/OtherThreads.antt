@@ -1,14 +1,19 @@
 -- The threads of a process, as the next step of one of them depends on the others. The tables of stops, of choices and of transitions
 -- ask in the words below, and read no slot. The thread itself is among them: its own id names it.
-use Rattle.std.specs.Prelude.{ℕ, Bool, false, not, ◌&&◌, ◌||◌, List, Option, Some, None, is_none, is_some, nat_eq, option_and_then}
+use Rattle.std.specs.Prelude.{ℕ, Bool, false, not, ◌&&◌, ◌||◌, if◌then◌else◌, List, [], ◌∷◌, flat_map, Option, Some, None, is_none, is_some, nat_eq, option_and_then}
 use Rattle.std.specs.List.{list_all, list_any}
 use Rattle.std.specs.Option.{option_map_or}
 use Rattle.pct_model.specs.declared.state.Status.{Status}
 use Rattle.pct_model.specs.declared.state.Status.TheVariants as status
 use Rattle.pct_model.specs.World.{Thread}
-use Rattle.pct_model.specs.ThreadSlots.{holds_slot, free_ids, with_id}
+use Rattle.pct_model.specs.ThreadSlots.{holds_slot, free_ids, by_slot, with_id}
 
 -- ---- what a thread sees of the others
+
+-- a thread that waits on a condition variable: its id, and the index of the mutex that it released
+pub record Waiter : Type 0 where
+  pub id : ℕ
+  pub mutex : ℕ
 
 -- the threads of a process, as one of them sees them, itself included
 pub record Others : Type 0 where
@@ -18,6 +23,8 @@ pub record Others : Type 0 where
   pub another_joins : ℕ → Bool
   -- the ids that a new thread can get, by rising slot
   pub new_ids : List ℕ
+  -- the threads that wait on the condition variable with this index, by rising slot
+  pub waiters : ℕ → List Waiter
   -- each other thread has ended
   pub is_last : Bool
 
@@ -42,6 +49,10 @@ exit_value_with id others = option_and_then (λ t. exit_value_of t.status) (othe
 abbrev pub is_ended_thread : ℕ → Others → Bool
 is_ended_thread id others = is_some (exit_value_with id others)
 
+-- a thread waits on condition variable c with another mutex than m
+abbrev pub waits_with_another_mutex : ℕ → ℕ → Others → Bool
+waits_with_another_mutex c m others = list_any (λ waiter. not (nat_eq waiter.mutex m)) (others.waiters c)
+
 -- ---- of a process
 
 -- the status is that of a thread in pthread_join for this id
@@ -53,6 +64,15 @@ is_joining id _ = false
 abbrev pub is_joined_by_one : ℕ → List Thread → Bool
 is_joined_by_one id threads = list_any (λ t. holds_slot t && is_joining id t.status) threads
 
+-- the thread with this id and status, if it waits on condition variable c
+abbrev pub waiter_by : ℕ → ℕ → Status → List Waiter
+waiter_by c id (status.Waiting cond m) = if nat_eq cond c then record { id = id; mutex = m } ∷ [] else []
+waiter_by c id _ = []
+
+-- those of some threads that wait on condition variable c, in their order
+abbrev pub waiters_among : ℕ → List Thread → List Waiter
+waiters_among c threads = flat_map (λ t. waiter_by c t.id t.status) threads
+
 -- each thread but the one with this id has ended. A thread that does not hold its slot has ended, or the process did not
 -- inherit it.
 abbrev pub is_last : ℕ → List Thread → Bool
@@ -60,4 +80,4 @@ is_last id threads = list_all (λ t. not (holds_slot t) || (t.ended || nat_eq t.
 
 -- what the thread with an id sees of the others, in a process with a number of slots and these threads
 unfoldable pub others_of : ℕ → List Thread → ℕ → Others
-others_of slots threads tid = record { named = λ id. with_id id threads; another_joins = λ id. is_joined_by_one id threads; new_ids = free_ids slots threads; is_last = is_last tid threads }
+others_of slots threads tid = record { named = λ id. with_id id threads; another_joins = λ id. is_joined_by_one id threads; new_ids = free_ids slots threads; waiters = λ c. waiters_among c (by_slot slots threads); is_last = is_last tid threads }

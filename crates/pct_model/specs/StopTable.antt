@@ -18,7 +18,8 @@ use Rattle.pct_model.specs.Cancelability.{is_asynchronous}
 use Rattle.pct_model.specs.Jumps.{open_of}
 use Rattle.pct_model.specs.Keys.{key_with}
 use Rattle.pct_model.specs.World.{Thread, SharedState, value_of}
-use Rattle.pct_model.specs.OtherThreads.{Others, no_live_thread, is_detached_thread}
+use Rattle.pct_model.specs.MutexCalls.{owns}
+use Rattle.pct_model.specs.OtherThreads.{Others, no_live_thread, is_detached_thread, waits_with_another_mutex}
 
 -- a test: whether a stop applies, and the stop
 abbrev pub StopTest : Type 0
@@ -105,6 +106,13 @@ is_built (statement.KeyCreate result key destructor) = true
 is_built (statement.KeyDelete key) = true
 is_built (statement.SetSpecific key v) = true
 is_built (statement.GetSpecific d key) = true
+is_built (statement.Lock m) = true
+is_built (statement.Unlock m) = true
+is_built (statement.CondWait c m) = true
+is_built (statement.Signal c) = true
+is_built (statement.Broadcast c) = true
+is_built (statement.SemWait s) = true
+is_built (statement.SemPost s) = true
 is_built (statement.PointCall index) = true
 is_built _ = false
 
@@ -117,7 +125,7 @@ module _ (body : List Stmt) (shared : SharedState) (t : Thread) (others : Others
 
   -- the own stops of each statement, in the order in which they are tested. `others` is the threads of the process as this thread sees
   -- them, itself included: its own id names it, so a self-detach and a self-cancel are no stops of their own. No row yet:
-  -- ForkChildCall, NotOwner, CondTwoMutexes, ForkInEnding
+  -- ForkChildCall, ForkInEnding
   unfoldable pub stops_of : Frame → Stmt → List StopTest
   -- XSH exit: a second call is undefined. XSH pthread_create: a return from `main` in the initial thread is an implicit call of exit;
   -- the `end` that closes `main` is `return 0`
@@ -158,6 +166,12 @@ module _ (body : List Stmt) (shared : SharedState) (t : Thread) (others : Others
   stops_of frame (statement.KeyDelete key) = (is_none (key_with (value frame key) shared.keys), why.KeyId) ∷ []
   stops_of frame (statement.SetSpecific key v) = (is_none (key_with (value frame key) shared.keys), why.KeyId) ∷ []
   stops_of frame (statement.GetSpecific d key) = (is_none (key_with (value frame key) shared.keys), why.KeyId) ∷ []
+  -- XSH pthread_mutex_lock: undefined for a mutex of this type, if the caller does not own it
+  stops_of frame (statement.Unlock m) = (not (owns t.id m shared), why.NotOwner) ∷ []
+  -- XSH pthread_cond_wait: undefined if the caller does not own the mutex, or if another thread waits on the condition variable with
+  -- another mutex. That a thread which was unblocked and has not returned yet counts no longer, and the order of the tests, are choices of
+  -- this host
+  stops_of frame (statement.CondWait c m) = (not (owns t.id m shared), why.NotOwner) ∷ (waits_with_another_mutex c m others, why.CondTwoMutexes) ∷ []
   -- no other implemented statement has a stop of its own
   stops_of frame s = []
 

@@ -1,6 +1,6 @@
 -- The transition that a choice makes. It is defined for each statement and status: statements that are not implemented, and statuses
 -- that no run reaches, change nothing; legality (Step.antt) admits only choices of ChoiceTable.antt.
-use Rattle.std.specs.Prelude.{ℕ, suc, List, Option, Some, None}
+use Rattle.std.specs.Prelude.{ℕ, suc, List, length, slice_index, Option, Some, None}
 use Rattle.pct_model.specs.declared.script.Script.{Script}
 use Rattle.pct_model.specs.declared.statement.Operand.{Operand}
 use Rattle.pct_model.specs.declared.statement.Stmt.{Stmt}
@@ -23,6 +23,9 @@ use Rattle.pct_model.specs.CleanupHandlers.{pushes, pops}
 use Rattle.pct_model.specs.CancelCalls.{requests, sets_state, sets_mode, tests_cancel, calls_point, point_kind, passes_point, acts_on_request}
 use Rattle.pct_model.specs.Keys.{key_place, value_at}
 use Rattle.pct_model.specs.KeyCalls.{creates_key_by, deletes_key, sets_specific, gets_specific}
+use Rattle.pct_model.specs.MutexCalls.{locks, unlocks}
+use Rattle.pct_model.specs.CondCalls.{begins_wait, reacquires, signals_by, broadcasts}
+use Rattle.pct_model.specs.SemCalls.{begins_sem_wait, takes, posts}
 use Rattle.pct_model.specs.ThreadCalls.{creates_by, begins_join, joins_at, detaches, gets_self}
 use Rattle.pct_model.specs.ThreadEnds.{ends_by_exit, goes_on_ending}
 use Rattle.pct_model.specs.ProcessExit.{returns_by, ends_process}
@@ -79,6 +82,14 @@ module _ (passes : ℕ) (body : List Stmt) (shared : SharedState) (t : Thread) (
   runs frame (statement.KeyDelete key) = deletes_key (suc frame.pc) (value frame key)
   runs frame (statement.SetSpecific key v) = sets_specific (suc frame.pc) (value frame key) (value frame v)
   runs frame (statement.GetSpecific d key) = gets_specific (suc frame.pc) d (value_at (key_place (value frame key)) t.specific)
+  -- XSH pthread_mutex_lock, pthread_cond_wait, pthread_cond_signal, sem_wait, sem_post
+  runs frame (statement.Lock m) = locks (suc frame.pc) m t.id
+  runs frame (statement.Unlock m) = unlocks (suc frame.pc) m
+  runs frame (statement.CondWait c m) = begins_wait c m
+  runs frame (statement.Signal c) = signals_by choice (suc frame.pc) c
+  runs frame (statement.Broadcast c) = broadcasts (suc frame.pc) c (length (others.waiters c))
+  runs frame (statement.SemWait s) = begins_sem_wait s
+  runs frame (statement.SemPost s) = posts (suc frame.pc) s (slice_index shared.counts s)
   -- XSH 2.9.5.2. A thread is suspended at each generic point that is required, and never at an optional one: a choice of this host
   runs frame (statement.PointCall index) = calls_point (suc frame.pc) index (point_kind index)
   -- a statement that is not implemented is a stop
@@ -92,6 +103,10 @@ module _ (passes : ℕ) (body : List Stmt) (shared : SharedState) (t : Thread) (
   transition_at next (status.AtPoint index) = passes_point index next
   -- XSH pthread_join: the target has terminated
   transition_at next (status.Joining id) = joins_at (exit_value_with id others) id next
+  -- XSH sem_wait: the count is above 0
+  transition_at next (status.InSem s) = takes s (slice_index shared.counts s) next
+  -- XSH pthread_cond_wait: the mutex has no owner
+  transition_at next (status.Reacquire c m why) = reacquires t.id c m why next
   -- XSH 2.9.5.3, pthread_exit, pthread_key_create: cleanup handlers, then destructors, then the end
   transition_at next status.Ending = goes_on_ending others.is_last passes shared.keys t choice t.handlers
   -- XSH exit
@@ -101,7 +116,7 @@ module _ (passes : ℕ) (body : List Stmt) (shared : SharedState) (t : Thread) (
 
 -- by the choice `act` a thread acts upon a request, and by every other choice it goes on
 abbrev pub acts_or : Alt → Status → Transition → Transition
-acts_or (alt.Act n) s goes = acts_on_request s
+acts_or (alt.Act n) s goes = acts_on_request n s
 acts_or _ s goes = goes
 
 -- what a thread of a process does by a choice

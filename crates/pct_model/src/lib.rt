@@ -34,7 +34,9 @@ pub use limits::{
 pub use line_kind::{ArgumentKind, LINE_KINDS, LineKind, SymbolKind};
 pub use name::{MAX_NAME, Name};
 pub use parsed_line::{Argument, ParsedLine, Token, Tokens};
-pub use point::{JOIN_POINT, Point, PointKind, PointWait, TESTCANCEL_POINT};
+pub use point::{
+    COND_WAIT_POINT, JOIN_POINT, Point, PointKind, PointWait, SEM_WAIT_POINT, TESTCANCEL_POINT,
+};
 pub use refusal::{ParseWhy, ScheduleWhy};
 pub use role::{Block, Change, Role};
 pub use schedule::{Alt, Config, Entry};

@@ -22,7 +22,7 @@ pub enum Phase {
     Child,
 }
 
-/// Why a thread left a condition wait.
+/// Why a thread is no longer blocked on a condition variable.
 #[derive(Clone, Copy, Debug)]
 pub enum Cause {
     Signalled,

@@ -38,6 +38,13 @@ pub enum Action {
     BeginPoint(u32),
     /// The thread is suspended in pthread_join, for the thread with this id.
     BeginJoin(u32),
+    /// The thread is suspended in pthread_cond_wait, with the indexes of the condition variable and the mutex.
+    BeginWait(u32, u32),
+    /// The thread acts upon a request in its wait on this condition variable, with this mutex: it is suspended until it owns the mutex
+    /// again.
+    LeaveWait(u32, u32),
+    /// The thread is suspended in sem_wait, for the semaphore with this index.
+    BeginSem(u32),
     /// The thread with this id was joined.
     EndJoin(u32),
     /// A cancellation request for the thread with this id is pending, unless that thread has ended. It may be the thread itself.
@@ -50,6 +57,14 @@ pub enum Action {
     DeleteKey(u32),
     /// The thread's value of the key with this number becomes the second number.
     SetSpecific(u32, u32),
+    /// The mutex with this index gets another owner: the thread with this id, or none if it is 0.
+    OwnMutex(u32, u32),
+    /// The semaphore with this index gets this count.
+    SetCount(u32, u32),
+    /// The thread with this id is unblocked by a signal, if it waits on a condition variable.
+    Wake(u32),
+    /// Each thread that waits on the condition variable with this index is unblocked by a broadcast.
+    WakeAll(u32),
     /// The thread begins a pass over the destructors of its thread-specific data.
     BeginPass,
     /// The key with this number is taken out of the thread's pass, and the thread's value of it becomes NULL: its destructor is

@@ -1,10 +1,11 @@
 //! The report of a run.
 
-ghost use Rattle.std.specs.Prelude.{◌≤◌, ◌++◌, length};
+ghost use Rattle.std.specs.Prelude.{◌≤◌, [], ◌∷◌, ◌++◌, length, decimal};
 ghost use Rattle.std.specs.List.{flat_map};
 ghost use Rattle.pct_io.specs.Prepends.{Prepends};
 ghost use Rattle.pct_io.specs.Writes.{Writes};
-ghost use Rattle.pct_model.specs.Keywords.{line_text, text_of};
+ghost use Rattle.pct_model.specs.declared.keyword.Keyword.TheVariants as keyword;
+ghost use Rattle.pct_model.specs.Keywords.{keyword_text, line_text, text_of};
 ghost use Rattle.pct_model.specs.Report.{event_line, verdict_line, report_lines, report_of, schedule_lines, title_line};
 ghost use Rattle.pct_model.specs.Run.{Run};
 ghost use Rattle.pct_engine.specs.EngineStates.{IsRunOf};
@@ -12,8 +13,8 @@ ghost use Rattle.pct_engine.specs.EngineStates.{IsRunOf};
 use crate::event_fields::event_fields;
 use crate::fields::{prepend_words, write_words};
 use pct_engine::Engine;
-use pct_io::{BufferedSink, Failed, Field, Sink, prepend_line, write_all, write_line};
-use pct_model::{Config, Entry, Event, Keyword, Script, Verdict};
+use pct_io::{BufferedSink, Failed, Field, Sink, prepend, prepend_number, write_all, write_line};
+use pct_model::{Config, Entry, Event, Keyword, Script, Verdict, What};
 use pct_schedule::write_schedule;
 
 /// Writes the report of an engine's run: a title, the events in order, the verdict, and the schedule. The run may be
@@ -173,14 +174,34 @@ fn write_verdict<K: Sink>(sink: &mut K, verdict: Verdict) -> Result<(), Failed>
     }
 }
 
-// Writes the line of an event, as `prepend_line` does.
-#[tactic(auto, unfolding(pct_model::specs::Report::event_line, pct_model::specs::Report::thread_text))]
+// Writes the line of an event, as `prepend_line` does. That of an `emit`, a frequent event, needs no list of fields.
+#[tactic(auto, unfolding(pct_model::specs::Report::event_line, pct_model::specs::Report::thread_text, pct_model::specs::EventTexts::event_words))]
 fn prepend_event(script: &Script, event: Event, buffer: &mut [u8], end: usize) -> Option<usize>
     requires { end ≤ length buffer.old }
     ensures { Prepends buffer.old buffer.new end (line_text (event_line script.now event)) result }
 {
-    let thread = Field::Dotted(event.pid, event.tid);
-    prepend_words(thread, event_fields(script, event.what), buffer, end)
+    match event.what {
+        What::Emit(value) => prepend_emit(event.pid, event.tid, value, buffer, end),
+        _ => {
+            let thread = Field::Dotted(event.pid, event.tid);
+            prepend_words(thread, event_fields(script, event.what), buffer, end)
+        }
+    }
+}
+
+// Writes the line of an `emit` of a value.
+#[inline(always)]
+#[tactic(auto, unfolding(pct_model::specs::Keywords::keyword_text))]
+fn prepend_emit(pid: u32, tid: u32, value: u32, buffer: &mut [u8], end: usize) -> Option<usize>
+    requires { end ≤ length buffer.old }
+    ensures { Prepends buffer.old buffer.new end (line_text ((decimal pid ++ 46 ∷ decimal tid) ∷ keyword_text keyword.Emit ∷ decimal value ∷ [])) result }
+{
+    let line_end = prepend(b"\n", buffer, end)?;
+    let number = prepend_number(value as u64, buffer, line_end)?;
+    let word = prepend(b" emit ", buffer, number)?;
+    let thread = prepend_number(tid as u64, buffer, word)?;
+    let dot = prepend(b".", buffer, thread)?;
+    prepend_number(pid as u64, buffer, dot)
 }
 
 // The line of one event.

@@ -13,27 +13,27 @@ use Rattle.pct_model.specs.declared.statement.Stmt.TheVariants as statement
 use Rattle.pct_model.specs.declared.stop.Why.TheVariants as why
 use Rattle.pct_model.specs.Keys.{KeyPlace}
 use Rattle.pct_model.specs.World.{Thread, Process, World, first_process, new_frame, new_thread, new_shared}
-use Rattle.pct_model.specs.ThreadSlots.{slot_of}
+use Rattle.pct_model.specs.ThreadSlots.{slot_of, by_slot}
 use Rattle.pct_model.specs.OtherThreads.{Others, others_of}
 use Rattle.pct_model.specs.ChoiceTable.{running_choices}
-use Rattle.pct_model.specs.Chosen.{by_slot, Candidate, candidates, chosen}
+use Rattle.pct_model.specs.Chosen.{Candidate, candidates, chosen}
 use Rattle.pct_rows.proofs.OnLiterals.{runs_on_literals}
 use Rattle.pct_rows.proofs.ExampleScripts.{smallest}
 
 -- four thread slots
-abbrev config : Config
+abbrev pub config : Config
 config = record { budget = 100; passes = 4; slots = 4 }
 
 -- a thread at the first statement of `main`
-abbrev ready : ℕ → Thread
+abbrev pub ready : ℕ → Thread
 ready id = new_thread id false (new_frame 0 0 kind.Start)
 
 -- a thread in a status
-abbrev in_status : ℕ → Status → Thread
+abbrev pub in_status : ℕ → Status → Thread
 in_status id status = record (ready id) { status = status; frames = [] }
 
 -- a process with these threads
-abbrev process : ℕ → List Thread → Process
+abbrev pub process : ℕ → List Thread → Process
 process pid threads = record (first_process smallest) { pid = pid; threads = threads }
 
 -- the worker, process, thread and choice of an entry
@@ -81,7 +81,7 @@ nobody_ready = (refl, refl, refl)
 -- ---- creations
 
 -- a thread sees no others
-abbrev nobody : Others
+abbrev pub nobody : Others
 nobody = others_of 0 [] 1
 
 -- a new thread gets one of the ids of the free slots, by rising slot; without one the call fails

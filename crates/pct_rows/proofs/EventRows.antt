@@ -1,5 +1,4 @@
--- The texts of the events and the stops that no run has while mutexes, condition variables, semaphores and processes are not
--- implemented, in a script with two functions, two mutexes, two condition variables and two semaphores.
+-- The texts of the events and the stops that no run has while processes are not implemented, in a script with two functions.
 use Rattle.std.proofs.Common.{◌≡◌, ℕ, List, [], ◌∷◌, refl}
 use Rattle.std.specs.Prelude.{IsTrue, codes, flat_map}
 use Rattle.std.specs.Fmt.{digits}
@@ -19,13 +18,12 @@ use Rattle.pct_model.specs.EventTexts.{event_words}
 use Rattle.pct_model.specs.Report.{thread_text, event_line}
 use Rattle.pct_rows.proofs.OnLiterals.{checks_on_literals}
 
--- two declarations of each kind but globals; the semaphore `s` has the count 0, `t` the count 7
 abbrev contents : Contents
 contents = record {
   globals = [];
-  mutexes = codes "l" ∷ codes "m" ∷ [];
-  conds = codes "c" ∷ codes "d" ∷ [];
-  sems = record { name = codes "s"; count = 0 } ∷ record { name = codes "t"; count = 7 } ∷ [];
+  mutexes = [];
+  conds = [];
+  sems = [];
   funcs = record { name = codes "f"; locals = codes "x" ∷ []; body = statement.End ∷ [] } ∷ record { name = codes "main"; locals = codes "x" ∷ []; body = statement.End ∷ [] } ∷ [];
 }
 
@@ -40,11 +38,6 @@ script = record { globals = contents.globals; mutexes = contents.mutexes; conds 
 abbrev lines : List What → List ℕ
 lines events = flat_map (λ w. line_text (event_line script (record { pid = 2; tid = 34; what = w }))) events
 
--- mutexes, condition variables and semaphores; a wait for a condition variable names it and the mutex
-wait_events : lines (what.Acquired 1 ∷ what.Released 0 ∷ what.Signalled 0 0 ∷ what.BroadcastTo 1 2 ∷ what.WaitCanceled 0 ∷ what.HandedOn 0 3 ∷ what.EndingInWait 1 0 ∷ what.Taken 0 ∷ what.Posted 1 ∷ []) ≡ codes "2.34 acquire m\n2.34 release l\n2.34 signal c 0\n2.34 broadcast d 2\n2.34 cancel_wait c\n2.34 handon c 3\n2.34 ending canceled d l\n2.34 take s\n2.34 post t\n"
-unfolding digits keyword_text name_at event_words thread_text event_line
-wait_events = refl
-
 -- processes
 process_events : lines (what.Forked 3 ∷ what.PrepareRun 0 ∷ what.ParentRun 0 ∷ what.ChildRun 1 ∷ what.ExitRun 0 ∷ what.Reaped 3 255 ∷ []) ≡ codes "2.34 fork 3\n2.34 prepare f\n2.34 parent f\n2.34 child main\n2.34 at_exit f\n2.34 reap 3 255\n"
 unfolding digits keyword_text name_at event_words thread_text event_line
@@ -56,6 +49,6 @@ unfolding digits keyword_text syntax_of event_words thread_text event_line
 answer_events = refl
 
 -- stops
-stop_events : lines (what.Stopped why.ForkChildCall ∷ what.Stopped why.NotOwner ∷ what.Stopped why.CondTwoMutexes ∷ what.Stopped why.ExitTwice ∷ what.Stopped why.ForkInEnding ∷ []) ≡ codes "2.34 profile fork_child_call\n2.34 undefined not_owner\n2.34 undefined cond_two_mutexes\n2.34 undefined exit_twice\n2.34 profile fork_in_ending\n"
+stop_events : lines (what.Stopped why.ForkChildCall ∷ what.Stopped why.ExitTwice ∷ what.Stopped why.ForkInEnding ∷ []) ≡ codes "2.34 profile fork_child_call\n2.34 undefined exit_twice\n2.34 profile fork_in_ending\n"
 unfolding digits keyword_text stop_words event_words thread_text event_line
 stop_events = refl

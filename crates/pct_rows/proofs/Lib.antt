@@ -3,8 +3,10 @@ mod ExampleScripts
 mod Outcomes
 mod OnceRows
 mod JoinRows
+mod CondRows
 mod ThreadRows
 mod ChoiceRows
+mod WaitRows
 mod ProcessRows
 mod EventRows
 mod StaticRows

@@ -1,14 +1,15 @@
 //! Writing a schedule.
 
-ghost use Rattle.std.specs.Prelude.{◌≡◌, ◌≤◌, ◌++◌, length, map, take};
+ghost use Rattle.std.specs.Prelude.{◌≡◌, ◌≤◌, [], ◌∷◌, ◌++◌, length, map, take, decimal};
 ghost use Rattle.std.specs.List.{flat_map};
 ghost use Rattle.pct_io.specs.Fields.{field_text};
 ghost use Rattle.pct_io.specs.Prepends.{Prepends};
 ghost use Rattle.pct_io.specs.Writes.{Writes};
-ghost use Rattle.pct_model.specs.Keywords.{line_text, text_of};
+ghost use Rattle.pct_model.specs.declared.keyword.Keyword.TheVariants as keyword;
+ghost use Rattle.pct_model.specs.Keywords.{keyword_text, line_text, text_of};
 ghost use Rattle.pct_model.specs.Report.{header_line, entry_line, end_line, schedule_lines};
 
-use pct_io::{Failed, Field, Sink, prepend_line, write_all, write_line};
+use pct_io::{Failed, Field, Sink, prepend, prepend_line, prepend_number, write_all, write_line};
 use pct_model::{Alt, Config, Entry, Keyword};
 
 /// Writes the schedule: the numbers under which the run goes, its entries, and the number of entries. `read_schedule`
@@ -112,14 +113,43 @@ fn write_count<K: Sink>(sink: &mut K, count: usize) -> Result<(), Failed>
     )
 }
 
-// Writes the line of an entry, as `prepend_line` does.
+// Writes the line of an entry, as `prepend_line` does. Nearly every entry has the choice `go`.
 #[inline(always)]
+#[tactic(auto, unfolding(pct_model::specs::Report::entry_line, pct_model::specs::Report::alt_words))]
 fn prepend_entry(entry: Entry, buffer: &mut [u8], end: usize) -> Option<usize>
     requires { end ≤ length buffer.old }
     ensures { Prepends buffer.old buffer.new end (line_text (entry_line entry)) result }
 {
-    let (fields, count) = fields_of(entry);
-    prepend_line(&fields[..count], buffer, end)
+    match entry.alt {
+        Alt::Go => prepend_go(entry.worker, entry.pid, entry.tid, buffer, end),
+        _ => {
+            let (fields, count) = fields_of(entry);
+            prepend_line(&fields[..count], buffer, end)
+        }
+    }
+}
+
+// Writes the line of an entry with the choice `go`.
+#[inline(always)]
+#[tactic(auto, unfolding(pct_model::specs::Keywords::keyword_text))]
+fn prepend_go(worker: u32, pid: u32, tid: u32, buffer: &mut [u8], end: usize) -> Option<usize>
+    requires { end ≤ length buffer.old }
+    ensures { Prepends buffer.old buffer.new end (line_text (decimal worker ∷ decimal pid ∷ decimal tid ∷ keyword_text keyword.Go ∷ [])) result }
+{
+    let choice = prepend(b" go\n", buffer, end)?;
+    let thread = prepend_number(tid as u64, buffer, choice)?;
+    let process = prepend_before_space(pid, buffer, thread)?;
+    prepend_before_space(worker, buffer, process)
+}
+
+// Writes a number and a space, as `prepend` writes a text.
+#[inline(always)]
+fn prepend_before_space(number: u32, buffer: &mut [u8], end: usize) -> Option<usize>
+    requires { end ≤ length buffer.old }
+    ensures { Prepends buffer.old buffer.new end (decimal number ++ 32 ∷ []) result }
+{
+    let space = prepend(b" ", buffer, end)?;
+    prepend_number(number as u64, buffer, space)
 }
 
 fn write_entry<K: Sink>(sink: &mut K, entry: Entry) -> Result<(), Failed>

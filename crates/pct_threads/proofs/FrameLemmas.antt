@@ -1,12 +1,11 @@
 -- Frames are kept oldest first, and listed newest first.
-use Rattle.std.proofs.Common.{◌≡◌, refl, sym, ap, ◌∙◌, ℕ, ◌+◌, ◌-◌, ◌<◌, Bool, true, false, cond, List, [], ◌∷◌, length, get_or, Some, None, inl, inr, arith, length-set, option_map}
+use Rattle.std.proofs.Common.{◌≡◌, refl, sym, ap, ◌∙◌, ℕ, ◌-◌, ◌<◌, Bool, true, false, cond, List, [], length, get_or, Some, None, inl, inr, arith, length-set, option_map}
 use Rattle.std.specs.Prelude.{slice_set, reverse}
 use Rattle.std.specs.Option.{option_map_or}
 use Rattle.std.proofs.lemmas.List.{same_lists, get_or-reverse, get_or_default, get_or-set_same, get_or-set_other, length-reverse}
 use Rattle.std.proofs.lemmas.Bool.{cases_eq}
 use Rattle.pct_model.specs.declared.frame.Frame.{Frame}
 use Rattle.pct_model.specs.declared.state.FrameKind.TheVariants as kind
-use Rattle.pct_model.specs.Actions.{at_pc, set_local}
 use Rattle.pct_model.specs.World.{new_frame}
 use Rattle.pct_threads.specs.FrameWords.{with_word}
 use Rattle.pct_threads.specs.Slots.{Held, frame_at, on_frame, with_frame_word}
@@ -60,29 +59,3 @@ word_set false held items shown k i value frame d within same is = refl
 pub frame_within : (b : Bool) (held : Held) (items : List Frame) (k : ℕ) → k < length (option_map_or (λ h. h.frames) (cond b (Some (record held { frames = reverse items })) None) []) → k < length items
 frame_within true held items k some = omega (arith, length-reverse items)
 frame_within false held items k some = absurd (omega arith)
-
--- ---- the newest frame
-
-on_newest : (change : Frame → Frame) (newest_first : List Frame) (k : ℕ) → k + 1 ≡ length newest_first → (f : Frame) (below : List Frame) → newest_first ≡ f ∷ below → on_frame k change newest_first ≡ change f ∷ below
-on_newest change newest_first k last f below is =
-    let number : k ≡ length below = omega (arith, last, ap (λ (xs : List Frame). length xs) is) in
-    let top : length (f ∷ below) - 1 - length below ≡ 0 = omega arith in
-    rw (is, number, top) refl
-
-module _ (change : Frame → Frame) (top : List Frame → List Frame) (first : (f : Frame) (below : List Frame) → top (f ∷ below) ≡ change f ∷ below) (items : List Frame) (k : ℕ) (d : Frame) (last : k + 1 ≡ length items) where
-  newest_by : (newest_first : List Frame) → reverse items ≡ newest_first → reverse (slice_set items k (change (get_or items k d))) ≡ top newest_first
-  newest_by [] is = absurd (omega (arith, last, length-reverse items, ap (λ (xs : List Frame). length xs) is))
-  newest_by (f ∷ below) is =
-      sym (on_frame-reverse items k d change (omega (arith, last)))
-      ∙ on_newest change (reverse items) k (last ∙ sym (length-reverse items)) f below is ∙ sym (first f below)
-
-  newest_set : reverse (slice_set items k (change (get_or items k d))) ≡ top (reverse items)
-  newest_set = newest_by (reverse items) refl
-
--- the frames with a change of the newest one, which was read and is written back
-pub set_newest : (change : Frame → Frame) (top : List Frame → List Frame) → ((f : Frame) (below : List Frame) → top (f ∷ below) ≡ change f ∷ below) → (items read after : List Frame) (k : ℕ) (d frame : Frame) → k + 1 ≡ length items → read ≡ items → frame ≡ change (get_or read k d) → after ≡ slice_set items k frame
-    → reverse after ≡ top (reverse items)
-set_newest change top first items read after k d frame last same is written =
-    ap reverse written
-    ∙ ap (λ (f : Frame). reverse (slice_set items k f)) (is ∙ ap (λ (xs : List Frame). change (get_or xs k d)) same)
-    ∙ newest_set change top first items k d last

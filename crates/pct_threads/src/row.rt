@@ -263,9 +263,7 @@ fn set_top_pc(frames: &mut ArrayVec<Frame, MAX_DEPTH>, pc: u32)
 {
     let depth = frames.len();
     if depth > 0 {
-        let mut frame = frames[depth - 1];
-        frame.pc = pc;
-        set_frame(frames, depth - 1, frame);
+        frames[depth - 1].pc = pc;
     }
 }
 
@@ -275,20 +273,17 @@ fn set_top_local(frames: &mut ArrayVec<Frame, MAX_DEPTH>, i: u32, value: u32)
 {
     let depth = frames.len();
     if depth > 0 {
-        let frame = with_local(frames[depth - 1], i, value);
-        set_frame(frames, depth - 1, frame);
+        set_local_of(&mut frames[depth - 1], i, value);
     }
 }
 
-// The frame with another value of a local, if it has the local.
-fn with_local(frame: Frame, i: u32, value: u32) -> Frame
-    ensures { result ≡ record frame { locals = slice_set frame.locals i value } }
+// A local of a frame has a new value, if the frame has the local.
+fn set_local_of(frame: &mut Frame, i: u32, value: u32)
+    ensures { frame.new ≡ record frame.old { locals = slice_set frame.old.locals i value } }
 {
-    let mut changed = frame;
-    if (i as usize) < changed.locals.len() {
-        changed.locals[i as usize] = value;
+    if (i as usize) < frame.locals.len() {
+        frame.locals[i as usize] = value;
     }
-    changed
 }
 
 // Whether the status is that of an ended thread.

@@ -1,5 +1,5 @@
 -- Each transition of the table is one of the cases.
-use Rattle.std.proofs.Common.{◌≡◌, ℕ, suc, ◌<◌, ◌≤◌, Bool, true, false, cond, not, ◌&&◌, ◌||◌, List, [], ◌∷◌, ◌++◌, length, nat_eq, nat_lt, find, is_none, Option, Some, None, option_map, option_and_then, inl, inr, refl, sym, ap, ◌∙◌, eqb-true, pos_of_ne-zero, arith}
+use Rattle.std.proofs.Common.{◌≡◌, ℕ, suc, ◌<◌, ◌≤◌, Bool, true, false, cond, not, ◌&&◌, ◌||◌, List, [], ◌∷◌, ◌++◌, length, nat_eq, nat_lt, find, slice_index, is_none, Option, Some, None, option_map, option_and_then, inl, inr, refl, sym, ap, ◌∙◌, eqb-true, pos_of_ne-zero, arith}
 use Rattle.std.specs.List.{list_any}
 use Rattle.std.specs.Option.{option_map_or}
 use Rattle.std.proofs.lemmas.Bool.{true≢false, or_parts, not-false, ltb-true, ltb-false, eqb-false}
@@ -11,6 +11,8 @@ use Rattle.pct_model.specs.declared.point.PointKind.{PointKind}
 use Rattle.pct_model.specs.declared.point.PointKind.TheVariants.{Required, Optional}
 use Rattle.pct_model.specs.declared.schedule.Alt.{Alt}
 use Rattle.pct_model.specs.declared.schedule.Alt.TheVariants as alt
+use Rattle.pct_model.specs.declared.state.Cause.{Cause}
+use Rattle.pct_model.specs.declared.state.Cause.TheVariants as cause
 use Rattle.pct_model.specs.declared.state.FrameKind.{FrameKind}
 use Rattle.pct_model.specs.declared.state.FrameKind.TheVariants as kind
 use Rattle.pct_model.specs.declared.state.Status.{Status}
@@ -27,21 +29,24 @@ use Rattle.pct_model.specs.Cancelability.{is_asynchronous}
 use Rattle.pct_model.specs.CancelCalls.{requests, sets_state, sets_mode, tests_cancel, point_kind, calls_point, passes_point, acts_on_request}
 use Rattle.pct_model.specs.ChoiceTable.{choices_at, offers}
 use Rattle.pct_model.specs.CleanupHandlers.{pushes, pops}
+use Rattle.pct_model.specs.CondCalls.{begins_wait, reacquires, leaves_wait, hands_on, signals_by, broadcasts}
 use Rattle.pct_model.specs.Jumps.{open_of}
 use Rattle.pct_model.specs.KeyCalls.{creates_key, fails_to_create_key, creates_key_by, deletes_key, sets_specific, gets_specific}
 use Rattle.pct_model.specs.Keys.{Key, key_place, key_with, left_keys, value_at}
+use Rattle.pct_model.specs.MutexCalls.{owns, locks, unlocks}
 use Rattle.pct_model.specs.NextStatement.{NextStatement, StatementIn}
-use Rattle.pct_model.specs.OtherThreads.{Others, exit_value_of}
+use Rattle.pct_model.specs.OtherThreads.{Others, waits_with_another_mutex, exit_value_of}
 use Rattle.pct_model.specs.ProcessExit.{exits, returns_by, ends_process}
 use Rattle.pct_model.specs.ScriptStatements.{jumps, emits, sets, adds, calls, after_block, after_test, after_end}
+use Rattle.pct_model.specs.SemCalls.{begins_sem_wait, takes, posts}
 use Rattle.pct_model.specs.StopTable.{StopTest, first_stop, is_stack_full, has_begun_to_end, is_in_handler, is_allowed_asynchronously, is_built, stops_of, stop_at}
 use Rattle.pct_model.specs.ThreadCalls.{creates, fails_to_create, creates_by, begins_join, ends_join, joins_at, detaches, gets_self}
 use Rattle.pct_model.specs.ThreadEnds.{end_value, ends_by_exit, ends_thread, calls_destructor, due_keys, goes_on_ending}
 use Rattle.pct_model.specs.Transitions.{goes_on, acts}
 use Rattle.pct_model.specs.TransitionTable.{ends_block, stops_or, runs, transition_at, acts_or}
 use Rattle.pct_model.specs.World.{Thread, SharedState, value_of}
-use Rattle.pct_transition_cases.proofs.OfferedChoices.{Offered, offered_alive, act_enabled, id_among, key_among, left_among, offered_of}
-use Rattle.pct_transition_cases.proofs.TransitionCases.{past_nop, past_if, past_while, past_else, past_end, Returns, by_return, by_end, TransitionCase, rests, stopped, jumped, emitted, variable_set, variable_added, function_called, main_returned, start_returned, call_left, handler_left, exit_function_left, thread_made, thread_not_made, join_begun, join_ended, thread_detached, self_got, request_sent, state_set, mode_set, cancel_tested, point_begun, point_done, point_passed, canceled, canceled_at_point, canceled_in_join, key_made, key_not_made, key_deleted, specific_set, specific_got, handler_pushed, handler_popped, handler_called, exit_called, handler_run, destructor_called, pass_begun, thread_ended, thread_ended_with_keys, last_ended, last_ended_with_keys, process_ended}
+use Rattle.pct_transition_cases.proofs.OfferedChoices.{is_acting, goes_at, Offered, offered_alive, may_go_on, act_enabled, heir_among, picked_among, id_among, key_among, left_among, offered_of, free_to_lock}
+use Rattle.pct_transition_cases.proofs.TransitionCases.{past_nop, past_if, past_while, past_else, past_end, Returns, by_return, by_end, TransitionCase, rests, stopped, jumped, emitted, variable_set, variable_added, function_called, main_returned, start_returned, call_left, handler_left, exit_function_left, thread_made, thread_not_made, join_begun, join_ended, thread_detached, self_got, request_sent, state_set, mode_set, cancel_tested, point_begun, point_done, point_passed, canceled, canceled_at_point, canceled_in_join, canceled_in_sem_wait, mutex_locked, mutex_unlocked, wait_begun, wait_ended, canceled_in_wait, canceled_after_wait, signal_handed_on, ended_in_wait, signal_sent, signal_lost, broadcast_sent, sem_wait_begun, sem_taken, sem_posted, key_made, key_not_made, key_deleted, specific_set, specific_got, handler_pushed, handler_popped, handler_called, exit_called, handler_run, destructor_called, pass_begun, thread_ended, thread_ended_with_keys, last_ended, last_ended_with_keys, process_ended}
 
 -- ---- stops
 
@@ -55,15 +60,15 @@ no_stop (test ∷ tests) none = by_test test.0 refl none (no_stop tests)
     by_test true is some later = absurd (none-some test.1 (sym some))
     by_test false is none later = ap (λ (b : Bool). b || list_any (λ (s : StopTest). s.0) tests) is ∙ later none
 
--- where a statement does not stop, none of its own stops applies
-none_applies : (body : List Stmt) (shared : SharedState) (t : Thread) (others : Others) (frame : Frame) (s : Stmt) → stop_at body shared t others frame s ≡ None
-    → list_any (λ (test : StopTest). test.0) (stops_of body shared t others frame s) ≡ false
+-- where a statement does not stop, it may be called with the cancelability of the thread, and none of its own stops applies
+no_stops : (body : List Stmt) (shared : SharedState) (t : Thread) (others : Others) (frame : Frame) (s : Stmt) → stop_at body shared t others frame s ≡ None
+    → (is_asynchronous t.state t.mode && not (is_allowed_asynchronously s) ≡ false) × (list_any (λ (test : StopTest). test.0) (stops_of body shared t others frame s) ≡ false)
 unfolding stop_at
-none_applies body shared t others frame s none =
+no_stops body shared t others frame s none =
     let own : Bool = list_any (λ (test : StopTest). test.0) (stops_of body shared t others frame s) in
     let called : Bool = is_asynchronous t.state t.mode && not (is_allowed_asynchronously s) in
     let all : (not (is_built s) || (called || own)) ≡ false = no_stop ((not (is_built s), Unbuilt) ∷ (called, AsyncCall) ∷ stops_of body shared t others frame s) none in
-    (or_parts called own (or_parts (not (is_built s)) (called || own) all).1).1
+    or_parts called own (or_parts (not (is_built s)) (called || own) all).1
 
 -- a test that stands alone
 alone : (b : Bool) → (b || false) ≡ false → b ≡ false
@@ -79,6 +84,20 @@ module _ (passes : ℕ) (body : List Stmt) (shared : SharedState) (t : Thread) (
 
   abbrev value : Frame → Operand → ℕ
   value frame v = value_of shared.globals frame v
+
+  -- the choice is among those of the table, where it is known to be offered
+  abbrev Legal : Alt → NextStatement → Status → Type 0
+  Legal choice next s = offered ≡ true → offers (choices_at shared t others next s) choice ≡ true
+
+  may_be : {choice : Alt} {next : NextStatement} {s : Status} → Legal choice next s → offered ≡ true → Offered shared t others next s choice
+  may_be {choice} {next} {s} legal known = offered_of shared t others choice next s (legal known)
+
+  -- and it is not to act upon a request
+  abbrev Goes : Alt → NextStatement → Status → Type 0
+  Goes choice next s = offered ≡ true → (offers (choices_at shared t others next s) choice ≡ true) × (is_acting choice ≡ false)
+
+  goes : (choice : Alt) (next : NextStatement) (s : Status) → Goes choice next s → offered ≡ true → goes_at shared others s ≡ true
+  goes choice next s may known = may_go_on (offered_of shared t others choice next s (may known).0) (may known).1
 
   -- ---- statements
 
@@ -137,6 +156,12 @@ module _ (passes : ℕ) (body : List Stmt) (shared : SharedState) (t : Thread) (
   create_key_case alt.Go frame result key destructor may = key_not_made frame result key destructor
   create_key_case _ frame result key destructor may = rests (StatementIn frame (statement.KeyCreate result key destructor)) status.Running (λ known. refl)
 
+  signal_case : (choice : Alt) (frame : Frame) (c : ℕ) → (offered ≡ true → Offered shared t others (StatementIn frame (statement.Signal c)) status.Running choice) → Case (StatementIn frame (statement.Signal c)) status.Running (signals_by choice (suc frame.pc) c)
+  unfolding signals_by
+  signal_case (alt.Pick u) frame c may = signal_sent frame c u (λ known. picked_among (may known))
+  signal_case alt.Go frame c may = signal_lost frame c
+  signal_case _ frame c may = rests (StatementIn frame (statement.Signal c)) status.Running (λ known. refl)
+
   point_case : (frame : Frame) (index : ℕ) (k : Option PointKind) → point_kind index ≡ k → Case (StatementIn frame (statement.PointCall index)) status.Running (calls_point (suc frame.pc) index k)
   unfolding calls_point
   point_case frame index (Some Required) is = point_begun frame index is
@@ -154,9 +179,9 @@ module _ (passes : ℕ) (body : List Stmt) (shared : SharedState) (t : Thread) (
   pop_case frame v [] is none = rests (StatementIn frame (statement.Pop v)) status.Running (λ known. refl)
   pop_case frame v ((f, a) ∷ handlers) is none = pop_by frame v f a handlers is (nat_eq (value frame v) 0) none
 
-  running_case : (choice : Alt) (frame : Frame) (s : Stmt) → (offered ≡ true → Offered shared t others (StatementIn frame s) status.Running choice) → stop_at body shared t others frame s ≡ None
+  running_case : (choice : Alt) (frame : Frame) (s : Stmt) → Legal choice (StatementIn frame s) status.Running → stop_at body shared t others frame s ≡ None
       → Case (StatementIn frame s) status.Running (runs passes body shared t others choice frame s)
-  unfolding runs emits sets adds jumps calls gets_self ends_by_exit pushes sets_state sets_mode tests_cancel deletes_key sets_specific gets_specific stops_of
+  unfolding runs emits sets adds jumps calls gets_self ends_by_exit pushes sets_state sets_mode tests_cancel deletes_key sets_specific gets_specific locks unlocks begins_wait broadcasts begins_sem_wait posts stops_of
   running_case choice frame (statement.Emit v) may none = emitted frame v
   running_case choice frame (statement.Set d v) may none = variable_set frame d v
   running_case choice frame (statement.Add d v) may none = variable_added frame d v
@@ -165,24 +190,34 @@ module _ (passes : ℕ) (body : List Stmt) (shared : SharedState) (t : Thread) (
   running_case choice frame statement.Else may none = jumped frame statement.Else (after_block body frame.pc) past_else
   running_case choice frame (statement.While v) may none = jumped frame (statement.While v) (after_test body frame.pc (value frame v)) (past_while v)
   running_case choice frame statement.End may none = end_case frame (open_of body frame.pc) refl
-  running_case choice frame (statement.Do f v) may none = function_called frame f v (below_limit (length t.frames) MAX_FRAMES (alone (is_stack_full t.frames) (none_applies body shared t others frame (statement.Do f v) none)))
+  running_case choice frame (statement.Do f v) may none = function_called frame f v (below_limit (length t.frames) MAX_FRAMES (alone (is_stack_full t.frames) (no_stops body shared t others frame (statement.Do f v) none).1))
   running_case choice frame (statement.Return v) may none = return_case frame (statement.Return v) (value frame v) (by_return v) frame.kind refl
-  running_case choice frame (statement.Create result id f v detached) may none = create_case choice frame result id f v detached may
-  running_case choice frame (statement.Join id d) may none = join_case frame id d (others.named (value frame id)) refl (none_applies body shared t others frame (statement.Join id d) none)
-  running_case choice frame (statement.Detach id) may none = detach_case frame id (others.named (value frame id)) refl (none_applies body shared t others frame (statement.Detach id) none)
-  running_case choice frame (statement.CancelThread id) may none = request_case frame id (others.named (value frame id)) refl (none_applies body shared t others frame (statement.CancelThread id) none)
+  running_case choice frame (statement.Create result id f v detached) may none = create_case choice frame result id f v detached (may_be may)
+  running_case choice frame (statement.Join id d) may none = join_case frame id d (others.named (value frame id)) refl (no_stops body shared t others frame (statement.Join id d) none).1
+  running_case choice frame (statement.Detach id) may none = detach_case frame id (others.named (value frame id)) refl (no_stops body shared t others frame (statement.Detach id) none).1
+  running_case choice frame (statement.CancelThread id) may none = request_case frame id (others.named (value frame id)) refl (no_stops body shared t others frame (statement.CancelThread id) none).1
   running_case choice frame (statement.SelfId d) may none = self_got frame d
   running_case choice frame statement.TestCancel may none = cancel_tested frame
-  running_case choice frame (statement.SetState enable old) may none = state_set frame enable old (alone (enable && is_in_handler t.frames) (none_applies body shared t others frame (statement.SetState enable old) none))
+  running_case choice frame (statement.SetState enable old) may none = state_set frame enable old (alone (enable && is_in_handler t.frames) (no_stops body shared t others frame (statement.SetState enable old) none).1)
   running_case choice frame (statement.SetMode asynchronous old) may none = mode_set frame asynchronous old
   running_case choice frame (statement.PointCall index) may none = point_case frame index (point_kind index) refl
-  running_case choice frame (statement.KeyCreate result key destructor) may none = create_key_case choice frame result key destructor may
-  running_case choice frame (statement.KeyDelete key) may none = key_deleted frame key (alone (is_none (key_with (value frame key) shared.keys)) (none_applies body shared t others frame (statement.KeyDelete key) none))
-  running_case choice frame (statement.SetSpecific key v) may none = specific_set frame key v (alone (is_none (key_with (value frame key) shared.keys)) (none_applies body shared t others frame (statement.SetSpecific key v) none))
+  running_case choice frame (statement.KeyCreate result key destructor) may none = create_key_case choice frame result key destructor (may_be may)
+  running_case choice frame (statement.KeyDelete key) may none = key_deleted frame key (alone (is_none (key_with (value frame key) shared.keys)) (no_stops body shared t others frame (statement.KeyDelete key) none).1)
+  running_case choice frame (statement.SetSpecific key v) may none = specific_set frame key v (alone (is_none (key_with (value frame key) shared.keys)) (no_stops body shared t others frame (statement.SetSpecific key v) none).1)
   running_case choice frame (statement.GetSpecific d key) may none = specific_got frame d key
-  running_case choice frame (statement.ThreadExit v) may none = exit_called frame v (alone (has_begun_to_end t.reason) (none_applies body shared t others frame (statement.ThreadExit v) none))
-  running_case choice frame (statement.Push f v) may none = handler_pushed frame f v (below_limit (length t.handlers) MAX_HANDLERS (alone (not (nat_lt (length t.handlers) MAX_HANDLERS)) (none_applies body shared t others frame (statement.Push f v) none)))
-  running_case choice frame (statement.Pop v) may none = pop_case frame v t.handlers refl (alone (not (nat_eq (value frame v) 0) && is_stack_full t.frames) (none_applies body shared t others frame (statement.Pop v) none))
+  running_case choice frame (statement.ThreadExit v) may none = exit_called frame v (alone (has_begun_to_end t.reason) (no_stops body shared t others frame (statement.ThreadExit v) none).1)
+  running_case choice frame (statement.Push f v) may none = handler_pushed frame f v (below_limit (length t.handlers) MAX_HANDLERS (alone (not (nat_lt (length t.handlers) MAX_HANDLERS)) (no_stops body shared t others frame (statement.Push f v) none).1))
+  running_case choice frame (statement.Pop v) may none = pop_case frame v t.handlers refl (alone (not (nat_eq (value frame v) 0) && is_stack_full t.frames) (no_stops body shared t others frame (statement.Pop v) none).1)
+  running_case choice frame (statement.Lock m) may none = mutex_locked frame m (λ known. free_to_lock shared t others choice frame m (no_stops body shared t others frame (statement.Lock m) none).0 (may known))
+  running_case choice frame (statement.Unlock m) may none = mutex_unlocked frame m (not-false (owns t.id m shared) (alone (not (owns t.id m shared)) (no_stops body shared t others frame (statement.Unlock m) none).1))
+  running_case choice frame (statement.CondWait c m) may none =
+      let other : Bool = waits_with_another_mutex c m others in
+      let parts : (not (owns t.id m shared) ≡ false) × ((other || false) ≡ false) = or_parts (not (owns t.id m shared)) (other || false) (no_stops body shared t others frame (statement.CondWait c m) none).1 in
+      wait_begun frame c m (not-false (owns t.id m shared) parts.0) (alone other parts.1)
+  running_case choice frame (statement.Signal c) may none = signal_case choice frame c (may_be may)
+  running_case choice frame (statement.Broadcast c) may none = broadcast_sent frame c
+  running_case choice frame (statement.SemWait sem) may none = sem_wait_begun frame sem
+  running_case choice frame (statement.SemPost sem) may none = sem_posted frame sem
   running_case choice frame s may none = rests (StatementIn frame s) status.Running (λ known. refl)
 
   stop_case : (frame : Frame) (s : Stmt) (stop : Option Why) (other : Transition) → (stop ≡ None → Case (StatementIn frame s) status.Running other) → Case (StatementIn frame s) status.Running (stops_or stop other)
@@ -204,6 +239,17 @@ module _ (passes : ℕ) (body : List Stmt) (shared : SharedState) (t : Thread) (
   join_ended_case : (id : ℕ) (next : NextStatement) (found : Option Thread) → others.named id ≡ found → Case next (status.Joining id) (joins_at (option_and_then (λ u. exit_value_of u.status) found) id next)
   join_ended_case id next (Some target) is = join_value_case id target is target.status refl next
   join_ended_case id next None is = rests next (status.Joining id) (λ known. refl)
+
+  taken_case : (sem : ℕ) (next : NextStatement) → (offered ≡ true → goes_at shared others (status.InSem sem) ≡ true) → Case next (status.InSem sem) (takes sem (slice_index shared.counts sem) next)
+  unfolding takes
+  taken_case sem (StatementIn frame (statement.SemWait s)) above = sem_taken frame s sem above
+  taken_case sem next above = rests next (status.InSem sem) (λ known. refl)
+
+  reacquired_case : (c m : ℕ) (why : Cause) (next : NextStatement) → (offered ≡ true → goes_at shared others (status.Reacquire c m why) ≡ true) → Case next (status.Reacquire c m why) (reacquires t.id c m why next)
+  unfolding reacquires
+  reacquired_case c m cause.Canceled next free = ended_in_wait next c m free
+  reacquired_case c m why (StatementIn frame (statement.CondWait cond mutex)) free = wait_ended frame cond mutex c m why refl free
+  reacquired_case c m why next free = rests next (status.Reacquire c m why) (λ known. refl)
 
   -- ---- threads that end
 
@@ -241,11 +287,11 @@ module _ (passes : ℕ) (body : List Stmt) (shared : SharedState) (t : Thread) (
     pass_by due true false is past = ended_case due (λ some. ltb-false t.pass passes past) others.is_last refl
     pass_by due false more is limit = let nothing : due ≡ 0 = eqb-true due 0 (not-false (nat_eq due 0) is) in ended_case due (λ some. absurd (omega (arith, some, nothing))) others.is_last refl
 
-  ending_case : (choice : Alt) (next : NextStatement) → (offered ≡ true → Offered shared t others next status.Ending choice) → (handlers : List (ℕ × ℕ)) → t.handlers ≡ handlers
+  ending_case : (choice : Alt) (next : NextStatement) → Legal choice next status.Ending → (handlers : List (ℕ × ℕ)) → t.handlers ≡ handlers
       → Case next status.Ending (goes_on_ending others.is_last passes shared.keys t choice handlers)
   unfolding goes_on_ending
   ending_case choice next may ((f, a) ∷ handlers) is = handler_run next f a handlers is
-  ending_case (alt.Dtor k) next may [] is = destructor_case next is k (λ known. left_among (may known)) (key_with k shared.keys) refl
+  ending_case (alt.Dtor k) next may [] is = destructor_case next is k (λ known. left_among (may_be may known)) (key_with k shared.keys) refl
   ending_case _ next may [] is =
       let due : ℕ = due_keys shared.keys t in
       pass_by next is due (not (nat_eq due 0)) (nat_lt t.pass passes) refl refl
@@ -258,26 +304,35 @@ module _ (passes : ℕ) (body : List Stmt) (shared : SharedState) (t : Thread) (
   -- ---- the table
 
   -- where the thread goes on
-  pub going_case : (choice : Alt) (next : NextStatement) (s : Status) → (offered ≡ true → Offered shared t others next s choice) → Case next s (transition_at passes body shared t others choice next s)
+  pub going_case : (choice : Alt) (next : NextStatement) (s : Status) → Goes choice next s → Case next s (transition_at passes body shared t others choice next s)
   unfolding transition_at
-  going_case choice (StatementIn frame s) status.Running may = stop_case frame s (stop_at body shared t others frame s) (runs passes body shared t others choice frame s) (running_case choice frame s may)
+  going_case choice (StatementIn frame s) status.Running may = stop_case frame s (stop_at body shared t others frame s) (runs passes body shared t others choice frame s) (running_case choice frame s (λ known. (may known).0))
   going_case choice next (status.AtPoint index) may = point_passed_case index next
   going_case choice next (status.Joining id) may = join_ended_case id next (others.named id) refl
-  going_case choice next status.Ending may = ending_case choice next may t.handlers refl
+  going_case choice next (status.InSem sem) may = taken_case sem next (goes choice next (status.InSem sem) may)
+  going_case choice next (status.Reacquire c m why) may = reacquired_case c m why next (goes choice next (status.Reacquire c m why) may)
+  going_case choice next status.Ending may = ending_case choice next (λ known. (may known).0) t.handlers refl
   going_case choice next status.Exiting may = exit_case next shared.exit_functions shared.exit_value
-  going_case choice next s may = rests next s (λ known. offered_alive (may known))
+  going_case choice next s may = rests next s (λ known. offered_alive (offered_of shared t others choice next s (may known).0))
 
-  acting_case : (n : ℕ) (next : NextStatement) (s : Status) → (offered ≡ true → Offered shared t others next s (alt.Act n)) → Case next s (acts_on_request s)
-  unfolding acts_on_request
+  handing_case : (u : ℕ) (next : NextStatement) (c m : ℕ) → (offered ≡ true → Offered shared t others next (status.Reacquire c m cause.Signalled) (alt.Act u)) → (none : Bool) → nat_eq u 0 ≡ none
+      → Case next (status.Reacquire c m cause.Signalled) (cond none (leaves_wait c m) (acts (action.LeaveWait c m ∷ action.Wake u ∷ []) (what.WaitCanceled c ∷ what.HandedOn c u ∷ [])))
+  unfolding leaves_wait
+  handing_case u next c m may true is = canceled_after_wait next c m cause.Signalled refl (λ known. act_enabled (may known))
+  handing_case u next c m may false is = signal_handed_on next c m u (λ known. act_enabled (may known)) (λ known. heir_among (may known) is)
+
+  acting_case : (n : ℕ) (next : NextStatement) (s : Status) → (offered ≡ true → Offered shared t others next s (alt.Act n)) → Case next s (acts_on_request n s)
+  unfolding acts_on_request leaves_wait hands_on
   acting_case n next status.Running may = canceled next (λ known. act_enabled (may known))
   acting_case n next (status.AtPoint index) may = canceled_at_point next index (λ known. act_enabled (may known))
   acting_case n next (status.Joining id) may = canceled_in_join next id (λ known. act_enabled (may known))
+  acting_case n next (status.InSem sem) may = canceled_in_sem_wait next sem (λ known. act_enabled (may known))
+  acting_case n next (status.Waiting c m) may = canceled_in_wait next c m (λ known. act_enabled (may known))
+  acting_case n next (status.Reacquire c m cause.Signalled) may = handing_case n next c m may (nat_eq n 0) refl
+  acting_case n next (status.Reacquire c m cause.Broadcast) may = canceled_after_wait next c m cause.Broadcast refl (λ known. act_enabled (may known))
   acting_case n next s may = rests next s (λ known. offered_alive (may known))
 
-  by_choice : (choice : Alt) (next : NextStatement) (s : Status) → (offered ≡ true → Offered shared t others next s choice) → Case next s (acts_or choice s (transition_at passes body shared t others choice next s))
-  by_choice (alt.Act n) next s may = acting_case n next s may
-  by_choice choice next s may = going_case choice next s may
-
   -- the case of the transition that a choice makes
-  pub case_of : (choice : Alt) (next : NextStatement) (s : Status) → (offered ≡ true → offers (choices_at shared t others next s) choice ≡ true) → Case next s (acts_or choice s (transition_at passes body shared t others choice next s))
-  case_of choice next s legal = by_choice choice next s (λ known. offered_of shared t others choice next s (legal known))
+  pub case_of : (choice : Alt) (next : NextStatement) (s : Status) → Legal choice next s → Case next s (acts_or choice s (transition_at passes body shared t others choice next s))
+  case_of (alt.Act n) next s may = acting_case n next s (may_be may)
+  case_of choice next s may = going_case choice next s (λ known. (may known, refl))

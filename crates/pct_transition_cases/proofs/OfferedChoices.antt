@@ -1,10 +1,12 @@
 -- The choices that a thread is offered, by case.
-use Rattle.std.proofs.Common.{◌≡◌, ℕ, Bool, true, false, ◌&&◌, List, [], ◌∷◌, ◌++◌, map, nat_eq, Option, inl, inr, refl, sym, ap, subst, eqb-true, eq-eqb}
+use Rattle.std.proofs.Common.{◌≡◌, ℕ, Bool, true, false, not, cond, ◌&&◌, List, [], ◌∷◌, ◌++◌, map, nat_eq, nat_lt, slice_index, Option, inl, inr, refl, sym, ap, subst, eqb-true, eq-eqb}
 use Rattle.std.specs.List.{AllByRecursion, list_any}
-use Rattle.std.proofs.lemmas.Bool.{false≢true, and_parts, or_cases, or_left, or_right}
+use Rattle.std.proofs.lemmas.Bool.{true≢false, false≢true, and_parts, or_cases, or_left, or_right}
 use Rattle.pct_model.specs.declared.frame.Frame.{Frame}
 use Rattle.pct_model.specs.declared.schedule.Alt.{Alt}
 use Rattle.pct_model.specs.declared.schedule.Alt.TheVariants as alt
+use Rattle.pct_model.specs.declared.state.Cause.{Cause}
+use Rattle.pct_model.specs.declared.state.Cause.TheVariants as cause
 use Rattle.pct_model.specs.declared.state.Mode.{Mode}
 use Rattle.pct_model.specs.declared.state.State.{State}
 use Rattle.pct_model.specs.declared.state.State.TheVariants.{Enable, Disable}
@@ -16,8 +18,9 @@ use Rattle.pct_model.specs.declared.statement.Stmt.{Stmt}
 use Rattle.pct_model.specs.declared.statement.Stmt.TheVariants as statement
 use Rattle.pct_model.specs.Cancelability.{is_deliverable, is_asynchronous}
 use Rattle.pct_model.specs.CancelCalls.{called_kind, is_required, is_optional, may_return}
-use Rattle.pct_model.specs.ChoiceTable.{ChoiceRow, first_row, go_if, act_if, new_or_go, dtor_or_go, is_create, is_key_create, running_rows, running_choices, ending_choices, choices_at, same_choice, offers}
+use Rattle.pct_model.specs.ChoiceTable.{ChoiceRow, first_row, go_if, act_if, new_or_go, dtor_or_go, pick_or_go, hand_on_or_act, unblocked_acts, is_create, is_key_create, is_signal, waiters_to_signal, running_rows, running_choices, ending_choices, choices_at, same_choice, offers}
 use Rattle.pct_model.specs.Keys.{new_keys, left_keys}
+use Rattle.pct_model.specs.MutexCalls.{is_free_mutex}
 use Rattle.pct_model.specs.NextStatement.{NextStatement, StatementIn}
 use Rattle.pct_model.specs.OtherThreads.{Others, is_ended_thread}
 use Rattle.pct_model.specs.ThreadSlots.{is_ended_status}
@@ -25,12 +28,31 @@ use Rattle.pct_model.specs.World.{Thread, SharedState}
 
 -- ---- the cases
 
+-- the choice is that a thread acts upon a request
+abbrev pub is_acting : Alt → Bool
+is_acting (alt.Act n) = true
+is_acting _ = false
+
+-- a thread with this status may go on, as far as the status tells: what it waits for has occurred
+abbrev pub goes_at : SharedState → Others → Status → Bool
+goes_at shared others (status.AtPoint index) = may_return index
+goes_at shared others (status.Joining id) = is_ended_thread id others
+goes_at shared others (status.InSem sem) = nat_lt 0 (slice_index shared.counts sem)
+goes_at shared others (status.Waiting c m) = false
+goes_at shared others (status.Reacquire c m why) = is_free_mutex m shared
+goes_at shared others (status.Ended v) = false
+goes_at shared others _ = true
+
 -- a choice that is offered to a thread, and what is known of the thread then. A new case is needed only for a choice of a new kind
 pub data Offered (shared : SharedState) (t : Thread) (others : Others) : NextStatement → Status → Alt → Type 0 where
   -- the thread goes on
-  may_go : (next : NextStatement) (s : Status) → is_ended_status s ≡ false → Offered shared t others next s alt.Go
+  may_go : (next : NextStatement) (s : Status) → goes_at shared others s ≡ true → Offered shared t others next s alt.Go
   -- it acts upon a request
   may_act : (next : NextStatement) (s : Status) → is_ended_status s ≡ false → t.state ≡ Enable → Offered shared t others next s (alt.Act 0)
+  -- it does so after a signal unblocked it, and hands the signal on to one of the threads that wait
+  may_hand_on : (next : NextStatement) (c m u : ℕ) → t.state ≡ Enable → list_any (λ waiter. nat_eq u waiter.id) (others.waiters c) ≡ true → Offered shared t others next (status.Reacquire c m cause.Signalled) (alt.Act u)
+  -- it signals a condition variable, and unblocks one of the threads that wait
+  may_pick : (frame : Frame) (c u : ℕ) → list_any (λ waiter. nat_eq u waiter.id) (others.waiters c) ≡ true → Offered shared t others (StatementIn frame (statement.Signal c)) status.Running (alt.Pick u)
   -- it creates a thread, or makes a key, with one of the numbers that are free
   may_create : (frame : Frame) (result id : Dest) (f : ℕ) (v : Operand) (detached : Bool) (n : ℕ) → list_any (nat_eq n) others.new_ids ≡ true
       → Offered shared t others (StatementIn frame (statement.Create result id f v detached)) status.Running (alt.New n)
@@ -41,16 +63,37 @@ pub data Offered (shared : SharedState) (t : Thread) (others : Others) : NextSta
 
 -- ---- what each case has
 
+-- a thread that may go on has not ended
+going_alive : (shared : SharedState) (others : Others) (s : Status) → goes_at shared others s ≡ true → is_ended_status s ≡ false
+going_alive shared others (status.Ended v) goes = absurd (false≢true goes)
+going_alive shared others _ goes = refl
+
 module _ {shared : SharedState} {t : Thread} {others : Others} where
   -- a thread that has a choice does not have the status of its end
   pub offered_alive : {next : NextStatement} {s : Status} {choice : Alt} → Offered shared t others next s choice → is_ended_status s ≡ false
-  offered_alive (may_go next s alive) = alive
+  offered_alive (may_go next s goes) = going_alive shared others s goes
   offered_alive (may_act next s alive enabled) = alive
   offered_alive _ = refl
+
+  -- what a thread waits for has occurred, where its choice is not to act upon a request
+  pub may_go_on : {next : NextStatement} {s : Status} {choice : Alt} → Offered shared t others next s choice → is_acting choice ≡ false → goes_at shared others s ≡ true
+  may_go_on (may_go next s goes) other = goes
+  may_go_on (may_act next s alive enabled) other = absurd (true≢false other)
+  may_go_on (may_hand_on next c m u enabled among) other = absurd (true≢false other)
+  may_go_on _ other = refl
 
   -- a thread that may act upon a request has its cancelability enabled
   pub act_enabled : {next : NextStatement} {s : Status} {n : ℕ} → Offered shared t others next s (alt.Act n) → t.state ≡ Enable
   act_enabled (may_act next s alive enabled) = enabled
+  act_enabled (may_hand_on next c m u enabled among) = enabled
+
+  -- the thread to which a signal is handed on, or which a signal unblocks, is among those that wait
+  pub heir_among : {next : NextStatement} {c m u : ℕ} → Offered shared t others next (status.Reacquire c m cause.Signalled) (alt.Act u) → nat_eq u 0 ≡ false → list_any (λ waiter. nat_eq u waiter.id) (others.waiters c) ≡ true
+  heir_among (may_act next s alive enabled) some = absurd (true≢false some)
+  heir_among (may_hand_on next c m u enabled among) some = among
+
+  pub picked_among : {frame : Frame} {c u : ℕ} → Offered shared t others (StatementIn frame (statement.Signal c)) status.Running (alt.Pick u) → list_any (λ waiter. nat_eq u waiter.id) (others.waiters c) ≡ true
+  picked_among (may_pick frame c u among) = among
 
   -- the id of a new thread, the number of a new key, and the key of a destructor are among those that are offered
   pub id_among : {frame : Frame} {result id : Dest} {f : ℕ} {v : Operand} {detached : Bool} {n : ℕ} → Offered shared t others (StatementIn frame (statement.Create result id f v detached)) status.Running (alt.New n) → list_any (nat_eq n) others.new_ids ≡ true
@@ -88,27 +131,26 @@ module _ (P : Alt → Type 0) (choice : Alt) where
     | inr later ↦ each_has rest each.1 later
   ]
 
-  -- the same of choices that name numbers
-  number_has : (choose : ℕ → Alt) (numbers : List ℕ) → ((n : ℕ) → list_any (nat_eq n) numbers ≡ true → P (choose n)) → offers (map choose numbers) choice ≡ true → P choice
-  number_has choose [] each offered = absurd (false≢true offered)
-  number_has choose (k ∷ numbers) each offered = elim (or_cases (same_choice choice (choose k)) (offers (map choose numbers) choice) offered) [
-    | inl same ↦ subst P (same_choice-is choice (choose k) same) (each k (or_left (nat_eq k k) (list_any (nat_eq k) numbers) (eq-eqb k k refl)))
-    | inr later ↦ number_has choose numbers (λ n among. each n (or_right (nat_eq n k) (list_any (nat_eq n) numbers) among)) later
+  -- the same of choices that name the numbers of some items, or else of one choice
+  number_has : {T : Type 0} (choose : ℕ → Alt) (number : T → ℕ) (items : List T) → ((n : ℕ) → list_any (λ item. nat_eq n (number item)) items ≡ true → P (choose n)) → offers (map (λ item. choose (number item)) items) choice ≡ true → P choice
+  number_has choose number [] each offered = absurd (false≢true offered)
+  number_has choose number (item ∷ items) each offered = elim (or_cases (same_choice choice (choose (number item))) (offers (map (λ x. choose (number x)) items) choice) offered) [
+    | inl same ↦ subst P (same_choice-is choice (choose (number item)) same) (each (number item) (or_left (nat_eq (number item) (number item)) (list_any (λ x. nat_eq (number item) (number x)) items) (eq-eqb (number item) (number item) refl)))
+    | inr later ↦ number_has choose number items (λ n among. each n (or_right (nat_eq n (number item)) (list_any (λ x. nat_eq n (number x)) items) among)) later
   ]
 
-  new_or_go_has : (numbers : List ℕ) → P alt.Go → ((n : ℕ) → list_any (nat_eq n) numbers ≡ true → P (alt.New n)) → offers (new_or_go numbers) choice ≡ true → P choice
-  new_or_go_has [] go each offered = each_has (alt.Go ∷ []) (go, tt) offered
-  new_or_go_has (k ∷ numbers) go each offered = number_has (λ n. alt.New n) (k ∷ numbers) each offered
+  number_or_has : {T : Type 0} (choices : List T → List Alt) (choose : ℕ → Alt) (number : T → ℕ) (only : Alt) → choices [] ≡ only ∷ [] → ((item : T) (items : List T) → choices (item ∷ items) ≡ map (λ x. choose (number x)) (item ∷ items)) → P only
+      → (items : List T) → ((n : ℕ) → list_any (λ item. nat_eq n (number item)) items ≡ true → P (choose n)) → offers (choices items) choice ≡ true → P choice
+  number_or_has choices choose number only none some has [] each offered = each_has (only ∷ []) (has, tt) (subst (λ cs. offers cs choice ≡ true) none offered)
+  number_or_has choices choose number only none some has (item ∷ items) each offered = number_has choose number (item ∷ items) each (subst (λ cs. offers cs choice ≡ true) (some item items) offered)
 
-  dtor_or_go_has : (numbers : List ℕ) → P alt.Go → ((n : ℕ) → list_any (nat_eq n) numbers ≡ true → P (alt.Dtor n)) → offers (dtor_or_go numbers) choice ≡ true → P choice
-  dtor_or_go_has [] go each offered = each_has (alt.Go ∷ []) (go, tt) offered
-  dtor_or_go_has (k ∷ numbers) go each offered = number_has (λ n. alt.Dtor n) (k ∷ numbers) each offered
+  go_or_has : (passes : Bool) (acting : List Alt) → (passes ≡ true → P alt.Go) → (offers acting choice ≡ true → P choice) → offers (go_if passes ++ acting) choice ≡ true → P choice
+  go_or_has true acting go act offered = elim (or_cases (same_choice choice alt.Go) (offers acting choice) offered) [ inl same ↦ subst P (same_choice-is choice alt.Go same) (go refl) | inr later ↦ act later ]
+  go_or_has false acting go act offered = act offered
 
-  go_or_act_has : (passes acts : Bool) → P alt.Go → (acts ≡ true → P (alt.Act 0)) → offers (go_if passes ++ act_if acts) choice ≡ true → P choice
-  go_or_act_has true true go act offered = each_has (alt.Go ∷ alt.Act 0 ∷ []) (go, (act refl, tt)) offered
-  go_or_act_has true false go act offered = each_has (alt.Go ∷ []) (go, tt) offered
-  go_or_act_has false true go act offered = each_has (alt.Act 0 ∷ []) (act refl, tt) offered
-  go_or_act_has false false go act offered = absurd (false≢true offered)
+  act_has : (delivered : Bool) → (delivered ≡ true → P (alt.Act 0)) → offers (act_if delivered) choice ≡ true → P choice
+  act_has true act offered = each_has (alt.Act 0 ∷ []) (act refl, tt) offered
+  act_has false act offered = absurd (false≢true offered)
 
 -- ---- cancelability
 
@@ -132,6 +174,10 @@ module _ (shared : SharedState) (t : Thread) (others : Others) (choice : Alt) wh
   key_offered frame (statement.KeyCreate result key destructor) is n among = may_make_key frame result key destructor n among
   key_offered frame _ is n among = absurd (false≢true is)
 
+  pick_offered : (frame : Frame) (s : Stmt) → is_signal s ≡ true → (u : ℕ) → list_any (λ waiter. nat_eq u waiter.id) (waiters_to_signal others s) ≡ true → Offered shared t others (StatementIn frame s) status.Running (alt.Pick u)
+  pick_offered frame (statement.Signal c) is u among = may_pick frame c u among
+  pick_offered frame _ is u among = absurd (false≢true is)
+
   running_offered : (frame : Frame) (s : Stmt) → offers (running_choices shared t others s) choice ≡ true → Offered shared t others (StatementIn frame s) status.Running choice
   unfolding running_choices running_rows
   running_offered frame s =
@@ -139,15 +185,26 @@ module _ (shared : SharedState) (t : Thread) (others : Others) (choice : Alt) wh
       let go : P alt.Go = may_go (StatementIn frame s) status.Running refl in
       let act : t.state ≡ Enable → P (alt.Act 0) = λ enabled. may_act (StatementIn frame s) status.Running refl enabled in
       let delivered : (kind : Bool) → is_deliverable t.state t.pending && kind ≡ true → P (alt.Act 0) = λ kind both. act (deliverable_enabled t.state t.pending (and_parts (is_deliverable t.state t.pending) kind both).0) in
+      let new_has : (numbers : List ℕ) → ((n : ℕ) → list_any (nat_eq n) numbers ≡ true → P (alt.New n)) → offers (new_or_go numbers) choice ≡ true → P choice =
+      number_or_has P choice new_or_go (λ n. alt.New n) (λ n. n) alt.Go refl (λ n numbers. refl) go in
       first_row_has (λ choices. offers choices choice ≡ true → P choice) (running_rows shared t others s) (alt.Go ∷ []) (
         λ unbuilt. each_has P choice (alt.Go ∷ []) (go, tt),
         (
-          λ asynchronous. go_or_act_has P choice true t.pending go (λ pending. act (asynchronous_enabled t.state t.mode asynchronous)),
+          λ asynchronous. go_or_has P choice true (act_if t.pending) (λ passes. go) (act_has P choice t.pending (λ pending. act (asynchronous_enabled t.state t.mode asynchronous))),
           (
             λ required. each_has P choice (alt.Act 0 ∷ []) (delivered (is_required (called_kind s)) required, tt),
             (
               λ optional. each_has P choice (alt.Go ∷ alt.Act 0 ∷ []) (go, (delivered (is_optional (called_kind s)) optional, tt)),
-              (λ creates. new_or_go_has P choice others.new_ids go (id_offered frame s creates), (λ creates. new_or_go_has P choice (new_keys shared.keys) go (key_offered frame s creates), tt)),
+              (
+                λ blocked. each_has P choice [] tt,
+                (
+                  λ creates. new_has others.new_ids (id_offered frame s creates),
+                  (
+                    λ creates. new_has (new_keys shared.keys) (key_offered frame s creates),
+                    (λ signals. number_or_has P choice pick_or_go (λ u. alt.Pick u) (λ waiter. waiter.id) alt.Go refl (λ waiter waiters. refl) go (waiters_to_signal others s) (pick_offered frame s signals), tt),
+                  ),
+                ),
+              ),
             ),
           ),
         ),
@@ -155,22 +212,51 @@ module _ (shared : SharedState) (t : Thread) (others : Others) (choice : Alt) wh
       (each_has P choice (alt.Go ∷ []) (go, tt))
 
   -- a thread that is suspended at a cancellation point
-  suspended_offered : (next : NextStatement) (s : Status) → is_ended_status s ≡ false → (passes : Bool) → offers (go_if passes ++ act_if (is_deliverable t.state t.pending)) choice ≡ true → Offered shared t others next s choice
-  suspended_offered next s alive passes offered =
-      go_or_act_has (Offered shared t others next s) choice passes (is_deliverable t.state t.pending) (may_go next s alive) (λ delivered. may_act next s alive (deliverable_enabled t.state t.pending delivered)) offered
+  suspended_offered : (next : NextStatement) (s : Status) → is_ended_status s ≡ false → offers (go_if (goes_at shared others s) ++ act_if (is_deliverable t.state t.pending)) choice ≡ true → Offered shared t others next s choice
+  suspended_offered next s alive =
+      let P : Alt → Type 0 = Offered shared t others next s in
+      go_or_has P choice (goes_at shared others s) (act_if (is_deliverable t.state t.pending)) (may_go next s) (act_has P choice (is_deliverable t.state t.pending) (λ delivered. may_act next s alive (deliverable_enabled t.state t.pending delivered)))
+
+  -- a thread that was unblocked on a condition variable
+  unblocked_offered : (next : NextStatement) (c m : ℕ) (why : Cause) (delivered : Bool) → (delivered ≡ true → t.state ≡ Enable) → offers (cond delivered (unblocked_acts why (others.waiters c)) []) choice ≡ true → Offered shared t others next (status.Reacquire c m why) choice
+  unblocked_offered next c m cause.Signalled true enabled offered =
+      number_or_has (Offered shared t others next (status.Reacquire c m cause.Signalled)) choice hand_on_or_act (λ u. alt.Act u) (λ waiter. waiter.id) (alt.Act 0) refl (λ waiter waiters. refl)
+      (may_act next (status.Reacquire c m cause.Signalled) refl (enabled refl)) (others.waiters c) (λ u among. may_hand_on next c m u (enabled refl) among) offered
+  unblocked_offered next c m cause.Broadcast true enabled offered = each_has (Offered shared t others next (status.Reacquire c m cause.Broadcast)) choice (alt.Act 0 ∷ []) (may_act next (status.Reacquire c m cause.Broadcast) refl (enabled refl), tt) offered
+  unblocked_offered next c m cause.Canceled true enabled offered = absurd (false≢true offered)
+  unblocked_offered next c m why false enabled offered = absurd (false≢true offered)
 
   -- a thread that is ending
   ending_offered : (next : NextStatement) (handlers : List (ℕ × ℕ)) → t.handlers ≡ handlers → offers (ending_choices shared t others handlers) choice ≡ true → Offered shared t others next status.Ending choice
   unfolding ending_choices
   ending_offered next (handler ∷ handlers) is offered = each_has (Offered shared t others next status.Ending) choice (alt.Go ∷ []) (may_go next status.Ending refl, tt) offered
-  ending_offered next [] none offered = dtor_or_go_has (Offered shared t others next status.Ending) choice (left_keys shared.keys t.specific) (may_go next status.Ending refl) (λ k among. may_destroy next k none among) offered
+  ending_offered next [] none offered =
+      number_or_has (Offered shared t others next status.Ending) choice dtor_or_go (λ k. alt.Dtor k) (λ k. k) alt.Go refl (λ k keys. refl) (may_go next status.Ending refl) (left_keys shared.keys t.specific) (λ k among. may_destroy next k none among) offered
 
   -- the case of a choice that is offered
   pub offered_of : (next : NextStatement) (s : Status) → offers (choices_at shared t others next s) choice ≡ true → Offered shared t others next s choice
   unfolding choices_at
   offered_of (StatementIn frame s) status.Running offered = running_offered frame s offered
-  offered_of next (status.AtPoint index) offered = suspended_offered next (status.AtPoint index) refl (may_return index) offered
-  offered_of next (status.Joining id) offered = suspended_offered next (status.Joining id) refl (is_ended_thread id others) offered
+  offered_of next (status.AtPoint index) offered = suspended_offered next (status.AtPoint index) refl offered
+  offered_of next (status.Joining id) offered = suspended_offered next (status.Joining id) refl offered
+  offered_of next (status.InSem sem) offered = suspended_offered next (status.InSem sem) refl offered
+  offered_of next (status.Waiting c m) offered = suspended_offered next (status.Waiting c m) refl offered
+  offered_of next (status.Reacquire c m why) offered =
+      let delivered : Bool = is_deliverable t.state t.pending in
+      go_or_has (Offered shared t others next (status.Reacquire c m why)) choice (is_free_mutex m shared) (cond delivered (unblocked_acts why (others.waiters c)) [])
+      (may_go next (status.Reacquire c m why)) (unblocked_offered next c m why delivered (deliverable_enabled t.state t.pending)) offered
   offered_of next status.Ending offered = ending_offered next t.handlers refl offered
   offered_of next status.Exiting offered = each_has (Offered shared t others next status.Exiting) choice (alt.Go ∷ []) (may_go next status.Exiting refl, tt) offered
   offered_of next _ offered = absurd (false≢true offered)
+
+  -- a mutex that the thread may lock is free, unless the call is a stop
+  pub free_to_lock : (frame : Frame) (m : ℕ) → is_asynchronous t.state t.mode && true ≡ false → offers (choices_at shared t others (StatementIn frame (statement.Lock m)) status.Running) choice ≡ true → is_free_mutex m shared ≡ true
+  unfolding choices_at running_choices running_rows called_kind
+  free_to_lock frame m = by (is_asynchronous t.state t.mode) (is_deliverable t.state t.pending) (is_free_mutex m shared)
+    where
+      by : (asynchronous deliverable free : Bool) → asynchronous && true ≡ false
+          → offers (first_row ((asynchronous, alt.Go ∷ act_if t.pending) ∷ (deliverable && false, alt.Act 0 ∷ []) ∷ (deliverable && false, alt.Go ∷ alt.Act 0 ∷ []) ∷ (not free, []) ∷ []) (alt.Go ∷ [])) choice ≡ true → free ≡ true
+      by true _ _ deferred offered = absurd (true≢false deferred)
+      by false _ true deferred offered = refl
+      by false true false deferred offered = absurd (false≢true offered)
+      by false false false deferred offered = absurd (false≢true offered)

@@ -2,12 +2,15 @@
 -- with what is known of the thread where it is made. A proof about transitions has a clause for each case of which it has something to
 -- say, and one for all others.
 use Rattle.std.proofs.Common.{◌≡◌, ℕ, suc, ◌+◌, ◌%◌, ◌<◌, ◌≤◌, Bool, true, false, ◌&&◌, List, [], ◌∷◌, length, nat_eq, is_none, Option, Some, None, ◌⊎◌}
+use Rattle.std.specs.Prelude.{◌-◌, nat_lt, slice_index}
 use Rattle.std.specs.List.{list_any}
 use Rattle.pct_model.specs.declared.event.Caller.TheVariants as caller
 use Rattle.pct_model.specs.declared.event.What.TheVariants as what
 use Rattle.pct_model.specs.declared.frame.Frame.{Frame}
 use Rattle.pct_model.specs.declared.limits.TheConstants.{MAX_FRAMES, MAX_HANDLERS}
 use Rattle.pct_model.specs.declared.point.PointKind.TheVariants.{Required}
+use Rattle.pct_model.specs.declared.state.Cause.{Cause}
+use Rattle.pct_model.specs.declared.state.Cause.TheVariants as cause
 use Rattle.pct_model.specs.declared.state.FrameKind.TheVariants as kind
 use Rattle.pct_model.specs.declared.state.Reason.TheVariants as reason
 use Rattle.pct_model.specs.declared.state.State.TheVariants.{Enable}
@@ -21,11 +24,15 @@ use Rattle.pct_model.specs.declared.stop.Why.{Why}
 use Rattle.pct_model.specs.declared.transition.Action.TheVariants as action
 use Rattle.pct_model.specs.declared.transition.Transition.{Transition}
 use Rattle.pct_model.specs.CancelCalls.{state_number, mode_number, state_if, mode_if, testcancel_point, point_kind}
+use Rattle.pct_model.specs.CondCalls.{cond_wait_point}
 use Rattle.pct_model.specs.Jumps.{open_of}
+use Rattle.pct_model.specs.Kept.{has_left_wait}
 use Rattle.pct_model.specs.Keys.{Key, key_place, key_with, new_keys, left_keys, value_at}
 use Rattle.pct_model.specs.NextStatement.{NextStatement, StatementIn}
-use Rattle.pct_model.specs.OtherThreads.{Others}
+use Rattle.pct_model.specs.MutexCalls.{is_free_mutex, owns}
+use Rattle.pct_model.specs.OtherThreads.{Others, waits_with_another_mutex}
 use Rattle.pct_model.specs.ScriptStatements.{variable_value, after_block, after_test, after_end}
+use Rattle.pct_model.specs.SemCalls.{sem_wait_point}
 use Rattle.pct_model.specs.StopTable.{has_begun_to_end, is_in_handler}
 use Rattle.pct_model.specs.ThreadCalls.{join_point}
 use Rattle.pct_model.specs.ThreadEnds.{end_value}
@@ -111,6 +118,38 @@ module _ (passes : ℕ) (body : List Stmt) (shared : SharedState) (t : Thread) (
         → TransitionCase next (status.AtPoint index) (acts (action.BeginEnd reason.Canceled ∷ []) (what.EndingCanceled ∷ []))
     canceled_in_join : (next : NextStatement) (id : ℕ) → (offered ≡ true → t.state ≡ Enable)
         → TransitionCase next (status.Joining id) (acts (action.BeginEnd reason.Canceled ∷ []) (what.EndingCanceled ∷ []))
+    canceled_in_sem_wait : (next : NextStatement) (sem : ℕ) → (offered ≡ true → t.state ≡ Enable)
+        → TransitionCase next (status.InSem sem) (acts (action.BeginEnd reason.Canceled ∷ []) (what.EndingCanceled ∷ []))
+    -- mutexes
+    mutex_locked : (frame : Frame) (m : ℕ) → (offered ≡ true → is_free_mutex m shared ≡ true)
+        → TransitionCase (StatementIn frame (statement.Lock m)) status.Running (goes_on (suc frame.pc) (action.OwnMutex m t.id ∷ []) (what.Acquired m ∷ []))
+    mutex_unlocked : (frame : Frame) (m : ℕ) → owns t.id m shared ≡ true
+        → TransitionCase (StatementIn frame (statement.Unlock m)) status.Running (goes_on (suc frame.pc) (action.OwnMutex m 0 ∷ []) (what.Released m ∷ []))
+    -- condition waits: the call; the return, by a signal or a broadcast; and the two steps by which a request ends one
+    wait_begun : (frame : Frame) (c m : ℕ) → owns t.id m shared ≡ true → waits_with_another_mutex c m others ≡ false
+        → TransitionCase (StatementIn frame (statement.CondWait c m)) status.Running (acts (action.BeginWait c m ∷ action.OwnMutex m 0 ∷ []) (what.Called cond_wait_point ∷ what.Released m ∷ []))
+    wait_ended : (frame : Frame) (cond mutex c m : ℕ) (why : Cause) → has_left_wait (status.Reacquire c m why) ≡ false → (offered ≡ true → is_free_mutex m shared ≡ true)
+        → TransitionCase (StatementIn frame (statement.CondWait cond mutex)) (status.Reacquire c m why) (goes_on (suc frame.pc) (action.OwnMutex m t.id ∷ []) (what.Acquired m ∷ what.Done cond_wait_point ∷ []))
+    canceled_in_wait : (next : NextStatement) (c m : ℕ) → (offered ≡ true → t.state ≡ Enable)
+        → TransitionCase next (status.Waiting c m) (acts (action.LeaveWait c m ∷ []) (what.WaitCanceled c ∷ []))
+    canceled_after_wait : (next : NextStatement) (c m : ℕ) (why : Cause) → has_left_wait (status.Reacquire c m why) ≡ false → (offered ≡ true → t.state ≡ Enable)
+        → TransitionCase next (status.Reacquire c m why) (acts (action.LeaveWait c m ∷ []) (what.WaitCanceled c ∷ []))
+    signal_handed_on : (next : NextStatement) (c m u : ℕ) → (offered ≡ true → t.state ≡ Enable) → (offered ≡ true → list_any (λ waiter. nat_eq u waiter.id) (others.waiters c) ≡ true)
+        → TransitionCase next (status.Reacquire c m cause.Signalled) (acts (action.LeaveWait c m ∷ action.Wake u ∷ []) (what.WaitCanceled c ∷ what.HandedOn c u ∷ []))
+    ended_in_wait : (next : NextStatement) (c m : ℕ) → (offered ≡ true → is_free_mutex m shared ≡ true)
+        → TransitionCase next (status.Reacquire c m cause.Canceled) (acts (action.OwnMutex m t.id ∷ action.BeginEnd reason.Canceled ∷ []) (what.Acquired m ∷ what.EndingInWait c m ∷ []))
+    -- signals and broadcasts
+    signal_sent : (frame : Frame) (c u : ℕ) → (offered ≡ true → list_any (λ waiter. nat_eq u waiter.id) (others.waiters c) ≡ true)
+        → TransitionCase (StatementIn frame (statement.Signal c)) status.Running (goes_on (suc frame.pc) (action.Wake u ∷ []) (what.Signalled c u ∷ []))
+    signal_lost : (frame : Frame) (c : ℕ) → TransitionCase (StatementIn frame (statement.Signal c)) status.Running (goes_on (suc frame.pc) [] (what.Signalled c 0 ∷ []))
+    broadcast_sent : (frame : Frame) (c : ℕ)
+        → TransitionCase (StatementIn frame (statement.Broadcast c)) status.Running (goes_on (suc frame.pc) (action.WakeAll c ∷ []) (what.BroadcastTo c (length (others.waiters c)) ∷ []))
+    -- semaphores
+    sem_wait_begun : (frame : Frame) (sem : ℕ) → TransitionCase (StatementIn frame (statement.SemWait sem)) status.Running (acts (action.BeginSem sem ∷ []) (what.Called sem_wait_point ∷ []))
+    sem_taken : (frame : Frame) (s sem : ℕ) → (offered ≡ true → nat_lt 0 (slice_index shared.counts sem) ≡ true)
+        → TransitionCase (StatementIn frame (statement.SemWait s)) (status.InSem sem) (goes_on (suc frame.pc) (action.SetCount sem (slice_index shared.counts sem - 1) ∷ []) (what.Taken sem ∷ []))
+    sem_posted : (frame : Frame) (sem : ℕ)
+        → TransitionCase (StatementIn frame (statement.SemPost sem)) status.Running (goes_on (suc frame.pc) (action.SetCount sem (suc (slice_index shared.counts sem) % 4294967296) ∷ []) (what.Posted sem ∷ []))
     -- keys
     key_made : (frame : Frame) (result key : Dest) (destructor : Option ℕ) (k : ℕ) → (offered ≡ true → list_any (nat_eq k) (new_keys shared.keys) ≡ true)
         → TransitionCase (StatementIn frame (statement.KeyCreate result key destructor)) status.Running (goes_on (suc frame.pc) (action.MakeKey k destructor ∷ action.Write result 0 ∷ action.Write key k ∷ []) (what.KeyMade k ∷ []))

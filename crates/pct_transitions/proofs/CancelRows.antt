@@ -19,6 +19,8 @@ use Rattle.pct_transitions.specs.Listed.{statement_choices}
 unbuilt_goes : (shared : SharedState) (others : Others) (s : Stmt) → statement_choices shared others s ≡ cond (not (is_built s)) (alt.Go ∷ []) (statement_choices shared others s)
 unbuilt_goes shared others (statement.Create result id f v detached) = refl
 unbuilt_goes shared others (statement.KeyCreate result key destructor) = refl
+unbuilt_goes shared others (statement.Lock m) = refl
+unbuilt_goes shared others (statement.Signal c) = refl
 unbuilt_goes shared others s = either (not (is_built s)) where
   either : (b : Bool) → alt.Go ∷ [] ≡ cond b (alt.Go ∷ []) (alt.Go ∷ [])
   either true = refl
@@ -28,6 +30,8 @@ unbuilt_goes shared others s = either (not (is_built s)) where
 call_is_built : (s : Stmt) (kind : PointKind) → called_kind s ≡ Some kind → is_built s ≡ true
 unfolding called_kind
 call_is_built (statement.Join id d) kind is = refl
+call_is_built (statement.CondWait c m) kind is = refl
+call_is_built (statement.SemWait s) kind is = refl
 call_is_built statement.TestCancel kind is = refl
 call_is_built (statement.PointCall index) kind is = refl
 call_is_built s kind is = absurd (none-some kind is)

@@ -1,13 +1,13 @@
 -- Each transition fits the thread that makes it.
-use Rattle.std.proofs.Common.{◌≡◌, ℕ, suc, ◌<◌, ◌≤◌, Bool, true, false, cond, List, length, Option, Some, None, refl, subst, arith, nat_eq}
+use Rattle.std.proofs.Common.{◌≡◌, ℕ, suc, ◌<◌, ◌≤◌, Bool, true, false, cond, List, [], length, Option, Some, None, refl, subst, arith, nat_eq}
 use Rattle.std.specs.Prelude.{unwrap_or}
 use Rattle.std.proofs.lemmas.Bool.{false≢true}
 use Rattle.pct_model.specs.declared.frame.Frame.{Frame}
 use Rattle.pct_model.specs.declared.limits.TheConstants.{MAX_PASSES}
 use Rattle.pct_model.specs.declared.schedule.Alt.{Alt}
+use Rattle.pct_model.specs.declared.schedule.Alt.TheVariants as alt
 use Rattle.pct_model.specs.declared.script.Script.{Script}
 use Rattle.pct_model.specs.declared.state.Status.{Status}
-use Rattle.pct_model.specs.declared.state.Status.TheVariants as status
 use Rattle.pct_model.specs.declared.statement.Stmt.{Stmt}
 use Rattle.pct_model.specs.declared.transition.Transition.{Transition}
 use Rattle.pct_model.specs.CancelCalls.{acts_on_request}
@@ -17,7 +17,7 @@ use Rattle.pct_model.specs.OtherThreads.{Others}
 use Rattle.pct_model.specs.ScriptStatements.{after_block, after_test}
 use Rattle.pct_model.specs.TransitionTable.{transition_at}
 use Rattle.pct_model.specs.World.{Thread, SharedState, body_of}
-use Rattle.pct_transition_cases.proofs.CaseOfTransition.{going_case}
+use Rattle.pct_transition_cases.proofs.CaseOfTransition.{going_case, case_of}
 use Rattle.pct_transition_cases.proofs.PlacedStatements.{IsPlaced, nowhere, on_top, is_placed, body_placed}
 use Rattle.pct_transition_cases.proofs.TransitionCases.{Leads, past_nop, past_if, past_while, past_else, past_end, TransitionCase, jumped, function_called, handler_pushed, handler_called, pass_begun}
 use Rattle.pct_jumps.proofs.JumpTableFacts.{closes_inside, opens_earlier}
@@ -52,14 +52,6 @@ leads_within script globals frame low (past_end opened is) =
     let earlier = (opens_earlier script frame.func frame.pc (Some opened) is).0 in
     either_within (holds (body_of script frame.func) is_while opened) opened (suc frame.pc) (omega (arith, earlier, low)) (omega (arith, low))
 
--- a thread that acts upon a request needs no room
-pub acting_fits : (depth handlers pass : ℕ) (s : Status) → TransitionFits depth handlers pass (acts_on_request s)
-unfolding acts_on_request
-acting_fits depth handlers pass status.Running = record { next = tt; actions = (tt, tt) }
-acting_fits depth handlers pass (status.AtPoint index) = record { next = tt; actions = (tt, tt) }
-acting_fits depth handlers pass (status.Joining id) = record { next = tt; actions = (tt, tt) }
-acting_fits depth handlers pass _ = record { next = tt; actions = tt }
-
 -- ---- the table
 
 module _ (script : Script) (passes : ℕ) (few : passes ≤ MAX_PASSES) (shared : SharedState) (t : Thread) (others : Others) where
@@ -83,6 +75,10 @@ module _ (script : Script) (passes : ℕ) (few : passes ≤ MAX_PASSES) (shared 
   case_fits placed low (handler_called frame v f a handlers is room) = record { next = low; actions = (tt, (omega (arith, room), tt)) }
   case_fits placed low (pass_begun next none more) = record { next = tt; actions = (omega (arith, more, few), tt) }
   case_fits placed low _ = assumption
+
+  -- the transition of a thread that acts upon a request fits it
+  pub acting_fits : (n : ℕ) → FitsThread (acts_on_request n t.status)
+  acting_fits n = case_fits (nowhere [] []) tt (case_of passes [] shared t others false (alt.Act n) NoStatement t.status (λ known. absurd (false≢true known)))
 
   -- each transition of a thread that goes on fits it
   pub transition_fits : (choice : Alt) → FitsThread (transition_at passes (body_at script t.frames) shared t others choice (next_of script t.frames) t.status)

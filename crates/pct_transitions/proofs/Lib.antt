@@ -2,7 +2,9 @@ pub mod Bodies
 pub mod Fits
 pub mod ListedChoices
 pub mod KeyChoices
+pub mod WaiterChoices
 pub mod CancelRows
 pub mod OthersRead
+pub mod WaitersRead
 pub mod ProcessReads
 mod OfferedLists

@@ -20,10 +20,19 @@ news_listed threads (s ∷ free) some = ap (λ (rest : List Alt). alt.New (next_
 
 -- ---- membership
 
--- a choice that creates no thread and makes no key, and one that calls no destructor
+-- a choice that creates no thread and makes no key, one that calls no destructor, one that sends no signal, and one that does not act
+-- upon a request
 pub never_new : (choice : Alt) → ((m : ℕ) → choice ≡ alt.New m → ⊥) → (n : ℕ) → same_choice choice (alt.New n) ≡ false
 never_new (alt.New m) other n = absurd (other m refl)
 never_new _ other n = refl
+
+pub never_pick : (choice : Alt) → ((m : ℕ) → choice ≡ alt.Pick m → ⊥) → (n : ℕ) → same_choice choice (alt.Pick n) ≡ false
+never_pick (alt.Pick m) other n = absurd (other m refl)
+never_pick _ other n = refl
+
+pub never_act : (choice : Alt) → ((m : ℕ) → choice ≡ alt.Act m → ⊥) → (n : ℕ) → same_choice choice (alt.Act n) ≡ false
+never_act (alt.Act m) other n = absurd (other m refl)
+never_act _ other n = refl
 
 pub never_dtor : (choice : Alt) → ((m : ℕ) → choice ≡ alt.Dtor m → ⊥) → (n : ℕ) → same_choice choice (alt.Dtor n) ≡ false
 never_dtor (alt.Dtor m) other n = absurd (other m refl)

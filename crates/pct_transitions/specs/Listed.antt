@@ -1,15 +1,17 @@
 -- The choices of a thread, as a list.
-use Rattle.std.specs.Prelude.{ℕ, ◌<◌, List, [], ◌∷◌, All, map}
+use Rattle.std.specs.Prelude.{◌≡◌, ◌<◌, true, List, [], ◌∷◌, All, length, map}
 use Rattle.pct_model.specs.declared.schedule.Alt.{Alt}
 use Rattle.pct_model.specs.declared.schedule.Alt.TheVariants as alt
 use Rattle.pct_model.specs.declared.statement.Stmt.{Stmt}
 use Rattle.pct_model.specs.Keys.{new_keys, left_keys}
+use Rattle.pct_model.specs.MutexCalls.{is_blocked}
 use Rattle.pct_model.specs.OtherThreads.{Others}
 use Rattle.pct_model.specs.World.{SharedState}
-use Rattle.pct_model.specs.ChoiceTable.{first_row, is_create, is_key_create, new_or_go}
+use Rattle.pct_model.specs.ChoiceTable.{first_row, is_create, is_key_create, is_signal, waiters_to_signal, new_or_go, pick_or_go}
 use Rattle.pct_threads.specs.Slots.{Slot}
-use Rattle.pct_threads.specs.Tables.{next_id_at}
+use Rattle.pct_threads.specs.Tables.{is_occupied_at, next_id_at}
 use Rattle.pct_keys.specs.Tables.{Table, row_at}
+use Rattle.pct_transitions.specs.OtherThreads.{ids_on}
 use Rattle.pct_transitions.specs.declared.choice_table.Choices.{Choices}
 use Rattle.pct_transitions.specs.declared.choice_table.Choices.TheVariants as choices
 
@@ -22,13 +24,32 @@ listed threads keys choices.GoOrAct = alt.Go ∷ alt.Act 0 ∷ []
 listed threads keys (choices.New free) = map (λ s. alt.New (next_id_at threads s)) free
 listed threads keys choices.NewKey = map (λ n. alt.New n) (new_keys keys.places)
 listed threads keys (choices.Dtor slot) = map (λ n. alt.Dtor n) (left_keys keys.places (row_at keys slot))
+listed threads keys (choices.Pick waiting) = map (λ n. alt.Pick n) (ids_on threads waiting)
+listed threads keys (choices.HandOn waiting) = map (λ n. alt.Act n) (ids_on threads waiting)
+listed threads keys (choices.GoOrHandOn waiting) = alt.Go ∷ map (λ n. alt.Act n) (ids_on threads waiting)
 
--- a thread can be created on a slot below this number alone, and the thread that calls a destructor has such a slot
-abbrev pub AreWithin : ℕ → Choices → Type 0
-AreWithin slots (choices.New free) = All (λ s. s < slots) free
-AreWithin slots (choices.Dtor slot) = slot < slots
-AreWithin slots _ = Unit {0}
+-- a thread can be created on a slot of the table alone; the thread that calls a destructor has such a slot, and a thread holds each of
+-- those that it names for a signal
+abbrev pub AreWithin : List Slot → Choices → Type 0
+AreWithin threads (choices.New free) = All (λ s. s < length threads) free
+AreWithin threads (choices.Dtor slot) = slot < length threads
+AreWithin threads (choices.Pick waiting) = All (λ s. is_occupied_at threads s ≡ true) waiting
+AreWithin threads (choices.HandOn waiting) = All (λ s. is_occupied_at threads s ≡ true) waiting
+AreWithin threads (choices.GoOrHandOn waiting) = All (λ s. is_occupied_at threads s ≡ true) waiting
+AreWithin threads _ = Unit {0}
+
+-- the thread that calls a destructor has a row of keys
+abbrev pub HasRowFor : Table → Choices → Type 0
+HasRowFor keys (choices.Dtor slot) = slot < length keys.rows
+HasRowFor keys _ = Unit {0}
 
 -- the choices of a running thread at a statement, where it acts upon no request
 abbrev pub statement_choices : SharedState → Others → Stmt → List Alt
-statement_choices shared others s = first_row ((is_create s, new_or_go others.new_ids) ∷ (is_key_create s, new_or_go (new_keys shared.keys)) ∷ []) (alt.Go ∷ [])
+statement_choices shared others s =
+    first_row (
+    (is_blocked s shared, [])
+    ∷ (is_create s, new_or_go others.new_ids)
+    ∷ (is_key_create s, new_or_go (new_keys shared.keys))
+    ∷ (is_signal s, pick_or_go (waiters_to_signal others s))
+    ∷ []
+    ) (alt.Go ∷ [])

@@ -1,8 +1,11 @@
--- Tests of the threads of a table.
-use Rattle.std.specs.Prelude.{ℕ, Bool, false, not, ◌||◌, Option, nat_eq}
+-- The threads of a table: tests of them, and their ids.
+use Rattle.std.specs.Prelude.{ℕ, Bool, false, not, ◌&&◌, ◌||◌, List, map, Option, nat_eq}
 use Rattle.std.specs.Option.{option_map_or}
+use Rattle.pct_model.specs.declared.state.Status.{Status}
+use Rattle.pct_model.specs.declared.state.Status.TheVariants as status
 use Rattle.pct_model.specs.World.{Thread}
-use Rattle.pct_threads.specs.Slots.{Held}
+use Rattle.pct_threads.specs.Slots.{Held, Slot}
+use Rattle.pct_threads.specs.Tables.{held_at}
 use Rattle.pct_process.specs.ThreadViews.{thread_of}
 
 -- the thread on a slot passes a test; a free slot has no thread
@@ -12,3 +15,16 @@ any_on test here = option_map_or (λ h. test (thread_of h)) here false
 -- the thread has not ended, and has another id
 abbrev pub is_other_running : ℕ → Thread → Bool
 is_other_running tid t = not (t.ended || nat_eq t.id tid)
+
+-- the status is that of a thread that waits on condition variable c, with another mutex than m
+abbrev pub is_waiting_with_another : ℕ → ℕ → Status → Bool
+is_waiting_with_another c m (status.Waiting cond mutex) = nat_eq cond c && not (nat_eq mutex m)
+is_waiting_with_another c m _ = false
+
+-- the id of the thread on a slot; 0 on a free slot
+abbrev pub id_at : List Slot → ℕ → ℕ
+id_at threads s = option_map_or (λ h. h.id) (held_at threads s) 0
+
+-- the ids of the threads on some slots
+abbrev pub ids_on : List Slot → List ℕ → List ℕ
+ids_on threads slots = map (id_at threads) slots

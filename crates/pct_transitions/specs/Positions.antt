@@ -40,9 +40,12 @@ pub record IsPosition (script : Script) (position : Position) (t : Thread) : Typ
 abbrev pub HasRow : Position → Type 0
 HasRow position = position.slot < length position.keys.now.rows
 
--- these are the globals, the keys and the value of exit of the shared state, in which no exit function is registered
-pub record AreShared (globals : List ℕ) (keys : List KeyPlace) (exit_value : Option ℕ) (shared : SharedState) : Type 0 where
+-- these are the globals, the owners of mutexes, the counts of semaphores, the keys and the value of exit of the shared state, in which
+-- no exit function is registered
+pub record AreShared (globals owners counts : List ℕ) (keys : List KeyPlace) (exit_value : Option ℕ) (shared : SharedState) : Type 0 where
   pub globals_are : globals ≡ shared.globals
+  pub owners_are : owners ≡ shared.owners
+  pub counts_are : counts ≡ shared.counts
   pub keys_are : keys ≡ shared.keys
   pub exit_value_is : exit_value ≡ shared.exit_value
   pub no_exit_functions : shared.exit_functions ≡ []

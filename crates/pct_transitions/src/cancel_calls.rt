@@ -9,13 +9,14 @@ ghost use Rattle.pct_model.specs.CancelCalls.{requests, state_number, mode_numbe
 ghost use Rattle.pct_transitions.specs.Contexts.{IsWhole};
 ghost use Rattle.pct_transitions.specs.Positions.{next_at, IsAt};
 
+use crate::cond_calls::{hands_on, leaves_wait};
 use crate::context::Context;
 use crate::current::{At, next_pc};
 use crate::transitions::{acts, goes_on, no_change};
 use pct_cancel::point_at;
 use pct_model::{
-    Action, Dest, JOIN_POINT, Mode, PointKind, PointWait, Reason, State, Status, Stmt,
-    TESTCANCEL_POINT, Transition, UpToThree, What,
+    Action, COND_WAIT_POINT, Cause, Dest, JOIN_POINT, Mode, PointKind, PointWait, Reason,
+    SEM_WAIT_POINT, State, Status, Stmt, TESTCANCEL_POINT, Transition, UpToThree, What,
 };
 
 // ---- pthread_cancel
@@ -142,6 +143,8 @@ pub(crate) fn called_kind(statement: &Stmt) -> Option<PointKind>
 {
     match statement {
         Stmt::Join { .. } => point_kind(JOIN_POINT),
+        Stmt::CondWait { .. } => point_kind(COND_WAIT_POINT),
+        Stmt::SemWait(_) => point_kind(SEM_WAIT_POINT),
         Stmt::TestCancel => point_kind(TESTCANCEL_POINT),
         Stmt::PointCall(index) => point_kind(*index),
         _ => None,
@@ -212,15 +215,23 @@ fn passes(next: u32, index: u32) -> Transition
 // ---- acting upon a request
 
 /// A thread with this status acts upon a request: it begins to end. The thread that it was to join, if it is suspended in
-/// pthread_join, stays joinable (XSH 2.9.5.3, pthread_join).
+/// pthread_join, stays joinable; the count of a semaphore, if it is suspended in sem_wait, stays as it is. In pthread_cond_wait the
+/// thread has to own its mutex first, and a signal that it consumed is handed on to the thread with an id (XSH 2.9.5.3, pthread_join,
+/// pthread_cond_wait).
 #[tactic(auto, unfolding(pct_model::specs::CancelCalls::acts_on_request))]
 #[inline(never)]
-pub(crate) fn acts_on_request(status: Status, transition: &mut Transition)
-    ensures { transition.new ≡ acts_on_request status }
+pub(crate) fn acts_on_request(id: u32, status: Status, transition: &mut Transition)
+    ensures { transition.new ≡ acts_on_request id status }
 {
     match status {
-        Status::Running | Status::AtPoint(_) | Status::Joining(_) => {
+        Status::Running | Status::AtPoint(_) | Status::Joining(_) | Status::InSem(_) => {
             *transition = acts(Action::BeginEnd(Reason::Canceled), What::EndingCanceled);
+        }
+        Status::Waiting(cond, mutex) | Status::Reacquire(cond, mutex, Cause::Broadcast) => {
+            *transition = leaves_wait(cond, mutex);
+        }
+        Status::Reacquire(cond, mutex, Cause::Signalled) => {
+            *transition = hands_on(id, cond, mutex);
         }
         _ => *transition = no_change(),
     }

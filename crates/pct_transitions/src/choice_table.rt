@@ -1,28 +1,32 @@
 //! The choices of the scheduler for each thread.
 
-ghost use Rattle.std.specs.Prelude.{◌≡◌, ◌<◌, ◌++◌, ℕ, true, false, List, All, is_some, length, map, slice_get};
+ghost use Rattle.std.specs.Prelude.{◌≡◌, ◌<◌, ◌++◌, ℕ, true, false, List, All, length, map, nat_eq, slice_get};
+ghost use Rattle.std.specs.List.{list_any};
 ghost use Rattle.pct_model.specs.declared.schedule.Alt.TheVariants as alt;
 ghost use Rattle.pct_model.specs.declared.state.Status.TheVariants as status;
 ghost use Rattle.pct_model.specs.World.{Thread, SharedState};
 ghost use Rattle.pct_model.specs.NextStatement.{next_of};
-ghost use Rattle.pct_model.specs.OtherThreads.{Others};
+ghost use Rattle.pct_model.specs.OtherThreads.{Waiter, Others};
 ghost use Rattle.pct_model.specs.Cancelability.{is_deliverable, is_asynchronous};
 ghost use Rattle.pct_model.specs.Keys.{new_keys, left_keys};
-ghost use Rattle.pct_model.specs.ChoiceTable.{choices_at, running_choices, ending_choices, new_or_go, dtor_or_go, go_if, act_if, offers};
+ghost use Rattle.pct_model.specs.ChoiceTable.{choices_at, running_choices, ending_choices, new_or_go, dtor_or_go, pick_or_go, hand_on_or_act, go_if, act_if, offers};
 ghost use Rattle.pct_keys.specs.Tables.{Table, row_at};
 ghost use Rattle.pct_threads.specs.Slots.{Slot};
-ghost use Rattle.pct_threads.specs.Tables.{next_id_at};
+ghost use Rattle.pct_threads.specs.Tables.{is_occupied_at, next_id_at};
 ghost use Rattle.pct_transitions.specs.Numbers.{IdsFit, NextKeysFit, NumbersFit};
 ghost use Rattle.pct_transitions.specs.Contexts.{IsContext, IsWhole};
-ghost use Rattle.pct_transitions.specs.Listed.{listed, statement_choices, AreWithin};
+ghost use Rattle.pct_transitions.specs.Listed.{listed, statement_choices, AreWithin, HasRowFor};
+ghost use Rattle.pct_transitions.specs.OtherThreads.{ids_on};
 ghost use Rattle.pct_transitions.specs.declared.choice_table.Choices.TheVariants as choices;
 ghost use Rattle.pct_transitions.specs.Positions.{next_at};
 
 use crate::cancel_calls::{called_kind, may_return};
 use crate::context::Context;
+use crate::mutex_calls::is_free_mutex;
+use crate::sem_calls::count_of;
 use crate::stop_table::is_built;
 use pct_keys::{Keys, key_place};
-use pct_model::{Alt, MAX_KEYS, PointKind, Status, Stmt};
+use pct_model::{Alt, Cause, MAX_KEYS, PointKind, Status, Stmt};
 use pct_set::SlotSet;
 use pct_threads::Threads;
 
@@ -42,6 +46,12 @@ pub enum Choices {
     NewKey,
     /// `dtor`, with the number of each key that is left in the pass of the thread on this slot.
     Dtor(u32),
+    /// `pick`, with the id of the thread on each of these slots.
+    Pick(SlotSet),
+    /// `act`, with the id of the thread on each of these slots.
+    HandOn(SlotSet),
+    /// `go`, and then `act`, with the id of the thread on each of these slots.
+    GoOrHandOn(SlotSet),
 }
 
 impl Choices {
@@ -49,7 +59,7 @@ impl Choices {
     /// and keys fit 32 bits.
     #[inline(always)]
     pub fn offers(&self, threads: &Threads, keys: &Keys, choice: Alt) -> bool
-        requires within { AreWithin (length threads.now) self.now }
+        requires within { AreWithin threads.now self.now }
         requires rows { length keys.now.rows ≡ length threads.now }
         requires numbers { NumbersFit threads.now keys.now }
         ensures { result ≡ offers (listed threads.now keys.now self.now) choice }
@@ -71,12 +81,20 @@ impl Choices {
                 Alt::Dtor(key) => offers_dtor(keys, *slot, key),
                 _ => false,
             },
+            Choices::Pick(waiting) => match choice {
+                Alt::Pick(id) => has_id(threads, waiting, id),
+                _ => false,
+            },
+            Choices::HandOn(waiting) => offers_act(threads, waiting, choice),
+            Choices::GoOrHandOn(waiting) => {
+                matches!(choice, Alt::Go) || offers_act(threads, waiting, choice)
+            }
         }
     }
 
     /// The number of choices, in a process with these keys.
     pub fn count(&self, keys: &Keys) -> usize
-        requires { AreWithin (length keys.now.rows) self.now }
+        requires { HasRowFor keys.now self.now }
         ensures { (threads : List Slot) → result ≡ length (listed threads keys.now self.now) }
     {
         match self {
@@ -87,13 +105,16 @@ impl Choices {
             Choices::New(free) => free.len() as usize,
             Choices::NewKey => (MAX_KEYS - keys.live()) as usize,
             Choices::Dtor(slot) => keys.left(*slot) as usize,
+            Choices::Pick(waiting) => waiting.len() as usize,
+            Choices::HandOn(waiting) => waiting.len() as usize,
+            Choices::GoOrHandOn(waiting) => 1 + waiting.len() as usize,
         }
     }
 
     /// The choice at an index, in a process with these threads and keys. `None` if there are not more choices than that. The ids
     /// and the numbers of the next threads and keys fit 32 bits.
     pub fn nth(&self, threads: &Threads, keys: &Keys, n: usize) -> Option<Alt>
-        requires within { AreWithin (length threads.now) self.now }
+        requires within { AreWithin threads.now self.now }
         requires rows { length keys.now.rows ≡ length threads.now }
         requires numbers { NumbersFit threads.now keys.now }
         ensures { result ≡ slice_get (listed threads.now keys.now self.now) n }
@@ -110,6 +131,15 @@ impl Choices {
             Choices::New(free) => nth_new(threads, free, n),
             Choices::NewKey => nth_new_key(keys, n),
             Choices::Dtor(slot) => nth_dtor(keys, *slot, n),
+            Choices::Pick(waiting) => nth_id(threads, waiting, n).map(Alt::Pick),
+            Choices::HandOn(waiting) => nth_id(threads, waiting, n).map(Alt::Act),
+            Choices::GoOrHandOn(waiting) => {
+                if n == 0 {
+                    Some(Alt::Go)
+                } else {
+                    nth_id(threads, waiting, n - 1).map(Alt::Act)
+                }
+            }
         }
     }
 }
@@ -190,20 +220,61 @@ fn nth_dtor(keys: &Keys, slot: u32, n: usize) -> Option<Alt>
     }
 }
 
+// Whether a choice is `act` with the id of the thread on one of these slots.
+fn offers_act(threads: &Threads, waiting: &SlotSet, choice: Alt) -> bool
+    requires { All (λ s. is_occupied_at threads.now s ≡ true) waiting.now }
+    ensures { result ≡ offers (map (λ n. alt.Act n) (ids_on threads.now waiting.now)) choice }
+{
+    match choice {
+        Alt::Act(id) => has_id(threads, waiting, id),
+        _ => false,
+    }
+}
+
+// Whether an id is that of the thread on one of these slots.
+fn has_id(threads: &Threads, held: &SlotSet, id: u32) -> bool
+    requires { All (λ s. is_occupied_at threads.now s ≡ true) held.now }
+    ensures { result ≡ list_any (nat_eq id) (ids_on threads.now held.now) }
+{
+    for slot in 0..threads.slot_count() {
+        if held.contains(slot) && threads.has_id(slot, id) {
+            return true;
+        }
+    }
+    false
+}
+
+// The id at an index, of those of the threads on these slots.
+fn nth_id(threads: &Threads, held: &SlotSet, n: usize) -> Option<u32>
+    requires { All (λ s. is_occupied_at threads.now s ≡ true) held.now }
+    ensures { result ≡ slice_get (ids_on threads.now held.now) n }
+{
+    if n >= held.len() as usize {
+        return None;
+    }
+    match held.nth(n as u32) {
+        None => None,
+        Some(slot) => Some(threads.place(slot).id),
+    }
+}
+
 /// The choices of a thread in this context. A running thread with a next statement has `go`, or
-/// at pthread_create an id for a new thread, where a slot is free, and at pthread_key_create a number for a new key, where a place
-/// is free; where it may act upon a pending request it has `go` and
+/// at pthread_create an id for a new thread, where a slot is free, at pthread_key_create a number for a new key, where a place
+/// is free, and at pthread_cond_signal the id of a thread that waits, where one does; at pthread_mutex_lock it has none while the mutex
+/// has an owner; where it may act upon a pending request it has `go` and
 /// `act`, and where it must, `act` alone. One that is suspended at a cancellation point has `go`, if what it waits for may occur
-/// at any time, and one that joins another, once that has ended; both have `act`, if a request is pending and cancelability is
-/// enabled. One that is ending has the keys that are left in its pass, after its cleanup handlers, and else `go`; one that exits its
-/// process has `go`. A thread that has ended has none.
+/// at any time, one that joins another, once that has ended, and one in sem_wait, while the count is above 0; one that waits on a
+/// condition variable has none, and once it was unblocked it has `go` while its mutex has no owner. Each of them has `act`, if a request
+/// is pending and cancelability is enabled, unless a request unblocked it; one that a signal unblocked hands it on to a thread that
+/// waits, where one does. One that is ending has the keys that are left in its pass, after its cleanup handlers, and else `go`; one
+/// that exits its process has `go`. A thread that has ended has none.
 #[tactic(auto, unfolding(pct_model::specs::ChoiceTable::choices_at))]
 #[inline(always)]
 pub(crate) fn choices_at(context: &Context) -> Choices
     requires { IsWhole context.now }
     ensures value { (shared : SharedState) (t : Thread) (others : Others) → IsContext shared t others context.now
         → listed context.now.threads.now context.now.position.keys.now result ≡ choices_at shared t others (next_of context.now.program.now.script t.frames) t.status }
-    ensures within { AreWithin (length context.now.threads.now) result }
+    ensures within { AreWithin context.now.threads.now result }
 {
     let cancel = &context.position.thread.cancel;
     match context.position.thread.status {
@@ -213,6 +284,9 @@ pub(crate) fn choices_at(context: &Context) -> Choices
             context.exit_value_with(id).is_some(),
             cancel.deliverable(),
         ),
+        Status::InSem(sem) => go_or_act(count_of(context.counts, sem) > 0, cancel.deliverable()),
+        Status::Waiting(_, _) => go_or_act(false, cancel.deliverable()),
+        Status::Reacquire(cond, mutex, cause) => unblocked_choices(context, cond, mutex, cause),
         Status::Ending => ending_choices(context),
         Status::Exiting => Choices::Go,
         _ => Choices::None,
@@ -226,11 +300,31 @@ fn at_next(context: &Context) -> Choices
     requires { IsWhole context.now }
     ensures value { (shared : SharedState) (t : Thread) (others : Others) → IsContext shared t others context.now
         → listed context.now.threads.now context.now.position.keys.now result ≡ choices_at shared t others (next_at context.now.position.next) status.Running }
-    ensures within { AreWithin (length context.now.threads.now) result }
+    ensures within { AreWithin context.now.threads.now result }
 {
     match &context.position.next {
         None => Choices::None,
         Some(at) => running_choices(context, at.statement),
+    }
+}
+
+// The choices of a thread that was unblocked on a condition variable: `go`, if its mutex has no owner; and, where it may still act
+// upon a request, `act`, by which it hands on a signal.
+#[tactic(auto, unfolding(pct_model::specs::ChoiceTable::choices_at))]
+fn unblocked_choices(context: &Context, cond: u32, mutex: u32, cause: Cause) -> Choices
+    requires { IsWhole context.now }
+    ensures value { (shared : SharedState) (t : Thread) (others : Others) → IsContext shared t others context.now
+        → listed context.now.threads.now context.now.position.keys.now result ≡ choices_at shared t others (next_at context.now.position.next) (status.Reacquire cond mutex cause) }
+    ensures within { AreWithin context.now.threads.now result }
+{
+    let free = is_free_mutex(context.owners, mutex);
+    if !context.position.thread.cancel.deliverable() {
+        return go_or_act(free, false);
+    }
+    match cause {
+        Cause::Signalled => go_or_hand_on(free, &context.waiters(cond)),
+        Cause::Broadcast => go_or_act(free, true),
+        Cause::Canceled => go_or_act(free, false),
     }
 }
 
@@ -240,7 +334,7 @@ fn ending_choices(context: &Context) -> Choices
     requires { IsWhole context.now }
     ensures value { (shared : SharedState) (t : Thread) (others : Others) → IsContext shared t others context.now
         → listed context.now.threads.now context.now.position.keys.now result ≡ ending_choices shared t others t.handlers }
-    ensures within { AreWithin (length context.now.threads.now) result }
+    ensures within { AreWithin context.now.threads.now result }
 {
     let position = &context.position;
     if position.thread.handlers.len() == 0 {
@@ -256,7 +350,7 @@ fn running_choices(context: &Context, statement: &Stmt) -> Choices
     requires { IsWhole context.now }
     ensures value { (shared : SharedState) (t : Thread) (others : Others) → IsContext shared t others context.now
         → listed context.now.threads.now context.now.position.keys.now result ≡ running_choices shared t others statement.now }
-    ensures within { AreWithin (length context.now.threads.now) result }
+    ensures within { AreWithin context.now.threads.now result }
 {
     let cancel = &context.position.thread.cancel;
     if cancel.async_on() {
@@ -276,7 +370,7 @@ fn requested_choices(context: &Context, statement: &Stmt) -> Choices
     requires { IsWhole context.now }
     ensures value { (shared : SharedState) (t : Thread) (others : Others) → is_asynchronous t.state t.mode ≡ false → is_deliverable t.state t.pending ≡ true → IsContext shared t others context.now
         → listed context.now.threads.now context.now.position.keys.now result ≡ running_choices shared t others statement.now }
-    ensures within { AreWithin (length context.now.threads.now) result }
+    ensures within { AreWithin context.now.threads.now result }
 {
     match called_kind(statement) {
         Some(PointKind::Required) => Choices::Act,
@@ -291,11 +385,13 @@ fn statement_choices(context: &Context, statement: &Stmt) -> Choices
     requires { IsWhole context.now }
     ensures value { (shared : SharedState) (t : Thread) (others : Others) → IsContext shared t others context.now
         → listed context.now.threads.now context.now.position.keys.now result ≡ statement_choices shared others statement.now }
-    ensures within { AreWithin (length context.now.threads.now) result }
+    ensures within { AreWithin context.now.threads.now result }
 {
     match statement {
         Stmt::Create { .. } => new_or_go(&context.free_slots()),
         Stmt::KeyCreate { .. } => new_key_or_go(context.position.keys),
+        Stmt::Lock(mutex) => go_or_act(is_free_mutex(context.owners, *mutex), false),
+        Stmt::Signal(cond) => pick_or_go(&context.waiters(*cond)),
         _ => Choices::Go,
     }
 }
@@ -303,7 +399,7 @@ fn statement_choices(context: &Context, statement: &Stmt) -> Choices
 // The next thread on one of these slots, or `go` if there is none.
 fn new_or_go(free: &SlotSet) -> Choices
     ensures value { (threads : List Slot) (keys : Table) → listed threads keys result ≡ new_or_go (map (next_id_at threads) free.now) }
-    ensures within { (slots : ℕ) → All (λ s. s < slots) free.now → AreWithin slots result }
+    ensures within { (threads : List Slot) → All (λ s. s < length threads) free.now → AreWithin threads result }
 {
     if free.len() == 0 {
         Choices::Go
@@ -315,7 +411,7 @@ fn new_or_go(free: &SlotSet) -> Choices
 // The next key on a place that has none, or `go` if each place has one.
 fn new_key_or_go(keys: &Keys) -> Choices
     ensures value { (threads : List Slot) → listed threads keys.now result ≡ new_or_go (new_keys keys.now.places) }
-    ensures within { (slots : ℕ) → AreWithin slots result }
+    ensures within { (threads : List Slot) → AreWithin threads result }
 {
     if keys.free_nth(0).is_none() {
         Choices::Go
@@ -328,7 +424,7 @@ fn new_key_or_go(keys: &Keys) -> Choices
 fn dtor_or_go(keys: &Keys, slot: u32) -> Choices
     requires { slot < length keys.now.rows }
     ensures value { (threads : List Slot) → listed threads keys.now result ≡ dtor_or_go (left_keys keys.now.places (row_at keys.now slot)) }
-    ensures within { (slots : ℕ) → slot < slots → AreWithin slots result }
+    ensures within { (threads : List Slot) → slot < length threads → AreWithin threads result }
 {
     if keys.left_nth(slot, 0).is_none() {
         Choices::Go
@@ -340,12 +436,38 @@ fn dtor_or_go(keys: &Keys, slot: u32) -> Choices
 // `go`, if the first test holds, and then `act`, if the second one does.
 fn go_or_act(go: bool, act: bool) -> Choices
     ensures value { (threads : List Slot) (keys : Table) → listed threads keys result ≡ go_if go ++ act_if act }
-    ensures within { (slots : ℕ) → AreWithin slots result }
+    ensures within { (threads : List Slot) → AreWithin threads result }
 {
     match (go, act) {
         (true, true) => Choices::GoOrAct,
         (true, false) => Choices::Go,
         (false, true) => Choices::Act,
         (false, false) => Choices::None,
+    }
+}
+
+// A signal to one of the threads on these slots, or `go` if there is none.
+fn pick_or_go(waiting: &SlotSet) -> Choices
+    ensures value { (threads : List Slot) (keys : Table) (waiters : List Waiter) → ids_on threads waiting.now ≡ map (λ waiter. waiter.id) waiters → listed threads keys result ≡ pick_or_go waiters }
+    ensures within { (threads : List Slot) → All (λ s. is_occupied_at threads s ≡ true) waiting.now → AreWithin threads result }
+{
+    if waiting.len() == 0 {
+        Choices::Go
+    } else {
+        Choices::Pick(*waiting)
+    }
+}
+
+// `go`, if the test holds, and then a signal that is handed on to one of the threads on these slots, or `act` if there is none.
+fn go_or_hand_on(go: bool, waiting: &SlotSet) -> Choices
+    ensures value { (threads : List Slot) (keys : Table) (waiters : List Waiter) → ids_on threads waiting.now ≡ map (λ waiter. waiter.id) waiters → listed threads keys result ≡ go_if go ++ hand_on_or_act waiters }
+    ensures within { (threads : List Slot) → All (λ s. is_occupied_at threads s ≡ true) waiting.now → AreWithin threads result }
+{
+    if waiting.len() == 0 {
+        go_or_act(go, true)
+    } else if go {
+        Choices::GoOrHandOn(*waiting)
+    } else {
+        Choices::HandOn(*waiting)
     }
 }

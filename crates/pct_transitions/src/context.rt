@@ -24,6 +24,10 @@ pub(crate) struct Context<'a> {
     pub threads: &'a Threads,
     /// The globals of the process.
     pub globals: &'a [u32],
+    /// The owner of each mutex of the process: the id of a thread, 0 if there is none.
+    pub owners: &'a [u32],
+    /// The count of each semaphore of the process.
+    pub counts: &'a [u32],
     /// The value with which exit began.
     pub exit_value: Option<u32>,
     /// The thread, and the keys of the process.
@@ -44,6 +48,8 @@ impl<'a> Context<'a> {
             program,
             threads: &process.threads,
             globals: process.globals.as_slice(),
+            owners: process.owners.as_slice(),
+            counts: process.counts.as_slice(),
             exit_value: process.exit_value,
             position: position_of(program, &process.threads, &process.keys, slot),
         }

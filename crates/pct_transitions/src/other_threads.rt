@@ -1,11 +1,13 @@
 //! What a thread sees of the other threads of its process, as the tables ask for it. Nothing is looked for before it is asked.
 
-ghost use Rattle.std.specs.Prelude.{◌≡◌, ◌<◌, All, length, map};
+ghost use Rattle.std.specs.Prelude.{◌≡◌, ◌<◌, true, All, length, map};
 ghost use Rattle.std.specs.List.{list_any};
-ghost use Rattle.pct_model.specs.OtherThreads.{Others, no_live_thread, is_detached_thread, exit_value_of, exit_value_with, is_joining};
-ghost use Rattle.pct_threads.specs.Tables.{held_at, next_id_at};
+ghost use Rattle.pct_model.specs.OtherThreads.{Others, no_live_thread, is_detached_thread, exit_value_of, exit_value_with, waits_with_another_mutex, is_joining};
+ghost use Rattle.pct_model.specs.CondCalls.{is_waiting_on};
+ghost use Rattle.pct_set.specs.Slots.{slots_where};
+ghost use Rattle.pct_threads.specs.Tables.{held_at, is_occupied_at, next_id_at};
 ghost use Rattle.pct_transitions.specs.Contexts.{SeesOthers, IsWhole};
-ghost use Rattle.pct_transitions.specs.OtherThreads.{any_on, is_other_running};
+ghost use Rattle.pct_transitions.specs.OtherThreads.{any_on, ids_on, is_other_running, is_waiting_with_another};
 
 use crate::context::Context;
 use pct_model::Status;
@@ -70,6 +72,26 @@ impl<'a> Context<'a> {
         self.threads.free()
     }
 
+    /// The slots of the threads that wait on the condition variable with this index.
+    pub(crate) fn waiters(&self, cond: u32) -> SlotSet
+        requires { IsWhole self.now }
+        ensures ids { (others : Others) → SeesOthers self.now others → ids_on self.now.threads.now result ≡ map (λ waiter. waiter.id) (others.waiters cond) }
+        ensures held { All (λ s. is_occupied_at self.now.threads.now s ≡ true) result }
+    {
+        // A table has at most 64 slots.
+        let _count = self.threads.slot_count();
+        waiting_slots(self.threads, cond)
+    }
+
+    /// Whether a thread waits on the condition variable with an index, with another mutex than the one with an index.
+    #[inline(always)]
+    pub(crate) fn waits_with_another_mutex(&self, cond: u32, mutex: u32) -> bool
+        requires { IsWhole self.now }
+        ensures { (others : Others) → SeesOthers self.now others → result ≡ waits_with_another_mutex cond mutex others }
+    {
+        is_another_mutex_used(self.threads, cond, mutex)
+    }
+
     /// Whether each other thread has ended.
     #[inline(always)]
     pub(crate) fn is_last(&self) -> bool
@@ -120,6 +142,65 @@ fn is_joining(id: u32, status: Status) -> bool
 {
     match status {
         Status::Joining(target) => target == id,
+        _ => false,
+    }
+}
+
+// The slots of a table whose threads wait on the condition variable with this index.
+fn waiting_slots(threads: &Threads, cond: u32) -> SlotSet
+    ensures { result ≡ slots_where (λ s. any_on (λ t. is_waiting_on cond t.status) (held_at threads.now s)) }
+{
+    let mut waiting = SlotSet::new();
+    let mut rest = threads.occupied();
+    while let Some(slot) = rest.nth(0) {
+        if is_waiting_on(cond, threads.read(slot).status) {
+            waiting.insert(slot);
+        }
+        rest.remove(slot);
+    }
+    waiting
+}
+
+// The status is that of a thread that waits on the condition variable with this index.
+fn is_waiting_on(cond: u32, status: Status) -> bool
+    ensures { result ≡ is_waiting_on cond status }
+{
+    match status {
+        Status::Waiting(waited, _) => waited == cond,
+        _ => false,
+    }
+}
+
+// Whether a thread of a table waits on the condition variable with an index, with another mutex than the one with an index.
+fn is_another_mutex_used(threads: &Threads, cond: u32, mutex: u32) -> bool
+    ensures { result ≡ list_any (λ s. any_on (λ t. is_waiting_with_another cond mutex t.status) s.here) threads.now }
+{
+    for slot in 0..threads.slot_count() {
+        if is_another_mutex_used_on(threads, slot, cond, mutex) {
+            return true;
+        }
+    }
+    false
+}
+
+// The thread on a slot waits on this condition variable, with another mutex than this. A free slot has no thread.
+fn is_another_mutex_used_on(threads: &Threads, slot: u32, cond: u32, mutex: u32) -> bool
+    requires { slot < length threads.now }
+    ensures { result ≡ any_on (λ t. is_waiting_with_another cond mutex t.status) (held_at threads.now slot) }
+{
+    if threads.is_occupied(slot) {
+        is_waiting_with_another(cond, mutex, threads.read(slot).status)
+    } else {
+        false
+    }
+}
+
+// The status is that of a thread that waits on this condition variable, with another mutex than this.
+fn is_waiting_with_another(cond: u32, mutex: u32, status: Status) -> bool
+    ensures { result ≡ is_waiting_with_another cond mutex status }
+{
+    match status {
+        Status::Waiting(waited, released) => waited == cond && released != mutex,
         _ => false,
     }
 }

@@ -6,13 +6,15 @@ ghost use Rattle.pct_model.specs.declared.stop.Why.TheVariants as why;
 ghost use Rattle.pct_model.specs.declared.frame.Frame.{Frame as FrameRecord};
 ghost use Rattle.pct_model.specs.declared.limits.TheConstants.{MAX_HANDLERS};
 ghost use Rattle.pct_model.specs.World.{Thread, SharedState, body_of};
-ghost use Rattle.pct_model.specs.OtherThreads.{Others, no_live_thread, is_detached_thread};
+ghost use Rattle.pct_model.specs.OtherThreads.{Others, no_live_thread, is_detached_thread, waits_with_another_mutex};
+ghost use Rattle.pct_model.specs.MutexCalls.{owns};
 ghost use Rattle.pct_model.specs.Keys.{key_with};
 ghost use Rattle.pct_model.specs.StopTable.{stop_at, stops_of, first_stop, is_stack_full, has_begun_to_end, exits_twice, closes_function, is_handler_kind, is_in_handler, is_allowed_asynchronously, is_built};
 ghost use Rattle.pct_transitions.specs.Contexts.{IsContext, IsWhole, SeesOthers};
 
 use crate::context::Context;
 use crate::current::{At, value_of};
+use crate::mutex_calls::owns;
 use crate::program::Program;
 use pct_keys::Keys;
 use pct_model::{Frame, FrameKind, MAX_FRAMES, MAX_HANDLERS, Reason, Stmt, Why};
@@ -57,6 +59,11 @@ fn own_stop(context: &Context, at: &At) -> Option<Why>
         Stmt::KeyDelete(key) | Stmt::SetSpecific(key, _) | Stmt::GetSpecific(_, key) => {
             stop_of_key(position.keys, value_of(globals, frame, *key))
         }
+        Stmt::Unlock(mutex) => first_stop(&[(
+            !owns(context.owners, *mutex, position.id),
+            Why::NotOwner,
+        )]),
+        Stmt::CondWait { cond, mutex } => stop_of_wait(context, *cond, *mutex),
         Stmt::ThreadExit(_) => first_stop(&[(
             has_begun_to_end(position.thread.reason),
             Why::ExitInEnding,
@@ -125,6 +132,25 @@ fn stop_of_key(keys: &Keys, key: u32) -> Option<Why>
     ensures { result ≡ first_stop ((is_none (key_with key keys.now.places), why.KeyId) ∷ []) }
 {
     first_stop(&[(keys.find(key).is_none(), Why::KeyId)])
+}
+
+// The stop of pthread_cond_wait on a condition variable with a mutex, by their indexes.
+#[inline(always)]
+fn stop_of_wait(context: &Context, cond: u32, mutex: u32) -> Option<Why>
+    requires { IsWhole context.now }
+    ensures { (shared : SharedState) (others : Others) → context.now.owners.now ≡ shared.owners → SeesOthers context.now others
+        → result ≡ first_stop ((not (owns context.now.position.id mutex shared), why.NotOwner) ∷ (waits_with_another_mutex cond mutex others, why.CondTwoMutexes) ∷ []) }
+{
+    first_stop(&[
+        (
+            !owns(context.owners, mutex, context.position.id),
+            Why::NotOwner,
+        ),
+        (
+            context.waits_with_another_mutex(cond, mutex),
+            Why::CondTwoMutexes,
+        ),
+    ])
 }
 
 // The first stop whose guard holds.
@@ -248,6 +274,13 @@ pub(crate) fn is_built(statement: &Stmt) -> bool
             | Stmt::KeyDelete(_)
             | Stmt::SetSpecific(_, _)
             | Stmt::GetSpecific(_, _)
+            | Stmt::Lock(_)
+            | Stmt::Unlock(_)
+            | Stmt::CondWait { .. }
+            | Stmt::Signal(_)
+            | Stmt::Broadcast(_)
+            | Stmt::SemWait(_)
+            | Stmt::SemPost(_)
             | Stmt::PointCall(_)
     )
 }

@@ -92,6 +92,7 @@ fn without_handlers(context: &Context, passes: u32, choice: Alt, transition: &mu
 }
 
 // The thread calls the destructor of the key with a number, with its value of the key.
+#[inline(always)]
 fn calls_destructor(position: &Position, key: u32, transition: &mut Transition)
     requires { HasRow position.now }
     ensures { (script : Script) (t : Thread) → IsPosition script position.now t

@@ -16,13 +16,16 @@ use crate::cancel_calls::{
     acts_on_request, calls_point, passes_point, requests, sets_mode, sets_state, tests_cancel,
 };
 use crate::cleanup_handlers::{pops, pushes};
+use crate::cond_calls::{begins_wait, broadcasts, reacquires, signals_by};
 use crate::context::Context;
 use crate::current::{At, next_pc, value_of, variable_value};
 use crate::key_calls::{KeyCreateCall, creates_key_by, deletes_key, gets_specific, sets_specific};
+use crate::mutex_calls::{locks, unlocks};
 use crate::process_exit::{ends_process, returns_by};
 use crate::script_statements::{
     adds, after_block, after_test, calls, emits, ends_block, jumps, sets,
 };
+use crate::sem_calls::{begins_sem_wait, count_of, posts, takes};
 use crate::stop_table::stop_at;
 use crate::thread_calls::{CreateCall, begins_join, creates_by, detaches, gets_self, joins_at};
 use crate::thread_ends::{ends_by_exit, goes_on_ending};
@@ -32,9 +35,9 @@ use pct_model::{Alt, Status, Stmt, Transition};
 
 /// Writes to `transition` what a thread in this context does by a choice. By `act` it acts upon a request. By every other choice it
 /// goes on: a running thread stops the run, or makes the transition of its next statement; one that is suspended at a cancellation
-/// point goes on; one that joins another returns, once that has ended; one that is ending runs its handlers and destructors and
-/// ends; one that exits its process ends it; every other thread changes nothing. The program counter and the actions, one after
-/// another, keep the limits.
+/// point goes on; one that joins another returns, once that has ended; one in sem_wait takes the semaphore; one that was unblocked on
+/// a condition variable owns its mutex again; one that is ending runs its handlers and destructors and ends; one that exits its
+/// process ends it; every other thread changes nothing. The program counter and the actions, one after another, keep the limits.
 pub(crate) fn transition_by(context: &Context, choice: Alt, transition: &mut Transition)
     requires { IsWhole context.now }
     ensures value { (shared : SharedState) (t : Thread) (others : Others) → IsContext shared t others context.now
@@ -43,7 +46,7 @@ pub(crate) fn transition_by(context: &Context, choice: Alt, transition: &mut Tra
     ensures fits { (shared : SharedState) (t : Thread) (others : Others) → IsContext shared t others context.now → TransitionFits (length t.frames) (length t.handlers) t.pass transition.new }
 {
     match choice {
-        Alt::Act(_) => acts_on_request(context.position.thread.status, transition),
+        Alt::Act(id) => acts_on_request(id, context.position.thread.status, transition),
         _ => transition_at(context, choice, transition),
     }
 }
@@ -63,6 +66,10 @@ fn transition_at(context: &Context, choice: Alt, transition: &mut Transition)
         Status::Running => running(context, choice, transition),
         Status::AtPoint(index) => passes_point(context, index, transition),
         Status::Joining(id) => joins_at(context, id, transition),
+        Status::InSem(sem) => takes(context, sem, transition),
+        Status::Reacquire(cond, mutex, cause) => {
+            reacquires(context, cond, mutex, cause, transition);
+        }
         Status::Ending => goes_on_ending(context, passes, choice, transition),
         Status::Exiting => ends_process(context.exit_value, transition),
         _ => *transition = no_change(),
@@ -197,6 +204,17 @@ fn runs(context: &Context, at: &At, choice: Alt, transition: &mut Transition)
             let place = key_place(value_of(globals, frame, *key));
             let value = position.keys.get(position.slot, place);
             *transition = gets_specific(next_pc(frame), *dest, value);
+        }
+        Stmt::Lock(mutex) => *transition = locks(next_pc(frame), *mutex, position.id),
+        Stmt::Unlock(mutex) => *transition = unlocks(next_pc(frame), *mutex),
+        Stmt::CondWait { cond, mutex } => *transition = begins_wait(*cond, *mutex),
+        Stmt::Signal(cond) => signals_by(choice, next_pc(frame), *cond, transition),
+        Stmt::Broadcast(cond) => {
+            *transition = broadcasts(next_pc(frame), *cond, context.waiters(*cond).len());
+        }
+        Stmt::SemWait(sem) => *transition = begins_sem_wait(*sem),
+        Stmt::SemPost(sem) => {
+            *transition = posts(next_pc(frame), *sem, count_of(context.counts, *sem));
         }
         Stmt::ThreadExit(operand) => {
             *transition = ends_by_exit(value_of(globals, frame, *operand));

@@ -1,9 +1,8 @@
 -- What each transition does with the threads that it names, by the tables: at most one action names a thread, which holds its slot,
 -- and an event reports it.
-use Rattle.std.proofs.Common.{◌≡◌, ℕ, suc, Bool, true, false, not, List, [], reverse, nat_eq, Option, Some, None, option_map, refl, ap, ◌∙◌}
+use Rattle.std.proofs.Common.{◌≡◌, ℕ, suc, Bool, true, false, not, List, [], reverse, nat_eq, Some, None, refl}
 use Rattle.std.specs.List.{list_all}
 use Rattle.std.proofs.lemmas.Bool.{false≢true}
-use Rattle.std.proofs.lemmas.Option.{none-some, same_Some}
 use Rattle.pct_model.specs.declared.event.What.{What}
 use Rattle.pct_model.specs.declared.event.What.TheVariants as what
 use Rattle.pct_model.specs.declared.schedule.Alt.{Alt}
@@ -82,7 +81,7 @@ pub data Kind (tid : ℕ) (threads : List Thread) (s : Status) : Transition → 
   -- it sends one a request
   requests_one : (next id : ℕ) (target : Thread) → s ≡ status.Running → with_id id threads ≡ Some target → Kind tid threads s (requests next id)
   -- it begins to end in pthread_join
-  cancels : (id : ℕ) → s ≡ status.Joining id → Kind tid threads s (acts_on_request (status.Joining id))
+  cancels : (id : ℕ) → s ≡ status.Joining id → Kind tid threads s (acts_on_request 0 (status.Joining id))
 
 -- ---- the table
 

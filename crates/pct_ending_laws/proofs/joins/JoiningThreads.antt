@@ -20,7 +20,7 @@ use Rattle.pct_model.specs.TransitionTable.{transition_by}
 use Rattle.pct_model.specs.World.{Thread, Process, first_process}
 use Rattle.pct_ending_laws.proofs.lift.KeyedLists.{found_at, found_passes}
 use Rattle.pct_ending_laws.proofs.lift.TakenSteps.{AfterEveryRun}
-use Rattle.pct_ending_laws.proofs.lift.ChangedThreads.{all_keep, named_keeps, other_threads}
+use Rattle.pct_ending_laws.proofs.lift.ChangedThreads.{all_keep, settled, same_settled, named_keeps, other_threads}
 use Rattle.pct_ending_laws.proofs.lift.MadeThreads.{own_thread_with, IsLive, live_thread}
 use Rattle.pct_ending_laws.proofs.lift.ThreadsAfter.{initial_thread, Moves, mover, is_mover, each_after, same_gone}
 use Rattle.pct_ending_laws.proofs.lift.EveryProcess.{OfEveryProcess, IsProcessRule, unread, every_process_keeps, moves_of_run}
@@ -57,6 +57,10 @@ abbrev joined_id : Status → ℕ
 joined_id (status.Joining id) = id
 joined_id _ = 0
 
+settled_joins : (id : ℕ) (s : Status) → settled s ≡ status.Joining id → s ≡ status.Joining id
+settled_joins id (status.Reacquire c m why) is = absurd (false≢true (ap is_in_join is))
+settled_joins id _ is = is
+
 -- a thread that holds its slot, and has ended if it was joined, was not joined
 unjoined : (gone ended joined detached : Bool) → (not gone && not (ended && (joined || detached))) ≡ true → (joined ≡ true → ended ≡ true) → joined ≡ false
 unjoined gone ended false detached holds has_ended = refl
@@ -87,8 +91,8 @@ module _ (script : Script) (config : Config) (p : Process) (e : Entry) (t : Thre
   it : IsLive p e.tid t
   it = mover script config p e t moves
 
-  status_after : (u : Thread) (live : Bool) → is_live_thread e.tid u ≡ live → (thread_moved e.tid o u).status ≡ (cond live (moved o u) u).status
-  status_after u live is = all_keep (λ (x : Thread). x.status) named_after (named_keeps (λ (x : Thread). x.status) (λ t j p d s. refl)) o.actions (unnamed e.tid o u) ∙ ap (λ (b : Bool). (cond b (moved o u) u).status) is
+  status_after : (u : Thread) (live : Bool) → is_live_thread e.tid u ≡ live → settled (thread_moved e.tid o u).status ≡ settled (cond live (moved o u) u).status
+  status_after u live is = all_keep (λ (x : Thread). settled x.status) named_after (named_keeps (λ (x : Thread). settled x.status) (λ t j p d k s same. same)) o.actions (unnamed e.tid o u) ∙ ap (λ (b : Bool). settled (cond b (moved o u) u).status) is
 
   -- ---- threads in pthread_join
 
@@ -124,7 +128,7 @@ module _ (script : Script) (config : Config) (p : Process) (e : Entry) (t : Thre
       still joins (false_from_ne_true (releases id (naming k)) (λ names. not_released k second id u is_u present joins other names))
 
   before : (second id : ℕ) (u : Thread) → with second p.threads ≡ Some u → u.gone ≡ false → (thread_moved e.tid o u).status ≡ status.Joining id → Before second id u
-  before second id u is_u present joins = before_by second id u is_u present (is_live_thread e.tid u) refl (sym (status_after u (is_live_thread e.tid u) refl) ∙ joins)
+  before second id u is_u present joins = before_by second id u is_u present (is_live_thread e.tid u) refl (settled_joins id (cond (is_live_thread e.tid u) (moved o u) u).status (sym (status_after u (is_live_thread e.tid u) refl) ∙ ap settled joins))
 
   -- ---- what they join
 
@@ -189,7 +193,7 @@ module _ (script : Script) (config : Config) (p : Process) (e : Entry) (t : Thre
   ended_stays : (id : ℕ) (u : Thread) → with id p.threads ≡ Some u → is_ended_status u.status ≡ true → (live : Bool) → is_live_thread e.tid u ≡ live → is_ended_status (thread_moved e.tid o u).status ≡ true
   ended_stays id u is_u ended true live =
       absurd (false≢true (sym (moves_alive script config p t e.alt moves.offered) ∙ ap (λ (x : Thread). is_ended_status x.status) (sym (is_mover script config p e t moves id u is_u live).0) ∙ ended))
-  ended_stays id u is_u ended false other = ap is_ended_status (status_after u false other) ∙ ended
+  ended_stays id u is_u ended false other = same_settled is_ended_status (λ c m why. refl) (thread_moved e.tid o u).status u.status (status_after u false other) ∙ ended
 
   -- one that is joined has ended
   target_ended : {x : Transition} (j : Kind t.id p.threads t.status x) (id : ℕ) (u : Thread) → with id p.threads ≡ Some u → names_join u.id (naming j) ≡ true → is_ended_status u.status ≡ true

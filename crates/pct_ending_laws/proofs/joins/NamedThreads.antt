@@ -6,6 +6,7 @@ use Rattle.std.specs.Option.{option_map_or}
 use Rattle.std.proofs.lemmas.Bool.{false≢true, and_parts, eqb-false, or_from}
 use Rattle.pct_model.specs.declared.event.What.{What}
 use Rattle.pct_model.specs.declared.event.What.TheVariants as what
+use Rattle.pct_model.specs.declared.state.Cause.TheVariants as cause
 use Rattle.pct_model.specs.declared.state.Status.{Status}
 use Rattle.pct_model.specs.declared.state.Status.TheVariants as status
 use Rattle.pct_model.specs.declared.transition.Action.{Action}
@@ -14,6 +15,7 @@ use Rattle.pct_model.specs.declared.transition.NewThread.{NewThread}
 use Rattle.pct_model.specs.declared.transition.Transition.{Transition}
 use Rattle.pct_model.specs.Actions.{thread_at, thread_after, named_after, for_each, moved, thread_moved}
 use Rattle.pct_model.specs.CancelCalls.{requests, acts_on_request}
+use Rattle.pct_model.specs.CondCalls.{is_waiting_on, unblocked}
 use Rattle.pct_model.specs.KnownThreads.{detaches_id, joins_id}
 use Rattle.pct_model.specs.ThreadCalls.{creates, begins_join, ends_join, detaches}
 use Rattle.pct_model.specs.ThreadSlots.{is_ended_status, holds_slot, is_live_thread, with_id}
@@ -93,6 +95,16 @@ module _ (id : ℕ) where
 
 -- ---- the threads of the process
 
+-- an action that names no thread
+quiet_flags : (a : Action) → is_quiet a ≡ true → (t : Thread) → flags (named_after a t) ≡ flags t
+unfolding named_after
+quiet_flags (action.EndJoin id) is t = absurd (false≢true is)
+quiet_flags (action.Request id) is t = absurd (false≢true is)
+quiet_flags (action.Detach id) is t = absurd (false≢true is)
+quiet_flags (action.Wake id) is t = either_keeps flags (is_live_thread id t) (record t { status = unblocked cause.Signalled t.status }) t t refl refl
+quiet_flags (action.WakeAll c) is t = either_keeps flags (is_waiting_on c t.status) (record t { status = unblocked cause.Broadcast t.status }) t t refl refl
+quiet_flags _ is t = refl
+
 -- a thread that is named becomes joined or detached by it
 becomes : (flag : Thread → Bool) (b : Bool) (x y : Thread) → flag x ≡ true → flag (cond b x y) ≡ (b || flag y)
 becomes flag true x y is = is
@@ -103,6 +115,8 @@ unfolding named_after
 named_joined (action.EndJoin id) t = becomes (λ (u : Thread). u.joined) (is_live_thread id t) (record t { joined = true }) t refl
 named_joined (action.Request id) t = either_keeps (λ (u : Thread). u.joined) (is_live_thread id t && not t.ended) (record t { pending = true }) t t refl refl
 named_joined (action.Detach id) t = either_keeps (λ (u : Thread). u.joined) (is_live_thread id t) (record t { detached = true }) t t refl refl
+named_joined (action.Wake id) t = ap (λ (f : ℕ × Bool × Bool × Bool). f.2) (quiet_flags (action.Wake id) refl t)
+named_joined (action.WakeAll c) t = ap (λ (f : ℕ × Bool × Bool × Bool). f.2) (quiet_flags (action.WakeAll c) refl t)
 named_joined _ t = refl
 
 named_detached : (a : Action) (t : Thread) → (named_after a t).detached ≡ ((names_detach t.id a && holds_slot t) || t.detached)
@@ -110,14 +124,9 @@ unfolding named_after
 named_detached (action.EndJoin id) t = either_keeps (λ (u : Thread). u.detached) (is_live_thread id t) (record t { joined = true }) t t refl refl
 named_detached (action.Request id) t = either_keeps (λ (u : Thread). u.detached) (is_live_thread id t && not t.ended) (record t { pending = true }) t t refl refl
 named_detached (action.Detach id) t = becomes (λ (u : Thread). u.detached) (is_live_thread id t) (record t { detached = true }) t refl
+named_detached (action.Wake id) t = ap (λ (f : ℕ × Bool × Bool × Bool). f.3) (quiet_flags (action.Wake id) refl t)
+named_detached (action.WakeAll c) t = ap (λ (f : ℕ × Bool × Bool × Bool). f.3) (quiet_flags (action.WakeAll c) refl t)
 named_detached _ t = refl
-
-quiet_flags : (a : Action) → is_quiet a ≡ true → (t : Thread) → flags (named_after a t) ≡ flags t
-unfolding named_after
-quiet_flags (action.EndJoin id) is t = absurd (false≢true is)
-quiet_flags (action.Request id) is t = absurd (false≢true is)
-quiet_flags (action.Detach id) is t = absurd (false≢true is)
-quiet_flags _ is t = refl
 
 -- actions that name no thread
 none_named : (actions : List Action) → list_all is_quiet actions ≡ true → (t : Thread) → flags (for_each named_after actions t) ≡ flags t

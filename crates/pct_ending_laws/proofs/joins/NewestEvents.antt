@@ -20,7 +20,7 @@ use Rattle.pct_model.specs.Run.{Run, run}
 use Rattle.pct_model.specs.ThreadCalls.{creates, join_point, begins_join, ends_join, detaches}
 use Rattle.pct_model.specs.TransitionTable.{transition_by}
 use Rattle.pct_model.specs.World.{Thread, made_thread}
-use Rattle.pct_ending_laws.proofs.lift.ChangedThreads.{named_keeps}
+use Rattle.pct_ending_laws.proofs.lift.ChangedThreads.{same_settled, named_keeps}
 use Rattle.pct_ending_laws.proofs.lift.ReportedBy.{reported_by, ThreadReading, of_thread, is_thread_reading, after_all}
 use Rattle.pct_ending_laws.proofs.lift.EveryThread.{of_made_thread, IsThreadRule, every_thread}
 use Rattle.pct_ending_laws.proofs.joins.JoinTransitions.{is_in_join, is_quiet, MayJoin, Kind, quiet, begins, kind_of}
@@ -35,6 +35,9 @@ quiet_stays (action.CallAlone f v kind) is t in_join = absurd (false≢true in_j
 quiet_stays (action.Leave s) is t in_join = absurd (true≢false (sym in_join ∙ not-true (is_in_join s) is))
 quiet_stays (action.BeginPoint index) is t in_join = absurd (false≢true in_join)
 quiet_stays (action.BeginJoin id) is t in_join = absurd (false≢true is)
+quiet_stays (action.BeginWait c m) is t in_join = absurd (false≢true in_join)
+quiet_stays (action.LeaveWait c m) is t in_join = absurd (false≢true in_join)
+quiet_stays (action.BeginSem s) is t in_join = absurd (false≢true in_join)
 quiet_stays (action.BeginEnd why) is t in_join = absurd (false≢true in_join)
 quiet_stays (action.EndThread v) is t in_join = absurd (false≢true in_join)
 quiet_stays (action.BeginExit v) is t in_join = absurd (false≢true in_join)
@@ -96,7 +99,7 @@ newest_rule : (script : Script) (config : Config) → IsThreadRule newest Newest
 newest_rule script config = record {
   initial = λ in_join. absurd (false≢true in_join);
   created = λ p t before choice new nothing offered newest_is makes in_join. absurd (false≢true in_join);
-  named = λ a t before newest_is in_join. newest_is (ap is_in_join (sym (named_keeps (λ (u : Thread). u.status) (λ t j p d s. refl) a t)) ∙ in_join);
+  named = λ a t before newest_is in_join. newest_is (sym (named_keeps (λ (u : Thread). is_in_join u.status) (λ t j p d k s is. same_settled is_in_join (λ c m why. refl) s t.status is) a t) ∙ in_join);
   kept = λ p t before choice nothing offered newest_is in_join.
       let k : Kind t.id p.threads t.status (transition_by script config p t choice) = kind_of script config p t choice in
       newest_kept t k before newest_is (in_join_after t k in_join) in_join;

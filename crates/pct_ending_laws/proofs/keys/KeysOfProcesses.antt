@@ -7,10 +7,12 @@ use Rattle.std.proofs.lemmas.Option.{cond_some}
 use Rattle.pct_model.specs.declared.script.Script.{Script}
 use Rattle.pct_model.specs.declared.schedule.Config.{Config}
 use Rattle.pct_model.specs.declared.schedule.Entry.{Entry}
+use Rattle.pct_model.specs.declared.state.Cause.TheVariants as cause
 use Rattle.pct_model.specs.declared.transition.Action.{Action}
 use Rattle.pct_model.specs.declared.transition.Action.TheVariants as action
 use Rattle.pct_model.specs.declared.transition.Transition.{Transition}
 use Rattle.pct_model.specs.Actions.{without_first, thread_at, thread_after, named_after, shared_after, for_each, moved, thread_moved, changed}
+use Rattle.pct_model.specs.CondCalls.{is_waiting_on, unblocked}
 use Rattle.pct_model.specs.Kept.{KeysKept}
 use Rattle.pct_model.specs.Keys.{KeyPlace, KeyValues}
 use Rattle.pct_model.specs.ThreadSlots.{is_live_thread}
@@ -35,6 +37,8 @@ unfolding named_after
 named_specific (action.EndJoin id) t = either_keeps (λ (u : Thread). u.specific) (is_live_thread id t) (record t { joined = true }) t t refl refl
 named_specific (action.Request id) t = either_keeps (λ (u : Thread). u.specific) (is_live_thread id t && not t.ended) (record t { pending = true }) t t refl refl
 named_specific (action.Detach id) t = either_keeps (λ (u : Thread). u.specific) (is_live_thread id t) (record t { detached = true }) t t refl refl
+named_specific (action.Wake id) t = either_keeps (λ (u : Thread). u.specific) (is_live_thread id t) (record t { status = unblocked cause.Signalled t.status }) t t refl refl
+named_specific (action.WakeAll c) t = either_keeps (λ (u : Thread). u.specific) (is_waiting_on c t.status) (record t { status = unblocked cause.Broadcast t.status }) t t refl refl
 named_specific _ t = refl
 
 shared_keys : (a : Action) (s : SharedState) → (shared_after a s).keys ≡ keys_after a s.keys

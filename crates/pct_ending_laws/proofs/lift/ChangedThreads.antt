@@ -1,13 +1,17 @@
--- What no transition changes: the numbers of processes and threads, and which threads a process did not inherit.
-use Rattle.std.proofs.Common.{◌≡◌, ℕ, Bool, true, false, not, ◌&&◌, cond, List, [], ◌∷◌, map, nat_eq, Option, Some, None, refl, ap, ◌∙◌}
+-- What no transition changes: the numbers of processes and threads, and which threads a process did not inherit. And what no action of
+-- another thread changes: the status of a thread, unless it waits on a condition variable.
+use Rattle.std.proofs.Common.{◌≡◌, ℕ, Bool, true, false, not, ◌&&◌, cond, List, [], ◌∷◌, map, nat_eq, Option, Some, None, refl, sym, ap, ◌∙◌}
 use Rattle.std.specs.List.{list_all}
 use Rattle.std.proofs.lemmas.Bool.{and_parts}
 use Rattle.pct_model.specs.declared.frame.Frame.{Frame}
+use Rattle.pct_model.specs.declared.state.Cause.{Cause}
+use Rattle.pct_model.specs.declared.state.Cause.TheVariants as cause
 use Rattle.pct_model.specs.declared.state.Status.{Status}
-use Rattle.pct_model.specs.declared.state.Status.TheVariants.{Running}
+use Rattle.pct_model.specs.declared.state.Status.TheVariants.{Running, Waiting, Reacquire}
 use Rattle.pct_model.specs.declared.transition.Action.{Action}
 use Rattle.pct_model.specs.declared.transition.Action.TheVariants as action
 use Rattle.pct_model.specs.declared.transition.Transition.{Transition}
+use Rattle.pct_model.specs.CondCalls.{is_waiting_on, unblocked}
 use Rattle.pct_model.specs.Keys.{KeyValues, key_place, without_value}
 use Rattle.pct_model.specs.World.{Thread, SharedState, ProcessEnd, Process}
 use Rattle.pct_model.specs.ThreadSlots.{is_live_thread}
@@ -34,13 +38,32 @@ all_keep_if view change test keeps (a ∷ actions) all t =
 
 -- ---- threads
 
--- a view of a thread that does not see what an action may change of a thread that it names
-pub named_keeps : {V : Type 0} (view : Thread → V) → ((t : Thread) (joined pending detached : Bool) (specific : KeyValues) → view (record t { joined = joined; pending = pending; detached = detached; specific = specific }) ≡ view t) → (a : Action) (t : Thread) → view (named_after a t) ≡ view t
+-- a status; of a thread that is to own its mutex again, that of its wait before it was unblocked
+abbrev pub settled : Status → Status
+settled (Reacquire c m why) = Waiting c m
+settled s = s
+
+settled_unblocked : (why : Cause) (s : Status) → settled (unblocked why s) ≡ settled s
+settled_unblocked why (Waiting c m) = refl
+settled_unblocked why _ = refl
+
+settled_view : {V : Type 0} (view : Status → V) → ((c m : ℕ) (why : Cause) → view (Reacquire c m why) ≡ view (Waiting c m)) → (s : Status) → view s ≡ view (settled s)
+settled_view view same (Reacquire c m why) = same c m why
+settled_view view same _ = refl
+
+-- a view that is the same of a thread in its wait and once it is unblocked, is the same of two statuses that settle to one
+pub same_settled : {V : Type 0} (view : Status → V) → ((c m : ℕ) (why : Cause) → view (Reacquire c m why) ≡ view (Waiting c m)) → (s before : Status) → settled s ≡ settled before → view s ≡ view before
+same_settled view same s before is = settled_view view same s ∙ ap view is ∙ sym (settled_view view same before)
+
+-- a view of a thread that does not see what an action may change of a thread that it names, or unblocks
+pub named_keeps : {V : Type 0} (view : Thread → V) → ((t : Thread) (joined pending detached : Bool) (specific : KeyValues) (s : Status) → settled s ≡ settled t.status → view (record t { joined = joined; pending = pending; detached = detached; specific = specific; status = s }) ≡ view t) → (a : Action) (t : Thread) → view (named_after a t) ≡ view t
 unfolding named_after
-named_keeps view same (action.EndJoin id) t = either_keeps view (is_live_thread id t) (record t { joined = true }) t t (same t true t.pending t.detached t.specific) refl
-named_keeps view same (action.Request id) t = either_keeps view (is_live_thread id t && not t.ended) (record t { pending = true }) t t (same t t.joined true t.detached t.specific) refl
-named_keeps view same (action.Detach id) t = either_keeps view (is_live_thread id t) (record t { detached = true }) t t (same t t.joined t.pending true t.specific) refl
-named_keeps view same (action.DeleteKey k) t = same t t.joined t.pending t.detached (without_value (key_place k) t.specific)
+named_keeps view same (action.EndJoin id) t = either_keeps view (is_live_thread id t) (record t { joined = true }) t t (same t true t.pending t.detached t.specific t.status refl) refl
+named_keeps view same (action.Request id) t = either_keeps view (is_live_thread id t && not t.ended) (record t { pending = true }) t t (same t t.joined true t.detached t.specific t.status refl) refl
+named_keeps view same (action.Detach id) t = either_keeps view (is_live_thread id t) (record t { detached = true }) t t (same t t.joined t.pending true t.specific t.status refl) refl
+named_keeps view same (action.Wake id) t = let s : Status = unblocked cause.Signalled t.status in either_keeps view (is_live_thread id t) (record t { status = s }) t t (same t t.joined t.pending t.detached t.specific s (settled_unblocked cause.Signalled t.status)) refl
+named_keeps view same (action.WakeAll c) t = let s : Status = unblocked cause.Broadcast t.status in either_keeps view (is_waiting_on c t.status) (record t { status = s }) t t (same t t.joined t.pending t.detached t.specific s (settled_unblocked cause.Broadcast t.status)) refl
+named_keeps view same (action.DeleteKey k) t = same t t.joined t.pending t.detached (without_value (key_place k) t.specific) t.status refl
 named_keeps view same _ t = refl
 
 -- one that does not see where the thread runs, as it goes on
@@ -69,7 +92,7 @@ identity t = (t.id, t.gone)
 -- a thread after a transition of the one with an id
 pub thread_moved_keeps : (tid : ℕ) (o : Transition) (t : Thread) → identity (thread_moved tid o t) ≡ identity t
 thread_moved_keeps tid o t =
-    all_keep identity named_after (named_keeps identity (λ t j p d s. refl)) o.actions (cond (is_live_thread tid t) (moved o t) t)
+    all_keep identity named_after (named_keeps identity (λ t j p d k s same. refl)) o.actions (cond (is_live_thread tid t) (moved o t) t)
     ∙ either_keeps identity (is_live_thread tid t) (moved o t) t t (ap (λ (f : ℕ × Bool × Bool × Bool). (f.0, f.1)) (moved_flags o t)) refl
 
 -- ---- processes

@@ -84,6 +84,9 @@ module _ (passes : ℕ) (body : List Stmt) (shared : SharedState) (t : Thread) (
     after_end status.Running fits c = absurd (not_ended fits.not_ended)
     after_end (status.AtPoint index) fits c = absurd (not_ended fits.0.not_ended)
     after_end (status.Joining id) fits c = absurd (not_ended fits.0.not_ended)
+    after_end (status.InSem sem) fits c = absurd (not_ended fits.0.not_ended)
+    after_end (status.Waiting n m) fits c = absurd (not_ended fits.0.not_ended)
+    after_end (status.Reacquire n m cause) fits c = absurd (not_ended fits.0.not_ended)
     after_end status.Ending fits c = absurd (not_ended fits.not_ended)
     after_end (status.Ended v) fits c = absurd (case_ended c)
     after_end status.Exiting fits c = case_exiting c

@@ -6,22 +6,25 @@ use Rattle.pct_model.specs.declared.script.Script.{Script}
 use Rattle.pct_model.specs.declared.state.FrameKind.TheVariants as kind
 use Rattle.pct_model.specs.declared.state.Reason.{Reason}
 use Rattle.pct_model.specs.declared.state.Reason.TheVariants as reason
+use Rattle.pct_model.specs.declared.state.Cause.TheVariants as cause
+use Rattle.pct_model.specs.declared.state.Status.{Status}
 use Rattle.pct_model.specs.declared.state.Status.TheVariants as status
 use Rattle.pct_model.specs.declared.transition.Action.TheVariants as action
 use Rattle.pct_model.specs.Actions.{without_first, thread_at, thread_after}
 use Rattle.pct_model.specs.Cancelability.{ending_state, ending_mode, is_deliverable}
-use Rattle.pct_model.specs.Kept.{AreOpen, open_functions}
+use Rattle.pct_model.specs.Kept.{AreOpen, open_functions, IsSuspendedAt}
 use Rattle.pct_model.specs.Keys.{key_place, value_at, with_pass}
+use Rattle.pct_model.specs.NextStatement.{next_of}
 use Rattle.pct_model.specs.Once.{MayCome, newest}
 use Rattle.pct_model.specs.OpenPushes.{open_pushes}
 use Rattle.pct_model.specs.StopTable.{has_begun_to_end}
 use Rattle.pct_model.specs.ThreadEnds.{end_value}
-use Rattle.pct_model.specs.ThreadSummary.{ThreadSummary, with_ending, with_event}
+use Rattle.pct_model.specs.ThreadSummary.{ThreadSummary, with_ending}
 use Rattle.pct_model.specs.Transitions.{acts}
 use Rattle.pct_model.specs.World.{Thread, body_of}
 use Rattle.pct_ending_laws.proofs.StaticPushes.{PushesMatch}
 use Rattle.pct_ending_laws.proofs.thread.Passes.{is_in, PassesFit, takes_key, begins_pass, has_pass, not_taken}
-use Rattle.pct_ending_laws.proofs.thread.ThreadRule.{AllMayCome, FramesFit, Agrees, Fits, Keeps, HasFrames}
+use Rattle.pct_ending_laws.proofs.thread.ThreadRule.{AllMayCome, FramesFit, Agrees, Fits, Keeps, HasFrames, ByStatus}
 use Rattle.pct_ending_laws.proofs.thread.GoingOn.{running}
 use Rattle.std.proofs.lemmas.Bool.{false≢true}
 use Rattle.pct_model.specs.declared.state.State.{State}
@@ -37,6 +40,12 @@ enabled_not_begun : (why : Reason) (exiting : Bool) (state : State) → ((has_be
 enabled_not_begun reason.None exiting state disabled enabled = refl
 enabled_not_begun (reason.Exit v) exiting state disabled enabled = absurd (not_both state (disabled refl) enabled)
 enabled_not_begun reason.Canceled exiting state disabled enabled = absurd (not_both state (disabled refl) enabled)
+
+-- a thread that has not begun to end has no reason to
+pub not_begun : (why : Reason) → has_begun_to_end why ≡ false → why ≡ reason.None
+not_begun reason.None e = refl
+not_begun (reason.Exit v) e = absurd (false≢true (sym e))
+not_begun reason.Canceled e = absurd (false≢true (sym e))
 
 module _ (script : Script) (passes : ℕ) where
   -- ---- threads with frames
@@ -63,12 +72,32 @@ module _ (script : Script) (passes : ℕ) where
     in_passes = in_passes;
   }
 
-  -- a thread with frames acts upon a request: its cancelability is enabled, so it has not begun to end
-  pub cancel_fits : (t : Thread) (reported : ThreadSummary) → t.state ≡ Enable → Agrees script t.handlers t.reason t.ended t.state reported → PassesFit passes t.pass t.specific.in_pass reported.passes reported.destroyed
-      → HasFrames script t.reason t.frames t.handlers reported → Fits script passes (record t { status = status.Ending; frames = []; state = ending_state; mode = ending_mode; reason = reason.Canceled }) (with_event what.EndingCanceled reported) × AllMayCome passes (what.EndingCanceled ∷ []) reported
-  cancel_fits t reported enabled agrees in_passes has =
-      let not_begun : t.reason ≡ reason.None = enabled_not_begun t.reason reported.exiting t.state agrees.disabled enabled in
-      (begun_fits t reported reason.Canceled refl agrees in_passes has.not_ended has.not_exiting, (agrees.reason ∙ not_begun, tt))
+  -- a thread with frames, suspended in a call or not
+  module _ (t : Thread) (s : Status) (frames : List Frame) (reported : ThreadSummary) (fits : Fits script passes (record t { status = s; frames = frames }) reported) (has : HasFrames script t.reason frames t.handlers reported) where
+    -- the thread, if it ran
+    pub awake : Fits script passes (running t frames) reported
+    awake = record { agrees = fits.agrees; placed = fits.placed; by_status = has; in_passes = fits.in_passes }
+
+    -- it is suspended in a call
+    pub suspends : (next : Status) → ByStatus script next t.reason frames t.handlers reported → Fits script passes (record t { status = next; frames = frames }) reported
+    suspends next by_status = record { agrees = fits.agrees; placed = fits.placed; by_status = by_status; in_passes = fits.in_passes }
+
+    -- if it acts upon a request, its cancelability is enabled, so it has not begun to end
+    has_not_begun : t.state ≡ Enable → t.reason ≡ reason.None
+    has_not_begun enabled = enabled_not_begun t.reason reported.exiting t.state fits.agrees.disabled enabled
+
+    -- it begins to end then
+    pub cancel_keeps : t.state ≡ Enable → Keeps script passes (record t { status = s; frames = frames }) reported (acts (action.BeginEnd reason.Canceled ∷ []) (what.EndingCanceled ∷ []))
+    unfolding thread_at thread_after
+    cancel_keeps enabled = record { own = begun_fits t reported reason.Canceled refl fits.agrees fits.in_passes has.not_ended has.not_exiting; lawful = (fits.agrees.reason ∙ has_not_begun enabled, tt) }
+
+    -- in a condition wait it does so once it owns its mutex again
+    pub leave_fits : (c m : ℕ) → IsSuspendedAt (next_of script frames) (status.Waiting c m) → t.state ≡ Enable → Fits script passes (record t { status = status.Reacquire c m cause.Canceled; frames = frames }) reported
+    leave_fits c m at enabled = suspends (status.Reacquire c m cause.Canceled) (has, at, λ leaves. ap has_begun_to_end (has_not_begun enabled))
+
+    pub end_in_wait_keeps : (c m : ℕ) → has_begun_to_end t.reason ≡ false → Keeps script passes (record t { status = s; frames = frames }) reported (acts (action.OwnMutex m t.id ∷ action.BeginEnd reason.Canceled ∷ []) (what.Acquired m ∷ what.EndingInWait c m ∷ []))
+    unfolding thread_at thread_after
+    end_in_wait_keeps c m alive = record { own = begun_fits t reported reason.Canceled refl fits.agrees fits.in_passes has.not_ended has.not_exiting; lawful = (fits.agrees.reason ∙ not_begun t.reason alive, (tt, tt)) }
 
   module _ (t : Thread) (frames : List Frame) (reported : ThreadSummary) (fits : Fits script passes (running t frames) reported) where
     -- a running thread begins to exit its process

@@ -25,13 +25,18 @@ use Rattle.pct_ending_laws.proofs.thread.ThreadRule.{summary, AllMayCome, Fits, 
 
 -- ---- actions that write
 
--- the action writes a variable, sets a cancelability type, changes a thread or a key that it names, makes a key, or sets a value of one
+-- the action writes a variable, sets a cancelability type, changes a thread, a key, a mutex or a semaphore that it names, unblocks
+-- threads, makes a key, or sets a value of one
 abbrev pub writes : Action → Bool
 writes (action.Write d v) = true
 writes (action.SetMode mode) = true
 writes (action.EndJoin id) = true
 writes (action.Request id) = true
 writes (action.Detach id) = true
+writes (action.Wake id) = true
+writes (action.WakeAll c) = true
+writes (action.OwnMutex m id) = true
+writes (action.SetCount sem n) = true
 writes (action.MakeKey k destructor) = true
 writes (action.DeleteKey k) = true
 writes (action.SetSpecific k v) = true
@@ -59,6 +64,10 @@ module _ (script : Script) (passes : ℕ) where
   writes_fit (action.EndJoin id ∷ actions) all t frames s fits = writes_fit actions all t frames s fits
   writes_fit (action.Request id ∷ actions) all t frames s fits = writes_fit actions all t frames s fits
   writes_fit (action.Detach id ∷ actions) all t frames s fits = writes_fit actions all t frames s fits
+  writes_fit (action.Wake id ∷ actions) all t frames s fits = writes_fit actions all t frames s fits
+  writes_fit (action.WakeAll c ∷ actions) all t frames s fits = writes_fit actions all t frames s fits
+  writes_fit (action.OwnMutex m id ∷ actions) all t frames s fits = writes_fit actions all t frames s fits
+  writes_fit (action.SetCount sem n ∷ actions) all t frames s fits = writes_fit actions all t frames s fits
   writes_fit (action.MakeKey k destructor ∷ actions) all t frames s fits = writes_fit actions all t frames s fits
   writes_fit (action.DeleteKey k ∷ actions) all t frames s fits = writes_fit actions all t frames s fits
   writes_fit (action.SetSpecific k v ∷ actions) all t frames s fits = writes_fit actions all (record t { specific = with_value (key_place k) v t.specific }) frames s fits

@@ -14,8 +14,9 @@ use Rattle.pct_model.specs.declared.state.Reason.{Reason}
 use Rattle.pct_model.specs.declared.state.Status.{Status}
 use Rattle.pct_model.specs.declared.state.Status.TheVariants as status
 use Rattle.pct_model.specs.Keys.{KeyPlace}
-use Rattle.pct_model.specs.Kept.{KeysKept, AreOpen, open_functions, HasOneBottom, bottom_kind, is_bottom_kind, is_end_kind, is_exit_kind, has_no_frame, is_ending_status, is_exiting, ThreadKept}
+use Rattle.pct_model.specs.Kept.{KeysKept, AreOpen, open_functions, HasOneBottom, bottom_kind, is_bottom_kind, is_end_kind, is_exit_kind, has_no_frame, is_ending_status, is_exiting, IsSuspendedAt, has_left_wait, ThreadKept}
 use Rattle.pct_model.specs.LineParsing.{is_empty}
+use Rattle.pct_model.specs.NextStatement.{next_of}
 use Rattle.pct_model.specs.StopTable.{has_begun_to_end}
 use Rattle.pct_model.specs.ThreadSlots.{is_ended_status}
 use Rattle.pct_model.specs.ThreadSummary.{ThreadSummary}
@@ -87,17 +88,15 @@ module _ (script : Script) where
     no_end : s.ended ≡ None → is_some s.ended ≡ true → ⊥
     no_end none some = false≢true (sym (ap is_some none) ∙ some)
 
-    point_never_exits : (index : ℕ) (frames : List Frame) → is_exiting (status.AtPoint index) frames ≡ false
-    point_never_exits index [] = refl
-    point_never_exits index (frame ∷ below) = refl
-
-    joining_never_exits : (id : ℕ) (frames : List Frame) → is_exiting (status.Joining id) frames ≡ false
-    joining_never_exits id [] = refl
-    joining_never_exits id (frame ∷ below) = refl
+    never_exits : (st : Status) (frames : List Frame) → has_no_frame st ≡ false → is_exiting status.Running frames ≡ false → is_exiting st frames ≡ false
+    never_exits status.Running frames framed inside = inside
+    never_exits status.Exiting frames framed inside = absurd (false≢true (sym framed))
+    never_exits _ [] framed inside = refl
+    never_exits _ (frame ∷ below) framed inside = refl
 
     -- a thread that has frames, does not exit its process, and has not the status of one that is ending
-    of_framed : (st : Status) (frames : List Frame) → has_no_frame st ≡ false → is_ending_status st ≡ false → is_exiting st frames ≡ false → HasFrames script why frames handlers s → StatusFacts st why frames handlers s
-    of_framed st frames framed alive_status inside has =
+    of_framed : (st : Status) (frames : List Frame) → has_no_frame st ≡ false → is_ending_status st ≡ false → HasFrames script why frames handlers s → StatusFacts st why frames handlers s
+    of_framed st frames framed alive_status has =
         let facts : FrameFacts why frames = frame_facts why frames has.fit in
         record {
           ended_status = λ some alive. absurd (no_end has.not_ended some);
@@ -105,7 +104,7 @@ module _ (script : Script) where
           no_frame = facts.some ∙ sym framed;
           bottom = facts.bottom;
           has_reason = λ alive. facts.has_reason ∙ ap (λ (b : Bool). b || option_map_or is_end_kind (bottom_kind frames) false) (sym alive_status);
-          exiting = has.not_exiting ∙ sym inside;
+          exiting = has.not_exiting ∙ sym (never_exits st frames framed facts.not_exiting);
           exit_functions = λ alive. facts.no_exit;
         }
 
@@ -147,13 +146,26 @@ module _ (script : Script) where
         subst (λ (fs : List Frame). StatusFacts st why fs handlers s) (sym none) (facts (subst (λ (fs : List Frame). ByStatus script st why fs handlers s) none by))
 
     of_status : (st : Status) (frames : List Frame) → ByStatus script st why frames handlers s → StatusFacts st why frames handlers s
-    of_status status.Running frames by = of_framed status.Running frames refl refl (frame_facts why frames by.fit).not_exiting by
-    of_status (status.AtPoint index) frames by = of_framed (status.AtPoint index) frames refl refl (point_never_exits index frames) by.0
-    of_status (status.Joining id) frames by = of_framed (status.Joining id) frames refl refl (joining_never_exits id frames) by.0
+    of_status status.Running frames by = of_framed status.Running frames refl refl by
+    of_status (status.AtPoint index) frames by = of_framed (status.AtPoint index) frames refl refl by.0
+    of_status (status.Joining id) frames by = of_framed (status.Joining id) frames refl refl by.0
+    of_status (status.InSem sem) frames by = of_framed (status.InSem sem) frames refl refl by.0
+    of_status (status.Waiting c m) frames by = of_framed (status.Waiting c m) frames refl refl by.0
+    of_status (status.Reacquire c m cause) frames by = of_framed (status.Reacquire c m cause) frames refl refl by.0
     of_status status.Ending frames by = without_frames status.Ending frames by.no_frames of_ending by
     of_status (status.Ended v) frames by = without_frames (status.Ended v) frames by.no_frames (of_ended v) by
     of_status status.Exiting frames by = without_frames status.Exiting frames by.0 (λ exits. of_exiting exits.1) by
     of_status _ frames by = absurd by
+
+    suspended_by : (st : Status) (frames : List Frame) → ByStatus script st why frames handlers s → IsSuspendedAt (next_of script frames) st
+    suspended_by (status.InSem sem) frames by = by.1
+    suspended_by (status.Waiting c m) frames by = by.1
+    suspended_by (status.Reacquire c m cause) frames by = by.1
+    suspended_by _ frames by = tt
+
+    leaving_by : (st : Status) (frames : List Frame) → ByStatus script st why frames handlers s → has_left_wait st ≡ true → has_begun_to_end why ≡ false
+    leaving_by (status.Reacquire c m cause) frames by leaves = by.2 leaves
+    leaving_by _ frames by leaves = absurd (false≢true leaves)
 
   -- ---- threads
 
@@ -178,6 +190,8 @@ module _ (script : Script) where
         disabled = fits.agrees.disabled;
         joining = λ id is. (subst (λ (st : Status). ByStatus script st t.reason t.frames t.handlers s) is fits.by_status).1;
         at_point = λ index is. (subst (λ (st : Status). ByStatus script st t.reason t.frames t.handlers s) is fits.by_status).1;
+        suspended = suspended_by t.reason t.handlers s t.status t.frames fits.by_status;
+        leaving = leaving_by t.reason t.handlers s t.status t.frames fits.by_status;
         passes = fits.in_passes.current;
         not_destroyed = λ place key in_pass at. not_taken passes t.pass t.specific.in_pass s.passes s.destroyed fits.in_passes key.number
             (ap (is_in t.specific.in_pass) (on_own_place script keys kept place key at) ∙ get_or_from_slice_get t.specific.in_pass place true false in_pass);

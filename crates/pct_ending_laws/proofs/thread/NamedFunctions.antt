@@ -47,18 +47,18 @@ first_below p (x ∷ xs) any = some_cons p xs (p x) (first_below p xs) any
 -- ---- names
 
 -- the index of a name that is found is one of the names'
-found_below : (names : List (List ℕ)) (i : ℕ) → is_found names i ≡ true → i < length names
+pub found_below : (names : List (List ℕ)) (i : ℕ) → is_found names i ≡ true → i < length names
 found_below names i found = (position-Some (λ (name : List ℕ). bytes_eq name (name_at names i)) names i [] (close_at i (index_among names (name_at names i)) found)).0
 
 module _ (script : Script) where
-  abbrev contents : Contents
+  abbrev pub contents : Contents
   contents = record { globals = script.globals; mutexes = script.mutexes; conds = script.conds; sems = script.sems; funcs = script.funcs }
 
   item_below : (f : ℕ) → is_found (names_of script.funcs) f ≡ true → f < length script.funcs
   item_below f found = subst (λ (n : ℕ). f < n) (length-map script.funcs (λ (g : Func). g.name)) (found_below (names_of script.funcs) f found)
 
   -- some line is the encoding of a statement of the script
-  abbrev IsLine : Stmt → Type 0
+  abbrev pub IsLine : Stmt → Type 0
   IsLine s = (locals : List (List ℕ)) × (has_line contents locals s ≡ true)
 
   line_in : (frame : Frame) (s : Stmt) (func : Option Func) → slice_get script.funcs frame.func ≡ func → option_and_then (λ (f : Func). slice_get f.body frame.pc) func ≡ Some s → IsLine s
@@ -68,7 +68,7 @@ module _ (script : Script) where
       let lines : has_lines contents f ≡ true = item_passes (has_lines contents) script.funcs frame.func f spelled is in
       (f.locals, item_passes (has_line contents f.locals) f.body frame.pc s (lines_of_function contents f lines).body at)
 
-  line_of : (frame : Frame) (s : Stmt) → statement_at script frame ≡ Some s → IsLine s
+  pub line_of : (frame : Frame) (s : Stmt) → statement_at script frame ≡ Some s → IsLine s
   unfolding statement_at
   line_of frame s at = line_in frame s (slice_get script.funcs frame.func) refl at
 

@@ -36,12 +36,6 @@ use Rattle.pct_ending_laws.proofs.thread.ThreadRule.{summary, AllMayCome, Below,
 use Rattle.pct_ending_laws.proofs.thread.GoingOn.{writes, running, going_on_keeps}
 use Rattle.pct_ending_laws.proofs.thread.Ends.{leaves, leaves_handler}
 
--- a thread that has not begun to end has no reason to
-pub not_begun : (why : Reason) → has_begun_to_end why ≡ false → why ≡ reason.None
-not_begun reason.None e = refl
-not_begun (reason.Exit v) e = absurd (false≢true (sym e))
-not_begun reason.Canceled e = absurd (false≢true (sym e))
-
 -- ---- handlers
 
 handler_by : (why : Reason) (k : FrameKind) (below : List Frame) → has_begun_to_end why ≡ true → (FramesFit why below → is_in_handler below ≡ true) → Below k why below (FramesFit why below) → (is_handler_kind k || is_in_handler below) ≡ true

@@ -16,7 +16,7 @@ use Rattle.pct_model.specs.declared.transition.Transition.{Transition}
 use Rattle.pct_model.specs.declared.event.Event.{Event}
 use Rattle.pct_model.specs.declared.event.What.{What}
 use Rattle.pct_model.specs.Actions.{moved}
-use Rattle.pct_model.specs.Kept.{AreOpen, open_functions, is_join, is_call_of}
+use Rattle.pct_model.specs.Kept.{AreOpen, open_functions, is_join, is_call_of, IsSuspendedAt, has_left_wait}
 use Rattle.pct_model.specs.NextStatement.{next_of}
 use Rattle.pct_model.specs.StopTable.{has_begun_to_end}
 use Rattle.pct_model.specs.ThreadSummary.{ThreadSummary, no_events, with_event, summary_of}
@@ -97,11 +97,15 @@ module _ (script : Script) where
     not_exiting : s.exiting ≡ false;
   }
 
-  -- a thread, by its status; no thread has one of the other statuses yet
+  -- a thread, by its status: where it is suspended, and that it has not begun to end while it leaves a wait; no thread has one of the
+  -- other statuses yet
   abbrev pub ByStatus : Status → Reason → List Frame → List (ℕ × ℕ) → ThreadSummary → Type 0
   ByStatus status.Running why frames handlers s = HasFrames why frames handlers s
   ByStatus (status.AtPoint index) why frames handlers s = HasFrames why frames handlers s × (is_call_of index (next_of script frames) ≡ true)
   ByStatus (status.Joining id) why frames handlers s = HasFrames why frames handlers s × (is_join (next_of script frames) ≡ true)
+  ByStatus (status.InSem sem) why frames handlers s = HasFrames why frames handlers s × IsSuspendedAt (next_of script frames) (status.InSem sem)
+  ByStatus (status.Waiting c m) why frames handlers s = HasFrames why frames handlers s × IsSuspendedAt (next_of script frames) (status.Waiting c m)
+  ByStatus (status.Reacquire c m cause) why frames handlers s = HasFrames why frames handlers s × IsSuspendedAt (next_of script frames) (status.Reacquire c m cause) × (has_left_wait (status.Reacquire c m cause) ≡ true → has_begun_to_end why ≡ false)
   ByStatus status.Ending why frames handlers s = GoesToHandlers why frames handlers s
   ByStatus (status.Ended v) why frames handlers s = HasEnded v why frames handlers s
   ByStatus status.Exiting why frames handlers s = (frames ≡ []) × (s.exiting ≡ true)

@@ -8,6 +8,7 @@ use Rattle.pct_model.specs.declared.frame.Frame.{Frame}
 use Rattle.pct_model.specs.declared.schedule.Alt.{Alt}
 use Rattle.pct_model.specs.declared.schedule.Config.{Config}
 use Rattle.pct_model.specs.declared.script.Script.{Script}
+use Rattle.pct_model.specs.declared.state.Cause.TheVariants as cause
 use Rattle.pct_model.specs.declared.state.FrameKind.TheVariants as kind
 use Rattle.pct_model.specs.declared.state.Status.{Status}
 use Rattle.pct_model.specs.declared.state.Status.TheVariants as status
@@ -20,7 +21,8 @@ use Rattle.pct_model.specs.declared.transition.Transition.{Transition}
 use Rattle.pct_model.specs.Actions.{thread_at, thread_after}
 use Rattle.pct_model.specs.CancelCalls.{mode_number, mode_if, testcancel_point, point_kind, is_required}
 use Rattle.pct_model.specs.ChoiceTable.{choices_of, offers}
-use Rattle.pct_model.specs.Kept.{is_join, is_call_of, KeysKept}
+use Rattle.pct_model.specs.CondCalls.{cond_wait_point}
+use Rattle.pct_model.specs.Kept.{is_join, is_call_of, is_sem_wait_of, is_cond_wait_of, KeysKept}
 use Rattle.pct_model.specs.NextStatement.{NextStatement, next_in, next_of, body_at}
 use Rattle.pct_model.specs.OtherThreads.{Others, others_of}
 use Rattle.pct_model.specs.ThreadEnds.{end_value}
@@ -29,17 +31,17 @@ use Rattle.pct_model.specs.TransitionTable.{transition_by}
 use Rattle.pct_model.specs.World.{Thread, SharedState, Process, value_of}
 use Rattle.pct_transition_cases.proofs.CaseOfTransition.{case_of}
 use Rattle.pct_transition_cases.proofs.PlacedStatements.{IsPlaced, on_top, is_placed, statement_placed}
-use Rattle.pct_transition_cases.proofs.TransitionCases.{TransitionCase, rests, stopped, jumped, emitted, variable_set, variable_added, function_called, main_returned, start_returned, call_left, handler_left, exit_function_left, thread_made, thread_not_made, join_begun, join_ended, thread_detached, self_got, request_sent, state_set, mode_set, cancel_tested, point_begun, point_done, point_passed, canceled, canceled_at_point, canceled_in_join, key_made, key_not_made, key_deleted, specific_set, specific_got, handler_pushed, handler_popped, handler_called, exit_called, handler_run, destructor_called, pass_begun, thread_ended, thread_ended_with_keys, last_ended, last_ended_with_keys, process_ended}
+use Rattle.pct_transition_cases.proofs.TransitionCases.{TransitionCase, rests, stopped, jumped, emitted, variable_set, variable_added, function_called, main_returned, start_returned, call_left, handler_left, exit_function_left, thread_made, thread_not_made, join_begun, join_ended, thread_detached, self_got, request_sent, state_set, mode_set, cancel_tested, point_begun, point_done, point_passed, canceled, canceled_at_point, canceled_in_join, canceled_in_sem_wait, mutex_locked, mutex_unlocked, wait_begun, wait_ended, canceled_in_wait, canceled_after_wait, signal_handed_on, ended_in_wait, signal_sent, signal_lost, broadcast_sent, sem_wait_begun, sem_taken, sem_posted, key_made, key_not_made, key_deleted, specific_set, specific_got, handler_pushed, handler_popped, handler_called, exit_called, handler_run, destructor_called, pass_begun, thread_ended, thread_ended_with_keys, last_ended, last_ended_with_keys, process_ended}
 use Rattle.pct_ending_laws.proofs.StaticPushes.{PushesMatch}
 use Rattle.pct_ending_laws.proofs.lift.ThreadsAfter.{created_thread}
 use Rattle.pct_ending_laws.proofs.lift.OfferedNumbers.{left_key_of}
 use Rattle.pct_ending_laws.proofs.keys.LeftKeys.{left_in_pass, destructor_in_script}
 use Rattle.pct_ending_laws.proofs.thread.ThreadRule.{Fits, Keeps}
 use Rattle.pct_ending_laws.proofs.thread.NamedFunctions.{NamesFunctions}
-use Rattle.pct_ending_laws.proofs.thread.GoingOn.{running, by_handlers}
+use Rattle.pct_ending_laws.proofs.thread.GoingOn.{by_handlers}
 use Rattle.pct_ending_laws.proofs.thread.Handlers.{call_keeps, push_keeps, drop_keeps, run_keeps}
-use Rattle.pct_ending_laws.proofs.thread.Ends.{exit_keeps, begin_keeps, cancel_fits, handler_keeps, destructor_keeps, pass_keeps, end_lawful, leftover_lawful, ended_fits, exits_fit}
-use Rattle.pct_ending_laws.proofs.thread.Statements.{not_begun, new_fits, next_keeps, leads_keeps, kind_fits, call_left_keeps, handler_left_keeps, state_keeps}
+use Rattle.pct_ending_laws.proofs.thread.Ends.{not_begun, awake, suspends, cancel_keeps, leave_fits, end_in_wait_keeps, exit_keeps, begin_keeps, handler_keeps, destructor_keeps, pass_keeps, end_lawful, leftover_lawful, ended_fits, exits_fit}
+use Rattle.pct_ending_laws.proofs.thread.Statements.{new_fits, next_keeps, leads_keeps, kind_fits, call_left_keeps, handler_left_keeps, state_keeps}
 
 module _ (script : Script) (passes : ℕ) (matches : PushesMatch script) (names : NamesFunctions script) (shared : SharedState) (kept : KeysKept script shared.keys) (t : Thread) (others : Others) (reported : ThreadSummary) where
   -- the thread, with a status and frames
@@ -68,10 +70,9 @@ module _ (script : Script) (passes : ℕ) (matches : PushesMatch script) (names 
   -- threads
   case_keeps (on_top frame below s at) (thread_made _ result id f v detached new among) rule = let keeps = next_keeps script passes matches t frame below reported rule status.Running (statement.Create result id f v detached) at refl refl (action.Write result 0 ∷ action.Write id new ∷ []) (what.Created new detached ∷ []) refl refl (tt, tt) in record { own = keeps.own; lawful = keeps.lawful }
   case_keeps (on_top frame below s at) (thread_not_made _ result id f v detached) rule = next_keeps script passes matches t frame below reported rule status.Running (statement.Create result id f v detached) at refl refl (action.Write result 1 ∷ []) (what.Answer caller.Create 1 ∷ []) refl refl (tt, tt)
-  case_keeps (on_top frame below s at) (join_begun _ id d target seen other joinable unjoined) rule = record { own = record { agrees = rule.agrees; placed = rule.placed; by_status = (rule.by_status, ap (λ (x : Option Stmt). is_join (next_in frame x)) at); in_passes = rule.in_passes }; lawful = (tt, tt) }
+  case_keeps (on_top frame below s at) (join_begun _ id d target seen other joinable unjoined) rule = record { own = suspends script passes t status.Running (frame ∷ below) reported rule rule.by_status (status.Joining (value frame id)) (rule.by_status, ap (λ (x : Option Stmt). is_join (next_in frame x)) at); lawful = (tt, tt) }
   case_keeps (on_top frame below s at) (join_ended _ operand d id v target seen ended) rule =
-      let awake : Fits script passes (running t (frame ∷ below)) reported = record { agrees = rule.agrees; placed = rule.placed; by_status = rule.by_status.0; in_passes = rule.in_passes } in
-      next_keeps script passes matches t frame below reported awake (status.Joining id) (statement.Join operand d) at refl refl (action.EndJoin id ∷ action.Write d v ∷ []) (what.Joined id v ∷ []) refl refl (tt, tt)
+      next_keeps script passes matches t frame below reported (awake script passes t (status.Joining id) (frame ∷ below) reported rule rule.by_status.0) (status.Joining id) (statement.Join operand d) at refl refl (action.EndJoin id ∷ action.Write d v ∷ []) (what.Joined id v ∷ []) refl refl (tt, tt)
   case_keeps (on_top frame below s at) (thread_detached _ id target seen joinable unjoined) rule = next_keeps script passes matches t frame below reported rule status.Running (statement.Detach id) at refl refl (action.Detach (value frame id) ∷ []) (what.Detached (value frame id) ∷ []) refl refl (tt, tt)
   case_keeps (on_top frame below s at) (self_got _ d) rule = next_keeps script passes matches t frame below reported rule status.Running (statement.SelfId d) at refl refl (action.Write d t.id ∷ []) [] refl refl tt
   -- cancellation
@@ -79,22 +80,38 @@ module _ (script : Script) (passes : ℕ) (matches : PushesMatch script) (names 
   case_keeps (on_top frame below s at) (state_set _ enable old outside) rule = state_keeps script passes matches t frame below reported rule enable old at outside
   case_keeps (on_top frame below s at) (mode_set _ asynchronous old) rule = next_keeps script passes matches t frame below reported rule status.Running (statement.SetMode asynchronous old) at refl refl (action.SetMode (mode_if asynchronous) ∷ action.Write old (mode_number t.mode) ∷ []) (what.ModeSet asynchronous ∷ []) refl refl (tt, tt)
   case_keeps (on_top frame below s at) (cancel_tested _) rule = next_keeps script passes matches t frame below reported rule status.Running statement.TestCancel at refl refl [] (what.Done testcancel_point ∷ []) refl refl (tt, tt)
-  case_keeps (on_top frame below s at) (point_begun _ index is) rule = record {
-    own = record {
-      agrees = rule.agrees;
-      placed = rule.placed;
-      by_status = (rule.by_status, ap (λ (x : Option Stmt). is_call_of index (next_in frame x)) at ∙ and_from (nat_eq index index) (is_required (point_kind index)) (eq-eqb index index refl) (ap is_required is));
-      in_passes = rule.in_passes;
-    };
-    lawful = (tt, tt);
-  }
+  case_keeps (on_top frame below s at) (point_begun _ index is) rule =
+      let called : is_call_of index (next_of script (frame ∷ below)) ≡ true = ap (λ (x : Option Stmt). is_call_of index (next_in frame x)) at ∙ and_from (nat_eq index index) (is_required (point_kind index)) (eq-eqb index index refl) (ap is_required is) in
+      record { own = suspends script passes t status.Running (frame ∷ below) reported rule rule.by_status (status.AtPoint index) (rule.by_status, called); lawful = (tt, tt) }
   case_keeps (on_top frame below s at) (point_done _ index) rule = next_keeps script passes matches t frame below reported rule status.Running (statement.PointCall index) at refl refl [] (what.Done index ∷ []) refl refl (tt, tt)
   case_keeps (on_top frame below s at) (point_passed _ index i) rule =
-      let awake : Fits script passes (running t (frame ∷ below)) reported = record { agrees = rule.agrees; placed = rule.placed; by_status = rule.by_status.0; in_passes = rule.in_passes } in
-      next_keeps script passes matches t frame below reported awake (status.AtPoint index) (statement.PointCall i) at refl refl [] (what.Done index ∷ []) refl refl (tt, tt)
-  case_keeps {frames} place (canceled next enabled) rule = let ends = cancel_fits script passes (own status.Running frames) reported (enabled refl) rule.agrees rule.in_passes rule.by_status in record { own = ends.0; lawful = ends.1 }
-  case_keeps {frames} place (canceled_at_point next index enabled) rule = let ends = cancel_fits script passes (own (status.AtPoint index) frames) reported (enabled refl) rule.agrees rule.in_passes rule.by_status.0 in record { own = ends.0; lawful = ends.1 }
-  case_keeps {frames} place (canceled_in_join next id enabled) rule = let ends = cancel_fits script passes (own (status.Joining id) frames) reported (enabled refl) rule.agrees rule.in_passes rule.by_status.0 in record { own = ends.0; lawful = ends.1 }
+      next_keeps script passes matches t frame below reported (awake script passes t (status.AtPoint index) (frame ∷ below) reported rule rule.by_status.0) (status.AtPoint index) (statement.PointCall i) at refl refl [] (what.Done index ∷ []) refl refl (tt, tt)
+  case_keeps {frames} place (canceled next enabled) rule = cancel_keeps script passes t status.Running frames reported rule rule.by_status (enabled refl)
+  case_keeps {frames} place (canceled_at_point next index enabled) rule = cancel_keeps script passes t (status.AtPoint index) frames reported rule rule.by_status.0 (enabled refl)
+  case_keeps {frames} place (canceled_in_join next id enabled) rule = cancel_keeps script passes t (status.Joining id) frames reported rule rule.by_status.0 (enabled refl)
+  case_keeps {frames} place (canceled_in_sem_wait next sem enabled) rule = cancel_keeps script passes t (status.InSem sem) frames reported rule rule.by_status.0 (enabled refl)
+  -- mutexes
+  case_keeps (on_top frame below s at) (mutex_locked _ m free) rule = next_keeps script passes matches t frame below reported rule status.Running (statement.Lock m) at refl refl (action.OwnMutex m t.id ∷ []) (what.Acquired m ∷ []) refl refl (tt, tt)
+  case_keeps (on_top frame below s at) (mutex_unlocked _ m owned) rule = next_keeps script passes matches t frame below reported rule status.Running (statement.Unlock m) at refl refl (action.OwnMutex m 0 ∷ []) (what.Released m ∷ []) refl refl (tt, tt)
+  -- condition waits
+  case_keeps (on_top frame below s at) (wait_begun _ c m owned one) rule =
+      let called : is_cond_wait_of c m (next_of script (frame ∷ below)) ≡ true = ap (λ (x : Option Stmt). is_cond_wait_of c m (next_in frame x)) at ∙ and_from (nat_eq c c) (nat_eq m m) (eq-eqb c c refl) (eq-eqb m m refl) in
+      record { own = suspends script passes t status.Running (frame ∷ below) reported rule rule.by_status (status.Waiting c m) (rule.by_status, called); lawful = (tt, (tt, tt)) }
+  case_keeps (on_top frame below s at) (wait_ended _ cond mutex c m why returns free) rule =
+      next_keeps script passes matches t frame below reported (awake script passes t (status.Reacquire c m why) (frame ∷ below) reported rule rule.by_status.0) (status.Reacquire c m why) (statement.CondWait cond mutex) at refl refl (action.OwnMutex m t.id ∷ []) (what.Acquired m ∷ what.Done cond_wait_point ∷ []) refl refl (tt, (tt, tt))
+  case_keeps {frames} place (canceled_in_wait next c m enabled) rule = record { own = leave_fits script passes t (status.Waiting c m) frames reported rule rule.by_status.0 c m rule.by_status.1 (enabled refl); lawful = (tt, tt) }
+  case_keeps {frames} place (canceled_after_wait next c m why returns enabled) rule = record { own = leave_fits script passes t (status.Reacquire c m why) frames reported rule rule.by_status.0 c m rule.by_status.1 (enabled refl); lawful = (tt, tt) }
+  case_keeps {frames} place (signal_handed_on next c m u enabled waits) rule = record { own = leave_fits script passes t (status.Reacquire c m cause.Signalled) frames reported rule rule.by_status.0 c m rule.by_status.1 (enabled refl); lawful = (tt, (tt, tt)) }
+  case_keeps {frames} place (ended_in_wait next c m free) rule = end_in_wait_keeps script passes t (status.Reacquire c m cause.Canceled) frames reported rule rule.by_status.0 c m (rule.by_status.2 refl)
+  -- signals and broadcasts
+  case_keeps (on_top frame below s at) (signal_sent _ c u waits) rule = next_keeps script passes matches t frame below reported rule status.Running (statement.Signal c) at refl refl (action.Wake u ∷ []) (what.Signalled c u ∷ []) refl refl (tt, tt)
+  case_keeps (on_top frame below s at) (signal_lost _ c) rule = next_keeps script passes matches t frame below reported rule status.Running (statement.Signal c) at refl refl [] (what.Signalled c 0 ∷ []) refl refl (tt, tt)
+  case_keeps (on_top frame below s at) (broadcast_sent _ c) rule = next_keeps script passes matches t frame below reported rule status.Running (statement.Broadcast c) at refl refl (action.WakeAll c ∷ []) (what.BroadcastTo c _ ∷ []) refl refl (tt, tt)
+  -- semaphores
+  case_keeps (on_top frame below s at) (sem_wait_begun _ sem) rule = record { own = suspends script passes t status.Running (frame ∷ below) reported rule rule.by_status (status.InSem sem) (rule.by_status, ap (λ (x : Option Stmt). is_sem_wait_of sem (next_in frame x)) at ∙ eq-eqb sem sem refl); lawful = (tt, tt) }
+  case_keeps (on_top frame below s at) (sem_taken _ n sem some) rule =
+      next_keeps script passes matches t frame below reported (awake script passes t (status.InSem sem) (frame ∷ below) reported rule rule.by_status.0) (status.InSem sem) (statement.SemWait n) at refl refl (action.SetCount sem _ ∷ []) (what.Taken sem ∷ []) refl refl (tt, tt)
+  case_keeps (on_top frame below s at) (sem_posted _ sem) rule = next_keeps script passes matches t frame below reported rule status.Running (statement.SemPost sem) at refl refl (action.SetCount sem _ ∷ []) (what.Posted sem ∷ []) refl refl (tt, tt)
   -- keys
   case_keeps (on_top frame below s at) (key_made _ result key destructor k among) rule = next_keeps script passes matches t frame below reported rule status.Running (statement.KeyCreate result key destructor) at refl refl (action.MakeKey k destructor ∷ action.Write result 0 ∷ action.Write key k ∷ []) (what.KeyMade k ∷ []) refl refl (tt, tt)
   case_keeps (on_top frame below s at) (key_not_made _ result key destructor) rule = next_keeps script passes matches t frame below reported rule status.Running (statement.KeyCreate result key destructor) at refl refl (action.Write result 1 ∷ []) (what.Answer caller.KeyCreate 1 ∷ []) refl refl (tt, tt)

@@ -1,4 +1,4 @@
-use Rattle.std.proofs.Common.{length, sym, ◌∙◌}
+use Rattle.std.proofs.Common.{sym, ◌∙◌}
 use Rattle.pct_model.specs.ChoiceTable.{choices_at}
 use Rattle.pct_transitions.proofs.choice_table.choices_at.Goals as goal
 
@@ -7,8 +7,14 @@ returns-in-Running-clause-value c = λ shared t others is.
     let position = is.position_is in
     c.at_next.ensures.value shared t others is ∙ (λ i. choices_at shared t others (position.next_is i) ((sym c.in-Running.is ∙ position.status_is) i))
 
-pub returns-in-Joining-clause-within : goal.returns-in-Joining-clause-within
-returns-in-Joining-clause-within c = c.go_or_act-in-Joining.ensures.within (length c.args.context.now.threads.now)
-
 pub returns-in-AtPoint-clause-within : goal.returns-in-AtPoint-clause-within
-returns-in-AtPoint-clause-within c = c.go_or_act.ensures.within (length c.args.context.now.threads.now)
+returns-in-AtPoint-clause-within c = c.go_or_act.ensures.within _
+
+pub returns-in-Joining-clause-within : goal.returns-in-Joining-clause-within
+returns-in-Joining-clause-within c = c.go_or_act-in-Joining.ensures.within _
+
+pub returns-in-InSem-clause-within : goal.returns-in-InSem-clause-within
+returns-in-InSem-clause-within c = c.go_or_act-in-InSem.ensures.within _
+
+pub returns-in-Waiting-clause-within : goal.returns-in-Waiting-clause-within
+returns-in-Waiting-clause-within c = c.go_or_act-in-Waiting.ensures.within _

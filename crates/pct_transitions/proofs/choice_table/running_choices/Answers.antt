@@ -1,4 +1,4 @@
-use Rattle.std.proofs.Common.{◌≡◌, true, false, ◌&&◌, ◌++◌, length, sym, ap, ◌∙◌}
+use Rattle.std.proofs.Common.{◌≡◌, true, false, ◌&&◌, ◌++◌, sym, ap, ◌∙◌}
 use Rattle.pct_model.specs.Cancelability.{is_deliverable, is_asynchronous}
 use Rattle.pct_model.specs.ChoiceTable.{go_if, act_if}
 use Rattle.pct_model.specs.StopTable.{is_built}
@@ -28,7 +28,7 @@ returns-else-deliverable-clause-value c = λ shared t others is.
     c.statement_choices.ensures.value shared t others is ∙ statement_row shared t others c.args.statement.now deferred none
 
 pub returns-after-cancel-clause-within : goal.returns-after-cancel-clause-within
-returns-after-cancel-clause-within c = c.go_or_act.ensures.within (length c.args.context.now.threads.now)
+returns-after-cancel-clause-within c = c.go_or_act.ensures.within _
 
 pub returns-then-deliverable-clause-value : goal.returns-then-deliverable-clause-value
 returns-then-deliverable-clause-value c = λ shared t others is.

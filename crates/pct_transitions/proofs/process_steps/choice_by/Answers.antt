@@ -1,4 +1,4 @@
-use Rattle.std.proofs.Common.{◌≡◌, ℕ, ◌%◌, List, length, sym, ap, ◌∙◌, subst, arith}
+use Rattle.std.proofs.Common.{◌≡◌, ℕ, ◌%◌, List, length, sym, ap, ◌∙◌, arith}
 use Rattle.std.specs.Prelude.{slice_get}
 use Rattle.std.proofs.lemmas.Option.{slice_get_past}
 use Rattle.pct_model.specs.declared.schedule.Alt.{Alt}
@@ -6,11 +6,12 @@ use Rattle.pct_model.specs.Chosen.{item_at}
 use Rattle.pct_model.specs.ChoiceTable.{choices_at}
 use Rattle.pct_model.specs.NextStatement.{next_of}
 use Rattle.pct_engine_laws.specs.SeenSteps.{others_in}
-use Rattle.pct_transitions.specs.Listed.{listed, AreWithin}
+use Rattle.pct_transitions.specs.Listed.{listed}
+use Rattle.pct_transitions.proofs.OfferedLists.{has_row}
 use Rattle.pct_transitions.proofs.process_steps.choice_by.Goals as goal
 
 pub count-count-requires : goal.count-count-requires
-count-count-requires c = subst (λ (n : ℕ). AreWithin n c.choices_at-choices.result) (sym c.new-context.ensures.whole.rows) c.choices_at-choices.ensures.within
+count-count-requires c = has_row c.new-context.result.threads.now c.new-context.result.position.keys.now c.choices_at-choices.result c.new-context.ensures.whole.rows c.choices_at-choices.ensures.within
 
 pub returns-then-count-eq0 : goal.returns-then-count-eq0
 returns-then-count-eq0 c = λ t at.

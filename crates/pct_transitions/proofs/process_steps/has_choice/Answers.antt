@@ -1,14 +1,14 @@
-use Rattle.std.proofs.Common.{◌≡◌, ℕ, List, length, nat_lt, sym, ap, ◌∙◌, subst}
+use Rattle.std.proofs.Common.{ℕ, List, length, nat_lt, ap, ◌∙◌}
 use Rattle.pct_model.specs.declared.schedule.Alt.{Alt}
 use Rattle.pct_model.specs.ChoiceTable.{choices_at, is_enabled}
 use Rattle.pct_model.specs.NextStatement.{next_of}
 use Rattle.pct_engine_laws.specs.SeenSteps.{others_in}
-use Rattle.pct_transitions.specs.Listed.{listed, AreWithin}
-use Rattle.pct_transitions.proofs.OfferedLists.{enabled_by_count}
+use Rattle.pct_transitions.specs.Listed.{listed}
+use Rattle.pct_transitions.proofs.OfferedLists.{has_row, enabled_by_count}
 use Rattle.pct_transitions.proofs.process_steps.has_choice.Goals as goal
 
 pub count-requires : goal.count-requires
-count-requires c = subst (λ (n : ℕ). AreWithin n c.choices_at.result) (sym c.new-context.ensures.whole.rows) c.choices_at.ensures.within
+count-requires c = has_row c.new-context.result.threads.now c.new-context.result.position.keys.now c.choices_at.result c.new-context.ensures.whole.rows c.choices_at.ensures.within
 
 pub returns : goal.returns
 returns c = λ t at.

@@ -1,12 +1,14 @@
-use Rattle.std.proofs.Common.{length, sym, subst}
+use Rattle.std.proofs.Common.{length, sym, ap, ◌∙◌, subst, arith}
 use Rattle.pct_model.specs.declared.transition.Transition.{Transition}
+use Rattle.pct_model.specs.CancelCalls.{acts_on_request}
 use Rattle.pct_engine_laws.specs.Fitting.{TransitionFits}
 use Rattle.pct_transitions.proofs.Fits.{acting_fits, transition_fits}
 use Rattle.pct_transitions.proofs.transition_table.transition_by.Goals as goal
 
 pub returns-in-Act-clause-fits : goal.returns-in-Act-clause-fits
 returns-in-Act-clause-fits c = λ shared t others is.
-    subst (λ (o : Transition). TransitionFits (length t.frames) (length t.handlers) t.pass o) (sym c.acts_on_request.ensures) (acting_fits (length t.frames) (length t.handlers) t.pass c.args.context.now.position.thread.now.status)
+    let acted = c.acts_on_request.ensures ∙ ap (acts_on_request c.in-Act.id) is.position_is.status_is in
+    subst (λ (o : Transition). TransitionFits (length t.frames) (length t.handlers) t.pass o) (sym acted) (acting_fits c.args.context.now.program.now.script 0 (omega arith) shared t others c.in-Act.id)
 
 pub returns-in_default-clause-fits : goal.returns-in_default-clause-fits
 returns-in_default-clause-fits c = λ shared t others is.

@@ -1,12 +1,14 @@
 use Rattle.std.proofs.Common.{sym, ap, ◌∙◌}
 use Rattle.pct_model.specs.declared.schedule.Alt.TheVariants as alt
-use Rattle.pct_model.specs.ChoiceTable.{offers}
+use Rattle.pct_model.specs.ChoiceTable.{same_choice, offers}
 use Rattle.pct_model.specs.Keys.{new_keys, left_keys}
 use Rattle.pct_keys.specs.Tables.{row_at}
 use Rattle.pct_threads.specs.Tables.{next_id_at}
 use Rattle.pct_transitions.specs.Listed.{listed}
 use Rattle.pct_transitions.specs.declared.choice_table.Choices.{Choices}
-use Rattle.pct_transitions.proofs.ListedChoices.{never_new, never_dtor, none_offered}
+use Rattle.pct_engine_laws.proofs.ListFacts.{any-map}
+use Rattle.pct_transitions.specs.OtherThreads.{ids_on}
+use Rattle.pct_transitions.proofs.ListedChoices.{never_new, never_pick, never_dtor, none_offered}
 use Rattle.pct_transitions.proofs.choice_table.Choices.offers.Goals as goal
 
 pub returns-in-New-choice : goal.returns-in-New-choice
@@ -34,3 +36,14 @@ returns-in_default-choice-3 c =
     sym (ap (λ (choices : Choices). offers (listed c.args.threads.now c.args.keys.now choices) c.args.choice) c.in-Dtor.is
     ∙ none_offered (λ n. alt.Dtor n) c.args.choice
     (never_dtor c.args.choice c.in_default-choice-3.not-Dtor) (left_keys c.args.keys.now.places (row_at c.args.keys.now c.in-Dtor.slot)))
+
+pub returns-in-Pick-choice : goal.returns-in-Pick-choice
+returns-in-Pick-choice c =
+    c.has_id.ensures
+    ∙ sym (any-map (same_choice (alt.Pick c.in-Pick-choice.id)) (λ n. alt.Pick n) (ids_on c.args.threads.now c.in-Pick.waiting))
+    ∙ sym (λ i. offers (listed c.args.threads.now c.args.keys.now (c.in-Pick.is i)) (c.in-Pick-choice.is i))
+
+pub returns-in_default-choice-4 : goal.returns-in_default-choice-4
+returns-in_default-choice-4 c =
+    sym (ap (λ (choices : Choices). offers (listed c.args.threads.now c.args.keys.now choices) c.args.choice) c.in-Pick.is
+    ∙ none_offered (λ n. alt.Pick n) c.args.choice (never_pick c.args.choice c.in_default-choice-4.not-Pick) (ids_on c.args.threads.now c.in-Pick.waiting))

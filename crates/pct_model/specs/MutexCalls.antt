@@ -1,0 +1,33 @@
+-- Mutexes (XSH pthread_mutex_lock). Each mutex of a script is of the type PTHREAD_MUTEX_NORMAL and is not robust: a choice of this host.
+-- `next` is the pc of the next statement.
+use Rattle.std.specs.Prelude.{ℕ, Bool, false, not, [], ◌∷◌, nat_eq, slice_index}
+use Rattle.pct_model.specs.declared.event.What.TheVariants as what
+use Rattle.pct_model.specs.declared.statement.Stmt.{Stmt}
+use Rattle.pct_model.specs.declared.statement.Stmt.TheVariants as statement
+use Rattle.pct_model.specs.declared.transition.Action.TheVariants as action
+use Rattle.pct_model.specs.declared.transition.Transition.{Transition}
+use Rattle.pct_model.specs.Transitions.{goes_on}
+use Rattle.pct_model.specs.World.{SharedState}
+
+-- the thread with an id owns mutex m
+abbrev pub owns : ℕ → ℕ → SharedState → Bool
+owns id m shared = nat_eq (slice_index shared.owners m) id
+
+-- no thread owns mutex m
+abbrev pub is_free_mutex : ℕ → SharedState → Bool
+is_free_mutex m shared = owns 0 m shared
+
+-- the statement is pthread_mutex_lock of a mutex that has an owner. The owner itself is no exception: a thread that locks a mutex of this
+-- type again deadlocks
+abbrev pub is_blocked : Stmt → SharedState → Bool
+is_blocked (statement.Lock m) shared = not (is_free_mutex m shared)
+is_blocked s shared = false
+
+-- pthread_mutex_lock: the thread with this id owns mutex m
+unfoldable pub locks : ℕ → ℕ → ℕ → Transition
+locks next m id = goes_on next (action.OwnMutex m id ∷ []) (what.Acquired m ∷ [])
+
+-- pthread_mutex_unlock: mutex m has no owner. Which thread owns it next is not decided here: each one at pthread_mutex_lock, and each
+-- one in pthread_cond_wait that is no longer blocked on its condition variable, can go on
+unfoldable pub unlocks : ℕ → ℕ → Transition
+unlocks next m = goes_on next (action.OwnMutex m 0 ∷ []) (what.Released m ∷ [])

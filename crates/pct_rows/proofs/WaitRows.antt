@@ -1,0 +1,119 @@
+-- The choices and transitions of mutexes, condition variables and semaphores, by status: each cause, with the mutex free and owned, with a
+-- request and without; and states that no run reaches.
+use Rattle.std.proofs.Common.{◌≡◌, ℕ, true, List, [], ◌∷◌, map, None, refl}
+use Rattle.std.specs.Prelude.{flat_map}
+use Rattle.pct_model.specs.declared.event.What.TheVariants as what
+use Rattle.pct_model.specs.declared.schedule.Alt.{Alt}
+use Rattle.pct_model.specs.declared.schedule.Alt.TheVariants as alt
+use Rattle.pct_model.specs.declared.state.Cause.{Cause}
+use Rattle.pct_model.specs.declared.state.Cause.TheVariants as cause
+use Rattle.pct_model.specs.declared.state.Mode.TheVariants.{Asynchronous}
+use Rattle.pct_model.specs.declared.state.State.TheVariants.{Disable}
+use Rattle.pct_model.specs.declared.state.Status.{Status}
+use Rattle.pct_model.specs.declared.state.Status.TheVariants as status
+use Rattle.pct_model.specs.declared.statement.Stmt.TheVariants as statement
+use Rattle.pct_model.specs.declared.transition.Action.TheVariants as action
+use Rattle.pct_model.specs.declared.transition.Transition.{Transition}
+use Rattle.pct_model.specs.World.{Thread, SharedState, new_shared}
+use Rattle.pct_model.specs.Transitions.{goes_on, acts, no_change}
+use Rattle.pct_model.specs.CancelCalls.{acts_on_request}
+use Rattle.pct_model.specs.CondCalls.{broadcasts}
+use Rattle.pct_model.specs.SemCalls.{posts}
+use Rattle.pct_model.specs.OtherThreads.{others_of}
+use Rattle.pct_model.specs.ChoiceTable.{running_choices, choices_of}
+use Rattle.pct_model.specs.Actions.{after_transition}
+use Rattle.pct_rows.proofs.OnLiterals.{runs_on_literals}
+use Rattle.pct_rows.proofs.ExampleScripts.{smallest}
+use Rattle.pct_rows.proofs.ChoiceRows.{config, ready, in_status, process, nobody}
+
+-- mutex 0 has this owner; semaphore 0 has the count 0, semaphore 1 the count 1
+abbrev shared : ℕ → SharedState
+shared owner = record (new_shared smallest) { owners = owner ∷ []; counts = 0 ∷ 1 ∷ [] }
+
+-- threads 6 and 3, of which 6 is on the lower slot, wait on condition variable 1, and thread 4 on another one; in a run all that wait
+-- on one have the same mutex
+abbrev waiters : List Thread
+waiters = in_status 3 (status.Waiting 1 5) ∷ in_status 4 (status.Waiting 2 0) ∷ in_status 6 (status.Waiting 1 0) ∷ []
+
+-- ---- choices of suspended threads
+
+-- the choices of thread 1 with a status among other threads, where mutex 0 has this owner: without a request, with one, and with one
+-- while cancelability is disabled
+abbrev choices : List Thread → Status → ℕ → List (List Alt)
+choices others s owner = map (choices_of smallest config (record (process 1 (in_status 1 s ∷ others)) { shared = shared owner })) (in_status 1 s ∷ record (in_status 1 s) { pending = true } ∷ record (in_status 1 s) { pending = true; state = Disable } ∷ [])
+
+-- a thread that was unblocked from a wait on condition variable 1 with mutex 0, which has no owner, or thread 2 owns it
+abbrev unblocked_choices : List Thread → Cause → List (List (List Alt))
+unblocked_choices others why = map (choices others (status.Reacquire 1 0 why)) (0 ∷ 2 ∷ [])
+
+-- by a signal: another thread that waits gets the signal
+signalled : unblocked_choices waiters cause.Signalled ≡ ((alt.Go ∷ []) ∷ (alt.Go ∷ alt.Act 6 ∷ alt.Act 3 ∷ []) ∷ (alt.Go ∷ []) ∷ []) ∷ ([] ∷ (alt.Act 6 ∷ alt.Act 3 ∷ []) ∷ [] ∷ []) ∷ []
+unfolding runs_on_literals
+signalled = refl
+
+-- where no other thread waits
+signalled_alone : unblocked_choices [] cause.Signalled ≡ ((alt.Go ∷ []) ∷ (alt.Go ∷ alt.Act 0 ∷ []) ∷ (alt.Go ∷ []) ∷ []) ∷ ([] ∷ (alt.Act 0 ∷ []) ∷ [] ∷ []) ∷ []
+unfolding runs_on_literals
+signalled_alone = refl
+
+-- by a broadcast: no signal is handed on
+woken_by_a_broadcast : unblocked_choices waiters cause.Broadcast ≡ ((alt.Go ∷ []) ∷ (alt.Go ∷ alt.Act 0 ∷ []) ∷ (alt.Go ∷ []) ∷ []) ∷ ([] ∷ (alt.Act 0 ∷ []) ∷ [] ∷ []) ∷ []
+unfolding runs_on_literals
+woken_by_a_broadcast = refl
+
+-- by a request: it is not acted upon twice
+canceled : unblocked_choices waiters cause.Canceled ≡ ((alt.Go ∷ []) ∷ (alt.Go ∷ []) ∷ (alt.Go ∷ []) ∷ []) ∷ ([] ∷ [] ∷ [] ∷ []) ∷ []
+unfolding runs_on_literals
+canceled = refl
+
+-- a thread that waits has no other choice than to act upon a request; in sem_wait it goes on at a count above 0
+suspended : map (λ s. choices waiters s 0) (status.Waiting 1 0 ∷ status.InSem 0 ∷ status.InSem 1 ∷ []) ≡ ([] ∷ (alt.Act 0 ∷ []) ∷ [] ∷ []) ∷ ([] ∷ (alt.Act 0 ∷ []) ∷ [] ∷ []) ∷ ((alt.Go ∷ []) ∷ (alt.Go ∷ alt.Act 0 ∷ []) ∷ (alt.Go ∷ []) ∷ []) ∷ []
+unfolding runs_on_literals
+suspended = refl
+
+-- ---- choices of running threads
+
+-- the choices of a thread at pthread_mutex_lock of mutex 0: without an owner, owned by the thread itself, and by another one
+abbrev lock_choices : Thread → List (List Alt)
+lock_choices t = map (λ owner. running_choices (shared owner) t nobody (statement.Lock 0)) (0 ∷ 1 ∷ 2 ∷ [])
+
+-- the call is no cancellation point: with a request, and with none
+at_a_lock : map lock_choices (ready 1 ∷ record (ready 1) { pending = true } ∷ []) ≡ ((alt.Go ∷ []) ∷ [] ∷ [] ∷ []) ∷ ((alt.Go ∷ []) ∷ [] ∷ [] ∷ []) ∷ []
+unfolding runs_on_literals
+at_a_lock = refl
+
+-- with asynchronous cancelability `go` is the stop, whoever owns the mutex; but not while cancelability is disabled
+asynchronous_at_a_lock : map (λ t. lock_choices (record t { mode = Asynchronous })) (ready 1 ∷ record (ready 1) { pending = true } ∷ record (ready 1) { state = Disable } ∷ []) ≡ ((alt.Go ∷ []) ∷ (alt.Go ∷ []) ∷ (alt.Go ∷ []) ∷ []) ∷ ((alt.Go ∷ alt.Act 0 ∷ []) ∷ (alt.Go ∷ alt.Act 0 ∷ []) ∷ (alt.Go ∷ alt.Act 0 ∷ []) ∷ []) ∷ ((alt.Go ∷ []) ∷ [] ∷ [] ∷ []) ∷ []
+unfolding runs_on_literals
+asynchronous_at_a_lock = refl
+
+-- a signal unblocks one of the threads that wait on its condition variable
+at_a_signal : map (λ c. running_choices (shared 0) (ready 1) (others_of 4 waiters 1) (statement.Signal c)) (1 ∷ 2 ∷ 3 ∷ []) ≡ (alt.Pick 6 ∷ alt.Pick 3 ∷ []) ∷ (alt.Pick 4 ∷ []) ∷ (alt.Go ∷ []) ∷ []
+unfolding runs_on_literals
+at_a_signal = refl
+
+-- ---- transitions
+
+-- a thread that acts upon a request in a wait hands on a signal, if a signal unblocked it
+acts_in_a_wait : map (acts_on_request 3) (status.Waiting 1 0 ∷ status.Reacquire 1 0 cause.Signalled ∷ status.Reacquire 1 0 cause.Broadcast ∷ status.Reacquire 1 0 cause.Canceled ∷ []) ≡ acts (action.LeaveWait 1 0 ∷ []) (what.WaitCanceled 1 ∷ []) ∷ acts (action.LeaveWait 1 0 ∷ action.Wake 3 ∷ []) (what.WaitCanceled 1 ∷ what.HandedOn 1 3 ∷ []) ∷ acts (action.LeaveWait 1 0 ∷ []) (what.WaitCanceled 1 ∷ []) ∷ no_change ∷ []
+unfolding runs_on_literals
+acts_in_a_wait = refl
+
+-- the statuses in two processes after a transition of thread 1 of the first
+abbrev statuses_after : Transition → List Status
+statuses_after o = flat_map (λ p. map (λ t. t.status) p.threads) (after_transition 1 1 o (record { processes = process 1 (in_status 1 (status.Reacquire 1 0 cause.Signalled) ∷ waiters) ∷ process 2 (in_status 3 (status.Waiting 1 0) ∷ []) ∷ []; stop = None })).processes
+
+-- the thread that gets the signal has its own mutex to acquire
+after_a_hand_on : statuses_after (acts_on_request 3 (status.Reacquire 1 0 cause.Signalled)) ≡ status.Reacquire 1 0 cause.Canceled ∷ status.Reacquire 1 5 cause.Signalled ∷ status.Waiting 2 0 ∷ status.Waiting 1 0 ∷ status.Waiting 1 0 ∷ []
+unfolding runs_on_literals
+after_a_hand_on = refl
+
+-- a broadcast unblocks all threads of its process that wait on its condition variable
+after_a_broadcast : statuses_after (broadcasts 7 1 2) ≡ status.Running ∷ status.Reacquire 1 5 cause.Broadcast ∷ status.Waiting 2 0 ∷ status.Reacquire 1 0 cause.Broadcast ∷ status.Waiting 1 0 ∷ []
+unfolding runs_on_literals
+after_a_broadcast = refl
+
+-- a count is a number of 32 bits: the greatest is followed by 0
+the_greatest_count : posts 7 0 4294967295 ≡ goes_on 7 (action.SetCount 0 0 ∷ []) (what.Posted 0 ∷ [])
+unfolding runs_on_literals
+the_greatest_count = refl

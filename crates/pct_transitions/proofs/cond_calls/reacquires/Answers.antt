@@ -1,0 +1,17 @@
+use Rattle.std.proofs.Common.{inl, inr, sym, ap, ◌∙◌}
+use Rattle.pct_model.specs.declared.state.Cause.{Cause}
+use Rattle.pct_model.specs.CondCalls.{reacquires}
+use Rattle.pct_transitions.specs.Positions.{next_at}
+use Rattle.pct_transitions.proofs.cond_calls.reacquires.Goals as goal
+
+pub returns-in-Canceled : goal.returns-in-Canceled
+returns-in-Canceled c =
+    let next = next_at c.args.context.now.position.next in
+    c.ends_in_wait.ensures next ∙ ap (λ (why : Cause). reacquires c.args.context.now.position.id c.args.cond c.args.mutex why next) (sym c.in-Canceled.is)
+
+pub returns-in-Signalled : goal.returns-in-Signalled
+returns-in-Signalled c =
+    elim c.in-Signalled.is [
+      | inl signalled ↦ c.returns_from_wait.ensures.signalled c.args.cond ∙ ap (λ (why : Cause). reacquires c.args.context.now.position.id c.args.cond c.args.mutex why (next_at c.args.context.now.position.next)) (sym signalled)
+      | inr broadcast ↦ c.returns_from_wait.ensures.broadcast c.args.cond ∙ ap (λ (why : Cause). reacquires c.args.context.now.position.id c.args.cond c.args.mutex why (next_at c.args.context.now.position.next)) (sym broadcast)
+    ]

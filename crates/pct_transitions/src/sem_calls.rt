@@ -1,0 +1,68 @@
+//! The counts of semaphores, and the transitions of sem_wait and sem_post. `next` is the program counter of the next statement.
+
+ghost use Rattle.std.specs.Prelude.{◌≡◌, slice_index};
+ghost use Rattle.pct_model.specs.NextStatement.{StatementIn};
+ghost use Rattle.pct_model.specs.SemCalls.{begins_sem_wait, takes, posts};
+ghost use Rattle.pct_transitions.specs.Contexts.{IsWhole};
+ghost use Rattle.pct_transitions.specs.Positions.{next_at, IsAt};
+
+use crate::context::Context;
+use crate::current::{At, next_pc};
+use crate::transitions::{acts, goes_on, no_change};
+use pct_model::{Action, SEM_WAIT_POINT, Stmt, Transition, UpToThree, What};
+
+/// The count of the semaphore with this index, by the counts of all semaphores.
+pub(crate) fn count_of(counts: &[u32], sem: u32) -> u32
+    ensures { result ≡ slice_index counts.now sem }
+{
+    counts.get(sem as usize).copied().unwrap_or(0)
+}
+
+/// sem_wait: the thread is suspended until the count of the semaphore with this index is above 0.
+#[tactic(auto, unfolding(pct_model::specs::SemCalls::begins_sem_wait))]
+pub(crate) fn begins_sem_wait(sem: u32) -> Transition
+    ensures { result ≡ begins_sem_wait sem }
+{
+    acts(Action::BeginSem(sem), What::Called(SEM_WAIT_POINT))
+}
+
+/// A thread that is suspended in sem_wait for the semaphore with this index decrements the count, and returns.
+#[tactic(auto, unfolding(pct_model::specs::SemCalls::takes))]
+#[inline(always)]
+pub(crate) fn takes(context: &Context, sem: u32, transition: &mut Transition)
+    requires { IsWhole context.now }
+    ensures { transition.new ≡ takes sem (slice_index context.now.counts.now sem) (next_at context.now.position.next) }
+{
+    match &context.position.next {
+        None => *transition = no_change(),
+        Some(at) => *transition = takes_in(context, at, sem),
+    }
+}
+
+// The same, at a statement of its top frame.
+#[tactic(auto, using(crate::proofs::Bodies::pc_within), unfolding(pct_model::specs::SemCalls::takes))]
+fn takes_in(context: &Context, at: &At, sem: u32) -> Transition
+    requires { IsAt context.now.program.now.script at.now }
+    ensures { result ≡ takes sem (slice_index context.now.counts.now sem) (StatementIn at.now.frame.now at.now.statement.now) }
+{
+    match at.statement {
+        Stmt::SemWait(_) => goes_on(
+            next_pc(at.frame),
+            UpToThree::one(Action::SetCount(sem, count_of(context.counts, sem).saturating_sub(1))),
+            UpToThree::one(What::Taken(sem)),
+        ),
+        _ => no_change(),
+    }
+}
+
+/// sem_post: the count of the semaphore with this index is incremented, modulo 2^32.
+#[tactic(auto, unfolding(pct_model::specs::SemCalls::posts))]
+pub(crate) fn posts(next: u32, sem: u32, count: u32) -> Transition
+    ensures { result ≡ posts next sem count }
+{
+    goes_on(
+        next,
+        UpToThree::one(Action::SetCount(sem, count.wrapping_add(1))),
+        UpToThree::one(What::Posted(sem)),
+    )
+}
