@@ -55,7 +55,9 @@ SPOKEN = {
     "condition variables": {"pthread_cond_wait", "pthread_cond_signal", "pthread_cond_broadcast"},
     "condition waits": {"pthread_cond_wait", "pthread_cond_signal", "pthread_cond_broadcast"},
     "semaphores": {"sem_wait", "sem_post"},
-    "processes": {"fork", "waitpid", "exit", "_exit"},
+    "process exits": {"exit", "_exit"},
+    "exit functions": {"atexit"},
+    "child processes": {"fork", "waitpid"},
     "fork handlers": {"pthread_atfork"},
 }
 

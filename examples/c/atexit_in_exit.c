@@ -3,7 +3,7 @@
  * Standard: atexit, exit
  * Row:      atexit during exit
  * Script:   examples/library_atexit_in_exit.pct
- * Host:     planned: atexit gives 1, and the function is not called
+ * Host:     atexit gives 1, and the function is not called
  */
 #define _XOPEN_SOURCE 700
 #include <pthread.h>

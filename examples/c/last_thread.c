@@ -2,7 +2,7 @@
  *
  * Standard: pthread_exit
  * Row:      The last thread
- * Script:   examples/last_thread.pct
+ * Script:   examples/last_thread_exits.pct
  * Host:     the initial thread is joined, and the last thread exits the process with status 0
  */
 #define _XOPEN_SOURCE 700

@@ -18,7 +18,7 @@ use Rattle.pct_engine_laws.specs.SeenSteps.{thread_on, thread_with}
 use Rattle.pct_engine_laws.proofs.ThreadChanges.{on_thread, on_thread_keeps, named_keeps, transition_keeps_id}
 use Rattle.pct_process.specs.ProcessViews.{slots_of, ProcessData}
 use Rattle.pct_process.proofs.ViewedSlots.{length-slots_of}
-use Rattle.pct_actions.specs.ProcessChanges.{IsOnSlot, AreOnSlots, JoinFits, EndsNoJoin, AllEndNoJoin, JoinsFit, Makes}
+use Rattle.pct_actions.specs.ProcessChanges.{IsOnSlot, AreOnSlots, FitsIn, FitsAnywhere, AllFitAnywhere, AllFitIn, Makes}
 use Rattle.pct_actions.specs.ProcessParts.{slot_changed, with_slot, action_made, OwnFits, ActionsFit}
 use Rattle.pct_actions.proofs.ChangedSlots.{on_slot-here, changed_here, one_changed, on_slots_kept, all_made}
 use Rattle.pct_actions.proofs.OwnThread.{kept_fit}
@@ -45,19 +45,20 @@ own_of keys threads fit shared p view tid slot o is inside needs =
       at = at ∙ ap (λ (d : ProcessData). slot_of (length d.slots) tid) view;
     }
 
--- ---- the threads that it names
+-- ---- actions that need nothing of the process
 
-quiet_fits : (tid : ℕ) (a : Action) (slots : List SeenSlot) → EndsNoJoin a → JoinFits tid a slots
-quiet_fits tid (action.EndJoin id) slots quiet = absurd quiet
-quiet_fits tid _ slots quiet = tt
+fits_in : (tid : ℕ) (a : Action) (p : ProcessData) → FitsAnywhere a → FitsIn tid a p
+fits_in tid (action.EndJoin id) p anywhere = absurd anywhere
+fits_in tid (action.AddExit f) p anywhere = absurd anywhere
+fits_in tid _ p anywhere = tt
 
-quiet_fit : (tid : ℕ) (actions : List Action) (slots : List SeenSlot) → AllEndNoJoin actions → JoinsFit tid actions slots
-quiet_fit tid [] slots quiet = tt
-quiet_fit tid (a ∷ actions) slots quiet = (quiet_fits tid a slots quiet.0, quiet.1)
+all_fit_in : (tid : ℕ) (actions : List Action) (p : ProcessData) → AllFitAnywhere actions → AllFitIn tid actions p
+all_fit_in tid [] p anywhere = tt
+all_fit_in tid (a ∷ actions) p anywhere = (fits_in tid a p anywhere.0, anywhere.1)
 
 module _ (p : ProcessData) (a : Action) (actions : List Action) (fit : ActionsFit (a ∷ actions) p) where
   pub first_fits : ActionsFit (a ∷ []) p
-  first_fits = record { on_slots = fit.on_slots; tid = fit.tid; specific = fit.specific; keys = (fit.keys.0, tt); joins = (fit.joins.0, tt) }
+  first_fits = record { on_slots = fit.on_slots; tid = fit.tid; specific = fit.specific; keys = (fit.keys.0, tt); in_process = (fit.in_process.0, tt) }
 
   pub rest_fit : ActionsFit actions (action_made a p)
   rest_fit = record {
@@ -65,7 +66,7 @@ module _ (p : ProcessData) (a : Action) (actions : List Action) (fit : ActionsFi
     tid = fit.tid;
     specific = fit.specific;
     keys = kept_fit actions (action_made a p).shared.keys fit.specific fit.keys.1;
-    joins = quiet_fit fit.tid actions (action_made a p).slots fit.joins.1;
+    in_process = all_fit_in fit.tid actions (action_made a p) fit.in_process.1;
   }
 
 -- ---- after the thread's own part
@@ -118,13 +119,14 @@ module _ (tid : ℕ) (o : Transition) (slot : ℕ) (p : ProcessData) (on : AreOn
       gone true = ap (λ (d : Bool). cond d (Some (moved o t)) None) (ne_eqb (moved o t).id id (λ same. other (sym (sym (transition_keeps_id o t ∙ it.named) ∙ same))))
       gone false = refl
 
-  join_kept : (a : Action) → JoinFits tid a p.slots → JoinFits tid a after
-  join_kept (action.EndJoin id) fits = (fits.0, other_stays (λ t. is_ended_status t.status ≡ true) id fits.0 fits.1)
-  join_kept _ fits = tt
+  fit_kept : (a : Action) → FitsIn tid a p → FitsIn tid a (with_slot slot change p)
+  fit_kept (action.EndJoin id) fits = (fits.0, other_stays (λ t. is_ended_status t.status ≡ true) id fits.0 fits.1)
+  fit_kept (action.AddExit f) fits = fits
+  fit_kept _ fits = tt
 
-  joins_kept : (actions : List Action) → JoinsFit tid actions p.slots → JoinsFit tid actions after
-  joins_kept [] fits = tt
-  joins_kept (a ∷ actions) fits = (join_kept a fits.0, fits.1)
+  all_fit_kept : (actions : List Action) → AllFitIn tid actions p → AllFitIn tid actions (with_slot slot change p)
+  all_fit_kept [] fits = tt
+  all_fit_kept (a ∷ actions) fits = (fit_kept a fits.0, fits.1)
 
   -- the actions fit the process
   pub actions_fit : Makes tid o p → ActionsFit o.actions (with_slot slot change p)
@@ -133,7 +135,7 @@ module _ (tid : ℕ) (o : Transition) (slot : ℕ) (p : ProcessData) (on : AreOn
     tid = tid;
     specific = needs.thread.specific;
     keys = needs.keys;
-    joins = joins_kept o.actions needs.joins;
+    in_process = all_fit_kept o.actions needs.in_process;
   }
 
   -- and after them it is that of the transition, but for the thread that it creates

@@ -21,9 +21,9 @@ use Rattle.pct_engine_laws.specs.Seen.{SeenSlot}
 use Rattle.pct_engine_laws.specs.SeenSteps.{thread_with}
 use Rattle.pct_engine_laws.proofs.ThreadChanges.{unblocked_ended}
 use Rattle.pct_process.specs.ThreadViews.{thread_of, threads_of, slot_view, with_specific}
-use Rattle.pct_process.specs.ProcessViews.{with_row, slots_of, thread_on_slot}
+use Rattle.pct_process.specs.ProcessViews.{with_row, slots_of, thread_on_slot, ProcessData}
 use Rattle.pct_process.proofs.ViewedSlots.{own, length-slots_of, slot_here, thread_on_slot-is, thread_with-is}
-use Rattle.pct_actions.specs.ProcessChanges.{IsOnSlot, AreOnSlots, JoinFits}
+use Rattle.pct_actions.specs.ProcessChanges.{IsOnSlot, AreOnSlots, JoinFits, FitsIn}
 use Rattle.pct_actions.specs.ProcessParts.{on_threads, slot_changed}
 use Rattle.pct_actions.specs.SharedChanges.{forgotten, slot_named, on_named, requested, woken, woken_from, named_on, NameFits}
 use Rattle.pct_actions.proofs.ChangedSlots.{none_changed, none_leaves, one_changed}
@@ -32,7 +32,8 @@ use Rattle.pct_actions.proofs.TableSlots.{seen_at, changed_thread}
 -- ---- a change of all threads
 
 -- the slots after a change of each slot and of each row
-all_with : (to : KeyValues → KeyValues) (change : Slot → Slot) (f : Thread → Thread) → ((row : KeyValues) (s : Slot) → with_row (to row) (slot_view (change s)) ≡ on_threads f (with_row row (slot_view s)))
+all_with : (to : KeyValues → KeyValues) (change : Slot → Slot) (f : Thread → Thread)
+    → ((row : KeyValues) (s : Slot) → with_row (to row) (slot_view (change s)) ≡ on_threads f (with_row row (slot_view s)))
     → (rows : List KeyValues) (threads : List Slot) → length rows ≡ length threads → slots_of (map to rows) (map change threads) ≡ map (on_threads f) (slots_of rows threads)
 all_with to change f same rows [] fit = refl
 all_with to change f same [] (s ∷ threads) fit = absurd (omega (arith, fit))
@@ -53,7 +54,8 @@ key_forgotten place rows threads fit =
     ∙ all_with (without_value place) (λ s. s) (λ t. record t { specific = without_value place t.specific }) (λ row s. forgotten_here place row s.made s.here) rows threads fit
 
 -- a slot whose thread is unblocked by a broadcast, if it waits on a condition variable
-broadcast_here : (c : ℕ) (row : KeyValues) (made : ℕ) (o : Option Held) → with_row row (record { made = made; here = threads_of (option_map (woken_from c) o) }) ≡ on_threads (named_after (action.WakeAll c)) (with_row row (record { made = made; here = threads_of o }))
+broadcast_here : (c : ℕ) (row : KeyValues) (made : ℕ) (o : Option Held)
+    → with_row row (record { made = made; here = threads_of (option_map (woken_from c) o) }) ≡ on_threads (named_after (action.WakeAll c)) (with_row row (record { made = made; here = threads_of o }))
 unfolding named_after
 broadcast_here c row made None = refl
 broadcast_here c row made (Some h) = λ i. record { made = made; here = by (is_waiting_on c h.thread.status) i } where
@@ -160,7 +162,7 @@ module _ (keys : Table) (threads : List Slot) (fit : length keys.rows ≡ length
       on_named_is = by (has_id id (slot_at threads place)) refl
 
     -- a thread that was joined has ended
-    ended_here : (tid : ℕ) → JoinFits tid (action.EndJoin id) slots → (h : Held) → held_at threads place ≡ Some h → nat_eq h.id id ≡ true → is_ended_status h.thread.status ≡ true
+    ended_here : (tid : ℕ) → JoinFits tid id slots → (h : Held) → held_at threads place ≡ Some h → nat_eq h.id id ≡ true → is_ended_status h.thread.status ≡ true
     ended_here tid fits h here named =
         let found : thread_with (length slots) id slots ≡ Some (own keys threads fit place h) = thread_with-is keys threads fit id place refl (within-occupied threads place (ap is_some here))
         ∙ ap (λ (b : Bool). cond b (thread_on_slot slots place) None) (ap (λ (o : Option Held). option_map_or (λ x. nat_eq x.id id) o false) here ∙ named)
@@ -168,7 +170,7 @@ module _ (keys : Table) (threads : List Slot) (fit : length keys.rows ≡ length
         ∙ ap (option_map (own keys threads fit place)) here in
         subst (λ (o : Option Thread). IfSome o (λ t. is_ended_status t.status ≡ true)) found fits.1
 
-    reclaimable_here : (tid : ℕ) → JoinFits tid (action.EndJoin id) slots → IfSome (slot_named id threads) (λ target. is_reclaimable_at threads target ≡ true)
+    reclaimable_here : (tid : ℕ) → JoinFits tid id slots → IfSome (slot_named id threads) (λ target. is_reclaimable_at threads target ≡ true)
     reclaimable_here tid fits = by_has (has_id id (slot_at threads place)) refl where
       not_detached : (e d : Bool) → e ≡ true → not (e && d) ≡ true → not d ≡ true
       not_detached true d ended holds = holds
@@ -186,23 +188,23 @@ module _ (keys : Table) (threads : List Slot) (fit : length keys.rows ≡ length
 
 -- ---- an action, where the table has forgotten a key that it deletes
 
-module _ (keys : Table) (threads : List Slot) (fit : length keys.rows ≡ length threads) (tid : ℕ) (old : List SeenSlot) (before : AreOnSlots old) where
-  abbrev on : slots_of keys.rows threads ≡ old → AreOnSlots (slots_of keys.rows threads)
+module _ (keys : Table) (threads : List Slot) (fit : length keys.rows ≡ length threads) (tid : ℕ) (p : ProcessData) (before : AreOnSlots p.slots) where
+  abbrev on : slots_of keys.rows threads ≡ p.slots → AreOnSlots (slots_of keys.rows threads)
   on same = subst AreOnSlots (sym same) before
 
   -- an action that fits the data fits the table
-  pub name_fits : (a : Action) → slots_of keys.rows threads ≡ forgotten a old → JoinFits tid a old → NameFits a threads
+  pub name_fits : (a : Action) → slots_of keys.rows threads ≡ forgotten a p.slots → FitsIn tid a p → NameFits a threads
   unfolding forgotten
-  name_fits (action.EndJoin id) same fits = reclaimable_here keys threads fit (on same) id tid (subst (JoinFits tid (action.EndJoin id)) (sym same) fits)
+  name_fits (action.EndJoin id) same fits = reclaimable_here keys threads fit (on same) id tid (subst (JoinFits tid id) (sym same) fits)
   name_fits _ same fits = tt
 
   -- the slots after it
-  pub named_is : (a : Action) → slots_of keys.rows threads ≡ forgotten a old → JoinFits tid a old → slots_of keys.rows (named_on a threads) ≡ map (slot_changed (named_after a)) old
+  pub named_is : (a : Action) → slots_of keys.rows threads ≡ forgotten a p.slots → FitsIn tid a p → slots_of keys.rows (named_on a threads) ≡ map (slot_changed (named_after a)) p.slots
   unfolding named_on named_after forgotten
   named_is (action.EndJoin id) same fits =
       on_named_is keys threads fit (on same) id freed (named_after (action.EndJoin id)) refl
       (λ x other. ap (λ (b : Bool). cond (b && holds_slot x) (record x { joined = true }) x) other)
-      (λ h here named holds. joined_here (row_at keys (slot_of (length threads) id)) id h named holds (ended_here keys threads fit (on same) id tid (subst (JoinFits tid (action.EndJoin id)) (sym same) fits) h here named))
+      (λ h here named holds. joined_here (row_at keys (slot_of (length threads) id)) id h named holds (ended_here keys threads fit (on same) id tid (subst (JoinFits tid id) (sym same) fits) h here named))
       ∙ ap (map (slot_changed (named_after (action.EndJoin id)))) same
   named_is (action.Request id) same fits =
       let row : KeyValues = row_at keys (slot_of (length threads) id) in
@@ -226,6 +228,6 @@ module _ (keys : Table) (threads : List Slot) (fit : length keys.rows ≡ length
       ap (λ (rows : List KeyValues). slots_of rows (map (with_change (woken_from c)) threads)) (sym (map-id keys.rows))
       ∙ all_with (λ row. row) (with_change (woken_from c)) (named_after (action.WakeAll c)) (λ row s. broadcast_here c row s.made s.here) keys.rows threads fit
       ∙ ap (map (on_threads (named_after (action.WakeAll c)))) same
-      ∙ none_leaves old before (named_after (action.WakeAll c)) (still_holds c)
-  named_is (action.DeleteKey k) same fits = same ∙ none_leaves old before (named_after (action.DeleteKey k)) (λ t. refl)
-  named_is _ same fits = same ∙ sym (none_changed old before (λ t. t) (λ t. refl))
+      ∙ none_leaves p.slots before (named_after (action.WakeAll c)) (still_holds c)
+  named_is (action.DeleteKey k) same fits = same ∙ none_leaves p.slots before (named_after (action.DeleteKey k)) (λ t. refl)
+  named_is _ same fits = same ∙ sym (none_changed p.slots before (λ t. t) (λ t. refl))

@@ -24,7 +24,8 @@ module _ (change : Held → Held) (old : List Slot) where
     by false None at has = λ i. record { made = (slot_at old s).made; here = (at ∙ sym (ap (option_map change) at)) i }
     by false (Some h) at has = absurd (false≢true has)
 
-  module _ (rest : List ℕ) (new : List Slot) (slot : ℕ) (small : slot < 64) (first : Some slot ≡ slice_get rest 0) (scan : Scans (λ s. false) (is_occupied_at old) rest []) (but : ChangedBut rest new) where
+  module _ (rest : List ℕ) (new : List Slot) (slot : ℕ) (small : slot < 64) (first : Some slot ≡ slice_get rest 0) (scan : Scans (λ s. false) (is_occupied_at old) rest [])
+      (but : ChangedBut rest new) where
     -- the first slot is as it was
     as_it_was : slot_at new slot ≡ slot_at old slot
     as_it_was = but slot small ∙ ap (λ (b : Bool). cond b (slot_at old slot) (with_change change (slot_at old slot))) (first_has rest slot (sym first))
@@ -41,7 +42,8 @@ module _ (change : Held → Held) (old : List Slot) where
         let left : has_slot (without_slot slot rest) s ≡ (not (nat_eq s slot) && has_slot rest s) = has_where (λ k. not (nat_eq k slot) && has_slot rest k) s low in
         elim (cases_eq s slot) [
           | inl same ↦
-              ap (slot_at (on_held slot change new)) same ∙ get_or-set_same new slot x unused (within-occupied new slot still_occupied) ∙ ap (with_change change) (as_it_was ∙ ap (slot_at old) (sym same))
+              ap (slot_at (on_held slot change new)) same ∙ get_or-set_same new slot x unused (within-occupied new slot still_occupied)
+              ∙ ap (with_change change) (as_it_was ∙ ap (slot_at old) (sym same))
               ∙ sym (ap by (left ∙ ap (λ (b : Bool). not b && has_slot rest s) (eq-eqb s slot same)))
           | inr other ↦ get_or-set_other new slot s x unused other ∙ but s low ∙ sym (ap by (left ∙ ap (λ (b : Bool). not b && has_slot rest s) (ne_eqb s slot other)))
         ]

@@ -1,6 +1,7 @@
 -- What a transition changes in a process, and what it needs of it, in words of the data of the process.
-use Rattle.std.specs.Prelude.{◌≡◌, ◌≢◌, ℕ, true, List, [], ◌∷◌, length, All, Some, IfSome, nat_eq, slice_get}
+use Rattle.std.specs.Prelude.{◌≡◌, ◌≢◌, ℕ, ◌<◌, true, List, [], ◌∷◌, length, All, Some, IfSome, nat_eq, slice_get}
 use Rattle.std.specs.List.{list_any}
+use Rattle.pct_model.specs.declared.limits.TheConstants.{MAX_EXIT_FUNCTIONS}
 use Rattle.pct_model.specs.declared.transition.Action.{Action}
 use Rattle.pct_model.specs.declared.transition.Action.TheVariants as action
 use Rattle.pct_model.specs.declared.transition.Transition.{Transition}
@@ -30,33 +31,41 @@ pub record IsOnSlot (slots s : ℕ) (t : Thread) : Type 0 where
 abbrev pub AreOnSlots : List SeenSlot → Type 0
 AreOnSlots slots = (s : ℕ) (slot : SeenSlot) → slice_get slots s ≡ Some slot → All (IsOnSlot (length slots) s) slot.here
 
--- an action of the thread with an id fits the slots: a thread that was joined is another one, and has ended
-abbrev pub JoinFits : ℕ → Action → List SeenSlot → Type 0
-JoinFits tid (action.EndJoin id) slots = (id ≢ tid) × IfSome (thread_with (length slots) id slots) (λ t. is_ended_status t.status ≡ true)
-JoinFits tid _ slots = Unit {0}
+-- the thread with this id can join the one with another id: if that one is found, it has ended
+abbrev pub JoinFits : ℕ → ℕ → List SeenSlot → Type 0
+JoinFits tid id slots = (id ≢ tid) × IfSome (thread_with (length slots) id slots) (λ t. is_ended_status t.status ≡ true)
 
--- the action ends no join
-abbrev pub EndsNoJoin : Action → Type 0
-EndsNoJoin (action.EndJoin id) = ⊥
-EndsNoJoin _ = Unit {0}
+-- an action of the thread with an id fits the process: a thread that it joins can be joined, and there is room for a function that it
+-- registers with atexit
+abbrev pub FitsIn : ℕ → Action → ProcessData → Type 0
+FitsIn tid (action.EndJoin id) p = JoinFits tid id p.slots
+FitsIn tid (action.AddExit f) p = length p.shared.exit_functions < MAX_EXIT_FUNCTIONS
+FitsIn tid _ p = Unit {0}
+
+-- the action needs nothing of the process
+abbrev pub FitsAnywhere : Action → Type 0
+FitsAnywhere (action.EndJoin id) = ⊥
+FitsAnywhere (action.AddExit f) = ⊥
+FitsAnywhere _ = Unit {0}
 
 -- none of the actions does
-abbrev pub AllEndNoJoin : List Action → Type 0
-AllEndNoJoin [] = Unit {0}
-AllEndNoJoin (a ∷ actions) = EndsNoJoin a × AllEndNoJoin actions
+abbrev pub AllFitAnywhere : List Action → Type 0
+AllFitAnywhere [] = Unit {0}
+AllFitAnywhere (a ∷ actions) = FitsAnywhere a × AllFitAnywhere actions
 
--- the first of the actions of the thread with an id fits the slots, and the others end no join
-abbrev pub JoinsFit : ℕ → List Action → List SeenSlot → Type 0
-JoinsFit tid [] slots = Unit {0}
-JoinsFit tid (a ∷ actions) slots = JoinFits tid a slots × AllEndNoJoin actions
+-- the first of the actions of the thread with an id fits the process, and the others need nothing of it
+abbrev pub AllFitIn : ℕ → List Action → ProcessData → Type 0
+AllFitIn tid [] p = Unit {0}
+AllFitIn tid (a ∷ actions) p = FitsIn tid a p × AllFitAnywhere actions
 
 -- a transition of the thread with an id fits the process: the thread holds its slot and has room for the actions; the keys and the
--- threads that the actions name are as the actions need them; and a thread that is created gets an id that a new thread can get
+-- threads that the actions name are as the actions need them; there is room for a function that is registered; and a thread that is created
+-- gets an id that a new thread can get
 pub record Makes (tid : ℕ) (o : Transition) (p : ProcessData) : Type 0 where
   pub on_slots : AreOnSlots p.slots
   pub thread : Thread
   pub here : thread_with (length p.slots) tid p.slots ≡ Some thread
   pub fits : AllFit (length thread.frames) (length thread.handlers) thread.pass o.actions
   pub keys : KeysFit o.actions p.shared.keys thread.specific
-  pub joins : JoinsFit tid o.actions p.slots
+  pub in_process : AllFitIn tid o.actions p
   pub created : IfSome o.created (λ new. list_any (nat_eq new.id) (new_ids_from (length p.slots) 0 p.slots) ≡ true)

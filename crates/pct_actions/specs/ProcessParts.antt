@@ -13,7 +13,7 @@ use Rattle.pct_engine_laws.specs.Seen.{SeenSlot, on_slot, with_created}
 use Rattle.pct_engine_laws.specs.SeenSteps.{new_ids_from}
 use Rattle.pct_process.specs.ProcessViews.{ProcessData}
 use Rattle.pct_actions.specs.KeysFit.{KeysFit}
-use Rattle.pct_actions.specs.ProcessChanges.{AreOnSlots, JoinsFit}
+use Rattle.pct_actions.specs.ProcessChanges.{AreOnSlots, AllFitIn}
 
 -- ---- slots
 
@@ -59,7 +59,7 @@ pub record ActionsFit (actions : List Action) (p : ProcessData) : Type 0 where
   pub tid : ℕ
   pub specific : KeyValues
   pub keys : KeysFit actions p.shared.keys specific
-  pub joins : JoinsFit tid actions p.slots
+  pub in_process : AllFitIn tid actions p
 
 -- the thread that a transition creates has an id that a new thread can get
 abbrev pub NewFits : Option NewThread → ProcessData → Type 0

@@ -1,14 +1,16 @@
 -- Every run keeps the laws of its events, and ends in a state that keeps the invariant.
 use Rattle.std.proofs.Common.{◌≡◌, ℕ, false, List, Some, option_and_then, sym, ap, ◌∙◌}
+use Rattle.std.proofs.lemmas.List.Elements.{All-from_recursion}
 use Rattle.std.proofs.lemmas.Option.{option_and_then_some}
 use Rattle.pct_model.specs.declared.script.Script.{Script}
 use Rattle.pct_model.specs.declared.schedule.Config.{Config}
 use Rattle.pct_model.specs.declared.schedule.Entry.{Entry}
 use Rattle.pct_model.specs.declared.state.Status.TheVariants as status
-use Rattle.pct_model.specs.Kept.{IsSuspendedInJoin}
+use Rattle.pct_model.specs.Kept.{IsPlainFunction, IsSuspendedInJoin}
 use Rattle.pct_model.specs.Run.{Run, run}
 use Rattle.pct_model.specs.World.{Thread, made_process, made_thread, thread_with}
 use Rattle.pct_ending_laws.specs.EndingLaws.{RunsKeepLaws, StatesAreKept}
+use Rattle.pct_ending_laws.proofs.exits.RegisteredFunctions.{registered_of_run}
 use Rattle.pct_ending_laws.proofs.ThreadsOfRun.{once_of_run, keys_kept, threads_kept, last_kept}
 use Rattle.pct_ending_laws.proofs.lift.MadeNumbers.{numbers_of_run}
 use Rattle.pct_ending_laws.proofs.joins.JoinTransitions.{is_in_join}
@@ -51,6 +53,7 @@ every_state_is_kept script config entries r is = record {
   numbers = numbers_of_run script config entries r is;
   known = known_of_run script config entries r is;
   keys = keys_kept script config entries r is;
+  exit_functions = λ pid p made. All-from_recursion (IsPlainFunction script) p.shared.exit_functions (registered_of_run script config entries r is pid p made);
   threads = λ pid p made tid t found here. threads_kept script config entries r is pid tid p t made found here;
   joined = joined_of_run script config entries r is;
   detached = detached_of_run script config entries r is;

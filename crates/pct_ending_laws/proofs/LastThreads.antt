@@ -21,8 +21,8 @@ use Rattle.pct_ending_laws.proofs.lift.MadeThreads.{IsLive}
 use Rattle.pct_ending_laws.proofs.lift.ThreadsAfter.{initial_thread, Moves, mover, is_mover, each_after}
 use Rattle.pct_ending_laws.proofs.lift.EveryProcess.{OfEveryProcess, IsProcessRule, unread, every_process_keeps, moves_in}
 use Rattle.pct_ending_laws.proofs.lift.EveryThread.{OfEveryThread, OfItsThreads, of_its_threads}
-use Rattle.pct_ending_laws.proofs.thread.ThreadRule.{summary, Fits}
-use Rattle.pct_ending_laws.proofs.thread.EndingSteps.{NeverEnds, moved_end, EndsThread, ends_only, GoesOn, after_end, ended_by_status}
+use Rattle.pct_ending_laws.proofs.thread.ThreadRule.{summary, FitsAny}
+use Rattle.pct_ending_laws.proofs.thread.EndingSteps.{NeverEnds, moved_end, EndsThread, ends_only, GoesOn, goes_on, ended_by_status}
 use Rattle.pct_transition_cases.proofs.CaseOfTransition.{case_of}
 use Rattle.pct_transition_cases.proofs.TransitionCases.{TransitionCase}
 
@@ -65,7 +65,7 @@ ended_by true false reclaimed false false is by_status other last = absurd (fals
 abbrev KeepsLast : Process → Type 0
 KeepsLast p = LastExits p.threads
 
-module _ (script : Script) (config : Config) (p : Process) (e : Entry) (t : Thread) (of_threads : OfItsThreads summary (Fits script config.passes) p) (moves : Moves script config p e t) (last : LastExits p.threads) where
+module _ (script : Script) (config : Config) (p : Process) (e : Entry) (t : Thread) (of_threads : OfItsThreads summary (FitsAny script config.passes) p) (moves : Moves script config p e t) (last : LastExits p.threads) where
   abbrev o : Transition
   o = transition_by script config p t e.alt
 
@@ -103,16 +103,16 @@ module _ (script : Script) (config : Config) (p : Process) (e : Entry) (t : Thre
   its_case = case_of config.passes (body_at script t.frames) p.shared t seen true e.alt (next_of script t.frames) t.status (λ known. moves.offered)
 
   -- if it has ended, it goes on, and creates nothing
-  goes_on : t.ended ≡ true → GoesOn t.status o
-  goes_on ended =
-      let rule : (s : ThreadSummary) × Fits script config.passes t s = of_threads e.tid t it.found it.here in
-      after_end config.passes (body_at script t.frames) p.shared t seen script t.reason t.frames t.handlers rule.0 (rule.1.agrees.end ∙ ended) t.status rule.1.by_status its_case
+  its_goes_on : t.ended ≡ true → GoesOn t.status o
+  its_goes_on ended =
+      let rule : (s : ThreadSummary) × FitsAny script config.passes t s = of_threads e.tid t it.found it.here in
+      goes_on script config p t rule.0 e.alt moves.offered rule.1 ended
 
   -- where each thread had ended, each has after the transition
   ended_stay : AllEnded p.threads → AllEnded next.threads
   ended_stay all =
       let ended : t.ended ≡ true = all e.tid t it.found it.here in
-      let goes = goes_on ended in
+      let goes = its_goes_on ended in
       all_ended (λ id u is present other. all id u is present) (moved_end o goes.never t ∙ ended) goes.none
 
   -- where it ends as the last thread, each other has ended
@@ -120,7 +120,7 @@ module _ (script : Script) (config : Config) (p : Process) (e : Entry) (t : Thre
   unfolding others_of
   others_if_last alone id u is present other =
       let passes : (not (holds_slot u) || (u.ended || nat_eq u.id t.id)) ≡ true = item_passes (λ (x : Thread). not (holds_slot x) || (x.ended || nat_eq x.id t.id)) p.threads (position_or_len (λ (x : Thread). nat_eq x.id id) p.threads) u alone (found_at (λ (x : Thread). nat_eq x.id id) p.threads u is) in
-      let rule : (s : ThreadSummary) × Fits script config.passes u s = of_threads id u is present in
+      let rule : (s : ThreadSummary) × FitsAny script config.passes u s = of_threads id u is present in
       ended_by (not u.gone) (is_ended_status u.status) (u.joined || u.detached) u.ended (nat_eq u.id t.id) (ap not present)
       (λ is_end. sym rule.1.agrees.end ∙ ended_by_status script u.status u.reason u.frames u.handlers rule.0 is_end rule.1.by_status)
       (ap (λ (n : ℕ). nat_eq u.id n && holds_slot u) it.number ∙ other) passes
@@ -136,7 +136,7 @@ module _ (script : Script) (config : Config) (p : Process) (e : Entry) (t : Thre
 
   -- where the thread that moves exits after the transition
   it_exits : (ended : Bool) → t.ended ≡ ended → (moved o t).ended ≡ true → is_ended_status (moved o t).status ≡ false → AllEnded next.threads
-  it_exits true ended ends status = ended_stay (last e.tid t it.found (it.here, ended, (goes_on ended).alive))
+  it_exits true ended ends status = ended_stay (last e.tid t it.found (it.here, ended, (its_goes_on ended).alive))
   it_exits false alive ends status = ends_now alive ends status
 
   moved_exits : (id : ℕ) (u : Thread) → thread_with id p ≡ Some u → (live : Bool) → is_live_thread e.tid u ≡ live → ExitsAfterEnd (thread_moved e.tid o u) → AllEnded next.threads
@@ -152,7 +152,7 @@ module _ (script : Script) (config : Config) (p : Process) (e : Entry) (t : Thre
 
 -- ---- every run
 
-last_rule : (script : Script) (config : Config) → IsProcessRule unread (λ p k. KeepsLast p) script config (λ p e t. OfItsThreads summary (Fits script config.passes) p × Moves script config p e t)
+last_rule : (script : Script) (config : Config) → IsProcessRule unread (λ p k. KeepsLast p) script config (λ p e t. OfItsThreads summary (FitsAny script config.passes) p × Moves script config p e t)
 last_rule script config = record {
   initial = λ id t found exits. absurd (false≢true (ap (λ (u : Thread). u.ended) (cond_some (nat_eq 1 id) (initial_thread script) t found).1 ∙ exits.1));
   own = λ p e t k known last. last_after script config p e t known.0 known.1 last;
@@ -161,7 +161,7 @@ last_rule script config = record {
 
 -- after every run, a thread that has ended exits its process only if each thread of the process has ended, if the rule holds of every
 -- thread
-pub last_exits : (script : Script) (config : Config) → AfterEveryRun script config (OfEveryThread summary (Fits script config.passes)) → AfterEveryRun script config (OfEveryProcess KeepsLast)
+pub last_exits : (script : Script) (config : Config) → AfterEveryRun script config (OfEveryThread summary (FitsAny script config.passes)) → AfterEveryRun script config (OfEveryProcess KeepsLast)
 last_exits script config of =
-    let K : Process → Type 0 = OfItsThreads summary (Fits script config.passes) in
-    every_process_keeps script config (λ p e t. K p × Moves script config p e t) KeepsLast (last_rule script config) (moves_in script config K (λ entries r is. of_its_threads summary (Fits script config.passes) r (of entries r is)))
+    let K : Process → Type 0 = OfItsThreads summary (FitsAny script config.passes) in
+    every_process_keeps script config (λ p e t. K p × Moves script config p e t) KeepsLast (last_rule script config) (moves_in script config K (λ entries r is. of_its_threads summary (FitsAny script config.passes) r (of entries r is)))

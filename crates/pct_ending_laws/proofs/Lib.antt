@@ -3,6 +3,7 @@ pub mod StaticPushes
 pub mod lift
 pub mod keys
 pub mod thread
+pub mod exits
 pub mod ThreadsOfRun
 pub mod owners
 pub mod LastThreads

@@ -1,5 +1,5 @@
 -- What every run keeps of each thread: the rule of the thread, and so the sentences of Kept.antt.
-use Rattle.std.proofs.Common.{◌≡◌, ℕ, Bool, true, false, not, ◌&&◌, cond, List, [], ◌∷◌, ◌++◌, map, reverse, Some, option_and_then, refl, sym, ap, ◌∙◌, subst, eq-eqb}
+use Rattle.std.proofs.Common.{◌≡◌, ℕ, Bool, true, false, not, ◌&&◌, cond, List, [], ◌∷◌, ◌++◌, map, reverse, Some, option_and_then, inl, inr, refl, sym, ap, ◌∙◌, subst, eq-eqb}
 use Rattle.std.proofs.lemmas.Bool.{false≢true}
 use Rattle.pct_model.specs.declared.event.Event.{Event}
 use Rattle.pct_model.specs.declared.event.What.{What}
@@ -25,19 +25,20 @@ use Rattle.pct_model.specs.Names.{main_of, names_of}
 use Rattle.pct_model.specs.Once.{MayCome, Once}
 use Rattle.pct_model.specs.Run.{Run, event_of, run}
 use Rattle.pct_model.specs.ThreadSlots.{is_ended_status, is_live_thread}
-use Rattle.pct_model.specs.ThreadSummary.{ThreadSummary, summary_of}
+use Rattle.pct_model.specs.ThreadSummary.{ThreadSummary, no_events, summary_of}
 use Rattle.pct_model.specs.TransitionTable.{transition_by}
 use Rattle.pct_model.specs.World.{Thread, Process, made_process, thread_with}
 use Rattle.pct_ending_laws.proofs.StaticPushes.{push_matches}
 use Rattle.pct_ending_laws.proofs.LastThreads.{last_exits}
 use Rattle.pct_ending_laws.proofs.lift.TakenSteps.{IsTaken, with_step, AfterEveryRun, every_run}
-use Rattle.pct_ending_laws.proofs.lift.ThreadsAfter.{Moves, mover}
-use Rattle.pct_ending_laws.proofs.lift.EveryProcess.{process_taken, moves_in}
+use Rattle.pct_ending_laws.proofs.lift.ThreadsAfter.{initial_thread, Moves, mover}
+use Rattle.pct_ending_laws.proofs.lift.EveryProcess.{OfEveryProcess, process_taken, moves_in}
 use Rattle.pct_ending_laws.proofs.lift.ReportedBy.{Reading, reported_by, own_after, of_thread, after_all, read_step}
 use Rattle.pct_ending_laws.proofs.lift.EveryThread.{OfEveryThread, of_made_thread, IsThreadRule, every_thread}
+use Rattle.pct_ending_laws.proofs.exits.RegisteredFunctions.{RegistersPlain, registered_of_run}
 use Rattle.pct_ending_laws.proofs.keys.KeysOfProcesses.{KeysFit, keys_of_run}
 use Rattle.pct_ending_laws.proofs.thread.Passes.{leaves_pass}
-use Rattle.pct_ending_laws.proofs.thread.ThreadRule.{summary, summary_reading, AllMayCome, ByStatus, Fits, Keeps}
+use Rattle.pct_ending_laws.proofs.thread.ThreadRule.{summary, summary_reading, AllMayCome, ByStatus, ByAnyStatus, FitsAny, in_any, KeepsAny}
 use Rattle.pct_ending_laws.proofs.thread.NamedFunctions.{names_functions}
 use Rattle.pct_ending_laws.proofs.thread.Statements.{new_fits}
 use Rattle.pct_ending_laws.proofs.thread.Transitions.{transition_keeps, created_fits}
@@ -47,7 +48,7 @@ use Rattle.pct_ending_laws.proofs.thread.KeptThreads.{kept_thread}
 
 module _ (script : Script) (passes : ℕ) where
   -- a thread that another one names
-  named_if : (named : Bool) (changed t : Thread) (s : ThreadSummary) → Fits script passes changed s → Fits script passes t s → Fits script passes (cond named changed t) s
+  named_if : (named : Bool) (changed t : Thread) (s : ThreadSummary) → FitsAny script passes changed s → FitsAny script passes t s → FitsAny script passes (cond named changed t) s
   named_if true changed t s changed_fits fits = changed_fits
   named_if false changed t s changed_fits fits = fits
 
@@ -56,10 +57,15 @@ module _ (script : Script) (passes : ℕ) where
   unblocked_by why stays (status.Waiting c m) reason frames handlers s by = (by.0, by.1, λ leaves. absurd (false≢true (sym (stays c m) ∙ leaves)))
   unblocked_by why stays _ reason frames handlers s by = by
 
-  unblocked_fits : (why : Cause) → ((c m : ℕ) → has_left_wait (status.Reacquire c m why) ≡ false) → (t : Thread) (s : ThreadSummary) → Fits script passes t s → Fits script passes (record t { status = unblocked why t.status }) s
-  unblocked_fits why stays t s fits = record { agrees = fits.agrees; placed = fits.placed; by_status = unblocked_by why stays t.status t.reason t.frames t.handlers s fits.by_status; in_passes = fits.in_passes }
+  any_unblocked : (why : Cause) → ((c m : ℕ) → has_left_wait (status.Reacquire c m why) ≡ false) → (st : Status) (reason : Reason) (frames : List Frame) (handlers : List (ℕ × ℕ)) (s : ThreadSummary) → ByAnyStatus script st reason frames handlers s → ByAnyStatus script (unblocked why st) reason frames handlers s
+  any_unblocked why stays st reason frames handlers s (inl by) = inl (unblocked_by why stays st reason frames handlers s by)
+  any_unblocked why stays status.Running reason frames handlers s (inr exits) = inr exits
+  any_unblocked why stays _ reason frames handlers s (inr exits) = absurd exits
 
-  named_fits : (a : Action) (t : Thread) (s : ThreadSummary) → Fits script passes t s → Fits script passes (named_after a t) s
+  unblocked_fits : (why : Cause) → ((c m : ℕ) → has_left_wait (status.Reacquire c m why) ≡ false) → (t : Thread) (s : ThreadSummary) → FitsAny script passes t s → FitsAny script passes (record t { status = unblocked why t.status }) s
+  unblocked_fits why stays t s fits = record { agrees = fits.agrees; placed = fits.placed; by_status = any_unblocked why stays t.status t.reason t.frames t.handlers s fits.by_status; in_passes = fits.in_passes }
+
+  named_fits : (a : Action) (t : Thread) (s : ThreadSummary) → FitsAny script passes t s → FitsAny script passes (named_after a t) s
   unfolding named_after
   named_fits (action.EndJoin id) t s fits = named_if (is_live_thread id t) (record t { joined = true }) t s fits fits
   named_fits (action.Request id) t s fits = named_if (is_live_thread id t && not t.ended) (record t { pending = true }) t s fits fits
@@ -97,28 +103,35 @@ module _ (script : Script) (config : Config) where
   abbrev passes : ℕ
   passes = config.passes
 
-  keeps : (p : Process) (t : Thread) (s : ThreadSummary) (choice : Alt) → KeysFit script p → offers (choices_of script config p t) choice ≡ true → Fits script passes t s → Keeps script passes t s (transition_by script config p t choice)
-  keeps p t s choice keys = transition_keeps script (push_matches script) (names_functions script) config p t s choice keys.keys
+  -- what is known of the process of a thread: its keys are kept, and its registered functions are plain
+  abbrev ProcessFits : Process → Type 0
+  ProcessFits p = KeysFit script p × RegistersPlain script p
 
-  -- each thread keeps the rule, in a process whose keys are kept
-  thread_rule : IsThreadRule summary (Fits script passes) script config (KeysFit script)
+  keeps : (p : Process) (t : Thread) (s : ThreadSummary) (choice : Alt) → ProcessFits p → offers (choices_of script config p t) choice ≡ true → FitsAny script passes t s → KeepsAny script passes t s (transition_by script config p t choice)
+  keeps p t s choice known = transition_keeps script (push_matches script) (names_functions script) config p t s choice known.0.keys known.1
+
+  -- each thread keeps the rule, in such a process
+  thread_rule : IsThreadRule summary (FitsAny script passes) script config ProcessFits
   thread_rule = record {
-    initial = new_fits script passes (push_matches script) 1 (main_of (names_of script.funcs)) 0 false kind.Main (names_functions script).main (refl, refl);
-    created = λ p t s choice new keys offered fits is. created_fits script (push_matches script) (names_functions script) config p t choice keys.keys offered new is;
+    initial = in_any script passes (initial_thread script) no_events (new_fits script passes (push_matches script) 1 (main_of (names_of script.funcs)) 0 false kind.Main (names_functions script).main (refl, refl));
+    created = λ p t s choice new known offered fits is. created_fits script (push_matches script) (names_functions script) config p t choice known.0.keys known.1 offered new is;
     named = named_fits script passes;
-    kept = λ p t s choice keys offered fits. (keeps p t s choice keys offered fits).own;
+    kept = λ p t s choice known offered fits. (keeps p t s choice known offered fits).own;
   }
 
   -- ---- runs
 
+  processes_fit : AfterEveryRun script config (OfEveryProcess ProcessFits)
+  processes_fit entries r is pid p made = (keys_of_run script config entries r is pid p made, registered_of_run script config entries r is pid p made)
+
   -- after every run, the rule holds of every thread
-  pub threads_fit : AfterEveryRun script config (OfEveryThread summary (Fits script passes))
-  threads_fit = every_thread summary (Fits script passes) script config (KeysFit script) thread_rule (keys_of_run script config)
+  pub threads_fit : AfterEveryRun script config (OfEveryThread summary (FitsAny script passes))
+  threads_fit = every_thread summary (FitsAny script passes) script config ProcessFits thread_rule processes_fit
 
   once_kept : (before : List Entry) (r : Run) → run script config before ≡ Some r → (e : Entry) (p : Process) (t : Thread) → IsTaken script config r.world e p t → Once passes r.events → Once passes (with_step e (transition_by script config p t e.alt) r).events
   once_kept before r is e p t taken once =
-      let known : KeysFit script p × Moves script config p e t = moves_in script config (KeysFit script) (keys_of_run script config) before r is e p t taken in
-      let fits : Fits script passes t (reported_by (of_thread summary e.tid) e.pid r.events) = of_made_thread summary (Fits script passes) r (threads_fit before r is) e.pid e.tid t (ap (option_and_then (thread_with e.tid)) (process_taken script config before r is e p t taken) ∙ (mover script config p e t known.1).found) (mover script config p e t known.1).here in
+      let known : ProcessFits p × Moves script config p e t = moves_in script config ProcessFits processes_fit before r is e p t taken in
+      let fits : FitsAny script passes t (reported_by (of_thread summary e.tid) e.pid r.events) = of_made_thread summary (FitsAny script passes) r (threads_fit before r is) e.pid e.tid t (ap (option_and_then (thread_with e.tid)) (process_taken script config before r is e p t taken) ∙ (mover script config p e t known.1).found) (mover script config p e t known.1).here in
       once_later passes e r.events (reverse (transition_by script config p t e.alt).events) (keeps p t (reported_by (of_thread summary e.tid) e.pid r.events) e.alt known.0 taken.offered fits).lawful once
 
   -- the law of cleanup handlers and destructors
@@ -133,7 +146,7 @@ module _ (script : Script) (config : Config) where
     -- a thread of a process that was made and is not gone
     pub threads_kept : (pid tid : ℕ) (p : Process) (t : Thread) → made_process pid r.world ≡ Some p → thread_with tid p ≡ Some t → t.gone ≡ false → ThreadKept script p.shared.keys t (summary_of pid tid r.events)
     threads_kept pid tid p t made found here =
-        let fits : Fits script passes t (summary_of pid tid r.events) = subst (Fits script passes t) (sym (summary_reading tid pid r.events)) (of_made_thread summary (Fits script passes) r (threads_fit entries r is) pid tid t (ap (option_and_then (thread_with tid)) made ∙ found) here) in
+        let fits : FitsAny script passes t (summary_of pid tid r.events) = subst (FitsAny script passes t) (sym (summary_reading tid pid r.events)) (of_made_thread summary (FitsAny script passes) r (threads_fit entries r is) pid tid t (ap (option_and_then (thread_with tid)) made ∙ found) here) in
         let keys : KeysFit script p = keys_of_run script config entries r is pid p made in
         kept_thread script passes p.shared.keys t (summary_of pid tid r.events) keys.keys (keys.empty tid t found) fits
 

@@ -2,7 +2,7 @@
 use Rattle.std.proofs.Common.{◌≡◌, ℕ, true, false, List, length, Option, Some, None, refl, sym, ap, ◌∙◌, subst}
 use Rattle.std.specs.Prelude.{IfSome, is_some, is_none, nat_eq}
 use Rattle.std.specs.List.{list_any}
-use Rattle.std.proofs.lemmas.Bool.{false≢true, true≢false}
+use Rattle.std.proofs.lemmas.Bool.{false≢true, true≢false, and_parts, ltb-true}
 use Rattle.std.proofs.lemmas.Option.{same_Some}
 use Rattle.pct_model.specs.declared.script.Script.{Script}
 use Rattle.pct_model.specs.declared.schedule.Alt.{Alt}
@@ -18,13 +18,13 @@ use Rattle.pct_model.specs.World.{Thread}
 use Rattle.pct_engine_laws.specs.Fitting.{AllFit}
 use Rattle.pct_engine_laws.specs.SeenSteps.{thread_with, new_ids_from, others_in, choices_in, transition_in}
 use Rattle.pct_transition_cases.proofs.CaseOfTransition.{case_of}
-use Rattle.pct_transition_cases.proofs.TransitionCases.{TransitionCase, thread_made, join_ended, key_made, key_deleted, specific_set, destructor_called}
+use Rattle.pct_transition_cases.proofs.TransitionCases.{TransitionCase, thread_made, join_ended, key_made, key_deleted, specific_set, destructor_called, exit_registered}
 use Rattle.pct_process.specs.ProcessViews.{ProcessData}
 use Rattle.pct_transitions.specs.Numbers.{AreOnPlaces}
 use Rattle.pct_transitions.specs.ProcessSteps.{with_data}
 use Rattle.pct_transitions.proofs.KeyChoices.{new_fits, left_fits}
 use Rattle.pct_actions.specs.KeysFit.{KeysFit}
-use Rattle.pct_actions.specs.ProcessChanges.{AreOnSlots, JoinsFit, Makes}
+use Rattle.pct_actions.specs.ProcessChanges.{AreOnSlots, AllFitIn, Makes}
 
 -- ---- keys
 
@@ -53,9 +53,9 @@ module _ (script : Script) (passes tid : ℕ) (d : ProcessData) (t : Thread) (ch
   keys_fit on (destructor_called next k f key none is destructor among) = (left_fits d.shared.keys t.specific k on (among refl), (tt, tt))
   keys_fit on _ = assumption
 
-  joins_fit : {next : NextStatement} {s : Status} {o : Transition} → t.status ≡ s → Case (others_in slots d.slots t.id) next s o → JoinsFit tid o.actions d.slots
+  all_fit_in : {next : NextStatement} {s : Status} {o : Transition} → t.status ≡ s → Case (others_in slots d.slots t.id) next s o → AllFitIn tid o.actions d
   unfolding others_in
-  joins_fit at (join_ended frame operand e id v target is ended) =
+  all_fit_in at (join_ended frame operand e id v target is ended) =
       let has_ended : is_ended_status target.status ≡ true = ap is_ended_status ended in (
         (
           λ same. let mover : target ≡ t = same_Some target t (sym is ∙ ap (λ (k : ℕ). thread_with slots k d.slots) same ∙ found) in false≢true (sym (ap is_ended_status at) ∙ ap (λ (u : Thread). is_ended_status u.status) (sym mover) ∙ has_ended),
@@ -63,7 +63,8 @@ module _ (script : Script) (passes tid : ℕ) (d : ProcessData) (t : Thread) (ch
         ),
         (tt, tt),
       )
-  joins_fit at _ = assumption
+  all_fit_in at (exit_registered frame result f may) = (ltb-true (length d.shared.exit_functions) 32 (and_parts _ _ may).0, (tt, tt))
+  all_fit_in at _ = assumption
 
   created_fits : {next : NextStatement} {s : Status} {o : Transition} → Case (others_in slots d.slots t.id) next s o → IfSome o.created (λ new. list_any (nat_eq new.id) (new_ids_from slots 0 d.slots) ≡ true)
   unfolding others_in
@@ -83,6 +84,6 @@ module _ (script : Script) (passes tid : ℕ) (d : ProcessData) (t : Thread) (ch
         here = found;
         fits = fits;
         keys = keys_fit on its_case;
-        joins = joins_fit refl its_case;
+        in_process = all_fit_in refl its_case;
         created = created_fits its_case;
       }

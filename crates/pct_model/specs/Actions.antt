@@ -104,6 +104,8 @@ shared_after (action.MakeKey k destructor) s = record s { keys = with_key (key_p
 shared_after (action.DeleteKey k) s = record s { keys = without_key (key_place k) s.keys }
 shared_after (action.OwnMutex m id) s = record s { owners = slice_set s.owners m id }
 shared_after (action.SetCount sem n) s = record s { counts = slice_set s.counts sem n }
+shared_after (action.AddExit f) s = record s { exit_functions = f ∷ s.exit_functions }
+shared_after action.TakeExit s = record s { exit_functions = without_first s.exit_functions }
 shared_after (action.BeginExit v) s = record s { exit_value = Some v }
 shared_after _ s = s
 

@@ -1,5 +1,5 @@
 -- Condition variables (XSH pthread_cond_wait, pthread_cond_signal, pthread_cond_broadcast). `next` is the pc of the next statement.
-use Rattle.std.specs.Prelude.{ℕ, suc, Bool, true, false, if◌then◌else◌, List, [], ◌∷◌, nat_eq}
+use Rattle.std.specs.Prelude.{ℕ, suc, Bool, false, if◌then◌else◌, [], ◌∷◌, nat_eq}
 use Rattle.pct_model.specs.declared.event.What.TheVariants as what
 use Rattle.pct_model.specs.declared.point.TheConstants.{COND_WAIT_POINT}
 use Rattle.pct_model.specs.declared.schedule.Alt.{Alt}

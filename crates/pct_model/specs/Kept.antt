@@ -26,6 +26,7 @@ use Rattle.pct_model.specs.MutexOwners.{owner_of}
 use Rattle.pct_model.specs.NextStatement.{NextStatement, StatementIn, next_of}
 use Rattle.pct_model.specs.Once.{is_pair}
 use Rattle.pct_model.specs.OpenPushes.{open_pushes}
+use Rattle.pct_model.specs.Static.{is_plain_body}
 use Rattle.pct_model.specs.StopTable.{has_begun_to_end}
 use Rattle.pct_model.specs.ThreadCalls.{join_point}
 use Rattle.pct_model.specs.ThreadNumbers.{NumbersThreads}
@@ -165,6 +166,11 @@ was_destroyed pass key s = list_any (is_pair pass key.number) s.destroyed
 abbrev pub IsFunction : Script → ℕ → Type 0
 IsFunction script func = func < length script.funcs
 
+-- the index is that of a plain function of the script: its statements are only `emit`, `set`, `add`, `if`, `else`, `end`, `return`,
+-- `pthread_mutex_lock` and `pthread_mutex_unlock`
+abbrev pub IsPlainFunction : Script → ℕ → Type 0
+IsPlainFunction script func = IsSomeAnd (slice_get script.funcs func) (λ f. is_plain_body f ≡ true)
+
 -- a thread of a process with these keys, and what the events so far report of it
 pub record ThreadKept (script : Script) (keys : List KeyPlace) (t : Thread) (s : ThreadSummary) : Type 0 where
   -- the open handlers are its handlers
@@ -192,6 +198,8 @@ pub record ThreadKept (script : Script) (keys : List KeyPlace) (t : Thread) (s :
   pub has_reason : s.exiting ≡ false → has_begun_to_end t.reason ≡ is_ending t.status t.frames
   -- it has begun to exit its process exactly if it is Exiting, or runs an exit function and has no other frame
   pub exiting : s.exiting ≡ is_exiting t.status t.frames
+  -- the function of a frame of an exit function is plain
+  pub exit_frames : All (λ (frame : Frame). is_exit_kind frame.kind ≡ true → IsPlainFunction script frame.func) t.frames
   -- unless it exits its process, none of its frames is that of an exit function
   pub exit_functions : s.exiting ≡ false → list_any (λ (frame : Frame). is_exit_kind frame.kind) t.frames ≡ false
   -- a thread that has a reason has its cancelability disabled (XSH 2.9.5.3), and so has one that exits its process, by a choice of
@@ -325,6 +333,8 @@ pub record Kept (script : Script) (config : Config) (w : World) (events : List E
   pub known : (pid tid : ℕ) → is_known pid tid events ≡ option_map_or (λ t. not t.gone) (made_thread pid tid w) false
   -- the keys of each process
   pub keys : EachProcess w (λ pid p. KeysKept script p.shared.keys)
+  -- the functions that are registered with atexit are plain functions of the script
+  pub exit_functions : EachProcess w (λ pid p. All (IsPlainFunction script) p.shared.exit_functions)
   -- each thread of each process
   pub threads : EachProcess w (λ pid p. EachThreadOf p (λ tid t. ThreadKept script p.shared.keys t (summary_of pid tid events)))
   -- a thread is joined or detached exactly if the events report so
@@ -336,7 +346,7 @@ pub record Kept (script : Script) (config : Config) (w : World) (events : List E
   pub owners : EachProcess w (λ pid p. OwnersKept script pid p events)
   -- the condition wait of each thread is unfinished exactly if the thread is in it
   pub waits : EachThread w (λ pid tid t. WaitKept t.status (wait_stage pid tid events))
-  -- each call of pthread_cond_wait releases its mutex at once
+  -- each call of pthread_cond_wait is directly followed by a release of the same thread
   pub calls_release : CallsRelease None events
   -- if a thread exits its process after its own end, each thread of the process has ended (XSH pthread_exit)
   pub last : EachProcess w (λ pid p. EachThreadOf p (λ tid t. ExitsAfterItsEnd t (summary_of pid tid events) → HasOnlyEnded p))

@@ -1,13 +1,17 @@
--- Returns from functions, and the end of a process (XSH exit, pthread_create).
-use Rattle.std.specs.Prelude.{ℕ, ◌%◌, List, [], ◌∷◌, Option, Some}
-use Rattle.pct_model.specs.declared.event.What.TheVariants.{ExitBegun, ProcessEnded}
+-- Returns from functions, and the end of a process (XSH exit, _exit, atexit, pthread_create). `next` is the pc of the next statement.
+use Rattle.std.specs.Prelude.{ℕ, ◌%◌, Bool, true, false, ◌&&◌, List, [], ◌∷◌, length, nat_lt, Option, Some, None, is_none}
+use Rattle.pct_model.specs.declared.event.Caller.TheVariants as caller
+use Rattle.pct_model.specs.declared.event.What.TheVariants.{Answer, ExitBegun, ExitRun, ProcessEnded}
+use Rattle.pct_model.specs.declared.limits.TheConstants.{MAX_EXIT_FUNCTIONS}
 use Rattle.pct_model.specs.declared.state.FrameKind.{FrameKind}
 use Rattle.pct_model.specs.declared.state.FrameKind.TheVariants as kind
 use Rattle.pct_model.specs.declared.state.Status.TheVariants.{Running, Ending, Exiting}
+use Rattle.pct_model.specs.declared.statement.Dest.{Dest}
 use Rattle.pct_model.specs.declared.transition.Action.TheVariants as action
 use Rattle.pct_model.specs.declared.transition.Transition.{Transition}
-use Rattle.pct_model.specs.Transitions.{acts, no_change}
+use Rattle.pct_model.specs.Transitions.{goes_on, acts, no_change}
 use Rattle.pct_model.specs.ThreadEnds.{ends_by_exit}
+use Rattle.pct_model.specs.World.{SharedState}
 
 -- a thread begins to exit its process, as if it called exit (XSH exit)
 unfoldable pub exits : ℕ → Transition
@@ -26,8 +30,23 @@ returns_by kind.Destructor v = acts (action.Leave Ending ∷ []) []
 returns_by kind.ExitFn v = acts (action.Leave Exiting ∷ []) []
 returns_by kind.ForkFn v = no_change
 
--- a thread that exits its process ends it, with the value of exit modulo 256, if no function is registered with atexit
--- (XSH exit, _exit, atexit). None is registered yet.
-unfoldable pub ends_process : List ℕ → Option ℕ → Transition
-ends_process [] (Some v) = acts (action.EndProcess (v % 256) ∷ []) (ProcessEnded (v % 256) ∷ [])
-ends_process _ _ = no_change
+-- the process ends with a status of 8 bits, and its threads do nothing more: no cleanup handler and no destructor runs (XSH _exit)
+unfoldable pub ends_now : ℕ → Transition
+ends_now v = acts (action.EndProcess (v % 256) ∷ []) (ProcessEnded (v % 256) ∷ [])
+
+-- a thread that exits its process calls the functions registered with atexit, the newest first, each with 0 and as often as it was
+-- registered; then the process ends with the value of exit (XSH exit)
+unfoldable pub goes_on_exiting : List ℕ → Option ℕ → Transition
+goes_on_exiting (f ∷ functions) value = acts (action.TakeExit ∷ action.CallAlone f 0 kind.ExitFn ∷ []) (ExitRun f ∷ [])
+goes_on_exiting [] (Some v) = ends_now v
+goes_on_exiting [] None = no_change
+
+-- a function can be registered: fewer than the limit are, and exit has not begun. XSH exit provides for functions that are registered
+-- while it calls others: that atexit fails then is a choice of this host
+abbrev pub may_register : SharedState → Bool
+may_register shared = nat_lt (length shared.exit_functions) MAX_EXIT_FUNCTIONS && is_none shared.exit_value
+
+-- atexit of a function, if it can be registered: the result is 0, or 1
+unfoldable pub registers_if : Bool → ℕ → Dest → ℕ → Transition
+registers_if true next result f = goes_on next (action.AddExit f ∷ action.Write result 0 ∷ []) []
+registers_if false next result f = goes_on next (action.Write result 1 ∷ []) (Answer caller.AtExit 1 ∷ [])

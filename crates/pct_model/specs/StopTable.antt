@@ -113,6 +113,9 @@ is_built (statement.Signal c) = true
 is_built (statement.Broadcast c) = true
 is_built (statement.SemWait s) = true
 is_built (statement.SemPost s) = true
+is_built (statement.AtExit result f) = true
+is_built (statement.ProcExit v) = true
+is_built (statement.ProcExitNow v) = true
 is_built (statement.PointCall index) = true
 is_built _ = false
 
@@ -168,10 +171,11 @@ module _ (body : List Stmt) (shared : SharedState) (t : Thread) (others : Others
   stops_of frame (statement.GetSpecific d key) = (is_none (key_with (value frame key) shared.keys), why.KeyId) ∷ []
   -- XSH pthread_mutex_lock: undefined for a mutex of this type, if the caller does not own it
   stops_of frame (statement.Unlock m) = (not (owns t.id m shared), why.NotOwner) ∷ []
-  -- XSH pthread_cond_wait: undefined if the caller does not own the mutex, or if another thread waits on the condition variable with
-  -- another mutex. That a thread which was unblocked and has not returned yet counts no longer, and the order of the tests, are choices of
-  -- this host
+  -- XSH pthread_cond_wait: undefined if the caller does not own the mutex, or if a thread is blocked on the condition variable with another
+  -- mutex; one that was unblocked and has not returned yet counts no longer. The order of the tests is a choice of this host
   stops_of frame (statement.CondWait c m) = (not (owns t.id m shared), why.NotOwner) ∷ (waits_with_another_mutex c m others, why.CondTwoMutexes) ∷ []
+  -- XSH exit: undefined if it is called more than once
+  stops_of frame (statement.ProcExit v) = (is_some shared.exit_value, why.ExitTwice) ∷ []
   -- no other implemented statement has a stop of its own
   stops_of frame s = []
 

@@ -1,6 +1,6 @@
 -- What the events of a run report of a thread: its cleanup handlers, the destructors that it called, and its end. A thread is given by
 -- the id of its process and its own. The events are listed newest first, as in the trace of a run.
-use Rattle.std.specs.Prelude.{ℕ, suc, Bool, true, false, if◌then◌else◌, List, [], ◌∷◌, Option, Some, None, nat_eq}
+use Rattle.std.specs.Prelude.{ℕ, suc, Bool, true, false, if◌then◌else◌, List, [], ◌∷◌, Option, Some, None}
 use Rattle.pct_model.specs.declared.event.Event.{Event}
 use Rattle.pct_model.specs.declared.event.What.{What}
 use Rattle.pct_model.specs.declared.event.What.TheVariants as what

@@ -28,7 +28,7 @@ use Rattle.pct_model.specs.CondCalls.{begins_wait, reacquires, signals_by, broad
 use Rattle.pct_model.specs.SemCalls.{begins_sem_wait, takes, posts}
 use Rattle.pct_model.specs.ThreadCalls.{creates_by, begins_join, joins_at, detaches, gets_self}
 use Rattle.pct_model.specs.ThreadEnds.{ends_by_exit, goes_on_ending}
-use Rattle.pct_model.specs.ProcessExit.{returns_by, ends_process}
+use Rattle.pct_model.specs.ProcessExit.{exits, returns_by, ends_now, goes_on_exiting, may_register, registers_if}
 use Rattle.pct_model.specs.StopTable.{stop_at}
 
 -- `end`: that of a block, by the pc where it opens, or that of the function, which returns 0
@@ -90,6 +90,10 @@ module _ (passes : ℕ) (body : List Stmt) (shared : SharedState) (t : Thread) (
   runs frame (statement.Broadcast c) = broadcasts (suc frame.pc) c (length (others.waiters c))
   runs frame (statement.SemWait s) = begins_sem_wait s
   runs frame (statement.SemPost s) = posts (suc frame.pc) s (slice_index shared.counts s)
+  -- XSH atexit, exit, _exit
+  runs frame (statement.AtExit result f) = registers_if (may_register shared) (suc frame.pc) result f
+  runs frame (statement.ProcExit v) = exits (value frame v)
+  runs frame (statement.ProcExitNow v) = ends_now (value frame v)
   -- XSH 2.9.5.2. A thread is suspended at each generic point that is required, and never at an optional one: a choice of this host
   runs frame (statement.PointCall index) = calls_point (suc frame.pc) index (point_kind index)
   -- a statement that is not implemented is a stop
@@ -110,7 +114,7 @@ module _ (passes : ℕ) (body : List Stmt) (shared : SharedState) (t : Thread) (
   -- XSH 2.9.5.3, pthread_exit, pthread_key_create: cleanup handlers, then destructors, then the end
   transition_at next status.Ending = goes_on_ending others.is_last passes shared.keys t choice t.handlers
   -- XSH exit
-  transition_at next status.Exiting = ends_process shared.exit_functions shared.exit_value
+  transition_at next status.Exiting = goes_on_exiting shared.exit_functions shared.exit_value
   -- no choice is offered to any other thread (ChoiceTable.antt)
   transition_at next _ = no_change
 

@@ -14,6 +14,8 @@ pub const MAX_LOCALS: usize = 8;
 pub const MAX_FRAMES: usize = 16;
 /// Cleanup handlers of a thread.
 pub const MAX_HANDLERS: usize = 32;
+/// Functions that a process has registered with atexit.
+pub const MAX_EXIT_FUNCTIONS: usize = 32;
 /// Live keys of thread-specific data of a process, each on a place of its own.
 pub const MAX_KEYS: u32 = 128;
 /// Initial count of a semaphore.

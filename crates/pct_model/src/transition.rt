@@ -79,6 +79,10 @@ pub enum Action {
     /// The thread begins to exit its process with a value: it leaves all its frames, and its cancelability is disabled and
     /// deferred.
     BeginExit(u32),
+    /// A function is registered, to be called as the process exits.
+    AddExit(u32),
+    /// The newest function that is registered is removed.
+    TakeExit,
     /// The process ends with a status.
     EndProcess(u32),
     /// The run stops.

@@ -1,5 +1,5 @@
 -- The first process before the first step is that of the initial state.
-use Rattle.std.proofs.Common.{◌≡◌, ℕ, zero, suc, ◌+◌, ◌*◌, ◌<◌, false, List, [], ◌∷◌, map, length, get_or, replicate, Option, Some, None, refl, sym, ap, ◌∙◌, arith}
+use Rattle.std.proofs.Common.{◌≡◌, ℕ, zero, suc, ◌+◌, ◌*◌, ◌<◌, false, List, [], ◌∷◌, map, length, replicate, Option, Some, None, refl, sym, ap, ◌∙◌, arith}
 use native.Mathlib.Nat.{zero-mod}
 use Rattle.std.specs.Prelude.{slice_set}
 use Rattle.std.proofs.lemmas.List.{map-set, get_or-replicate, length-replicate}
@@ -8,13 +8,13 @@ use Rattle.pct_model.specs.declared.state.FrameKind.TheVariants.{Main}
 use Rattle.pct_model.specs.Names.{names_of, main_of}
 use Rattle.pct_model.specs.Keys.{no_keys, no_values}
 use Rattle.pct_threads.specs.Slots.{Held, Slot, unused, created, with_change, with_call_alone}
-use Rattle.pct_threads.specs.Tables.{slot_at, next_id_at, on_held, with_created}
+use Rattle.pct_threads.specs.Tables.{next_id_at, on_held, with_created}
 use Rattle.pct_threads.proofs.TableLemmas.{length-on_slot, on_slot-then}
 use Rattle.pct_keys.specs.Tables.{Table, new_table}
 use Rattle.pct_engine_laws.specs.Seen.{SeenSlot}
 use Rattle.pct_engine_laws.proofs.OpeningSeen.{first_on_slot, first_thread, first_slots, one_thread_on_first}
 use Rattle.pct_process.specs.ThreadViews.{threads_of, slot_view}
-use Rattle.pct_process.specs.ProcessViews.{with_row, with_rows, slots_of, shared_of, first_data}
+use Rattle.pct_process.specs.ProcessViews.{with_row, slots_of, shared_of, first_data}
 
 map-replicate : {A B : Type 0} (f : A → B) (n : ℕ) (x : A) → map f (replicate n x) ≡ replicate n (f x)
 map-replicate f zero x = refl
@@ -54,15 +54,15 @@ slots-of_first script n some =
     ∙ ap (λ (rows : List SeenSlot). slice_set rows 0 (first_on_slot (first_thread script))) (map-replicate slot_view n unused)
 
 -- the data of the first process
-pub data-first : (script : Script) (n func : ℕ) (threads : List Slot) (keys : Table) (globals owners counts : List ℕ) → 0 < n → func ≡ main_of (names_of script.funcs) → threads ≡ first_table n func → keys ≡ new_table n
-    → globals ≡ replicate (length script.globals) 0 → owners ≡ replicate (length script.mutexes) 0 → counts ≡ map (λ d. d.count) script.sems
-    → record { slots = slots_of keys.rows threads; shared = shared_of globals owners counts keys.places None } ≡ first_data n script
-data-first script n func threads keys globals owners counts some main made none zeros free counted =
+pub data-first : (script : Script) (n func : ℕ) (threads : List Slot) (keys : Table) (globals owners counts functions : List ℕ) → 0 < n → func ≡ main_of (names_of script.funcs) → threads ≡ first_table n func → keys ≡ new_table n
+    → globals ≡ replicate (length script.globals) 0 → owners ≡ replicate (length script.mutexes) 0 → counts ≡ map (λ d. d.count) script.sems → functions ≡ []
+    → record { slots = slots_of keys.rows threads; shared = shared_of globals owners counts keys.places functions None } ≡ first_data n script
+data-first script n func threads keys globals owners counts functions some main made none zeros free counted unregistered =
     let table : threads ≡ first_table n (main_of (names_of script.funcs)) = made ∙ ap (first_table n) main in
-    ap (λ (k : Table). record { slots = slots_of k.rows threads; shared = shared_of globals owners counts k.places None }) none
-    ∙ ap (λ (ts : List Slot). record { slots = slots_of (replicate n no_values) ts; shared = shared_of globals owners counts no_keys None }) table
-    ∙ ap (λ (rows : List SeenSlot). record { slots = rows; shared = shared_of globals owners counts no_keys None }) (slots-of_first script n some ∙ sym (one_thread_on_first n (first_thread script) some (zero-mod n) refl))
-    ∙ (λ i. record { slots = (first_data n script).slots; shared = shared_of (zeros i) (free i) (counted i) no_keys None })
+    ap (λ (k : Table). record { slots = slots_of k.rows threads; shared = shared_of globals owners counts k.places functions None }) none
+    ∙ ap (λ (ts : List Slot). record { slots = slots_of (replicate n no_values) ts; shared = shared_of globals owners counts no_keys functions None }) table
+    ∙ ap (λ (rows : List SeenSlot). record { slots = rows; shared = shared_of globals owners counts no_keys functions None }) (slots-of_first script n some ∙ sym (one_thread_on_first n (first_thread script) some (zero-mod n) refl))
+    ∙ (λ i. record { slots = (first_data n script).slots; shared = shared_of (zeros i) (free i) (counted i) no_keys (unregistered i) None })
 
 -- each slot has a row
 pub rows-first : (n func : ℕ) (threads : List Slot) (keys : Table) → threads ≡ first_table n func → keys ≡ new_table n → length keys.rows ≡ length threads

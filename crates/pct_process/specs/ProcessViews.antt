@@ -48,9 +48,9 @@ pub record ProcessData : Type 0 where
   pub slots : List SeenSlot
   pub shared : SharedState
 
--- the state that the threads share. No function is registered with pthread_atfork or atexit yet.
-abbrev pub shared_of : List ℕ → List ℕ → List ℕ → List KeyPlace → Option ℕ → SharedState
-shared_of globals owners counts keys exit_value = record { globals = globals; owners = owners; counts = counts; keys = keys; fork_handlers = []; exit_functions = []; exit_value = exit_value }
+-- the state that the threads share. No function is registered with pthread_atfork yet.
+abbrev pub shared_of : List ℕ → List ℕ → List ℕ → List KeyPlace → List ℕ → Option ℕ → SharedState
+shared_of globals owners counts keys exit_functions exit_value = record { globals = globals; owners = owners; counts = counts; keys = keys; fork_handlers = []; exit_functions = exit_functions; exit_value = exit_value }
 
 -- the data of the first process before the first step, with this number of slots
 abbrev pub first_data : ℕ → Script → ProcessData

@@ -1,5 +1,6 @@
 //! The data of one process: its threads, and what they share.
 
+use crate::exit_functions::ExitFunctions;
 use crate::numbers::Numbers;
 use pct_io::NoMemory;
 use pct_keys::Keys;
@@ -23,6 +24,8 @@ pub struct ProcessState {
     pub owners: Numbers,
     /// The count of each semaphore.
     pub counts: Numbers,
+    /// The functions that are registered with atexit.
+    pub exit_functions: ExitFunctions,
     /// The value with which exit began.
     pub exit_value: Option<u32>,
 }
@@ -33,7 +36,7 @@ impl Model for ProcessState {
 
     ghost Value = { ProcessData };
 
-    ghost view = { λ p. record { slots = slots_of p.keys.rows p.threads; shared = shared_of p.globals p.owners p.counts p.keys.places p.exit_value } };
+    ghost view = { λ p. record { slots = slots_of p.keys.rows p.threads; shared = shared_of p.globals p.owners p.counts p.keys.places p.exit_functions p.exit_value } };
 
     ghost invariant = { λ p. length p.keys.rows ≡ length p.threads };
 }
@@ -62,6 +65,7 @@ impl ProcessState {
             globals: Numbers::new(alloc, script.globals.as_slice().len())?,
             owners: Numbers::new(alloc, script.mutexes.as_slice().len())?,
             counts: Numbers::counts_of(alloc, script.sems.as_slice())?,
+            exit_functions: ExitFunctions::new(),
             exit_value: None,
         })
     }

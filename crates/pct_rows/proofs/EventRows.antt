@@ -39,16 +39,16 @@ abbrev lines : List What → List ℕ
 lines events = flat_map (λ w. line_text (event_line script (record { pid = 2; tid = 34; what = w }))) events
 
 -- processes
-process_events : lines (what.Forked 3 ∷ what.PrepareRun 0 ∷ what.ParentRun 0 ∷ what.ChildRun 1 ∷ what.ExitRun 0 ∷ what.Reaped 3 255 ∷ []) ≡ codes "2.34 fork 3\n2.34 prepare f\n2.34 parent f\n2.34 child main\n2.34 at_exit f\n2.34 reap 3 255\n"
+process_events : lines (what.Forked 3 ∷ what.PrepareRun 0 ∷ what.ParentRun 0 ∷ what.ChildRun 1 ∷ what.Reaped 3 255 ∷ []) ≡ codes "2.34 fork 3\n2.34 prepare f\n2.34 parent f\n2.34 child main\n2.34 reap 3 255\n"
 unfolding digits keyword_text name_at event_words thread_text event_line
 process_events = refl
 
 -- error numbers
-answer_events : lines (what.Answer caller.AtFork 2 ∷ what.Answer caller.Fork 1 ∷ what.Answer caller.WaitPid 3 ∷ what.Answer caller.AtExit 2 ∷ []) ≡ codes "2.34 answer pthread_atfork 2\n2.34 answer fork 1\n2.34 answer waitpid 3\n2.34 answer atexit 2\n"
+answer_events : lines (what.Answer caller.AtFork 2 ∷ what.Answer caller.Fork 1 ∷ what.Answer caller.WaitPid 3 ∷ []) ≡ codes "2.34 answer pthread_atfork 2\n2.34 answer fork 1\n2.34 answer waitpid 3\n"
 unfolding digits keyword_text syntax_of event_words thread_text event_line
 answer_events = refl
 
 -- stops
-stop_events : lines (what.Stopped why.ForkChildCall ∷ what.Stopped why.ExitTwice ∷ what.Stopped why.ForkInEnding ∷ []) ≡ codes "2.34 profile fork_child_call\n2.34 undefined exit_twice\n2.34 profile fork_in_ending\n"
+stop_events : lines (what.Stopped why.ForkChildCall ∷ what.Stopped why.ForkInEnding ∷ []) ≡ codes "2.34 profile fork_child_call\n2.34 profile fork_in_ending\n"
 unfolding digits keyword_text stop_words event_words thread_text event_line
 stop_events = refl

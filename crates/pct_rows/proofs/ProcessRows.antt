@@ -1,28 +1,22 @@
--- Processes that end and threads that return after exit has begun, in states that no run of a script reaches while fork and exit are
--- not implemented (XSH exit, fork).
+-- Processes that end, and threads that exit, in states that no run of a script reaches, some of them while fork is not implemented (XSH
+-- exit, atexit, fork).
 use Rattle.std.proofs.Common.{◌≡◌, ℕ, Bool, true, false, List, [], ◌∷◌, map, Option, Some, None, refl}
-use Rattle.std.specs.Prelude.{option_map}
+use Rattle.std.specs.Prelude.{option_map, replicate}
+use Rattle.pct_model.specs.declared.event.Caller.TheVariants as caller
 use Rattle.pct_model.specs.declared.event.What.{What}
 use Rattle.pct_model.specs.declared.event.What.TheVariants as what
-use Rattle.pct_model.specs.declared.state.FrameKind.{FrameKind}
 use Rattle.pct_model.specs.declared.state.FrameKind.TheVariants as kind
 use Rattle.pct_model.specs.declared.state.Reason.TheVariants as reason
 use Rattle.pct_model.specs.declared.state.Status.{Status}
 use Rattle.pct_model.specs.declared.state.Status.TheVariants as status
-use Rattle.pct_model.specs.declared.statement.Operand.TheVariants as operand
-use Rattle.pct_model.specs.declared.statement.Stmt.{Stmt}
-use Rattle.pct_model.specs.declared.statement.Stmt.TheVariants as statement
-use Rattle.pct_model.specs.declared.stop.Why.{Why}
-use Rattle.pct_model.specs.declared.stop.Why.TheVariants as why
-use Rattle.pct_model.specs.declared.transition.Action.TheVariants.{EndProcess}
+use Rattle.pct_model.specs.declared.statement.Dest.TheVariants as destination
+use Rattle.pct_model.specs.declared.transition.Action.TheVariants as action
 use Rattle.pct_model.specs.declared.transition.Transition.{Transition}
 use Rattle.pct_model.specs.Keywords.{keyword_text}
 use Rattle.pct_model.specs.Names.{main_of}
-use Rattle.pct_model.specs.Jumps.{close_of, open_of}
-use Rattle.pct_model.specs.World.{Thread, SharedState, ProcessEnd, Process, World, was_reaped, value_of, new_frame, new_thread, new_shared, first_process}
-use Rattle.pct_model.specs.OtherThreads.{others_of}
-use Rattle.pct_model.specs.StopTable.{stops_of, stop_at}
-use Rattle.pct_model.specs.Transitions.{acts}
+use Rattle.pct_model.specs.World.{Thread, SharedState, ProcessEnd, Process, World, was_reaped, new_frame, new_thread, new_shared, first_process}
+use Rattle.pct_model.specs.ProcessExit.{goes_on_exiting, may_register, registers_if}
+use Rattle.pct_model.specs.Transitions.{goes_on, acts, no_change}
 use Rattle.pct_model.specs.Actions.{thread_at, thread_after, named_after, shared_after, process_after, other_process_after, stop_after, after_transition}
 use Rattle.pct_model.specs.Step.{step}
 use Rattle.pct_model.specs.Outcome.{default_config}
@@ -40,7 +34,7 @@ abbrev family : World
 family = record { processes = child 1 0 None ∷ child 2 1 None ∷ child 3 2 (Some 5) ∷ child 4 2 None ∷ child 5 1 (Some 6) ∷ []; stop = None }
 
 abbrev ends_with_7 : Transition
-ends_with_7 = acts (EndProcess 7 ∷ []) []
+ends_with_7 = acts (action.EndProcess 7 ∷ []) []
 
 -- the parent and the exit status of a process, and whether it was reaped
 abbrev parent_and_end : Process → ℕ × Option ℕ × Bool
@@ -75,24 +69,33 @@ ends_last : after_a_step (world (ending 1 ∷ record (ending 2) { gone = true } 
 unfolding runs_on_literals
 ends_last = refl
 
--- ---- a return after exit has begun
+-- ---- exit and atexit
 
-abbrev exit_begun : SharedState
-exit_begun = record (new_shared smallest) { exit_value = Some 3 }
+-- the state of a process with this number of exit functions, where exit has begun with this value
+abbrev registered : ℕ → Option ℕ → SharedState
+registered n value = record (new_shared smallest) { exit_functions = replicate n 2; exit_value = value }
 
--- the stop of a statement that is the only one in a frame of this kind
-abbrev stop_in : FrameKind → SharedState → Stmt → Option Why
-stop_in k shared s = stop_at (s ∷ []) shared (new_thread 1 false (new_frame 0 0 k)) (others_of 0 [] 1) (new_frame 0 0 k) s
+-- atexit of function 5 in a process in which exit has not begun, and in one in which it has
+abbrev at_exit : ℕ → List Transition
+at_exit n = map (λ value. registers_if (may_register (registered n value)) 7 (destination.Local 1) 5) (None ∷ Some 3 ∷ [])
 
-abbrev returns_0 : Stmt
-returns_0 = statement.Return (operand.Num 0)
+abbrev is_registered : Transition
+is_registered = goes_on 7 (action.AddExit 5 ∷ action.Write (destination.Local 1) 0 ∷ []) []
 
--- a return of `main` after exit has begun is a stop, by `return` and by the closing `end`
-second_exit : (map (stop_in kind.Main exit_begun) (returns_0 ∷ statement.End ∷ []) ≡ Some why.ExitTwice ∷ Some why.ExitTwice ∷ []) × (map (stop_in kind.Main (new_shared smallest)) (returns_0 ∷ statement.End ∷ []) ≡ None ∷ None ∷ [])
-unfolding stops_of stop_at value_of open_of close_of
-second_exit = (refl, refl)
+abbrev is_refused : Transition
+is_refused = goes_on 7 (action.Write (destination.Local 1) 1 ∷ []) (what.Answer caller.AtExit 1 ∷ [])
 
--- a return of a function that `do` calls is no stop
-second_exit_only_in_main : stop_in kind.Call exit_begun returns_0 ≡ None
-unfolding stops_of stop_at value_of open_of close_of
-second_exit_only_in_main = refl
+-- one function can be registered if there are 31, none if there are 32 or more, and none after exit has begun
+registrations : map at_exit (0 ∷ 31 ∷ 32 ∷ 33 ∷ []) ≡ (is_registered ∷ is_refused ∷ []) ∷ (is_registered ∷ is_refused ∷ []) ∷ (is_refused ∷ is_refused ∷ []) ∷ (is_refused ∷ is_refused ∷ []) ∷ []
+unfolding runs_on_literals
+registrations = refl
+
+-- the newest function is removed and called, also where exit has no value; without functions and without a value nothing changes
+exits_without_value : (goes_on_exiting (4 ∷ 2 ∷ []) None ≡ acts (action.TakeExit ∷ action.CallAlone 4 0 kind.ExitFn ∷ []) (what.ExitRun 4 ∷ [])) × (goes_on_exiting [] None ≡ no_change)
+unfolding runs_on_literals
+exits_without_value = (refl, refl)
+
+-- from an empty list no function is removed
+no_function_is_left : (shared_after action.TakeExit (registered 0 None)).exit_functions ≡ []
+unfolding runs_on_literals
+no_function_is_left = refl

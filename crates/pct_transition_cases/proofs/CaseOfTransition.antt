@@ -1,5 +1,5 @@
 -- Each transition of the table is one of the cases.
-use Rattle.std.proofs.Common.{◌≡◌, ℕ, suc, ◌<◌, ◌≤◌, Bool, true, false, cond, not, ◌&&◌, ◌||◌, List, [], ◌∷◌, ◌++◌, length, nat_eq, nat_lt, find, slice_index, is_none, Option, Some, None, option_map, option_and_then, inl, inr, refl, sym, ap, ◌∙◌, eqb-true, pos_of_ne-zero, arith}
+use Rattle.std.proofs.Common.{◌≡◌, ℕ, suc, ◌<◌, ◌≤◌, Bool, true, false, cond, not, ◌&&◌, ◌||◌, List, [], ◌∷◌, ◌++◌, length, nat_eq, nat_lt, find, slice_index, is_none, is_some, Option, Some, None, option_map, option_and_then, inl, inr, refl, sym, ap, ◌∙◌, eqb-true, pos_of_ne-zero, arith}
 use Rattle.std.specs.List.{list_any}
 use Rattle.std.specs.Option.{option_map_or}
 use Rattle.std.proofs.lemmas.Bool.{true≢false, or_parts, not-false, ltb-true, ltb-false, eqb-false}
@@ -36,7 +36,7 @@ use Rattle.pct_model.specs.Keys.{Key, key_place, key_with, left_keys, value_at}
 use Rattle.pct_model.specs.MutexCalls.{owns, locks, unlocks}
 use Rattle.pct_model.specs.NextStatement.{NextStatement, StatementIn}
 use Rattle.pct_model.specs.OtherThreads.{Others, waits_with_another_mutex, exit_value_of}
-use Rattle.pct_model.specs.ProcessExit.{exits, returns_by, ends_process}
+use Rattle.pct_model.specs.ProcessExit.{exits, returns_by, ends_now, goes_on_exiting, may_register, registers_if}
 use Rattle.pct_model.specs.ScriptStatements.{jumps, emits, sets, adds, calls, after_block, after_test, after_end}
 use Rattle.pct_model.specs.SemCalls.{begins_sem_wait, takes, posts}
 use Rattle.pct_model.specs.StopTable.{StopTest, first_stop, is_stack_full, has_begun_to_end, is_in_handler, is_allowed_asynchronously, is_built, stops_of, stop_at}
@@ -46,7 +46,7 @@ use Rattle.pct_model.specs.Transitions.{goes_on, acts}
 use Rattle.pct_model.specs.TransitionTable.{ends_block, stops_or, runs, transition_at, acts_or}
 use Rattle.pct_model.specs.World.{Thread, SharedState, value_of}
 use Rattle.pct_transition_cases.proofs.OfferedChoices.{is_acting, goes_at, Offered, offered_alive, may_go_on, act_enabled, heir_among, picked_among, id_among, key_among, left_among, offered_of, free_to_lock}
-use Rattle.pct_transition_cases.proofs.TransitionCases.{past_nop, past_if, past_while, past_else, past_end, Returns, by_return, by_end, TransitionCase, rests, stopped, jumped, emitted, variable_set, variable_added, function_called, main_returned, start_returned, call_left, handler_left, exit_function_left, thread_made, thread_not_made, join_begun, join_ended, thread_detached, self_got, request_sent, state_set, mode_set, cancel_tested, point_begun, point_done, point_passed, canceled, canceled_at_point, canceled_in_join, canceled_in_sem_wait, mutex_locked, mutex_unlocked, wait_begun, wait_ended, canceled_in_wait, canceled_after_wait, signal_handed_on, ended_in_wait, signal_sent, signal_lost, broadcast_sent, sem_wait_begun, sem_taken, sem_posted, key_made, key_not_made, key_deleted, specific_set, specific_got, handler_pushed, handler_popped, handler_called, exit_called, handler_run, destructor_called, pass_begun, thread_ended, thread_ended_with_keys, last_ended, last_ended_with_keys, process_ended}
+use Rattle.pct_transition_cases.proofs.TransitionCases.{past_nop, past_if, past_while, past_else, past_end, Returns, by_return, by_end, TransitionCase, rests, stopped, jumped, emitted, variable_set, variable_added, function_called, main_returned, start_returned, call_left, handler_left, exit_function_left, thread_made, thread_not_made, join_begun, join_ended, thread_detached, self_got, request_sent, state_set, mode_set, cancel_tested, point_begun, point_done, point_passed, canceled, canceled_at_point, canceled_in_join, canceled_in_sem_wait, mutex_locked, mutex_unlocked, wait_begun, wait_ended, canceled_in_wait, canceled_after_wait, signal_handed_on, ended_in_wait, signal_sent, signal_lost, broadcast_sent, sem_wait_begun, sem_taken, sem_posted, key_made, key_not_made, key_deleted, specific_set, specific_got, handler_pushed, handler_popped, handler_called, exit_called, handler_run, destructor_called, pass_begun, thread_ended, thread_ended_with_keys, last_ended, last_ended_with_keys, exit_registered, exit_not_registered, process_exited, process_ended_now, exit_function_called, process_ended}
 
 -- ---- stops
 
@@ -168,6 +168,11 @@ module _ (passes : ℕ) (body : List Stmt) (shared : SharedState) (t : Thread) (
   point_case frame index (Some Optional) is = point_done frame index
   point_case frame index None is = rests (StatementIn frame (statement.PointCall index)) status.Running (λ known. refl)
 
+  register_case : (frame : Frame) (result : Dest) (f : ℕ) (may : Bool) → may_register shared ≡ may → Case (StatementIn frame (statement.AtExit result f)) status.Running (registers_if may (suc frame.pc) result f)
+  unfolding registers_if
+  register_case frame result f true is = exit_registered frame result f is
+  register_case frame result f false is = exit_not_registered frame result f
+
   pop_by : (frame : Frame) (v : Operand) (f a : ℕ) (handlers : List (ℕ × ℕ)) → t.handlers ≡ (f, a) ∷ handlers → (drop : Bool) → not drop && is_stack_full t.frames ≡ false
       → Case (StatementIn frame (statement.Pop v)) status.Running (cond drop (goes_on (suc frame.pc) (action.PopHandler ∷ []) (what.Popped f a false ∷ [])) (goes_on (suc frame.pc) (action.PopHandler ∷ action.Call f a kind.PopHandler ∷ []) (what.Popped f a true ∷ [])))
   pop_by frame v f a handlers is true none = handler_popped frame v f a handlers is
@@ -181,7 +186,7 @@ module _ (passes : ℕ) (body : List Stmt) (shared : SharedState) (t : Thread) (
 
   running_case : (choice : Alt) (frame : Frame) (s : Stmt) → Legal choice (StatementIn frame s) status.Running → stop_at body shared t others frame s ≡ None
       → Case (StatementIn frame s) status.Running (runs passes body shared t others choice frame s)
-  unfolding runs emits sets adds jumps calls gets_self ends_by_exit pushes sets_state sets_mode tests_cancel deletes_key sets_specific gets_specific locks unlocks begins_wait broadcasts begins_sem_wait posts stops_of
+  unfolding runs emits sets adds jumps calls gets_self ends_by_exit pushes sets_state sets_mode tests_cancel deletes_key sets_specific gets_specific locks unlocks begins_wait broadcasts begins_sem_wait posts exits ends_now stops_of
   running_case choice frame (statement.Emit v) may none = emitted frame v
   running_case choice frame (statement.Set d v) may none = variable_set frame d v
   running_case choice frame (statement.Add d v) may none = variable_added frame d v
@@ -218,6 +223,9 @@ module _ (passes : ℕ) (body : List Stmt) (shared : SharedState) (t : Thread) (
   running_case choice frame (statement.Broadcast c) may none = broadcast_sent frame c
   running_case choice frame (statement.SemWait sem) may none = sem_wait_begun frame sem
   running_case choice frame (statement.SemPost sem) may none = sem_posted frame sem
+  running_case choice frame (statement.AtExit result f) may none = register_case frame result f (may_register shared) refl
+  running_case choice frame (statement.ProcExit v) may none = process_exited frame v (alone (is_some shared.exit_value) (no_stops body shared t others frame (statement.ProcExit v) none).1)
+  running_case choice frame (statement.ProcExitNow v) may none = process_ended_now frame v
   running_case choice frame s may none = rests (StatementIn frame s) status.Running (λ known. refl)
 
   stop_case : (frame : Frame) (s : Stmt) (stop : Option Why) (other : Transition) → (stop ≡ None → Case (StatementIn frame s) status.Running other) → Case (StatementIn frame s) status.Running (stops_or stop other)
@@ -296,10 +304,11 @@ module _ (passes : ℕ) (body : List Stmt) (shared : SharedState) (t : Thread) (
       let due : ℕ = due_keys shared.keys t in
       pass_by next is due (not (nat_eq due 0)) (nat_lt t.pass passes) refl refl
 
-  exit_case : (next : NextStatement) (functions : List ℕ) (exit_value : Option ℕ) → Case next status.Exiting (ends_process functions exit_value)
-  unfolding ends_process
-  exit_case next [] (Some v) = process_ended next v
-  exit_case next _ _ = rests next status.Exiting (λ known. refl)
+  exit_case : (next : NextStatement) (functions : List ℕ) → shared.exit_functions ≡ functions → (exit_value : Option ℕ) → Case next status.Exiting (goes_on_exiting functions exit_value)
+  unfolding goes_on_exiting ends_now
+  exit_case next (f ∷ functions) is exit_value = exit_function_called next f functions is
+  exit_case next [] is (Some v) = process_ended next v
+  exit_case next [] is None = rests next status.Exiting (λ known. refl)
 
   -- ---- the table
 
@@ -312,7 +321,7 @@ module _ (passes : ℕ) (body : List Stmt) (shared : SharedState) (t : Thread) (
   going_case choice next (status.InSem sem) may = taken_case sem next (goes choice next (status.InSem sem) may)
   going_case choice next (status.Reacquire c m why) may = reacquired_case c m why next (goes choice next (status.Reacquire c m why) may)
   going_case choice next status.Ending may = ending_case choice next (λ known. (may known).0) t.handlers refl
-  going_case choice next status.Exiting may = exit_case next shared.exit_functions shared.exit_value
+  going_case choice next status.Exiting may = exit_case next shared.exit_functions refl shared.exit_value
   going_case choice next s may = rests next s (λ known. offered_alive (offered_of shared t others choice next s (may known).0))
 
   handing_case : (u : ℕ) (next : NextStatement) (c m : ℕ) → (offered ≡ true → Offered shared t others next (status.Reacquire c m cause.Signalled) (alt.Act u)) → (none : Bool) → nat_eq u 0 ≡ none

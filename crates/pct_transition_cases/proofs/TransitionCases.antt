@@ -1,7 +1,7 @@
 -- What the transition of a thread can be, by case: one case for each shape of transition, with its actions and events in full, and
 -- with what is known of the thread where it is made. A proof about transitions has a clause for each case of which it has something to
 -- say, and one for all others.
-use Rattle.std.proofs.Common.{◌≡◌, ℕ, suc, ◌+◌, ◌%◌, ◌<◌, ◌≤◌, Bool, true, false, ◌&&◌, List, [], ◌∷◌, length, nat_eq, is_none, Option, Some, None, ◌⊎◌}
+use Rattle.std.proofs.Common.{◌≡◌, ℕ, suc, ◌+◌, ◌%◌, ◌<◌, ◌≤◌, Bool, true, false, ◌&&◌, List, [], ◌∷◌, length, nat_eq, is_none, is_some, Option, Some, None, ◌⊎◌}
 use Rattle.std.specs.Prelude.{◌-◌, nat_lt, slice_index}
 use Rattle.std.specs.List.{list_any}
 use Rattle.pct_model.specs.declared.event.Caller.TheVariants as caller
@@ -31,6 +31,7 @@ use Rattle.pct_model.specs.Keys.{Key, key_place, key_with, new_keys, left_keys, 
 use Rattle.pct_model.specs.NextStatement.{NextStatement, StatementIn}
 use Rattle.pct_model.specs.MutexCalls.{is_free_mutex, owns}
 use Rattle.pct_model.specs.OtherThreads.{Others, waits_with_another_mutex}
+use Rattle.pct_model.specs.ProcessExit.{may_register}
 use Rattle.pct_model.specs.ScriptStatements.{variable_value, after_block, after_test, after_end}
 use Rattle.pct_model.specs.SemCalls.{sem_wait_point}
 use Rattle.pct_model.specs.StopTable.{has_begun_to_end, is_in_handler}
@@ -183,5 +184,15 @@ module _ (passes : ℕ) (body : List Stmt) (shared : SharedState) (t : Thread) (
         → TransitionCase next status.Ending (acts (action.MarkEnded ∷ action.BeginExit 0 ∷ []) (what.EndedWith (end_value t.reason) ∷ what.ExitBegun 0 ∷ []))
     last_ended_with_keys : (next : NextStatement) (left : ℕ) → t.handlers ≡ [] → others.is_last ≡ true → 0 < left → passes ≤ t.pass
         → TransitionCase next status.Ending (acts (action.MarkEnded ∷ action.BeginExit 0 ∷ []) (what.Leftover left ∷ what.EndedWith (end_value t.reason) ∷ what.ExitBegun 0 ∷ []))
-    -- the end of a process
+    -- the exit of a process, and its end
+    exit_registered : (frame : Frame) (result : Dest) (f : ℕ) → may_register shared ≡ true
+        → TransitionCase (StatementIn frame (statement.AtExit result f)) status.Running (goes_on (suc frame.pc) (action.AddExit f ∷ action.Write result 0 ∷ []) [])
+    exit_not_registered : (frame : Frame) (result : Dest) (f : ℕ)
+        → TransitionCase (StatementIn frame (statement.AtExit result f)) status.Running (goes_on (suc frame.pc) (action.Write result 1 ∷ []) (what.Answer caller.AtExit 1 ∷ []))
+    process_exited : (frame : Frame) (v : Operand) → is_some shared.exit_value ≡ false
+        → TransitionCase (StatementIn frame (statement.ProcExit v)) status.Running (acts (action.BeginExit (value frame v) ∷ []) (what.ExitBegun (value frame v) ∷ []))
+    process_ended_now : (frame : Frame) (v : Operand)
+        → TransitionCase (StatementIn frame (statement.ProcExitNow v)) status.Running (acts (action.EndProcess (value frame v % 256) ∷ []) (what.ProcessEnded (value frame v % 256) ∷ []))
+    exit_function_called : (next : NextStatement) (f : ℕ) (functions : List ℕ) → shared.exit_functions ≡ f ∷ functions
+        → TransitionCase next status.Exiting (acts (action.TakeExit ∷ action.CallAlone f 0 kind.ExitFn ∷ []) (what.ExitRun f ∷ []))
     process_ended : (next : NextStatement) (v : ℕ) → TransitionCase next status.Exiting (acts (action.EndProcess (v % 256) ∷ []) (what.ProcessEnded (v % 256) ∷ []))

@@ -311,6 +311,7 @@ fn at_next(context: &Context) -> Choices
 // The choices of a thread that was unblocked on a condition variable: `go`, if its mutex has no owner; and, where it may still act
 // upon a request, `act`, by which it hands on a signal.
 #[tactic(auto, unfolding(pct_model::specs::ChoiceTable::choices_at))]
+#[inline(always)]
 fn unblocked_choices(context: &Context, cond: u32, mutex: u32, cause: Cause) -> Choices
     requires { IsWhole context.now }
     ensures value { (shared : SharedState) (t : Thread) (others : Others) → IsContext shared t others context.now

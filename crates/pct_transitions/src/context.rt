@@ -10,7 +10,7 @@ ghost use Rattle.pct_transitions.specs.ProcessSteps.{NewNumbersFit};
 
 use crate::position::{Position, position_of};
 use crate::program::Program;
-use pct_process::ProcessState;
+use pct_process::{ExitFunctions, ProcessState};
 use pct_threads::Threads;
 
 /// What the next step of a thread depends on: the thread, what it shares with the other threads of its process, and their
@@ -28,6 +28,8 @@ pub(crate) struct Context<'a> {
     pub owners: &'a [u32],
     /// The count of each semaphore of the process.
     pub counts: &'a [u32],
+    /// The functions that are registered with atexit.
+    pub exit_functions: &'a ExitFunctions,
     /// The value with which exit began.
     pub exit_value: Option<u32>,
     /// The thread, and the keys of the process.
@@ -50,6 +52,7 @@ impl<'a> Context<'a> {
             globals: process.globals.as_slice(),
             owners: process.owners.as_slice(),
             counts: process.counts.as_slice(),
+            exit_functions: &process.exit_functions,
             exit_value: process.exit_value,
             position: position_of(program, &process.threads, &process.keys, slot),
         }

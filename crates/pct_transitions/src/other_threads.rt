@@ -73,6 +73,7 @@ impl<'a> Context<'a> {
     }
 
     /// The slots of the threads that wait on the condition variable with this index.
+    #[inline(always)]
     pub(crate) fn waiters(&self, cond: u32) -> SlotSet
         requires { IsWhole self.now }
         ensures ids { (others : Others) → SeesOthers self.now others → ids_on self.now.threads.now result ≡ map (λ waiter. waiter.id) (others.waiters cond) }

@@ -1,13 +1,16 @@
-//! The transitions of returns from functions, and of the end of a process (XSH exit, pthread_create).
+//! The transitions of returns from functions, and of the end of a process (XSH exit, _exit, atexit, pthread_create). `next` is the
+//! program counter of the next statement.
 
-ghost use Rattle.std.specs.Prelude.{◌≡◌, ◌%◌, [], ◌∷◌};
+ghost use Rattle.std.specs.Prelude.{◌≡◌, [], ◌∷◌, ℕ, List, Option};
 ghost use Rattle.pct_model.specs.declared.transition.Action.TheVariants as action;
 ghost use Rattle.pct_model.specs.Transitions.{acts};
-ghost use Rattle.pct_model.specs.ProcessExit.{exits, returns_by, ends_process};
+ghost use Rattle.pct_model.specs.ProcessExit.{exits, returns_by, ends_now, goes_on_exiting, may_register, registers_if};
+ghost use Rattle.pct_model.specs.World.{SharedState};
 
 use crate::thread_ends::ends_by_exit;
-use crate::transitions::{acts, no_change, no_next};
-use pct_model::{Action, FrameKind, Status, Transition, UpToThree, What};
+use crate::transitions::{acts, goes_on, no_change, no_next};
+use pct_model::{Action, Caller, Dest, FrameKind, Status, Transition, UpToThree, What};
+use pct_process::ExitFunctions;
 
 /// A thread begins to exit its process with a value, as if it called exit (XSH exit).
 #[tactic(auto, unfolding(pct_model::specs::ProcessExit::exits))]
@@ -36,21 +39,98 @@ pub(crate) fn returns_by(kind: FrameKind, value: u32, transition: &mut Transitio
     }
 }
 
-/// A thread that exits its process, in which no function is registered with atexit, ends it, with the value of exit modulo
-/// 256 (XSH exit, _exit, atexit).
-#[tactic(auto, unfolding(pct_model::specs::ProcessExit::ends_process))]
+/// The process ends with a value modulo 256 (XSH _exit).
+#[tactic(auto, unfolding(pct_model::specs::ProcessExit::ends_now))]
+pub(crate) fn ends_now(value: u32) -> Transition
+    ensures { result ≡ ends_now value }
+{
+    acts(
+        Action::EndProcess(value % 256),
+        What::ProcessEnded(value % 256),
+    )
+}
+
+/// A thread that exits its process removes the newest function registered with atexit and calls it. Without one it ends the process,
+/// with the value of exit (XSH exit).
+#[tactic(auto, unfolding(pct_model::specs::ProcessExit::goes_on_exiting))]
 #[inline(never)]
-pub(crate) fn ends_process(exit_value: Option<u32>, transition: &mut Transition)
-    ensures { transition.new ≡ ends_process [] exit_value }
+pub(crate) fn goes_on_exiting(
+    functions: &ExitFunctions,
+    exit_value: Option<u32>,
+    transition: &mut Transition,
+)
+    ensures { transition.new ≡ goes_on_exiting functions.now exit_value }
+{
+    match functions.newest() {
+        Some(func) => *transition = calls_exit_function(func),
+        None => *transition = ends_exit(exit_value),
+    }
+}
+
+// The thread removes the newest function and calls it.
+#[tactic(auto, unfolding(pct_model::specs::ProcessExit::goes_on_exiting))]
+fn calls_exit_function(func: u32) -> Transition
+    ensures { (functions : List ℕ) (value : Option ℕ) → result ≡ goes_on_exiting (func ∷ functions) value }
+{
+    let call = Action::CallAlone {
+        func,
+        arg: 0,
+        kind: FrameKind::ExitFn,
+    };
+    no_next(
+        UpToThree::two(Action::TakeExit, call),
+        UpToThree::one(What::ExitRun(func)),
+    )
+}
+
+// The thread ends the process with the value of exit.
+#[tactic(auto, unfolding(pct_model::specs::ProcessExit::goes_on_exiting))]
+fn ends_exit(exit_value: Option<u32>) -> Transition
+    ensures { result ≡ goes_on_exiting [] exit_value }
 {
     match exit_value {
-        None => *transition = no_change(),
-        Some(value) => {
-            *transition = acts(
-                Action::EndProcess(value % 256),
-                What::ProcessEnded(value % 256),
-            );
-        }
+        None => no_change(),
+        Some(value) => ends_now(value),
+    }
+}
+
+// ---- atexit
+
+/// Whether a function can be registered: fewer than the limit are, and exit has not begun.
+pub(crate) fn may_register(functions: &ExitFunctions, exit_value: Option<u32>) -> bool
+    ensures { (shared : SharedState) → functions.now ≡ shared.exit_functions → exit_value ≡ shared.exit_value → result ≡ may_register shared }
+{
+    functions.has_room() && exit_value.is_none()
+}
+
+/// atexit of a function, if it can be registered: the result is 0, or 1.
+#[tactic(auto, unfolding(pct_model::specs::ProcessExit::registers_if))]
+#[inline(never)]
+pub(crate) fn registers_if(
+    may_register: bool,
+    next: u32,
+    answer: Dest,
+    func: u32,
+    transition: &mut Transition,
+)
+    ensures { transition.new ≡ registers_if may_register next answer func }
+{
+    if may_register {
+        *transition = goes_on(
+            next,
+            UpToThree::two(Action::AddExit(func), Action::Write(answer, 0)),
+            UpToThree::none(),
+        );
+    } else {
+        let failed = What::Answer {
+            call: Caller::AtExit,
+            number: 1,
+        };
+        *transition = goes_on(
+            next,
+            UpToThree::one(Action::Write(answer, 1)),
+            UpToThree::one(failed),
+        );
     }
 }
 

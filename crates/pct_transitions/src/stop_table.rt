@@ -64,6 +64,7 @@ fn own_stop(context: &Context, at: &At) -> Option<Why>
             Why::NotOwner,
         )]),
         Stmt::CondWait { cond, mutex } => stop_of_wait(context, *cond, *mutex),
+        Stmt::ProcExit(_) => first_stop(&[(context.exit_value.is_some(), Why::ExitTwice)]),
         Stmt::ThreadExit(_) => first_stop(&[(
             has_begun_to_end(position.thread.reason),
             Why::ExitInEnding,
@@ -281,6 +282,9 @@ pub(crate) fn is_built(statement: &Stmt) -> bool
             | Stmt::Broadcast(_)
             | Stmt::SemWait(_)
             | Stmt::SemPost(_)
+            | Stmt::AtExit { .. }
+            | Stmt::ProcExit(_)
+            | Stmt::ProcExitNow(_)
             | Stmt::PointCall(_)
     )
 }

@@ -21,7 +21,9 @@ use crate::context::Context;
 use crate::current::{At, next_pc, value_of, variable_value};
 use crate::key_calls::{KeyCreateCall, creates_key_by, deletes_key, gets_specific, sets_specific};
 use crate::mutex_calls::{locks, unlocks};
-use crate::process_exit::{ends_process, returns_by};
+use crate::process_exit::{
+    ends_now, exits, goes_on_exiting, may_register, registers_if, returns_by,
+};
 use crate::script_statements::{
     adds, after_block, after_test, calls, emits, ends_block, jumps, sets,
 };
@@ -37,7 +39,7 @@ use pct_model::{Alt, Status, Stmt, Transition};
 /// goes on: a running thread stops the run, or makes the transition of its next statement; one that is suspended at a cancellation
 /// point goes on; one that joins another returns, once that has ended; one in sem_wait takes the semaphore; one that was unblocked on
 /// a condition variable owns its mutex again; one that is ending runs its handlers and destructors and ends; one that exits its
-/// process ends it; every other thread changes nothing. The program counter and the actions, one after another, keep the limits.
+/// process runs the functions registered with atexit and ends it; every other thread changes nothing. The program counter and the actions, one after another, keep the limits.
 pub(crate) fn transition_by(context: &Context, choice: Alt, transition: &mut Transition)
     requires { IsWhole context.now }
     ensures value { (shared : SharedState) (t : Thread) (others : Others) → IsContext shared t others context.now
@@ -71,7 +73,9 @@ fn transition_at(context: &Context, choice: Alt, transition: &mut Transition)
             reacquires(context, cond, mutex, cause, transition);
         }
         Status::Ending => goes_on_ending(context, passes, choice, transition),
-        Status::Exiting => ends_process(context.exit_value, transition),
+        Status::Exiting => {
+            goes_on_exiting(context.exit_functions, context.exit_value, transition);
+        }
         _ => *transition = no_change(),
     }
 }
@@ -216,6 +220,15 @@ fn runs(context: &Context, at: &At, choice: Alt, transition: &mut Transition)
         Stmt::SemPost(sem) => {
             *transition = posts(next_pc(frame), *sem, count_of(context.counts, *sem));
         }
+        Stmt::AtExit {
+            result: answer,
+            func,
+        } => {
+            let may = may_register(context.exit_functions, context.exit_value);
+            registers_if(may, next_pc(frame), *answer, *func, transition);
+        }
+        Stmt::ProcExit(operand) => *transition = exits(value_of(globals, frame, *operand)),
+        Stmt::ProcExitNow(operand) => *transition = ends_now(value_of(globals, frame, *operand)),
         Stmt::ThreadExit(operand) => {
             *transition = ends_by_exit(value_of(globals, frame, *operand));
         }

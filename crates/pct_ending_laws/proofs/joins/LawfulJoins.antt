@@ -1,8 +1,8 @@
 -- The law of joins holds of the events of every run.
-use Rattle.std.proofs.Common.{◌≡◌, ℕ, Bool, true, false, not, ◌&&◌, ◌||◌, cond, List, [], ◌∷◌, ◌++◌, map, reverse, nat_eq, is_some, Option, Some, None, option_and_then, refl, sym, ap, ◌∙◌, subst, eq-eqb}
+use Rattle.std.proofs.Common.{◌≡◌, ℕ, Bool, true, false, not, ◌&&◌, ◌||◌, cond, List, [], ◌∷◌, ◌++◌, map, reverse, nat_eq, is_some, Option, Some, None, option_and_then, refl, sym, ap, ◌∙◌, eq-eqb}
 use Rattle.std.specs.List.{list_all}
 use Rattle.std.specs.Option.{option_map_or}
-use Rattle.std.proofs.lemmas.Bool.{false≢true, true≢false, and_parts, or_left, true_from_ne_false}
+use Rattle.std.proofs.lemmas.Bool.{false≢true, true≢false, and_parts, or_left, true_from_ne_false, false_from_ne_true}
 use Rattle.std.proofs.lemmas.Option.{none-some, same_Some}
 use Rattle.pct_model.specs.declared.script.Script.{Script}
 use Rattle.pct_model.specs.declared.schedule.Config.{Config}
@@ -10,7 +10,6 @@ use Rattle.pct_model.specs.declared.schedule.Entry.{Entry}
 use Rattle.pct_model.specs.declared.event.Event.{Event}
 use Rattle.pct_model.specs.declared.event.What.{What}
 use Rattle.pct_model.specs.declared.event.What.TheVariants as what
-use Rattle.pct_model.specs.declared.state.Status.{Status}
 use Rattle.pct_model.specs.declared.state.Status.TheVariants as status
 use Rattle.pct_model.specs.declared.transition.Transition.{Transition}
 use Rattle.pct_model.specs.CancelCalls.{requests, acts_on_request}
@@ -30,7 +29,8 @@ use Rattle.pct_ending_laws.proofs.lift.ReportedBy.{reported_by, of_thread}
 use Rattle.pct_ending_laws.proofs.lift.EveryThread.{of_made_thread}
 use Rattle.pct_ending_laws.proofs.lift.MadeThreads.{IsLive, live_thread}
 use Rattle.pct_ending_laws.proofs.lift.EveryProcess.{process_taken, ids_of_run}
-use Rattle.pct_ending_laws.proofs.thread.ThreadRule.{summary, ByStatus, Fits}
+use Rattle.pct_ending_laws.proofs.thread.EndingSteps.{goes_on}
+use Rattle.pct_ending_laws.proofs.thread.ThreadRule.{summary, FitsAny}
 use Rattle.pct_ending_laws.proofs.joins.JoinTransitions.{is_in_join, names_none, Kind, quiet, ends, detaches_one, requests_one, kind_of}
 use Rattle.pct_ending_laws.proofs.joins.ReportedFlags.{known_of_run, joined_of_run, detached_of_run}
 use Rattle.pct_ending_laws.proofs.joins.NewestEvents.{newest_of_run}
@@ -75,12 +75,6 @@ unreclaimed_by true true true true holds has_status = absurd (false≢true holds
 unreclaimed_by false true true true holds has_status = absurd (false≢true holds)
 unreclaimed_by gone true false true holds has_status = absurd (false≢true (has_status refl))
 
--- a running thread has not ended
-running_alive : (script : Script) (passes : ℕ) (t : Thread) (reported : ThreadSummary) → t.status ≡ status.Running → Fits script passes t reported → t.ended ≡ false
-running_alive script passes t reported runs fits =
-    let running : ByStatus script status.Running t.reason t.frames t.handlers reported = subst (λ (s : Status). ByStatus script s t.reason t.frames t.handlers reported) runs fits.by_status in
-    sym fits.agrees.end ∙ ap is_some running.not_ended
-
 -- ---- a step
 
 silent_may : (w : What) → names_none w ≡ true → (pid tid : ℕ) (earlier : List Event) → MayName w pid tid earlier
@@ -112,14 +106,20 @@ module _ (script : Script) (config : Config) (before : List Entry) (r : Run) (is
   it_made : made_thread e.pid e.tid r.world ≡ Some t
   it_made = made e.tid t taken.is_thread
 
-  -- a thread that a running one names
-  names_live : (id : ℕ) (u : Thread) → t.status ≡ status.Running → with_id id p.threads ≡ Some u → NamesLive e.pid id r.events
-  names_live id u runs is_u =
+  -- if it has ended, it names no thread
+  ended_silent : t.ended ≡ true → list_all names_none (reverse (transition_by script config p t e.alt).events) ≡ true
+  ended_silent ended =
+      let reported : ThreadSummary = reported_by (of_thread summary e.tid) e.pid r.events in
+      (goes_on script config p t reported e.alt taken.offered (of_made_thread summary (FitsAny script config.passes) r (threads_fit script config before r is) e.pid e.tid t it_made it.here) ended).silent
+
+  not_ended : (t.ended ≡ true → false ≡ true) → t.ended ≡ false
+  not_ended silent = false_from_ne_true t.ended (λ ended. false≢true (silent ended))
+
+  -- a thread that another one names, which has not ended
+  names_live : (id : ℕ) (u : Thread) → t.ended ≡ false → with_id id p.threads ≡ Some u → NamesLive e.pid id r.events
+  names_live id u alive is_u =
       let target : IsLive p id u = live id u is_u in
       let kept : ThreadKept script p.shared.keys u (summary_of e.pid id r.events) = threads_kept script config before r is e.pid id p u process_is target.found target.here in
-      let reported : ThreadSummary = reported_by (of_thread summary e.tid) e.pid r.events in
-      let own : Fits script config.passes t reported = of_made_thread summary (Fits script config.passes) r (threads_fit script config before r is) e.pid e.tid t it_made it.here in
-      let alive : t.ended ≡ false = running_alive script config.passes t reported runs own in
       let has_status : u.ended ≡ true → is_ended_status u.status ≡ true = λ ended. true_from_ne_false (is_ended_status u.status) (λ exits.
       true≢false (sym (last_exits script config (threads_fit script config) before r is e.pid p process_is id u target.found (target.here, ended, exits) e.tid t it.found it.here) ∙ alive)) in
       record {
@@ -146,13 +146,13 @@ module _ (script : Script) (config : Config) (before : List Entry) (r : Run) (is
       }
 
   -- the events of the step
-  lawful_by : (o : Transition) → Kind t.id p.threads t.status o → JoinLaw r.events → JoinLaw (map (event_of e) (reverse o.events) ++ r.events)
+  lawful_by : (o : Transition) → Kind t.id p.threads t.status o → (t.ended ≡ true → list_all names_none (reverse o.events) ≡ true) → JoinLaw r.events → JoinLaw (map (event_of e) (reverse o.events) ++ r.events)
   unfolding creates begins_join ends_join detaches requests acts_on_request
-  lawful_by o (quiet is nothing) law = silent_lawful e (reverse o.events) is.events r.events law
-  lawful_by o (ends next d n v target s is_target ended) law = (joins_ended n v target s is_target ended, law)
-  lawful_by o (detaches_one next n target s is_target alone) law = (names_live n target s is_target, law)
-  lawful_by o (requests_one next n target s is_target) law = (names_live n target s is_target, law)
-  lawful_by o _ law = (tt, law)
+  lawful_by o (quiet is nothing) silent law = silent_lawful e (reverse o.events) is.events r.events law
+  lawful_by o (ends next d n v target s is_target ended) silent law = (joins_ended n v target s is_target ended, law)
+  lawful_by o (detaches_one next n target s is_target alone) silent law = (names_live n target (not_ended silent) is_target, law)
+  lawful_by o (requests_one next n target s is_target) silent law = (names_live n target (not_ended silent) is_target, law)
+  lawful_by o _ silent law = (tt, law)
 
 -- ---- every run
 
@@ -160,4 +160,4 @@ module _ (script : Script) (config : Config) (before : List Entry) (r : Run) (is
 pub joins_of_run : (script : Script) (config : Config) (entries : List Entry) (r : Run) → run script config entries ≡ Some r → JoinLaw r.events
 joins_of_run script config entries r is =
     every_run script config (λ r. JoinLaw r.events)
-    (λ before r is e p t taken law. lawful_by script config before r is e p t taken (transition_by script config p t e.alt) (kind_of script config p t e.alt) law) (λ some. tt) entries r is
+    (λ before r is e p t taken law. lawful_by script config before r is e p t taken (transition_by script config p t e.alt) (kind_of script config p t e.alt) (ended_silent script config before r is e p t taken) law) (λ some. tt) entries r is

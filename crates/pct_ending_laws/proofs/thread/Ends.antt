@@ -32,7 +32,8 @@ use Rattle.pct_model.specs.declared.state.State.TheVariants.{Enable, Disable}
 
 -- ---- threads that act upon a cancellation request
 
-not_both : (state : State) → state ≡ Disable → state ≡ Enable → ⊥
+-- cancelability is not both disabled and enabled
+pub not_both : (state : State) → state ≡ Disable → state ≡ Enable → ⊥
 not_both state disabled enabled = false≢true (ap (λ s. is_deliverable s true) (sym disabled ∙ enabled))
 
 -- a thread that would have its cancelability disabled if it had begun to end, and has it enabled

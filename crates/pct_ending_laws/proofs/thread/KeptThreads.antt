@@ -1,9 +1,9 @@
 -- What a thread keeps, in the sentences of Kept.antt.
-use Rattle.std.proofs.Common.{◌≡◌, ℕ, Bool, true, false, ◌||◌, List, [], ◌∷◌, None, refl, sym, ap, ◌∙◌, subst}
+use Rattle.std.proofs.Common.{◌≡◌, ℕ, Bool, true, false, ◌||◌, List, [], ◌∷◌, None, inl, inr, refl, sym, ap, ◌∙◌, subst}
 use Rattle.std.specs.Prelude.{is_some}
-use Rattle.std.specs.List.{list_any}
+use Rattle.std.specs.List.{list_any, AllByRecursion}
 use Rattle.std.specs.Option.{option_map_or}
-use Rattle.std.proofs.lemmas.Bool.{false≢true}
+use Rattle.std.proofs.lemmas.Bool.{false≢true, or_parts}
 use Rattle.std.proofs.lemmas.List.Elements.{All-from_recursion}
 use Rattle.std.proofs.lemmas.Option.{get_or_from_slice_get}
 use Rattle.pct_model.specs.declared.frame.Frame.{Frame}
@@ -14,7 +14,7 @@ use Rattle.pct_model.specs.declared.state.Reason.{Reason}
 use Rattle.pct_model.specs.declared.state.Status.{Status}
 use Rattle.pct_model.specs.declared.state.Status.TheVariants as status
 use Rattle.pct_model.specs.Keys.{KeyPlace}
-use Rattle.pct_model.specs.Kept.{KeysKept, AreOpen, open_functions, HasOneBottom, bottom_kind, is_bottom_kind, is_end_kind, is_exit_kind, has_no_frame, is_ending_status, is_exiting, IsSuspendedAt, has_left_wait, ThreadKept}
+use Rattle.pct_model.specs.Kept.{KeysKept, AreOpen, open_functions, HasOneBottom, bottom_kind, is_bottom_kind, is_end_kind, is_exit_kind, has_no_frame, is_ending_status, is_exiting, IsSuspendedAt, has_left_wait, IsPlainFunction, ThreadKept}
 use Rattle.pct_model.specs.LineParsing.{is_empty}
 use Rattle.pct_model.specs.NextStatement.{next_of}
 use Rattle.pct_model.specs.StopTable.{has_begun_to_end}
@@ -24,7 +24,7 @@ use Rattle.pct_model.specs.World.{Thread}
 use Rattle.pct_ending_laws.proofs.keys.KeptKeys.{AreEmpty}
 use Rattle.pct_ending_laws.proofs.keys.LeftKeys.{on_own_place}
 use Rattle.pct_ending_laws.proofs.thread.Passes.{is_in, not_taken}
-use Rattle.pct_ending_laws.proofs.thread.ThreadRule.{Below, FramesFit, IsHandler, IsPlaced, HasFrames, GoesToHandlers, HasEnded, ByStatus, Fits}
+use Rattle.pct_ending_laws.proofs.thread.ThreadRule.{Below, FramesFit, IsHandler, IsPlaced, HasFrames, GoesToHandlers, HasEnded, ByStatus, ByAnyStatus, outside_exit, is_running, FitsAny}
 
 -- ---- frames
 
@@ -73,6 +73,16 @@ frame_facts why (frame ∷ below) fit = facts_by why frame frame.kind below (λ 
 -- ---- statuses
 
 module _ (script : Script) where
+  -- the function of a frame is plain, if it is registered with atexit
+  abbrev IsExitFrame : Frame → Type 0
+  IsExitFrame frame = is_exit_kind frame.kind ≡ true → IsPlainFunction script frame.func
+
+  none_exit : (frames : List Frame) → list_any (λ (frame : Frame). is_exit_kind frame.kind) frames ≡ false → AllByRecursion IsExitFrame frames
+  none_exit [] none = tt
+  none_exit (frame ∷ below) none =
+      let parts : (is_exit_kind frame.kind ≡ false) × (list_any (λ (f : Frame). is_exit_kind f.kind) below ≡ false) = or_parts (is_exit_kind frame.kind) (list_any (λ (f : Frame). is_exit_kind f.kind) below) none in
+      (λ is. absurd (false≢true (sym parts.0 ∙ is)), none_exit below parts.1)
+
   -- the facts of ThreadKept that depend on the status
   record StatusFacts (st : Status) (why : Reason) (frames : List Frame) (handlers : List (ℕ × ℕ)) (s : ThreadSummary) : Type 0 where
     ended_status : is_some s.ended ≡ true → s.exiting ≡ false → is_ended_status st ≡ true
@@ -82,6 +92,7 @@ module _ (script : Script) where
     has_reason : s.exiting ≡ false → has_begun_to_end why ≡ (is_ending_status st || option_map_or is_end_kind (bottom_kind frames) false)
     exiting : s.exiting ≡ is_exiting st frames
     exit_functions : s.exiting ≡ false → list_any (λ (frame : Frame). is_exit_kind frame.kind) frames ≡ false
+    exit_frames : AllByRecursion IsExitFrame frames
 
   module _ (why : Reason) (handlers : List (ℕ × ℕ)) (s : ThreadSummary) where
     -- where no thread has begun to end
@@ -106,6 +117,7 @@ module _ (script : Script) where
           has_reason = λ alive. facts.has_reason ∙ ap (λ (b : Bool). b || option_map_or is_end_kind (bottom_kind frames) false) (sym alive_status);
           exiting = has.not_exiting ∙ sym (never_exits st frames framed facts.not_exiting);
           exit_functions = λ alive. facts.no_exit;
+          exit_frames = none_exit frames facts.no_exit;
         }
 
     of_ending : GoesToHandlers script why [] handlers s → StatusFacts status.Ending why [] handlers s
@@ -117,6 +129,7 @@ module _ (script : Script) where
       has_reason = λ alive. goes.has_reason;
       exiting = goes.not_exiting;
       exit_functions = λ alive. refl;
+      exit_frames = tt;
     }
 
     of_ended : (v : ℕ) → HasEnded script v why [] handlers s → StatusFacts (status.Ended v) why [] handlers s
@@ -128,17 +141,20 @@ module _ (script : Script) where
       has_reason = λ alive. has.has_reason;
       exiting = has.not_exiting;
       exit_functions = λ alive. refl;
+      exit_frames = tt;
     }
 
-    of_exiting : s.exiting ≡ true → StatusFacts status.Exiting why [] handlers s
-    of_exiting exits = record {
+    -- a thread that exits its process
+    of_exiting : (st : Status) (frames : List Frame) → s.exiting ≡ true → is_empty frames ≡ has_no_frame st → HasOneBottom frames → is_exiting st frames ≡ true → AllByRecursion IsExitFrame frames → StatusFacts st why frames handlers s
+    of_exiting st frames exits no_frame bottom status_exits plain = record {
       ended_status = λ some alive. absurd (false≢true (sym alive ∙ exits));
       pushes = λ alive. absurd (false≢true (sym alive ∙ exits));
-      no_frame = refl;
-      bottom = tt;
+      no_frame = no_frame;
+      bottom = bottom;
       has_reason = λ alive. absurd (false≢true (sym alive ∙ exits));
-      exiting = exits;
-      exit_functions = λ alive. refl;
+      exiting = exits ∙ sym status_exits;
+      exit_functions = λ alive. absurd (false≢true (sym alive ∙ exits));
+      exit_frames = plain;
     }
 
     without_frames : (st : Status) (frames : List Frame) → frames ≡ [] → (ByStatus script st why [] handlers s → StatusFacts st why [] handlers s) → ByStatus script st why frames handlers s → StatusFacts st why frames handlers s
@@ -154,30 +170,37 @@ module _ (script : Script) where
     of_status (status.Reacquire c m cause) frames by = of_framed (status.Reacquire c m cause) frames refl refl by.0
     of_status status.Ending frames by = without_frames status.Ending frames by.no_frames of_ending by
     of_status (status.Ended v) frames by = without_frames (status.Ended v) frames by.no_frames (of_ended v) by
-    of_status status.Exiting frames by = without_frames status.Exiting frames by.0 (λ exits. of_exiting exits.1) by
+    of_status status.Exiting frames by = without_frames status.Exiting frames by.0 (λ exits. of_exiting status.Exiting [] exits.1 refl tt refl tt) by
     of_status _ frames by = absurd by
 
-    suspended_by : (st : Status) (frames : List Frame) → ByStatus script st why frames handlers s → IsSuspendedAt (next_of script frames) st
-    suspended_by (status.InSem sem) frames by = by.1
-    suspended_by (status.Waiting c m) frames by = by.1
-    suspended_by (status.Reacquire c m cause) frames by = by.1
+    of_any : (st : Status) (frames : List Frame) → ByAnyStatus script st why frames handlers s → StatusFacts st why frames handlers s
+    of_any st frames (inl by) = of_status st frames by
+    of_any status.Running (frame ∷ []) (inr exits) = of_exiting status.Running (frame ∷ []) exits.2 refl (ap is_bottom_kind exits.0, tt) (ap is_exit_kind exits.0) (λ is. exits.1, tt)
+    of_any _ _ (inr exits) = absurd exits
+
+    suspended_by : (st : Status) (frames : List Frame) → ByAnyStatus script st why frames handlers s → IsSuspendedAt (next_of script frames) st
+    suspended_by (status.InSem sem) frames by = (outside_exit script why handlers s (status.InSem sem) frames refl by).1
+    suspended_by (status.Waiting c m) frames by = (outside_exit script why handlers s (status.Waiting c m) frames refl by).1
+    suspended_by (status.Reacquire c m cause) frames by = (outside_exit script why handlers s (status.Reacquire c m cause) frames refl by).1
     suspended_by _ frames by = tt
 
-    leaving_by : (st : Status) (frames : List Frame) → ByStatus script st why frames handlers s → has_left_wait st ≡ true → has_begun_to_end why ≡ false
-    leaving_by (status.Reacquire c m cause) frames by leaves = by.2 leaves
+    leaving_by : (st : Status) (frames : List Frame) → ByAnyStatus script st why frames handlers s → has_left_wait st ≡ true → has_begun_to_end why ≡ false
+    leaving_by (status.Reacquire c m cause) frames by leaves = (outside_exit script why handlers s (status.Reacquire c m cause) frames refl by).2 leaves
     leaving_by _ frames by leaves = absurd (false≢true leaves)
 
   -- ---- threads
 
   -- a thread of a process with these keys, in the sentences of Kept.antt
-  pub kept_thread : (passes : ℕ) (keys : List KeyPlace) (t : Thread) (s : ThreadSummary) → KeysKept script keys → AreEmpty keys t.specific → Fits script passes t s → ThreadKept script keys t s
+  pub kept_thread : (passes : ℕ) (keys : List KeyPlace) (t : Thread) (s : ThreadSummary) → KeysKept script keys → AreEmpty keys t.specific → FitsAny script passes t s → ThreadKept script keys t s
   kept_thread passes keys t s kept empty fits =
-      let facts : StatusFacts t.status t.reason t.frames t.handlers s = of_status t.reason t.handlers s t.status t.frames fits.by_status in
+      let facts : StatusFacts t.status t.reason t.frames t.handlers s = of_any t.reason t.handlers s t.status t.frames fits.by_status in
+      let by : (st : Status) → is_running st ≡ false → t.status ≡ st → ByStatus script st t.reason t.frames t.handlers s =
+      λ st other is. outside_exit script t.reason t.handlers s st t.frames other (subst (λ (x : Status). ByAnyStatus script x t.reason t.frames t.handlers s) is fits.by_status) in
       record {
         handlers = fits.agrees.handlers_agree;
         reason = fits.agrees.reason;
         ended = fits.agrees.end;
-        value = λ v is. (subst (λ (st : Status). ByStatus script st t.reason t.frames t.handlers s) is fits.by_status).value;
+        value = λ v is. (by (status.Ended v) refl is).value;
         ended_status = λ ended alive. facts.ended_status (fits.agrees.end ∙ ended) alive;
         pushes = facts.pushes;
         functions = All-from_recursion (IsHandler script) t.handlers fits.agrees.functions;
@@ -186,10 +209,11 @@ module _ (script : Script) where
         bottom = facts.bottom;
         has_reason = facts.has_reason;
         exiting = facts.exiting;
+        exit_frames = All-from_recursion IsExitFrame t.frames facts.exit_frames;
         exit_functions = facts.exit_functions;
         disabled = fits.agrees.disabled;
-        joining = λ id is. (subst (λ (st : Status). ByStatus script st t.reason t.frames t.handlers s) is fits.by_status).1;
-        at_point = λ index is. (subst (λ (st : Status). ByStatus script st t.reason t.frames t.handlers s) is fits.by_status).1;
+        joining = λ id is. (by (status.Joining id) refl is).1;
+        at_point = λ index is. (by (status.AtPoint index) refl is).1;
         suspended = suspended_by t.reason t.handlers s t.status t.frames fits.by_status;
         leaving = leaving_by t.reason t.handlers s t.status t.frames fits.by_status;
         passes = fits.in_passes.current;

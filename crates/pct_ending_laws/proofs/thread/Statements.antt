@@ -23,7 +23,6 @@ use Rattle.pct_model.specs.Actions.{thread_at, thread_after}
 use Rattle.pct_model.specs.CancelCalls.{state_number, state_if}
 use Rattle.pct_model.specs.Jumps.{is_end}
 use Rattle.pct_model.specs.OpenPushes.{pushes_after, open_pushes}
-use Rattle.pct_model.specs.ScriptStatements.{after_block, after_test, after_end}
 use Rattle.pct_model.specs.StopTable.{has_begun_to_end, is_handler_kind, is_in_handler}
 use Rattle.pct_model.specs.ThreadSummary.{ThreadSummary, no_events}
 use Rattle.pct_model.specs.Transitions.{goes_on, acts}
@@ -72,6 +71,26 @@ module _ (script : Script) (passes : ℕ) (matches : PushesMatch script) where
     in_passes = first_pass passes;
   }
 
+  -- ---- jumps
+
+  module _ (frame : Frame) (globals : List ℕ) where
+    -- a statement that changes nothing but the pc leads to a statement of its function, with the same open pushes
+    pub leads_within : {s : Stmt} {pc : ℕ} → statement_at script frame ≡ Some s → Leads (body_of script frame.func) globals frame s pc → pc < length (body_of script frame.func)
+    leads_within at past_nop = matches.next_within frame statement.Nop at refl
+    leads_within at (past_if v) = matches.test_within frame v (value_of globals frame v) (inl at)
+    leads_within at (past_while v) = matches.test_within frame v (value_of globals frame v) (inr at)
+    leads_within at past_else = matches.block_within frame at
+    leads_within at (past_end opened opens) = matches.end_within frame opened at opens
+
+    leads_same : {s : Stmt} {pc : ℕ} → statement_at script frame ≡ Some s → Leads (body_of script frame.func) globals frame s pc → open_pushes (body_of script frame.func) pc ≡ open_pushes (body_of script frame.func) frame.pc
+    leads_same at past_nop = matches.next frame statement.Nop at
+    leads_same at (past_if v) = matches.test frame v (value_of globals frame v) (inl at)
+    leads_same at (past_while v) = matches.test frame v (value_of globals frame v) (inr at)
+    leads_same at past_else = matches.block frame at
+    leads_same at (past_end opened opens) = matches.end frame opened at opens
+
+  -- ---- a running thread
+
   module _ (t : Thread) (frame : Frame) (below : List Frame) (reported : ThreadSummary) (fits : Fits script passes (running t (frame ∷ below)) reported) where
     -- the thread as it runs
     abbrev own : Thread
@@ -93,15 +112,7 @@ module _ (script : Script) (passes : ℕ) (matches : PushesMatch script) where
     jump_keeps pc same within = going_on_keeps script passes t frame below status.Running reported pc [] [] same within refl refl tt fits
 
     pub leads_keeps : (globals : List ℕ) {s : Stmt} {pc : ℕ} → statement_at script frame ≡ Some s → Leads body globals frame s pc → Keeps script passes own reported (goes_on pc [] [])
-    leads_keeps globals at past_nop = next_keeps status.Running statement.Nop at refl refl [] [] refl refl tt
-    leads_keeps globals at (past_if v) =
-        let n : ℕ = value_of globals frame v in
-        jump_keeps (after_test body frame.pc n) (matches.test frame v n (inl at)) (matches.test_within frame v n (inl at))
-    leads_keeps globals at (past_while v) =
-        let n : ℕ = value_of globals frame v in
-        jump_keeps (after_test body frame.pc n) (matches.test frame v n (inr at)) (matches.test_within frame v n (inr at))
-    leads_keeps globals at past_else = jump_keeps (after_block body frame.pc) (matches.block frame at) (matches.block_within frame at)
-    leads_keeps globals at (past_end opened opens) = jump_keeps (after_end body frame.pc opened) (matches.end frame opened at opens) (matches.end_within frame opened at opens)
+    leads_keeps globals {pc = pc} at leads = jump_keeps pc (leads_same frame globals at leads) (leads_within frame globals at leads)
 
     -- ---- it returns
 

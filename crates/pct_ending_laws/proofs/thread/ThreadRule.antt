@@ -1,5 +1,5 @@
 -- What each thread keeps, beside what the events report of it: the facts of Kept.antt, arranged by the status of the thread.
-use Rattle.std.proofs.Common.{◌≡◌, ℕ, ◌<◌, Bool, true, false, ◌||◌, List, [], ◌∷◌, length, reverse, Some, None}
+use Rattle.std.proofs.Common.{◌≡◌, ℕ, ◌<◌, Bool, true, false, ◌||◌, List, [], ◌∷◌, length, reverse, Some, None, ◌⊎◌, inl, inr}
 use Rattle.std.specs.Prelude.{is_some, ◌≡◌, ℕ, true, List, [], ◌∷◌, refl}
 use Rattle.std.specs.List.{AllByRecursion}
 use Rattle.pct_model.specs.declared.frame.Frame.{Frame}
@@ -13,10 +13,12 @@ use Rattle.pct_model.specs.declared.state.State.TheVariants.{Disable}
 use Rattle.pct_model.specs.declared.state.Status.{Status}
 use Rattle.pct_model.specs.declared.state.Status.TheVariants as status
 use Rattle.pct_model.specs.declared.transition.Transition.{Transition}
+use Rattle.std.proofs.lemmas.Bool.{true≢false}
 use Rattle.pct_model.specs.declared.event.Event.{Event}
 use Rattle.pct_model.specs.declared.event.What.{What}
+use Rattle.pct_model.specs.declared.event.What.TheVariants as what
 use Rattle.pct_model.specs.Actions.{moved}
-use Rattle.pct_model.specs.Kept.{AreOpen, open_functions, is_join, is_call_of, IsSuspendedAt, has_left_wait}
+use Rattle.pct_model.specs.Kept.{AreOpen, open_functions, is_join, is_call_of, IsSuspendedAt, has_left_wait, IsPlainFunction}
 use Rattle.pct_model.specs.NextStatement.{next_of}
 use Rattle.pct_model.specs.StopTable.{has_begun_to_end}
 use Rattle.pct_model.specs.ThreadSummary.{ThreadSummary, no_events, with_event, summary_of}
@@ -39,7 +41,17 @@ abbrev pub AllMayCome : ℕ → List What → ThreadSummary → Type 0
 AllMayCome passes [] s = Unit {0}
 AllMayCome passes (w ∷ added) s = MayCome passes w (after_all summary added s) × AllMayCome passes added s
 
+-- these events are that a function registered with atexit is called
+abbrev pub calls_exit_function : List What → Bool
+calls_exit_function (what.ExitRun f ∷ []) = true
+calls_exit_function _ = false
+
 -- ---- frames
+
+-- the status is Running
+abbrev pub is_running : Status → Bool
+is_running status.Running = true
+is_running _ = false
 
 -- what is below a frame of a kind, in a thread with a reason to end; `below_fits` is that the frames below fit it
 abbrev pub Below : FrameKind → Reason → List Frame → Type 0 → Type 0
@@ -111,6 +123,21 @@ module _ (script : Script) where
   ByStatus status.Exiting why frames handlers s = (frames ≡ []) × (s.exiting ≡ true)
   ByStatus _ why frames handlers s = ⊥
 
+  -- a thread that runs a function registered with atexit, in its only frame
+  abbrev pub RunsExitFunction : Status → List Frame → ThreadSummary → Type 0
+  RunsExitFunction status.Running (frame ∷ []) s = (frame.kind ≡ kind.ExitFn) × IsPlainFunction script frame.func × (s.exiting ≡ true)
+  RunsExitFunction _ _ s = ⊥
+
+  -- a thread, by its status, in any function
+  abbrev pub ByAnyStatus : Status → Reason → List Frame → List (ℕ × ℕ) → ThreadSummary → Type 0
+  ByAnyStatus st why frames handlers s = ByStatus st why frames handlers s ⊎ RunsExitFunction st frames s
+
+  -- a thread that is not Running runs no such function
+  pub outside_exit : (why : Reason) (handlers : List (ℕ × ℕ)) (s : ThreadSummary) (st : Status) (frames : List Frame) → is_running st ≡ false → ByAnyStatus st why frames handlers s → ByStatus st why frames handlers s
+  outside_exit why handlers s st frames other (inl by_status) = by_status
+  outside_exit why handlers s status.Running frames other (inr exits) = absurd (true≢false other)
+  outside_exit why handlers s _ frames other (inr exits) = absurd exits
+
   -- ---- threads
 
   -- the handlers, the reason and the end of a thread are those that its events report
@@ -124,18 +151,40 @@ module _ (script : Script) where
   }
 
   module _ (passes : ℕ) where
-    -- a thread and what its events report
-    abbrev pub Fits : Thread → ThreadSummary → Type 0
-    Fits t s = record {
+    -- a thread and what its events report, with what its status asks
+    abbrev pub FitsBy : (Status → Reason → List Frame → List (ℕ × ℕ) → ThreadSummary → Type 0) → Thread → ThreadSummary → Type 0
+    FitsBy Asks t s = record {
       agrees : Agrees t.handlers t.reason t.ended t.state s;
       placed : AllByRecursion IsPlaced t.frames;
-      by_status : ByStatus t.status t.reason t.frames t.handlers s;
+      by_status : Asks t.status t.reason t.frames t.handlers s;
       in_passes : PassesFit passes t.pass t.specific.in_pass s.passes s.destroyed;
     }
+
+    -- a thread that runs no function registered with atexit
+    abbrev pub Fits : Thread → ThreadSummary → Type 0
+    Fits t s = FitsBy ByStatus t s
+
+    -- any thread
+    abbrev pub FitsAny : Thread → ThreadSummary → Type 0
+    FitsAny t s = FitsBy ByAnyStatus t s
+
+    pub in_any : (t : Thread) (s : ThreadSummary) → Fits t s → FitsAny t s
+    in_any t s fits = record { agrees = fits.agrees; placed = fits.placed; by_status = inl fits.by_status; in_passes = fits.in_passes }
+
+    -- a thread, where it may run such a function and where not
+    abbrev pub FitsIf : Bool → Thread → ThreadSummary → Type 0
+    FitsIf true t s = FitsAny t s
+    FitsIf false t s = Fits t s
 
     -- ---- transitions
 
     -- a thread fits its events after a transition, the events of which may come
-    pub record Keeps (t : Thread) (reported : ThreadSummary) (o : Transition) : Type 0 where
-      pub own : Fits (moved o t) (after_all summary (reverse o.events) reported)
+    pub record KeepsBy (F : Thread → ThreadSummary → Type 0) (t : Thread) (reported : ThreadSummary) (o : Transition) : Type 0 where
+      pub own : F (moved o t) (after_all summary (reverse o.events) reported)
       pub lawful : AllMayCome passes (reverse o.events) reported
+
+    abbrev pub Keeps : Thread → ThreadSummary → Transition → Type 0
+    Keeps t reported o = KeepsBy Fits t reported o
+
+    abbrev pub KeepsAny : Thread → ThreadSummary → Transition → Type 0
+    KeepsAny t reported o = KeepsBy FitsAny t reported o

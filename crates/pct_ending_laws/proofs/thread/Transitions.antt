@@ -1,5 +1,5 @@
 -- Each transition of a thread keeps the rule of the thread.
-use Rattle.std.proofs.Common.{◌≡◌, ℕ, true, List, [], ◌∷◌, nat_eq, eq-eqb, Option, Some, refl, ap, ◌∙◌, subst}
+use Rattle.std.proofs.Common.{◌≡◌, ℕ, Bool, true, false, List, [], ◌∷◌, nat_eq, eq-eqb, Option, Some, inl, inr, refl, ap, ◌∙◌, subst}
 use Rattle.std.proofs.lemmas.Bool.{and_from}
 use Rattle.std.proofs.lemmas.Option.{none-some, same_Some}
 use Rattle.pct_model.specs.declared.event.Caller.TheVariants as caller
@@ -22,28 +22,31 @@ use Rattle.pct_model.specs.Actions.{thread_at, thread_after}
 use Rattle.pct_model.specs.CancelCalls.{mode_number, mode_if, testcancel_point, point_kind, is_required}
 use Rattle.pct_model.specs.ChoiceTable.{choices_of, offers}
 use Rattle.pct_model.specs.CondCalls.{cond_wait_point}
-use Rattle.pct_model.specs.Kept.{is_join, is_call_of, is_sem_wait_of, is_cond_wait_of, KeysKept}
+use Rattle.pct_model.specs.Kept.{is_join, is_call_of, is_sem_wait_of, is_cond_wait_of, KeysKept, IsPlainFunction}
 use Rattle.pct_model.specs.NextStatement.{NextStatement, next_in, next_of, body_at}
 use Rattle.pct_model.specs.OtherThreads.{Others, others_of}
 use Rattle.pct_model.specs.ThreadEnds.{end_value}
 use Rattle.pct_model.specs.ThreadSummary.{ThreadSummary, no_events}
 use Rattle.pct_model.specs.TransitionTable.{transition_by}
-use Rattle.pct_model.specs.World.{Thread, SharedState, Process, value_of}
+use Rattle.pct_model.specs.World.{Thread, SharedState, Process, value_of, new_frame, new_thread}
 use Rattle.pct_transition_cases.proofs.CaseOfTransition.{case_of}
 use Rattle.pct_transition_cases.proofs.PlacedStatements.{IsPlaced, on_top, is_placed, statement_placed}
-use Rattle.pct_transition_cases.proofs.TransitionCases.{TransitionCase, rests, stopped, jumped, emitted, variable_set, variable_added, function_called, main_returned, start_returned, call_left, handler_left, exit_function_left, thread_made, thread_not_made, join_begun, join_ended, thread_detached, self_got, request_sent, state_set, mode_set, cancel_tested, point_begun, point_done, point_passed, canceled, canceled_at_point, canceled_in_join, canceled_in_sem_wait, mutex_locked, mutex_unlocked, wait_begun, wait_ended, canceled_in_wait, canceled_after_wait, signal_handed_on, ended_in_wait, signal_sent, signal_lost, broadcast_sent, sem_wait_begun, sem_taken, sem_posted, key_made, key_not_made, key_deleted, specific_set, specific_got, handler_pushed, handler_popped, handler_called, exit_called, handler_run, destructor_called, pass_begun, thread_ended, thread_ended_with_keys, last_ended, last_ended_with_keys, process_ended}
+use Rattle.pct_transition_cases.proofs.TransitionCases.{TransitionCase, rests, stopped, jumped, emitted, variable_set, variable_added, function_called, main_returned, start_returned, call_left, handler_left, exit_function_left, thread_made, thread_not_made, join_begun, join_ended, thread_detached, self_got, request_sent, state_set, mode_set, cancel_tested, point_begun, point_done, point_passed, canceled, canceled_at_point, canceled_in_join, canceled_in_sem_wait, mutex_locked, mutex_unlocked, wait_begun, wait_ended, canceled_in_wait, canceled_after_wait, signal_handed_on, ended_in_wait, signal_sent, signal_lost, broadcast_sent, sem_wait_begun, sem_taken, sem_posted, key_made, key_not_made, key_deleted, specific_set, specific_got, handler_pushed, handler_popped, handler_called, exit_called, handler_run, destructor_called, pass_begun, thread_ended, thread_ended_with_keys, last_ended, last_ended_with_keys, exit_registered, exit_not_registered, process_exited, process_ended_now, exit_function_called, process_ended}
 use Rattle.pct_ending_laws.proofs.StaticPushes.{PushesMatch}
 use Rattle.pct_ending_laws.proofs.lift.ThreadsAfter.{created_thread}
 use Rattle.pct_ending_laws.proofs.lift.OfferedNumbers.{left_key_of}
 use Rattle.pct_ending_laws.proofs.keys.LeftKeys.{left_in_pass, destructor_in_script}
-use Rattle.pct_ending_laws.proofs.thread.ThreadRule.{Fits, Keeps}
+use Rattle.pct_ending_laws.proofs.exits.PlainFunctions.{plain_next}
+use Rattle.pct_ending_laws.proofs.exits.RegisteredFunctions.{ArePlain, RegistersPlain}
+use Rattle.pct_ending_laws.proofs.exits.ExitSteps.{exit_function_keeps, exit_step_keeps}
+use Rattle.pct_ending_laws.proofs.thread.ThreadRule.{ByAnyStatus, Fits, FitsAny, FitsIf, in_any, KeepsBy, KeepsAny, calls_exit_function}
 use Rattle.pct_ending_laws.proofs.thread.NamedFunctions.{NamesFunctions}
 use Rattle.pct_ending_laws.proofs.thread.GoingOn.{by_handlers}
 use Rattle.pct_ending_laws.proofs.thread.Handlers.{call_keeps, push_keeps, drop_keeps, run_keeps}
 use Rattle.pct_ending_laws.proofs.thread.Ends.{not_begun, awake, suspends, cancel_keeps, leave_fits, end_in_wait_keeps, exit_keeps, begin_keeps, handler_keeps, destructor_keeps, pass_keeps, end_lawful, leftover_lawful, ended_fits, exits_fit}
 use Rattle.pct_ending_laws.proofs.thread.Statements.{new_fits, next_keeps, leads_keeps, kind_fits, call_left_keeps, handler_left_keeps, state_keeps}
 
-module _ (script : Script) (passes : ℕ) (matches : PushesMatch script) (names : NamesFunctions script) (shared : SharedState) (kept : KeysKept script shared.keys) (t : Thread) (others : Others) (reported : ThreadSummary) where
+module _ (script : Script) (passes : ℕ) (matches : PushesMatch script) (names : NamesFunctions script) (shared : SharedState) (kept : KeysKept script shared.keys) (registered : ArePlain script shared.exit_functions) (t : Thread) (others : Others) (reported : ThreadSummary) where
   -- the thread, with a status and frames
   abbrev own : Status → List Frame → Thread
   own s frames = record t { status = s; frames = frames }
@@ -52,7 +55,11 @@ module _ (script : Script) (passes : ℕ) (matches : PushesMatch script) (names 
   abbrev value : Frame → Operand → ℕ
   value frame v = value_of shared.globals frame v
 
-  case_keeps : {frames : List Frame} {body : List Stmt} {next : NextStatement} {s : Status} {o : Transition} → IsPlaced script frames body next → TransitionCase passes body shared (own s frames) others true next s o → Fits script passes (own s frames) reported → Keeps script passes (own s frames) reported o
+  -- the next registered function
+  first_plain : (f : ℕ) (functions : List ℕ) → shared.exit_functions ≡ f ∷ functions → IsPlainFunction script f
+  first_plain f functions is = (subst (ArePlain script) is registered).0
+
+  case_keeps : {frames : List Frame} {body : List Stmt} {next : NextStatement} {s : Status} {o : Transition} → IsPlaced script frames body next → TransitionCase passes body shared (own s frames) others true next s o → Fits script passes (own s frames) reported → KeepsBy script passes (FitsIf script passes (calls_exit_function o.events)) (own s frames) reported o
   unfolding thread_at thread_after
   case_keeps {frames} place (rests next s alive) rule = record { own = rule; lawful = tt }
   case_keeps {frames} place (stopped frame s why) rule = record { own = rule; lawful = (tt, tt) }
@@ -134,22 +141,43 @@ module _ (script : Script) (passes : ℕ) (matches : PushesMatch script) (names 
   case_keeps {frames} place (thread_ended_with_keys next left none some limit) rule = by_handlers script passes t status.Ending frames reported _ [] none (λ r. record { own = ended_fits script passes matches t frames reported r (end_value t.reason); lawful = (end_lawful script passes matches t frames reported r, leftover_lawful script passes matches t frames reported r left some limit) }) rule
   case_keeps {frames} place (last_ended next none is_last) rule = by_handlers script passes t status.Ending frames reported _ [] none (λ r. record { own = exits_fit script passes matches t frames reported r (end_value t.reason); lawful = (tt, (end_lawful script passes matches t frames reported r, tt)) }) rule
   case_keeps {frames} place (last_ended_with_keys next left none is_last some limit) rule = by_handlers script passes t status.Ending frames reported _ [] none (λ r. record { own = exits_fit script passes matches t frames reported r (end_value t.reason); lawful = (tt, (end_lawful script passes matches t frames reported r, leftover_lawful script passes matches t frames reported r left some limit)) }) rule
+  -- the exit of a process
+  case_keeps (on_top frame below s at) (exit_registered _ result f may) rule = next_keeps script passes matches t frame below reported rule status.Running (statement.AtExit result f) at refl refl (action.AddExit f ∷ action.Write result 0 ∷ []) [] refl refl tt
+  case_keeps (on_top frame below s at) (exit_not_registered _ result f) rule = next_keeps script passes matches t frame below reported rule status.Running (statement.AtExit result f) at refl refl (action.Write result 1 ∷ []) (what.Answer caller.AtExit 1 ∷ []) refl refl (tt, tt)
+  case_keeps (on_top frame below s at) (process_exited _ v alone) rule = exit_keeps script passes t (frame ∷ below) reported rule (value frame v)
+  case_keeps {frames} place (process_ended_now frame v) rule = record { own = rule; lawful = (tt, tt) }
+  case_keeps {frames} place (exit_function_called next f functions is) rule = exit_function_keeps script passes matches t frames reported f (first_plain f functions is) rule
   case_keeps {frames} place (process_ended next v) rule = record { own = rule; lawful = (tt, tt) }
 
+  any_if : (exits : Bool) (u : Thread) (s : ThreadSummary) → FitsIf script passes exits u s → FitsAny script passes u s
+  any_if true u s fits = fits
+  any_if false u s fits = in_any script passes u s fits
+
+  -- the same of a thread that may run a function registered with atexit
+  rule_keeps : (s : Status) (frames : List Frame) {body : List Stmt} {next : NextStatement} {o : Transition} → IsPlaced script frames body next → TransitionCase passes body shared (own s frames) others true next s o
+      → FitsAny script passes (own s frames) reported → ByAnyStatus script s t.reason frames t.handlers reported → KeepsAny script passes (own s frames) reported o
+  rule_keeps s frames {o = o} place c rule (inl by_status) =
+      let keeps = case_keeps place c (record { agrees = rule.agrees; placed = rule.placed; by_status = by_status; in_passes = rule.in_passes }) in
+      record { own = any_if (calls_exit_function o.events) _ _ keeps.own; lawful = keeps.lawful }
+  rule_keeps status.Running (frame ∷ []) place c rule (inr exits) = exit_step_keeps script passes matches t frame reported rule exits place c (plain_next script frame [] exits.1 place)
+  rule_keeps _ _ place c rule (inr exits) = absurd exits
+
   -- a thread that it creates fits no events
-  case_created : {frames : List Frame} {body : List Stmt} {next : NextStatement} {s : Status} {o : Transition} → IsPlaced script frames body next → TransitionCase passes body shared t others true next s o → (new : NewThread) → o.created ≡ Some new → Fits script passes (created_thread new) no_events
+  case_created : {frames : List Frame} {body : List Stmt} {next : NextStatement} {s : Status} {o : Transition} → IsPlaced script frames body next → TransitionCase passes body shared t others true next s o → (new : NewThread) → o.created ≡ Some new → FitsAny script passes (created_thread new) no_events
   case_created place (thread_made frame result id f v detached n among) new is =
-      subst (λ (x : NewThread). Fits script passes (created_thread x) no_events) (same_Some (record { id = n; detached = detached; func = f; arg = value frame v }) new is) (new_fits script passes matches n f (value frame v) detached kind.Start (names.created frame result id f v detached (statement_placed place)) (refl, refl))
+      subst (λ (x : NewThread). FitsAny script passes (created_thread x) no_events) (same_Some (record { id = n; detached = detached; func = f; arg = value frame v }) new is) (in_any script passes (new_thread n detached (new_frame f (value frame v) kind.Start)) no_events (new_fits script passes matches n f (value frame v) detached kind.Start (names.created frame result id f v detached (statement_placed place)) (refl, refl)))
   case_created place _ new is = absurd (none-some new is)
 
 -- a transition of a thread, by any choice
-pub transition_keeps : (script : Script) → PushesMatch script → NamesFunctions script → (config : Config) (p : Process) (t : Thread) (reported : ThreadSummary) (choice : Alt) → KeysKept script p.shared.keys → offers (choices_of script config p t) choice ≡ true → Fits script config.passes t reported → Keeps script config.passes t reported (transition_by script config p t choice)
-transition_keeps script matches names config p t reported choice kept offered rule =
+pub transition_keeps : (script : Script) → PushesMatch script → NamesFunctions script → (config : Config) (p : Process) (t : Thread) (reported : ThreadSummary) (choice : Alt) → KeysKept script p.shared.keys → RegistersPlain script p → offers (choices_of script config p t) choice ≡ true
+    → FitsAny script config.passes t reported → KeepsAny script config.passes t reported (transition_by script config p t choice)
+transition_keeps script matches names config p t reported choice kept registered offered rule =
     let others : Others = others_of config.slots p.threads t.id in
-    case_keeps script config.passes matches names p.shared kept t others reported (is_placed script t.frames) (case_of config.passes (body_at script t.frames) p.shared t others true choice (next_of script t.frames) t.status (λ known. offered)) rule
+    rule_keeps script config.passes matches names p.shared kept registered t others reported t.status t.frames (is_placed script t.frames) (case_of config.passes (body_at script t.frames) p.shared t others true choice (next_of script t.frames) t.status (λ known. offered)) rule rule.by_status
 
 -- the thread that it creates
-pub created_fits : (script : Script) → PushesMatch script → NamesFunctions script → (config : Config) (p : Process) (t : Thread) (choice : Alt) → KeysKept script p.shared.keys → offers (choices_of script config p t) choice ≡ true → (new : NewThread) → (transition_by script config p t choice).created ≡ Some new → Fits script config.passes (created_thread new) no_events
-created_fits script matches names config p t choice kept offered =
+pub created_fits : (script : Script) → PushesMatch script → NamesFunctions script → (config : Config) (p : Process) (t : Thread) (choice : Alt) → KeysKept script p.shared.keys → RegistersPlain script p → offers (choices_of script config p t) choice ≡ true
+    → (new : NewThread) → (transition_by script config p t choice).created ≡ Some new → FitsAny script config.passes (created_thread new) no_events
+created_fits script matches names config p t choice kept registered offered =
     let others : Others = others_of config.slots p.threads t.id in
-    case_created script config.passes matches names p.shared kept t others no_events (is_placed script t.frames) (case_of config.passes (body_at script t.frames) p.shared t others true choice (next_of script t.frames) t.status (λ known. offered))
+    case_created script config.passes matches names p.shared kept registered t others no_events (is_placed script t.frames) (case_of config.passes (body_at script t.frames) p.shared t others true choice (next_of script t.frames) t.status (λ known. offered))

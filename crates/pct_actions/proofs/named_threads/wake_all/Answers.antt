@@ -19,24 +19,27 @@ loop-slot-init c =
 
 pub wake_waiter_on-requires : goal.wake_waiter_on-requires
 wake_waiter_on-requires c =
-    still_occupied (woken_from c.args.cond) c.args.threads.now c.loop-slot.rest c.loop-slot.threads c.in-Some.slot c.in-Some.ensures.below c.in-Some.ensures.value c.loop-slot.invariant.scan c.loop-slot.invariant.changed
+    let kept = c.loop-slot.invariant in
+    still_occupied (woken_from c.args.cond) c.args.threads.now c.loop-slot.rest c.loop-slot.threads c.in-Some.slot c.in-Some.ensures.below c.in-Some.ensures.value kept.scan kept.changed
 
 pub loop-slot-smaller : goal.loop-slot-smaller
-loop-slot-smaller c = scan_fewer (λ s. false) (is_occupied_at c.args.threads.now) c.loop-slot.rest [] c.loop-slot.invariant.scan c.in-Some.slot c.in-Some.ensures.value c.in-Some.ensures.below c.remove.new.self c.remove.ensures
+loop-slot-smaller c = scan_fewer _ _ c.loop-slot.rest [] c.loop-slot.invariant.scan c.in-Some.slot c.in-Some.ensures.value c.in-Some.ensures.below c.remove.new.self c.remove.ensures
 
 pub loop-slot-preserved : goal.loop-slot-preserved
 loop-slot-preserved c =
     let old = c.args.threads.now in
     let slot = c.in-Some.slot in
     let kept = c.loop-slot.invariant in
-    let step = one_more (woken_from c.args.cond) old c.loop-slot.rest c.loop-slot.threads slot c.in-Some.ensures.below c.in-Some.ensures.value kept.scan kept.changed in
+    let change = woken_from c.args.cond in
+    let step = one_more change old c.loop-slot.rest c.loop-slot.threads slot c.in-Some.ensures.below c.in-Some.ensures.value kept.scan kept.changed in
     record {
-      scan = scan_more (λ s. false) (is_occupied_at old) c.loop-slot.rest [] kept.scan slot c.in-Some.ensures.value c.in-Some.ensures.below c.remove.new.self c.remove.ensures [] false refl refl;
-      changed = subst (λ (set : List ℕ). ChangedBut (woken_from c.args.cond) old set c.wake_waiter_on.new.threads) (sym c.remove.ensures) (subst (ChangedBut (woken_from c.args.cond) old _) (sym c.wake_waiter_on.ensures.table) step);
+      scan = scan_more _ _ c.loop-slot.rest [] kept.scan slot c.in-Some.ensures.value c.in-Some.ensures.below c.remove.new.self c.remove.ensures [] false refl refl;
+      changed = subst (λ (set : List ℕ). ChangedBut change old set c.wake_waiter_on.new.threads) (sym c.remove.ensures) (subst (ChangedBut change old _) (sym c.wake_waiter_on.ensures.table) step);
       long = c.wake_waiter_on.ensures.length ∙ kept.long;
     }
 
 pub returns-clause-table : goal.returns-clause-table
 returns-clause-table c =
     let count = c.slot_count-count.ensures in
-    all_changed (woken_from c.args.cond) c.args.threads.now c.loop-slot.rest c.loop-slot.threads (sym c.in_default.ensures.value) c.loop-slot.invariant.long (omega (arith, count.value, count.few)) c.loop-slot.invariant.changed
+    let kept = c.loop-slot.invariant in
+    all_changed (woken_from c.args.cond) c.args.threads.now c.loop-slot.rest c.loop-slot.threads (sym c.in_default.ensures.value) kept.long (omega (arith, count.value, count.few)) kept.changed

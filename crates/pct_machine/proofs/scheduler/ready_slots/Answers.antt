@@ -1,5 +1,4 @@
-use Rattle.std.proofs.Common.{ℕ, Bool, true, false, length, map, sym, ap, ◌∙◌, arith}
-use Rattle.std.specs.Prelude.{is_some}
+use Rattle.std.proofs.Common.{Bool, true, false, length, map, sym, ap, ◌∙◌, arith}
 use Rattle.pct_model.specs.World.{Thread}
 use Rattle.pct_set.proofs.SlotScans.{scan_begun, scan_there, scan_fewer, scan_more, scan_ended}
 use Rattle.pct_engine_laws.specs.SeenSteps.{is_ready_in}
@@ -13,29 +12,26 @@ pub loop-slot-init : goal.loop-slot-init
 loop-slot-init c =
     let d = c.args.process.now in
     let ready : Thread → Bool = is_ready_in c.args.program.now.script (length d.slots) (with_data d) in
-    scan_begun (is_ready_on ready d.slots) (λ k. is_some (thread_on_slot d.slots k)) c.occupied-rest.result c.new-ready.result c.occupied-rest.ensures c.new-ready.ensures (λ s. some_by ready (thread_on_slot d.slots s))
+    scan_begun _ _ c.occupied-rest.result c.new-ready.result c.occupied-rest.ensures c.new-ready.ensures (λ s. some_by ready (thread_on_slot d.slots s))
 
 pub has_choice-requires : goal.has_choice-requires
 has_choice-requires c =
-    let d = c.args.process.now in
-    scan_there _ (λ k. is_some (thread_on_slot d.slots k)) c.loop-slot.rest c.loop-slot.ready c.loop-slot.invariant c.in-Some.slot c.in-Some.ensures.value c.in-Some.ensures.below
+    scan_there _ _ c.loop-slot.rest c.loop-slot.ready c.loop-slot.invariant c.in-Some.slot c.in-Some.ensures.value c.in-Some.ensures.below
 
 pub loop-slot-smaller : goal.loop-slot-smaller
 loop-slot-smaller c =
-    let d = c.args.process.now in
-    scan_fewer _ (λ k. is_some (thread_on_slot d.slots k)) c.loop-slot.rest c.loop-slot.ready c.loop-slot.invariant c.in-Some.slot c.in-Some.ensures.value c.in-Some.ensures.below c.remove.new.self c.remove.ensures
+    scan_fewer _ _ c.loop-slot.rest c.loop-slot.ready c.loop-slot.invariant c.in-Some.slot c.in-Some.ensures.value c.in-Some.ensures.below c.remove.new.self c.remove.ensures
 
 pub loop-slot-preserved : goal.loop-slot-preserved
 loop-slot-preserved c =
     let d = c.args.process.now in
     let ready : Thread → Bool = is_ready_in c.args.program.now.script (length d.slots) (with_data d) in
-    let there : ℕ → Bool = λ k. is_some (thread_on_slot d.slots k) in
     let rest = c.loop-slot.rest in
     let slot = c.in-Some.slot in
     let first = c.in-Some.ensures in
-    let here = scan_there _ there rest c.loop-slot.ready c.loop-slot.invariant slot first.value first.below in
+    let here = scan_there _ _ rest c.loop-slot.ready c.loop-slot.invariant slot first.value first.below in
     let passes = passes_by c.has_choice.result ready (thread_on_slot d.slots slot) here c.has_choice.ensures in
-    let more = scan_more (is_ready_on ready d.slots) there rest c.loop-slot.ready c.loop-slot.invariant slot first.value first.below c.remove.new.self c.remove.ensures c.if-has_choice.ready in
+    let more = scan_more _ _ rest c.loop-slot.ready c.loop-slot.invariant slot first.value first.below c.remove.new.self c.remove.ensures c.if-has_choice.ready in
     elim c.if-has_choice.branch [
       | then-has_choice w ↦ more true (sym w.if-has_choice.true ∙ passes) (w.ready-is ∙ w.insert.ensures)
       | else-has_choice w ↦ more false (sym w.if-has_choice.false ∙ passes) w.ready-is
