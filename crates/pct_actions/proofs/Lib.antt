@@ -1,6 +1,6 @@
 pub mod RestItems
 mod TwoChanges
-mod ChangedSlots
+pub mod ChangedSlots
 mod TableSlots
 mod OwnThread
 mod ScannedThreads

@@ -50,6 +50,10 @@ pub(crate) fn act(threads: &mut Threads, slot: u32, action: Action)
         Action::BeginWait(cond, mutex) => set_status(threads, slot, Status::Waiting(cond, mutex)),
         Action::LeaveWait(cond, mutex) => leave_wait(threads, slot, cond, mutex),
         Action::BeginSem(sem) => set_status(threads, slot, Status::InSem(sem)),
+        Action::BeginWaitPid(pid) => set_status(threads, slot, Status::InWaitPid(pid)),
+        Action::EnterFork(phase, pid) => {
+            set_status(threads, slot, Status::Forking(phase, 0, 0, pid));
+        }
         Action::BeginPass => begin_pass(threads, slot),
         Action::BeginEnd(why) => begin_end(threads, slot, why),
         Action::EndThread(value) => end_thread(threads, slot, value),

@@ -11,7 +11,7 @@ use Rattle.pct_model.specs.declared.point.Point.{Point}
 use Rattle.pct_model.specs.declared.point.PointKind.{PointKind}
 use Rattle.pct_model.specs.declared.point.PointKind.TheVariants.{Required, Optional}
 use Rattle.pct_model.specs.declared.point.PointWait.TheVariants.{NoWait}
-use Rattle.pct_model.specs.declared.point.TheConstants.{COND_WAIT_POINT, JOIN_POINT, TESTCANCEL_POINT, SEM_WAIT_POINT}
+use Rattle.pct_model.specs.declared.point.TheConstants.{COND_WAIT_POINT, JOIN_POINT, TESTCANCEL_POINT, SEM_WAIT_POINT, WAITPID_POINT}
 use Rattle.pct_model.specs.LineKinds.{is_foreign}
 use Rattle.pct_model.specs.Points.{Row, points, point_at, point_of, point_name}
 
@@ -37,9 +37,9 @@ index_of_name name = option_map (λ p. p.index) (point_of name)
 
 -- the four points that the machine's definitions name by a constant
 named_indexes : (index_of_name (codes "pthread_cond_wait") ≡ Some COND_WAIT_POINT) × (index_of_name (codes "pthread_join") ≡ Some JOIN_POINT)
-    × (index_of_name (codes "pthread_testcancel") ≡ Some TESTCANCEL_POINT) × (index_of_name (codes "sem_wait") ≡ Some SEM_WAIT_POINT)
+    × (index_of_name (codes "pthread_testcancel") ≡ Some TESTCANCEL_POINT) × (index_of_name (codes "sem_wait") ≡ Some SEM_WAIT_POINT) × (index_of_name (codes "waitpid") ≡ Some WAITPID_POINT)
 unfolding points point_of
-named_indexes = (refl, refl, refl, refl)
+named_indexes = (refl, refl, refl, refl, refl)
 
 -- names of no point: a name without its last byte or with one byte more, the empty name, and another function
 others : (point_of (codes "accep") ≡ None) × (point_of (codes "accept4") ≡ None) × (point_of [] ≡ None) × (point_of (codes "pthread_mutex_lock") ≡ None)

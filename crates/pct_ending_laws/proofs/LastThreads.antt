@@ -7,18 +7,19 @@ use Rattle.pct_model.specs.declared.schedule.Entry.{Entry}
 use Rattle.pct_model.specs.declared.schedule.Config.{Config}
 use Rattle.pct_model.specs.declared.script.Script.{Script}
 use Rattle.pct_model.specs.declared.transition.Transition.{Transition}
-use Rattle.pct_model.specs.Actions.{named_after, moved, thread_moved, changed}
+use Rattle.pct_model.specs.Actions.{named_after, child_of, moved, thread_moved, changed}
 use Rattle.pct_model.specs.NextStatement.{next_of, body_at}
 use Rattle.pct_model.specs.OtherThreads.{Others, others_of}
 use Rattle.pct_model.specs.ThreadSlots.{is_ended_status, holds_slot, is_live_thread}
 use Rattle.pct_model.specs.ThreadSummary.{ThreadSummary}
 use Rattle.pct_model.specs.TransitionTable.{transition_by}
-use Rattle.pct_model.specs.World.{Thread, Process, thread_with}
+use Rattle.pct_model.specs.World.{Thread, Process, World, thread_with}
 use Rattle.pct_ending_laws.proofs.lift.KeyedLists.{found_at, item_passes}
 use Rattle.pct_ending_laws.proofs.lift.ChangedThreads.{all_keep, same_settled, named_keeps, other_threads}
 use Rattle.pct_ending_laws.proofs.lift.TakenSteps.{AfterEveryRun}
 use Rattle.pct_ending_laws.proofs.lift.MadeThreads.{IsLive}
 use Rattle.pct_ending_laws.proofs.lift.ThreadsAfter.{initial_thread, Moves, mover, is_mover, each_after}
+use Rattle.pct_ending_laws.proofs.lift.InheritedThreads.{each_heir}
 use Rattle.pct_ending_laws.proofs.lift.EveryProcess.{OfEveryProcess, IsProcessRule, unread, every_process_keeps, moves_in}
 use Rattle.pct_ending_laws.proofs.lift.EveryThread.{OfEveryThread, OfItsThreads, of_its_threads}
 use Rattle.pct_ending_laws.proofs.thread.ThreadRule.{summary, FitsAny}
@@ -65,16 +66,16 @@ ended_by true false reclaimed false false is by_status other last = absurd (fals
 abbrev KeepsLast : Process → Type 0
 KeepsLast p = LastExits p.threads
 
-module _ (script : Script) (config : Config) (p : Process) (e : Entry) (t : Thread) (of_threads : OfItsThreads summary (FitsAny script config.passes) p) (moves : Moves script config p e t) (last : LastExits p.threads) where
+module _ (script : Script) (config : Config) (w : World) (p : Process) (e : Entry) (t : Thread) (of_threads : OfItsThreads summary (FitsAny script config.passes) p) (moves : Moves script config w p e t) (last : LastExits p.threads) where
   abbrev o : Transition
-  o = transition_by script config p t e.alt
+  o = transition_by script config w p t e.alt
 
   -- the process after the transition
   abbrev next : Process
   next = changed e.tid o p
 
   it : IsLive p e.tid t
-  it = mover script config p e t moves
+  it = mover script config w p e t moves
 
   -- ---- the threads after the transition
 
@@ -84,19 +85,19 @@ module _ (script : Script) (config : Config) (p : Process) (e : Entry) (t : Thre
 
   module _ (others : OthersEnded) (ends : (moved o t).ended ≡ true) (none : o.created ≡ None) where
     moved_ended : (id : ℕ) (u : Thread) → thread_with id p ≡ Some u → (live : Bool) → is_live_thread e.tid u ≡ live → (thread_moved e.tid o u).gone ≡ false → (thread_moved e.tid o u).ended ≡ true
-    moved_ended id u is true live present = ap (λ (v : Bool × Bool × Bool). v.1) (moved_view e.tid o u true live) ∙ ap (λ (x : Thread). (moved o x).ended) (is_mover script config p e t moves id u is live).0 ∙ ends
+    moved_ended id u is true live present = ap (λ (v : Bool × Bool × Bool). v.1) (moved_view e.tid o u true live) ∙ ap (λ (x : Thread). (moved o x).ended) (is_mover script config w p e t moves id u is live).0 ∙ ends
     moved_ended id u is false live present =
         let same : view (thread_moved e.tid o u) ≡ view u = moved_view e.tid o u false live in
         ap (λ (v : Bool × Bool × Bool). v.1) same ∙ others id u is (sym (ap (λ (v : Bool × Bool × Bool). v.0) same) ∙ present) live
 
     all_ended : AllEnded next.threads
-    all_ended = each_after script config p e t moves (λ id w. w.gone ≡ false → w.ended ≡ true) (λ id u is. moved_ended id u is (is_live_thread e.tid u) refl) (λ id new makes present. absurd (none-some new (sym none ∙ makes)))
+    all_ended = each_after script config w p e t moves (λ id w. w.gone ≡ false → w.ended ≡ true) (λ id u is. moved_ended id u is (is_live_thread e.tid u) refl) (λ id new makes present. absurd (none-some new (sym none ∙ makes)))
 
   -- ---- the thread that moves
 
   -- what it sees of the others
   abbrev seen : Others
-  seen = others_of config.slots p.threads t.id
+  seen = others_of config.slots w p t.id
 
   -- its transition, by case
   its_case : TransitionCase config.passes (body_at script t.frames) p.shared t seen true (next_of script t.frames) t.status o
@@ -106,7 +107,7 @@ module _ (script : Script) (config : Config) (p : Process) (e : Entry) (t : Thre
   its_goes_on : t.ended ≡ true → GoesOn t.status o
   its_goes_on ended =
       let rule : (s : ThreadSummary) × FitsAny script config.passes t s = of_threads e.tid t it.found it.here in
-      goes_on script config p t rule.0 e.alt moves.offered rule.1 ended
+      goes_on script config w p t rule.0 e.alt moves.offered rule.1 ended
 
   -- where each thread had ended, each has after the transition
   ended_stay : AllEnded p.threads → AllEnded next.threads
@@ -141,21 +142,24 @@ module _ (script : Script) (config : Config) (p : Process) (e : Entry) (t : Thre
 
   moved_exits : (id : ℕ) (u : Thread) → thread_with id p ≡ Some u → (live : Bool) → is_live_thread e.tid u ≡ live → ExitsAfterEnd (thread_moved e.tid o u) → AllEnded next.threads
   moved_exits id u is true live exits =
-      let same : view (thread_moved e.tid o u) ≡ view (moved o t) = moved_view e.tid o u true live ∙ ap (λ (x : Thread). view (moved o x)) (is_mover script config p e t moves id u is live).0 in
+      let same : view (thread_moved e.tid o u) ≡ view (moved o t) = moved_view e.tid o u true live ∙ ap (λ (x : Thread). view (moved o x)) (is_mover script config w p e t moves id u is live).0 in
       it_exits t.ended refl (sym (ap (λ (v : Bool × Bool × Bool). v.1) same) ∙ exits.1) (sym (ap (λ (v : Bool × Bool × Bool). v.2) same) ∙ exits.2)
   moved_exits id u is false live exits =
       let same : view (thread_moved e.tid o u) ≡ view u = moved_view e.tid o u false live in
       ended_stay (last id u is (sym (ap (λ (v : Bool × Bool × Bool). v.0) same) ∙ exits.0, sym (ap (λ (v : Bool × Bool × Bool). v.1) same) ∙ exits.1, sym (ap (λ (v : Bool × Bool × Bool). v.2) same) ∙ exits.2))
 
   pub last_after : LastExits next.threads
-  last_after = each_after script config p e t moves (λ id w. ExitsAfterEnd w → AllEnded next.threads) (λ id u is. moved_exits id u is (is_live_thread e.tid u) refl) (λ id new makes exits. absurd (false≢true exits.1))
+  last_after = each_after script config w p e t moves (λ id w. ExitsAfterEnd w → AllEnded next.threads) (λ id u is. moved_exits id u is (is_live_thread e.tid u) refl) (λ id new makes exits. absurd (false≢true exits.1))
 
 -- ---- every run
 
-last_rule : (script : Script) (config : Config) → IsProcessRule unread (λ p k. KeepsLast p) script config (λ p e t. OfItsThreads summary (FitsAny script config.passes) p × Moves script config p e t)
+last_rule : (script : Script) (config : Config) → IsProcessRule unread (λ p k. KeepsLast p) script config (λ w p e t. OfItsThreads summary (FitsAny script config.passes) p × Moves script config w p e t)
 last_rule script config = record {
   initial = λ id t found exits. absurd (false≢true (ap (λ (u : Thread). u.ended) (cond_some (nat_eq 1 id) (initial_thread script) t found).1 ∙ exits.1));
-  own = λ p e t k known last. last_after script config p e t known.0 known.1 last;
+  own = λ w p e t k known last. last_after script config w p e t known.0 known.1 last;
+  -- its one thread has not ended
+  born = λ w p e t k new known fork last.
+      each_heir e.tid new p t (mover script config w p e t known.1) (λ id x. ExitsAfterEnd x → AllEnded (child_of e.tid new p).threads) (λ exits. absurd (false≢true exits.1)) (λ id u is exits. absurd (false≢true (sym exits.0)));
   other = λ pid o p k last. subst LastExits (sym (other_threads pid o p)) last;
 }
 
@@ -164,4 +168,4 @@ last_rule script config = record {
 pub last_exits : (script : Script) (config : Config) → AfterEveryRun script config (OfEveryThread summary (FitsAny script config.passes)) → AfterEveryRun script config (OfEveryProcess KeepsLast)
 last_exits script config of =
     let K : Process → Type 0 = OfItsThreads summary (FitsAny script config.passes) in
-    every_process_keeps script config (λ p e t. K p × Moves script config p e t) KeepsLast (last_rule script config) (moves_in script config K (λ entries r is. of_its_threads summary (FitsAny script config.passes) r (of entries r is)))
+    every_process_keeps script config (λ w p e t. K p × Moves script config w p e t) KeepsLast (last_rule script config) (moves_in script config K (λ entries r is. of_its_threads summary (FitsAny script config.passes) r (of entries r is)))

@@ -19,7 +19,7 @@ use Rattle.pct_model.specs.declared.transition.Action.TheVariants as action
 use Rattle.pct_model.specs.Actions.{named_after}
 use Rattle.pct_model.specs.ChoiceTable.{choices_of, offers}
 use Rattle.pct_model.specs.CondCalls.{is_waiting_on, unblocked}
-use Rattle.pct_model.specs.Kept.{is_exiting, has_left_wait, ThreadKept, KeysKept}
+use Rattle.pct_model.specs.Kept.{is_exiting, is_forking, has_left_wait, ThreadKept, KeysKept}
 use Rattle.pct_model.specs.Keys.{key_place}
 use Rattle.pct_model.specs.Names.{main_of, names_of}
 use Rattle.pct_model.specs.Once.{MayCome, Once}
@@ -27,7 +27,7 @@ use Rattle.pct_model.specs.Run.{Run, event_of, run}
 use Rattle.pct_model.specs.ThreadSlots.{is_ended_status, is_live_thread}
 use Rattle.pct_model.specs.ThreadSummary.{ThreadSummary, no_events, summary_of}
 use Rattle.pct_model.specs.TransitionTable.{transition_by}
-use Rattle.pct_model.specs.World.{Thread, Process, made_process, thread_with}
+use Rattle.pct_model.specs.World.{Thread, Process, World, made_process, thread_with}
 use Rattle.pct_ending_laws.proofs.StaticPushes.{push_matches}
 use Rattle.pct_ending_laws.proofs.LastThreads.{last_exits}
 use Rattle.pct_ending_laws.proofs.lift.TakenSteps.{IsTaken, with_step, AfterEveryRun, every_run}
@@ -42,6 +42,7 @@ use Rattle.pct_ending_laws.proofs.thread.ThreadRule.{summary, summary_reading, A
 use Rattle.pct_ending_laws.proofs.thread.NamedFunctions.{names_functions}
 use Rattle.pct_ending_laws.proofs.thread.Statements.{new_fits}
 use Rattle.pct_ending_laws.proofs.thread.Transitions.{transition_keeps, created_fits}
+use Rattle.pct_ending_laws.proofs.thread.Replicas.{replica_fits}
 use Rattle.pct_ending_laws.proofs.thread.KeptThreads.{kept_thread}
 
 -- ---- the rule of one thread
@@ -107,16 +108,17 @@ module _ (script : Script) (config : Config) where
   abbrev ProcessFits : Process → Type 0
   ProcessFits p = KeysFit script p × RegistersPlain script p
 
-  keeps : (p : Process) (t : Thread) (s : ThreadSummary) (choice : Alt) → ProcessFits p → offers (choices_of script config p t) choice ≡ true → FitsAny script passes t s → KeepsAny script passes t s (transition_by script config p t choice)
-  keeps p t s choice known = transition_keeps script (push_matches script) (names_functions script) config p t s choice known.0.keys known.1
+  keeps : (w : World) (p : Process) (t : Thread) (s : ThreadSummary) (choice : Alt) → ProcessFits p → offers (choices_of script config w p t) choice ≡ true → FitsAny script passes t s → KeepsAny script passes t s (transition_by script config w p t choice)
+  keeps w p t s choice known = transition_keeps script (push_matches script) (names_functions script) config w p t s choice known.0.keys known.1
 
   -- each thread keeps the rule, in such a process
   thread_rule : IsThreadRule summary (FitsAny script passes) script config ProcessFits
   thread_rule = record {
     initial = in_any script passes (initial_thread script) no_events (new_fits script passes (push_matches script) 1 (main_of (names_of script.funcs)) 0 false kind.Main (names_functions script).main (refl, refl));
-    created = λ p t s choice new known offered fits is. created_fits script (push_matches script) (names_functions script) config p t choice known.0.keys known.1 offered new is;
+    created = λ w p t s choice new known offered fits is. created_fits script (push_matches script) (names_functions script) config w p t choice known.0.keys known.1 offered new is;
     named = named_fits script passes;
-    kept = λ p t s choice known offered fits. (keeps p t s choice known offered fits).own;
+    kept = λ w p t s choice known offered fits. (keeps w p t s choice known offered fits).own;
+    replica = λ w p t s index handlers pid known forks fits. replica_fits script passes t s (ap is_forking forks) fits;
   }
 
   -- ---- runs
@@ -128,11 +130,11 @@ module _ (script : Script) (config : Config) where
   pub threads_fit : AfterEveryRun script config (OfEveryThread summary (FitsAny script passes))
   threads_fit = every_thread summary (FitsAny script passes) script config ProcessFits thread_rule processes_fit
 
-  once_kept : (before : List Entry) (r : Run) → run script config before ≡ Some r → (e : Entry) (p : Process) (t : Thread) → IsTaken script config r.world e p t → Once passes r.events → Once passes (with_step e (transition_by script config p t e.alt) r).events
+  once_kept : (before : List Entry) (r : Run) → run script config before ≡ Some r → (e : Entry) (p : Process) (t : Thread) → IsTaken script config r.world e p t → Once passes r.events → Once passes (with_step e (transition_by script config r.world p t e.alt) r).events
   once_kept before r is e p t taken once =
-      let known : ProcessFits p × Moves script config p e t = moves_in script config ProcessFits processes_fit before r is e p t taken in
-      let fits : FitsAny script passes t (reported_by (of_thread summary e.tid) e.pid r.events) = of_made_thread summary (FitsAny script passes) r (threads_fit before r is) e.pid e.tid t (ap (option_and_then (thread_with e.tid)) (process_taken script config before r is e p t taken) ∙ (mover script config p e t known.1).found) (mover script config p e t known.1).here in
-      once_later passes e r.events (reverse (transition_by script config p t e.alt).events) (keeps p t (reported_by (of_thread summary e.tid) e.pid r.events) e.alt known.0 taken.offered fits).lawful once
+      let known : ProcessFits p × Moves script config r.world p e t = moves_in script config ProcessFits processes_fit before r is e p t taken in
+      let fits : FitsAny script passes t (reported_by (of_thread summary e.tid) e.pid r.events) = of_made_thread summary (FitsAny script passes) r (threads_fit before r is) e.pid e.tid t (ap (option_and_then (thread_with e.tid)) (process_taken script config before r is e p t taken) ∙ (mover script config r.world p e t known.1).found) (mover script config r.world p e t known.1).here in
+      once_later passes e r.events (reverse (transition_by script config r.world p t e.alt).events) (keeps r.world p t (reported_by (of_thread summary e.tid) e.pid r.events) e.alt known.0 taken.offered fits).lawful once
 
   -- the law of cleanup handlers and destructors
   pub once_of_run : AfterEveryRun script config (λ r. Once passes r.events)

@@ -3,9 +3,11 @@ pub mod KeyedLists
 pub mod TakenSteps
 pub mod OfferedNumbers
 pub mod CreatedThreads
+pub mod ChildProcesses
 pub mod ChangedThreads
 pub mod ThreadIds
 pub mod MadeThreads
+pub mod InheritedThreads
 pub mod ProcessIds
 pub mod ReportedBy
 pub mod ThreadsAfter

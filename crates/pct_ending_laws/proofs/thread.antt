@@ -9,3 +9,4 @@ pub mod Statements
 pub mod Transitions
 pub mod KeptThreads
 pub mod EndingSteps
+pub mod Replicas

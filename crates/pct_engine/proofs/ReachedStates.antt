@@ -16,12 +16,13 @@ use Rattle.pct_engine_laws.specs.Seen.{SeenProcess, Seen, seen}
 use Rattle.pct_engine_laws.specs.ThreadCounts.{MadeAtMost}
 use Rattle.pct_engine_laws.specs.KeyCounts.{KeysAtMost}
 use Rattle.pct_engine_laws.proofs.FewKeys.{few_keys_made}
+use Rattle.pct_engine_laws.proofs.FewProcesses.{few_processes_made}
 use Rattle.pct_engine_laws.proofs.FewThreads.{few_made}
 use Rattle.pct_engine_laws.proofs.PlacedThreads.{HoldsSlot, processes_are_placed}
 use Rattle.pct_engine_laws.proofs.RunNumbers.{run_limited}
 use Rattle.pct_actions.specs.ProcessChanges.{IsOnSlot}
 use Rattle.pct_transitions.specs.Programs.{ProgramValue}
-use Rattle.pct_machine.specs.MachineSteps.{AllCanStep}
+use Rattle.pct_machine.specs.ProcessSteps.{EachCanStep, AllCanStep}
 use Rattle.pct_engine.specs.Traces.{TraceValue}
 use Rattle.pct_engine.specs.EngineStates.{StandsFor}
 
@@ -54,8 +55,8 @@ item_has : {T : Type 0} (P : T → Type 0) (xs : List T) (i : ℕ) (x : T) → A
 item_has P xs i x each at = subst P (get_or_from_slice_get xs i x x at) (each i x (slice_get_within xs i x at))
 
 -- each of its processes can step
-all_can_step : (script : Script) (config : Config) (entries : List Entry) (after : Run) → run script config entries ≡ Some after → AllCanStep config.slots (seen config.slots after.world)
-all_can_step script config entries after is = λ i p at.
+each_can_step : (script : Script) (config : Config) (entries : List Entry) (after : Run) → run script config entries ≡ Some after → EachCanStep config.slots (seen config.slots after.world).processes
+each_can_step script config entries after is = λ i p at.
     let n : ℕ = length entries in
     let limits = run_limited script config entries after is in
     let placed = processes_are_placed config.slots after.world i p at in
@@ -73,6 +74,13 @@ all_can_step script config entries after is = λ i p at.
       };
     }
 
+pid_below : (made n : ℕ) → made ≤ 1 + n → n ≤ 200000 → made + 1 < 2 ^ 32
+pid_below made n made_few budget = omega (arith, made_few, budget)
+
 -- the machine of an engine
-pub stands_can_step : (program : ProgramValue) (trace : TraceValue) (machine : Seen) → StandsFor program trace machine → AllCanStep program.config.slots machine
-stands_can_step program trace machine stands = subst (AllCanStep program.config.slots) (sym stands.state_is) (all_can_step program.script program.config trace.history stands.after stands.is_run)
+pub stands_can_step : (program : ProgramValue) (trace : TraceValue) (machine : Seen) → StandsFor program trace machine → AllCanStep program.config.slots machine.processes machine.made
+stands_can_step program trace machine stands =
+    subst (λ (v : Seen). AllCanStep program.config.slots v.processes v.made) (sym stands.state_is) (record {
+      each = each_can_step program.script program.config trace.history stands.after stands.is_run;
+      few_made = pid_below _ (length trace.history) (few_processes_made program.script program.config trace.history stands.after stands.is_run) (run_limited program.script program.config trace.history stands.after stands.is_run).budget;
+    })

@@ -1,16 +1,22 @@
 -- What is kept of a state after a transition depends only on what was kept before it.
-use Rattle.std.proofs.Common.{◌≡◌, ℕ, ◌<◌, Bool, true, false, not, ◌&&◌, cond, List, [], ◌∷◌, ◌++◌, map, filter, flat_map, Option, Some, None, nat_eq, refl, sym, ap, ◌∙◌, append-nil, true≢false}
+use Rattle.std.proofs.Common.{◌≡◌, ℕ, ◌+◌, ◌<◌, Bool, true, false, not, ◌&&◌, cond, List, [], ◌∷◌, ◌++◌, length, map, filter, flat_map, Option, Some, None, is_some, nat_eq, refl, sym, ap, ◌∙◌, arith, append-nil, length-append, true≢false}
 use mathlib.Core.Bool.{and-false}
-use Rattle.std.proofs.lemmas.List.{length-map}
+use Rattle.std.proofs.lemmas.List.{map-append, length-map}
+use Rattle.std.proofs.lemmas.List.Elements.{filter-append}
 use Rattle.std.proofs.lemmas.List.Folds.{flat_map-map}
 use Rattle.pct_model.specs.declared.transition.Action.{Action}
 use Rattle.pct_model.specs.declared.transition.Action.TheVariants as action
 use Rattle.pct_model.specs.declared.transition.Transition.{Transition}
 use Rattle.pct_model.specs.World.{SharedState, ProcessEnd, Process, World, was_reaped}
-use Rattle.pct_model.specs.Actions.{threads_moved, shared_after, process_after, orphaned, other_process_after, stop_after, for_each, changed, is_live_process, after_transition}
-use Rattle.pct_engine_laws.specs.Seen.{SeenSlot, SeenProcess, seen_process, seen, own_kept, other_kept, own_process_seen, other_process_seen, is_live_seen, seen_after}
-use Rattle.pct_engine_laws.proofs.ListFacts.{flat_map_agree, flat_map-flat_map, map-filter}
-use Rattle.pct_engine_laws.proofs.ThreadChanges.{slots_after}
+use Rattle.pct_model.specs.Actions.{threads_moved, shared_after, process_after, orphaned, as_reaped, other_process_after, inherited, child_of, child_by, stop_after, for_each, changed, is_live_process, process_moved, process_made, after_transition}
+use Rattle.pct_model.specs.OtherProcesses.{is_unreaped}
+use Rattle.pct_model.specs.OtherThreads.{is_last}
+use Rattle.pct_engine_laws.specs.Seen.{SeenSlot, SeenProcess, seen_slot, seen_process, seen, is_last_in, own_kept, other_kept, process_seen, own_process_seen, other_process_seen, is_live_seen, slot_inherited, child_seen, child_seen_by, children_seen, processes_kept, seen_after}
+use Rattle.pct_engine_laws.proofs.ListFacts.{flat_map_agree, flat_map-flat_map, map-flat_map, filter-flat_map, flat_map-cond, map-filter}
+use Rattle.pct_engine_laws.proofs.IndexedLists.{by_index}
+use Rattle.pct_engine_laws.proofs.ThreadChanges.{slots_after, slots_of_child}
+use Rattle.pct_engine_laws.proofs.AnswerSeen.{last_seen}
+use Rattle.pct_engine_laws.proofs.TransitionSeen.{not_ended}
 
 -- ---- one action
 
@@ -62,6 +68,13 @@ gone_if_child : (slots : ℕ) (child : Bool) (x y : Process) → kept slots x �
 gone_if_child slots true x y first second = first
 gone_if_child slots false x y first second = second
 
+-- what is kept of a process whose parent waits for it, if it is the one
+reaped_if : (slots : ℕ) (p : Process) (named : Bool) → kept slots (cond named (record p { ended = as_reaped p.ended }) p) ≡ cond (not (was_reaped p.ended)) (cond (named && is_some (seen_process slots p).ended) [] (seen_process slots p ∷ [])) []
+reaped_if slots p true =
+    let with_end : Option ProcessEnd → Process = λ end. record p { ended = end } in
+    by_end (λ end. kept slots (with_end (as_reaped end)) ≡ cond (not (was_reaped end)) (cond (is_some (seen_process slots (with_end end)).ended) [] (seen_process slots (with_end end) ∷ [])) []) refl (λ n. refl) (λ n. refl) p.ended
+reaped_if slots p false = refl
+
 -- what is kept of another process after an action
 pub other_action_kept : (slots pid : ℕ) (a : Action) (p : Process) → kept slots (other_process_after pid a p) ≡ flat_map (other_kept pid a) (kept slots p)
 unfolding other_process_after other_kept
@@ -74,6 +87,8 @@ other_action_kept slots pid (action.EndProcess n) p =
     (λ m. let end : Option ProcessEnd = Some (record { status = m; reaped = true }) in gone_if_child slots child (orphaned end p) (with_end end) refl refl)
     (λ m. let end : Option ProcessEnd = Some (record { status = m; reaped = false }) in kept_if_child slots child (orphaned end p) (with_end end) [] (own end) refl refl)
     p.ended
+other_action_kept slots pid (action.Reap id) p =
+    reaped_if slots p (nat_eq p.pid id) ∙ sym (flat_map-cond (other_kept pid (action.Reap id)) (seen_process slots p) (not (was_reaped p.ended)))
 other_action_kept slots pid _ p = each_alone (kept slots p)
 
 -- ---- the actions of a transition
@@ -122,10 +137,6 @@ pub other_kept_after : (slots pid : ℕ) (o : Transition) (p : Process) → was_
 other_kept_after slots pid o p e =
     other_actions_kept slots pid o.actions p ∙ ap (for_each_kept (other_kept pid) o.actions) (kept_whole slots p e)
 
--- any process after a transition of thread tid of process pid
-abbrev pub any_after : ℕ → ℕ → Transition → Process → Process
-any_after pid tid o p = cond (is_live_process pid p) (changed tid o p) (for_each (other_process_after pid) o.actions p)
-
 -- what is kept of any process after the transition
 abbrev pub any_seen_after : ℕ → ℕ → ℕ → Transition → SeenProcess → List SeenProcess
 any_seen_after slots pid tid o p = cond (is_live_seen pid p) (own_process_seen slots tid o p) (other_process_seen pid o p)
@@ -135,10 +146,10 @@ kept_if slots pid tid o p true some e = own_kept_after slots tid o p some e
 kept_if slots pid tid o p false some e = other_kept_after slots pid o p e
 
 -- what is kept of a process after a transition
-pub kept_after : (slots pid tid : ℕ) (o : Transition) (p : Process) → 0 < slots → kept slots (any_after pid tid o p) ≡ flat_map (any_seen_after slots pid tid o) (kept slots p)
+pub kept_after : (slots pid tid : ℕ) (o : Transition) (p : Process) → 0 < slots → kept slots (process_moved pid tid o p) ≡ flat_map (any_seen_after slots pid tid o) (kept slots p)
 kept_after slots pid tid o p some =
     let with_end : Option ProcessEnd → Process = λ end. record p { ended = end } in
-    by_end (λ end. kept slots (any_after pid tid o (with_end end)) ≡ flat_map (any_seen_after slots pid tid o) (kept slots (with_end end)))
+    by_end (λ end. kept slots (process_moved pid tid o (with_end end)) ≡ flat_map (any_seen_after slots pid tid o) (kept slots (with_end end)))
     (kept_if slots pid tid o (with_end None) (nat_eq p.pid pid && true) some refl ∙ sym (append-nil (any_seen_after slots pid tid o (seen_process slots (with_end None)))))
     (λ n.
     let gone : Process = with_end (Some (record { status = n; reaped = true })) in
@@ -150,24 +161,114 @@ kept_after slots pid tid o p some =
     kept_if slots pid tid o left (nat_eq p.pid pid && false) some refl ∙ sym (append-nil (any_seen_after slots pid tid o (seen_process slots left))))
     p.ended
 
+-- ---- the processes that the transition makes
+
+-- the child of a fork
+pub child_is_seen : (slots tid pid : ℕ) (p : Process) → 0 < slots → seen_process slots (child_of tid pid p) ≡ child_seen tid pid (seen_process slots p)
+unfolding child_of
+child_is_seen slots tid pid p some =
+    let last : is_last tid p.threads ≡ is_last_in tid (seen_process slots p).slots = last_seen slots tid p.threads some in
+    let rows : by_index (seen_slot slots (map (inherited tid) p.threads)) slots ≡ map (slot_inherited tid) (seen_process slots p).slots = slots_of_child slots tid p.threads in
+    λ i. record { pid = pid; parent = p.pid; restricted = not (last i); ended = None; slots = rows i; shared = record p.shared { exit_value = None } }
+
+same_child_by : (tid pid : ℕ) (a : Action) (p : Process) → child_of tid pid (process_after a p) ≡ child_of tid pid p
+unfolding child_of process_after
+same_child_by tid pid (action.EndProcess n) p = refl
+same_child_by tid pid _ p = refl
+
+-- the end of a process does not change its child
+same_child : (tid pid : ℕ) (actions : List Action) (p : Process) → child_of tid pid (for_each process_after actions p) ≡ child_of tid pid p
+same_child tid pid [] p = refl
+same_child tid pid (a ∷ actions) p = same_child tid pid actions (process_after a p) ∙ same_child_by tid pid a p
+
+module _ (slots pid tid : ℕ) (o : Transition) where
+  -- the child of a process after the transition
+  child_after : (child : ℕ) (p : Process) → 0 < slots → seen_process slots (child_of tid child (changed tid o p)) ≡ child_seen tid child (process_seen slots tid o (seen_process slots p))
+  child_after child p some =
+      ap (seen_process slots) (same_child tid child o.actions (with_thread tid o p))
+      ∙ child_is_seen slots tid child (with_thread tid o p) some
+      ∙ ap (λ (rows : List SeenSlot). child_seen tid child (with_slots (seen_process slots p) (for_each shared_after o.actions p.shared) rows)) (slots_after slots tid o p.threads some)
+
+  child_by_action : (p : Process) (a : Action) → 0 < slots → map (seen_process slots) (child_by tid (changed tid o p) a) ≡ child_seen_by tid (process_seen slots tid o (seen_process slots p)) a
+  unfolding child_by child_seen_by
+  child_by_action p (action.MakeChild child) some = ap (λ (q : SeenProcess). q ∷ []) (child_after child p some)
+  child_by_action p _ some = refl
+
+  -- what is kept of the processes that the actions make
+  children_by : (p : Process) → 0 < slots → map (seen_process slots) (flat_map (child_by tid (changed tid o p)) o.actions) ≡ flat_map (child_seen_by tid (process_seen slots tid o (seen_process slots p))) o.actions
+  children_by p some =
+      map-flat_map (seen_process slots) (child_by tid (changed tid o p)) o.actions
+      ∙ flat_map_agree (λ a. map (seen_process slots) (child_by tid (changed tid o p) a)) (child_seen_by tid (process_seen slots tid o (seen_process slots p))) (λ a. child_by_action p a some) o.actions
+
+  -- what is kept of the processes that are made of one that is kept
+  abbrev made_seen : SeenProcess → List SeenProcess
+  made_seen p = cond (is_live_seen pid p) (flat_map (child_seen_by tid (process_seen slots tid o p)) o.actions) []
+
+  made_if : (live : Bool) (made : List Process) (seen_made : List SeenProcess) → map (seen_process slots) made ≡ seen_made → map (seen_process slots) (cond live made []) ≡ cond live seen_made []
+  made_if true made seen_made e = e
+  made_if false made seen_made e = refl
+
+  cond_both : (kept live : Bool) (made : List SeenProcess) → cond (kept && live) made [] ≡ cond kept (cond live made []) []
+  cond_both true live made = refl
+  cond_both false live made = refl
+
+  made_of : (p : Process) → 0 < slots → map (seen_process slots) (process_made pid tid o p) ≡ flat_map made_seen (kept slots p)
+  made_of p some =
+      let made : List SeenProcess = flat_map (child_seen_by tid (process_seen slots tid o (seen_process slots p))) o.actions in
+      made_if (is_live_process pid p) (flat_map (child_by tid (changed tid o p)) o.actions) made (children_by p some)
+      ∙ ap (λ (live : Bool). cond live made []) (sym (not_ended (nat_eq p.pid pid) p.ended))
+      ∙ cond_both (not (was_reaped p.ended)) (is_live_seen pid (seen_process slots p)) made
+      ∙ sym (flat_map-cond made_seen (seen_process slots p) (not (was_reaped p.ended)))
+
+  -- none of them is reaped
+  unreaped_by : (p : Process) (a : Action) → filter is_unreaped (child_by tid p a) ≡ child_by tid p a
+  unfolding child_by child_of
+  unreaped_by p (action.MakeChild child) = refl
+  unreaped_by p _ = refl
+
+  unreaped_if : (live : Bool) (made : List Process) → filter is_unreaped made ≡ made → filter is_unreaped (cond live made []) ≡ cond live made []
+  unreaped_if true made e = e
+  unreaped_if false made e = refl
+
+  unreaped_made : (p : Process) → filter is_unreaped (process_made pid tid o p) ≡ process_made pid tid o p
+  unreaped_made p = unreaped_if (is_live_process pid p) (flat_map (child_by tid (changed tid o p)) o.actions) (filter-flat_map is_unreaped (child_by tid (changed tid o p)) (unreaped_by (changed tid o p)) o.actions)
+
 -- ---- all processes
 
 -- what is kept of processes is joined of what is kept of each
-pub kept_all : (slots : ℕ) (ps : List Process) → map (seen_process slots) (filter (λ p. not (was_reaped p.ended)) ps) ≡ flat_map (kept slots) ps
-kept_all slots ps = map-filter (seen_process slots) (λ (p : Process). not (was_reaped p.ended)) ps
+pub kept_all : (slots : ℕ) (ps : List Process) → map (seen_process slots) (filter is_unreaped ps) ≡ flat_map (kept slots) ps
+kept_all slots ps = map-filter (seen_process slots) is_unreaped ps
 
 -- what is kept of the processes after a transition
-pub processes_after : (slots pid tid : ℕ) (o : Transition) (ps : List Process) → 0 < slots → map (seen_process slots) (filter (λ p. not (was_reaped p.ended)) (map (any_after pid tid o) ps)) ≡ flat_map (any_seen_after slots pid tid o) (map (seen_process slots) (filter (λ p. not (was_reaped p.ended)) ps))
+pub processes_after : (slots pid tid : ℕ) (o : Transition) (ps : List Process) → 0 < slots → map (seen_process slots) (filter is_unreaped (map (process_moved pid tid o) ps)) ≡ processes_kept slots pid tid o (map (seen_process slots) (filter is_unreaped ps))
 processes_after slots pid tid o ps some =
-    kept_all slots (map (any_after pid tid o) ps)
-    ∙ flat_map-map (kept slots) (any_after pid tid o) ps
-    ∙ flat_map_agree (λ p. kept slots (any_after pid tid o p)) (λ p. flat_map (any_seen_after slots pid tid o) (kept slots p)) (λ p. kept_after slots pid tid o p some) ps
+    kept_all slots (map (process_moved pid tid o) ps)
+    ∙ flat_map-map (kept slots) (process_moved pid tid o) ps
+    ∙ flat_map_agree (λ p. kept slots (process_moved pid tid o p)) (λ p. flat_map (any_seen_after slots pid tid o) (kept slots p)) (λ p. kept_after slots pid tid o p some) ps
     ∙ sym (flat_map-flat_map (any_seen_after slots pid tid o) (kept slots) ps)
     ∙ sym (ap (flat_map (any_seen_after slots pid tid o)) (kept_all slots ps))
+
+-- what is kept of the processes that a transition makes
+pub children_are_seen : (slots pid tid : ℕ) (o : Transition) (ps : List Process) → 0 < slots → map (seen_process slots) (flat_map (process_made pid tid o) ps) ≡ children_seen slots pid tid o (map (seen_process slots) (filter is_unreaped ps))
+children_are_seen slots pid tid o ps some =
+    map-flat_map (seen_process slots) (process_made pid tid o) ps
+    ∙ flat_map_agree (λ p. map (seen_process slots) (process_made pid tid o p)) (λ p. flat_map (made_seen slots pid tid o) (kept slots p)) (λ p. made_of slots pid tid o p some) ps
+    ∙ sym (flat_map-flat_map (made_seen slots pid tid o) (kept slots) ps)
+    ∙ sym (ap (flat_map (made_seen slots pid tid o)) (kept_all slots ps))
 
 -- the state after a transition
 pub after_is_seen : (slots pid tid : ℕ) (w : World) (o : Transition) → 0 < slots → seen slots (after_transition pid tid o w) ≡ seen_after slots pid tid o (seen slots w)
 unfolding after_transition seen_after
 after_is_seen slots pid tid w o some =
-    let processes : map (seen_process slots) (filter (λ p. not (was_reaped p.ended)) (map (any_after pid tid o) w.processes)) ≡ flat_map (any_seen_after slots pid tid o) (map (seen_process slots) (filter (λ p. not (was_reaped p.ended)) w.processes)) = processes_after slots pid tid o w.processes some in
-    λ i. record { processes = processes i; made = length-map w.processes (any_after pid tid o) i; stop = for_each stop_after o.actions w.stop }
+    let moved : List Process = map (process_moved pid tid o) w.processes in
+    let made : List Process = flat_map (process_made pid tid o) w.processes in
+    let before : List SeenProcess = (seen slots w).processes in
+    let children : List SeenProcess = children_seen slots pid tid o before in
+    let are : map (seen_process slots) made ≡ children = children_are_seen slots pid tid o w.processes some in
+    let processes : map (seen_process slots) (filter is_unreaped (moved ++ made)) ≡ processes_kept slots pid tid o before ++ children =
+    ap (map (seen_process slots)) (filter-append is_unreaped moved made ∙ ap (λ (rest : List Process). filter is_unreaped moved ++ rest) (filter-flat_map is_unreaped (process_made pid tid o) (unreaped_made slots pid tid o) w.processes))
+    ∙ map-append (seen_process slots) (filter is_unreaped moved) made
+    ∙ ap (λ (first : List SeenProcess). first ++ map (seen_process slots) made) (processes_after slots pid tid o w.processes some)
+    ∙ ap (λ (rest : List SeenProcess). processes_kept slots pid tid o before ++ rest) are in
+    let number : length (moved ++ made) ≡ length w.processes + length children = omega (arith, length-append moved made, length-map w.processes (process_moved pid tid o), length-map made (seen_process slots), ap length are) in
+    λ i. record { processes = processes i; made = number i; stop = for_each stop_after o.actions w.stop }

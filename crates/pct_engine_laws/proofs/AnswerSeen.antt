@@ -1,17 +1,19 @@
 -- What a thread sees of the others depends only on what is kept of the state.
-use Rattle.std.proofs.Common.{◌≡◌, ℕ, zero, suc, ◌+◌, ◌<◌, Bool, true, false, not, ◌&&◌, ◌||◌, cond, List, [], ◌∷◌, ◌++◌, map, filter, flat_map, nat_eq, option_and_then, refl, sym, ap, ◌∙◌, eqb-true, eq-eqb}
+use Rattle.std.proofs.Common.{◌≡◌, ℕ, zero, suc, ◌+◌, ◌<◌, Bool, true, false, not, ◌&&◌, ◌||◌, cond, List, [], ◌∷◌, ◌++◌, length, map, filter, flat_map, nat_eq, option_and_then, refl, sym, ap, ◌∙◌, eqb-true, eq-eqb}
 use Rattle.std.specs.List.{list_any, list_all, range_with_len}
 use Rattle.std.proofs.lemmas.List.Folds.{flat_map-map}
+use Rattle.pct_model.specs.declared.process.Relative.{Relative}
 use Rattle.pct_model.specs.declared.script.Script.{Script}
 use Rattle.pct_model.specs.declared.schedule.Config.{Config}
-use Rattle.pct_model.specs.World.{Thread, Process}
+use Rattle.pct_model.specs.World.{Thread, Process, World}
 use Rattle.pct_model.specs.ThreadSlots.{holds_slot, slot_of, is_on, is_free, next_id, free_ids, by_slot, is_live_thread, with_id}
 use Rattle.pct_model.specs.NextStatement.{next_of}
+use Rattle.pct_model.specs.OtherProcesses.{family_among, is_unreaped, family_of}
 use Rattle.pct_model.specs.OtherThreads.{Others, is_joining, is_joined_by_one, waiters_among, is_last, others_of}
 use Rattle.pct_model.specs.ChoiceTable.{choices_at, choices_of}
-use Rattle.pct_engine_laws.specs.Seen.{SeenSlot, seen_slot, seen_process}
-use Rattle.pct_engine_laws.specs.SeenSteps.{threads_on, thread_on, thread_with, is_joined_in, is_empty, new_id_on, new_ids_from, is_last_in, others_in, choices_in}
-use Rattle.pct_engine_laws.proofs.ListFacts.{find_agree, find-filter, any_agree, any-filter, any-flat_map, any_swap, any_and, all_none, map-filter}
+use Rattle.pct_engine_laws.specs.Seen.{SeenSlot, seen_slot, seen_process, seen, threads_on, is_last_in, relative_in, family_in}
+use Rattle.pct_engine_laws.specs.SeenSteps.{thread_on, thread_with, is_joined_in, is_empty, new_id_on, new_ids_from, others_in, choices_in}
+use Rattle.pct_engine_laws.proofs.ListFacts.{find_agree, find-filter, any_agree, any-filter, any-flat_map, any_swap, any_and, all_none, map-map, map-filter}
 use Rattle.pct_engine_laws.proofs.IndexedLists.{by_index, item_by_index, index_among}
 use Rattle.pct_engine_laws.proofs.ThreadChanges.{slot_below}
 
@@ -106,20 +108,30 @@ new_ids_seen slots threads =
 
 -- ---- what a thread sees of the others
 
--- what the thread with an id sees of the others
-pub others_seen : (slots tid : ℕ) (threads : List Thread) → 0 < slots → others_of slots threads tid ≡ others_in slots (by_index (seen_slot slots threads) slots) tid
+-- each other thread has ended
+pub last_seen : (slots tid : ℕ) (threads : List Thread) → 0 < slots → is_last tid threads ≡ is_last_in tid (by_index (seen_slot slots threads) slots)
+last_seen slots tid threads some =
+    sym (ap (list_all (λ (t : Thread). t.ended || nat_eq t.id tid)) (threads_seen slots threads) ∙ all_by_slot slots (λ t. t.ended || nat_eq t.id tid) threads some)
+
+-- what the process with an id sees of the others
+pub family_seen : (slots pid : ℕ) (w : World) → family_of w pid ≡ family_in (seen slots w) pid
+family_seen slots pid w = ap (λ (relatives : List Relative). family_among (length w.processes) relatives pid) (sym (map-map relative_in (seen_process slots) (filter is_unreaped w.processes)))
+
+-- what the thread with an id of a process sees of the others
+pub others_seen : (slots tid : ℕ) (w : World) (p : Process) → 0 < slots → others_of slots w p tid ≡ others_in slots (family_in (seen slots w) p.pid) (seen_process slots p).slots tid
 unfolding others_of others_in
-others_seen slots tid threads some =
+others_seen slots tid w p some =
+    let threads : List Thread = p.threads in
     let rows : List SeenSlot = by_index (seen_slot slots threads) slots in
     let named : (id : ℕ) → with_id id threads ≡ thread_with slots id rows = λ id. sym (thread_seen slots id threads some) in
     let joined : (id : ℕ) → is_joined_by_one id threads ≡ is_joined_in id rows = λ id.
     sym (ap (list_any (λ (t : Thread). is_joining id t.status)) (threads_seen slots threads) ∙ any_by_slot slots (λ t. is_joining id t.status) threads some) in
     let ids : free_ids slots threads ≡ new_ids_from slots 0 rows = new_ids_seen slots threads in
     let waiting : (c : ℕ) → waiters_among c (by_slot slots threads) ≡ waiters_among c (threads_on rows) = λ c. sym (ap (waiters_among c) (threads_seen slots threads)) in
-    let last : is_last tid threads ≡ is_last_in tid rows =
-    sym (ap (list_all (λ (t : Thread). t.ended || nat_eq t.id tid)) (threads_seen slots threads) ∙ all_by_slot slots (λ t. t.ended || nat_eq t.id tid) threads some) in
-    λ i. record { named = λ id. named id i; another_joins = λ id. joined id i; new_ids = ids i; waiters = λ c. waiting c i; is_last = last i }
+    let last : is_last tid threads ≡ is_last_in tid rows = last_seen slots tid threads some in
+    let family : family_of w p.pid ≡ family_in (seen slots w) p.pid = family_seen slots p.pid w in
+    λ i. record { named = λ id. named id i; another_joins = λ id. joined id i; new_ids = ids i; waiters = λ c. waiting c i; is_last = last i; family = family i }
 
 -- the choices of a thread of a process
-pub choices_seen : (script : Script) (config : Config) (p : Process) (t : Thread) → 0 < config.slots → choices_of script config p t ≡ choices_in script config.slots (seen_process config.slots p) t
-choices_seen script config p t some = ap (λ (others : Others). choices_at p.shared t others (next_of script t.frames) t.status) (others_seen config.slots t.id p.threads some)
+pub choices_seen : (script : Script) (config : Config) (w : World) (p : Process) (t : Thread) → 0 < config.slots → choices_of script config w p t ≡ choices_in script config.slots (family_in (seen config.slots w) p.pid) (seen_process config.slots p) t
+choices_seen script config w p t some = ap (λ (others : Others). choices_at p.shared t others (next_of script t.frames) t.status) (others_seen config.slots t.id w p some)

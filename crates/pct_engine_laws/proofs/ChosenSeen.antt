@@ -9,8 +9,8 @@ use Rattle.pct_model.specs.World.{Thread, ProcessEnd, Process, World, was_reaped
 use Rattle.pct_model.specs.ThreadSlots.{by_slot}
 use Rattle.pct_model.specs.ChoiceTable.{choices_of, is_enabled}
 use Rattle.pct_model.specs.Chosen.{Candidate, ready_of, candidate, candidates, item_at, entry_for, chosen}
-use Rattle.pct_engine_laws.specs.Seen.{SeenProcess, seen_process, seen}
-use Rattle.pct_engine_laws.specs.SeenSteps.{threads_on, ready_in, candidate_in, seen_candidates, seen_chosen}
+use Rattle.pct_engine_laws.specs.Seen.{SeenProcess, Seen, seen_process, seen, threads_on, family_in}
+use Rattle.pct_engine_laws.specs.SeenSteps.{ready_in, candidate_in, seen_candidates, seen_chosen}
 use Rattle.pct_engine_laws.proofs.ListFacts.{flat_map_agree, flat_map-filter}
 use Rattle.pct_engine_laws.proofs.AnswerSeen.{threads_seen, choices_seen}
 
@@ -26,22 +26,26 @@ by_end f (Some end) ready = none_either [] (not end.reaped)
 abbrev candidates_by : ℕ → Bool → List Thread → (Thread → List Alt) → List Candidate
 candidates_by pid ended threads choices = map (λ t. record { pid = pid; tid = t.id; choices = choices t }) (cond ended [] (filter (λ t. is_enabled (choices t)) threads))
 
+-- the candidates of a process, as what is kept has them
+abbrev candidates_in : Script → ℕ → Seen → SeenProcess → List Candidate
+candidates_in script slots v p = map (candidate_in script slots (family_in v p.pid) p) (ready_in script slots (family_in v p.pid) p)
+
 -- the candidates of a process
-pub candidates_of_process : (script : Script) (config : Config) (p : Process) → 0 < config.slots → cond (not (was_reaped p.ended)) (map (candidate_in script config.slots (seen_process config.slots p)) (ready_in script config.slots (seen_process config.slots p))) [] ≡ map (candidate script config p) (ready_of script config p)
-candidates_of_process script config p some =
+pub candidates_of_process : (script : Script) (config : Config) (w : World) (p : Process) → 0 < config.slots → cond (not (was_reaped p.ended)) (candidates_in script config.slots (seen config.slots w) (seen_process config.slots p)) [] ≡ map (candidate script config w p) (ready_of script config w p)
+candidates_of_process script config w p some =
     let kept : SeenProcess = seen_process config.slots p in
-    ap (λ (choices : Thread → List Alt). cond (not (was_reaped p.ended)) (candidates_by p.pid (is_some kept.ended) (threads_on kept.slots) choices) []) (sym (fun_ext (λ (t : Thread). choices_seen script config p t some)))
-    ∙ ap (λ (threads : List Thread). cond (not (was_reaped p.ended)) (candidates_by p.pid (is_some kept.ended) threads (choices_of script config p)) []) (threads_seen config.slots p.threads)
-    ∙ by_end (candidate script config p) p.ended (filter (λ t. is_enabled (choices_of script config p t)) (by_slot config.slots p.threads))
+    ap (λ (choices : Thread → List Alt). cond (not (was_reaped p.ended)) (candidates_by p.pid (is_some kept.ended) (threads_on kept.slots) choices) []) (sym (fun_ext (λ (t : Thread). choices_seen script config w p t some)))
+    ∙ ap (λ (threads : List Thread). cond (not (was_reaped p.ended)) (candidates_by p.pid (is_some kept.ended) threads (choices_of script config w p)) []) (threads_seen config.slots p.threads)
+    ∙ by_end (candidate script config w p) p.ended (filter (λ t. is_enabled (choices_of script config w p t)) (by_slot config.slots p.threads))
 
 -- the threads that are ready
 pub candidates_seen : (script : Script) (config : Config) (w : World) → 0 < config.slots → seen_candidates script config.slots (seen config.slots w) ≡ candidates script config w
 unfolding seen_candidates candidates
 candidates_seen script config w some =
-    let of : SeenProcess → List Candidate = λ p. map (candidate_in script config.slots p) (ready_in script config.slots p) in
+    let of : SeenProcess → List Candidate = candidates_in script config.slots (seen config.slots w) in
     flat_map-map of (seen_process config.slots) (filter (λ p. not (was_reaped p.ended)) w.processes)
     ∙ flat_map-filter (λ p. of (seen_process config.slots p)) (λ (p : Process). not (was_reaped p.ended)) w.processes
-    ∙ flat_map_agree (λ p. cond (not (was_reaped p.ended)) (of (seen_process config.slots p)) []) (λ p. map (candidate script config p) (ready_of script config p)) (λ p. candidates_of_process script config p some) w.processes
+    ∙ flat_map_agree (λ p. cond (not (was_reaped p.ended)) (of (seen_process config.slots p)) []) (λ p. map (candidate script config w p) (ready_of script config w p)) (λ p. candidates_of_process script config w p some) w.processes
 
 -- the entry that a worker's two numbers choose
 pub chosen_is_seen : (script : Script) (config : Config) (w : World) (worker a b : ℕ) → 0 < config.slots → chosen script config w worker a b ≡ seen_chosen script config.slots (seen config.slots w) worker a b

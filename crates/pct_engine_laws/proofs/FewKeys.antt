@@ -19,6 +19,6 @@ few_keys_made script config entries after is =
     let n = length entries in
     let m = 1 + length entries in
     let left : List Process = filter (λ p. not (was_reaped p.ended)) after.world.processes in
-    let few : All (HasFewIn m) left = All-filter (λ (p : Process). not (was_reaped p.ended)) (HasFewIn m) after.world.processes (run_within script config entries after is).few in
+    let few : All (HasFewIn m) left = All-filter (λ (p : Process). not (was_reaped p.ended)) (HasFewIn m) after.world.processes (run_within script config entries after is).state.each in
     All-map (λ (p : SeenProcess). KeysAtMost n p.shared.keys) (seen_process config.slots) left
     (All-weaker (HasFewIn m) (λ (p : Process). KeysAtMost n p.shared.keys) (λ p each. All-weaker (HasFewOn m) (λ (place : KeyPlace). place.made ≤ n) (λ place has. omega (arith, has.made)) p.shared.keys each.keys_few) left few)

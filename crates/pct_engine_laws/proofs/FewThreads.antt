@@ -24,6 +24,6 @@ pub few_made : (script : Script) (config : Config) (entries : List Entry) (after
 few_made script config entries after is =
     let m : ℕ = 1 + length entries in
     let left : List Process = filter (λ p. not (was_reaped p.ended)) after.world.processes in
-    let few : All (HasFewIn m) left = All-filter (λ (p : Process). not (was_reaped p.ended)) (HasFewIn m) after.world.processes (run_within script config entries after is).few in
+    let few : All (HasFewIn m) left = All-filter (λ (p : Process). not (was_reaped p.ended)) (HasFewIn m) after.world.processes (run_within script config entries after is).state.each in
     All-map (λ (q : SeenProcess). MadeAtMost m q.slots) (seen_process config.slots) left
     (All-weaker (HasFewIn m) (λ p. MadeAtMost m (seen_process config.slots p).slots) (λ p each. made_few config.slots m p.threads (range_with_len 0 config.slots) each.few) left few)

@@ -1,9 +1,9 @@
 pub mod ListFacts
 pub mod IndexedLists
 pub mod ThreadChanges
-pub mod AfterSeen
 pub mod AnswerSeen
 pub mod TransitionSeen
+pub mod AfterSeen
 pub mod VerdictSeen
 pub mod ChosenSeen
 pub mod StepSeen
@@ -13,6 +13,8 @@ pub mod LongerRuns
 pub mod OpenRuns
 pub mod WhatTransitionsMake
 pub mod KeyNumbers
+pub mod ProcessNumbers
 pub mod RunNumbers
 pub mod FewThreads
 pub mod FewKeys
+pub mod FewProcesses

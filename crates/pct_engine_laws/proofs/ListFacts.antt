@@ -1,8 +1,9 @@
 -- Lists that are filtered, mapped, joined and searched.
-use Rattle.std.proofs.Common.{◌≡◌, ℕ, ◌+◌, Bool, true, false, not, ◌&&◌, ◌||◌, cond, List, [], ◌∷◌, ◌++◌, Option, Some, None, map, filter, find, flat_map, count_by, option_map, option_and_then, ◌⊎◌, inl, inr, refl, sym, ap, ◌∙◌, subst}
+use Rattle.std.proofs.Common.{◌≡◌, ℕ, ◌+◌, Bool, true, false, not, ◌&&◌, ◌||◌, cond, List, [], ◌∷◌, ◌++◌, Option, Some, None, map, filter, find, flat_map, count_by, option_map, option_and_then, ◌⊎◌, inl, inr, refl, sym, ap, ◌∙◌, subst, append-nil}
 use Rattle.std.specs.List.{list_any, list_all, All}
 use Rattle.std.proofs.lemmas.Bool.{and_left, and_right, or_left, or_right, false≢true}
-use Rattle.std.proofs.lemmas.List.Elements.{All-nil, All-append, All-head, All-tail}
+use Rattle.std.proofs.lemmas.List.{map-append}
+use Rattle.std.proofs.lemmas.List.Elements.{All-nil, All-append, All-head, All-tail, filter-append}
 use Rattle.std.proofs.lemmas.Option.{none-some, same_Some}
 use Rattle.std.proofs.Math.Path.{fun_ext}
 use Rattle.std.proofs.lemmas.List.Folds.{fold-map, list_any-append}
@@ -173,6 +174,24 @@ pub flat_map-flat_map : {A B C : Type 0} (g : B → List C) (f : A → List B) (
 flat_map-flat_map g f [] = refl
 flat_map-flat_map {A} {B} {C} g f (x ∷ xs) =
     flat_map-append g (f x) (flat_map f xs) ∙ ap (λ (rest : List C). flat_map g (f x) ++ rest) (flat_map-flat_map g f xs)
+
+-- joined lists that are mapped
+pub map-flat_map : {A B C : Type 0} (g : B → C) (f : A → List B) (xs : List A) → map g (flat_map f xs) ≡ flat_map (λ a. map g (f a)) xs
+map-flat_map g f [] = refl
+map-flat_map {A} {B} {C} g f (x ∷ xs) = map-append g (f x) (flat_map f xs) ∙ ap (λ (rest : List C). map g (f x) ++ rest) (map-flat_map g f xs)
+
+-- joined lists of which each item passes
+pub filter-flat_map : {A B : Type 0} (q : B → Bool) (f : A → List B) → ((a : A) → filter q (f a) ≡ f a) → (xs : List A) → filter q (flat_map f xs) ≡ flat_map f xs
+filter-flat_map q f all [] = refl
+filter-flat_map {A} {B} q f all (x ∷ xs) =
+    filter-append q (f x) (flat_map f xs)
+    ∙ ap (λ (first : List B). first ++ filter q (flat_map f xs)) (all x)
+    ∙ ap (λ (rest : List B). f x ++ rest) (filter-flat_map q f all xs)
+
+-- a list for an item, if there is one
+pub flat_map-cond : {A B : Type 0} (f : A → List B) (x : A) (test : Bool) → flat_map f (cond test (x ∷ []) []) ≡ cond test (f x) []
+flat_map-cond f x true = append-nil (f x)
+flat_map-cond f x false = refl
 
 -- a list that is mapped twice
 pub map-map : {A B C : Type 0} (g : B → C) (f : A → B) (xs : List A) → map g (map f xs) ≡ map (λ a. g (f a)) xs

@@ -28,28 +28,28 @@ offers_enabled : (choices : List Alt) (choice : Alt) → offers choices choice �
 offers_enabled [] choice offered = absurd (false≢true offered)
 offers_enabled (c ∷ rest) choice offered = refl
 
-legal_ready : (script : Script) (config : Config) (w : World) (e : Entry) → Legal script config w e → list_any (has_ready script config) w.processes ≡ true
+legal_ready : (script : Script) (config : Config) (w : World) (e : Entry) → Legal script config w e → list_any (has_ready script config w) w.processes ≡ true
 legal_ready script config w e legal =
     let p = legal.process in
     let t = legal.thread in
-    any_found (is_live_process e.pid) (has_ready script config) w.processes p legal.live
-    (λ live. and_from (not (has_ended p)) (list_any (is_ready script config p) p.threads) (and_parts (nat_eq p.pid e.pid) (not (has_ended p)) live).1
-    (any_found (is_live_thread e.tid) (is_ready script config p) p.threads t legal.holds
-    (λ named. and_from (holds_slot t) (is_enabled (choices_of script config p t)) (and_parts (nat_eq t.id e.tid) (holds_slot t) named).1 (offers_enabled (choices_of script config p t) e.alt legal.offered))))
+    any_found (is_live_process e.pid) (has_ready script config w) w.processes p legal.live
+    (λ live. and_from (not (has_ended p)) (list_any (is_ready script config w p) p.threads) (and_parts (nat_eq p.pid e.pid) (not (has_ended p)) live).1
+    (any_found (is_live_thread e.tid) (is_ready script config w p) p.threads t legal.holds
+    (λ named. and_from (holds_slot t) (is_enabled (choices_of script config w p t)) (and_parts (nat_eq t.id e.tid) (holds_slot t) named).1 (offers_enabled (choices_of script config w p t) e.alt legal.offered))))
 
 -- a process with a thread that is ready has not ended
-ready_live : (script : Script) (config : Config) (p : Process) → has_ready script config p ≡ true → has_ended p ≡ false
-ready_live script config p ready =
-    let parts = and_parts (not (has_ended p)) (list_any (is_ready script config p) p.threads) ready in
+ready_live : (script : Script) (config : Config) (w : World) (p : Process) → has_ready script config w p ≡ true → has_ended p ≡ false
+ready_live script config w p ready =
+    let parts = and_parts (not (has_ended p)) (list_any (is_ready script config w p) p.threads) ready in
     not-true (has_ended p) parts.0
 
 -- ---- the verdict
 
-open_by : (stop : Option Why) (script : Script) (config : Config) (w : World) (n : ℕ) → is_none stop ≡ true → list_any (has_ready script config) w.processes ≡ true → nat_eq n config.budget ≡ false → verdict_by stop script config w n ≡ Open
+open_by : (stop : Option Why) (script : Script) (config : Config) (w : World) (n : ℕ) → is_none stop ≡ true → list_any (has_ready script config w) w.processes ≡ true → nat_eq n config.budget ≡ false → verdict_by stop script config w n ≡ Open
 open_by (Some why) script config w n running ready left = absurd (false≢true running)
 open_by None script config w n running ready left =
     let undecided : Bool → Verdict = λ (b : Bool). cond (not b) Deadlock (cond (nat_eq n config.budget) Budget Open) in
-    ap (λ (ended : Bool). cond ended Complete (undecided (list_any (has_ready script config) w.processes))) (all_fails (has_ready script config) has_ended (ready_live script config) w.processes ready)
+    ap (λ (ended : Bool). cond ended Complete (undecided (list_any (has_ready script config w) w.processes))) (all_fails (has_ready script config w) has_ended (ready_live script config w) w.processes ready)
     ∙ ap undecided ready
     ∙ ap (λ (full : Bool). cond full Budget Open) left
 
@@ -61,7 +61,7 @@ left_by false false false is = refl
 
 left_after : (stop : Option Why) (script : Script) (config : Config) (w : World) (n : ℕ) → verdict_by stop script config w n ≡ Open → nat_eq n config.budget ≡ false
 left_after (Some why) script config w n is = absurd cc
-left_after None script config w n is = left_by (list_all has_ended w.processes) (not (list_any (has_ready script config) w.processes)) (nat_eq n config.budget) is
+left_after None script config w n is = left_by (list_all has_ended w.processes) (not (list_any (has_ready script config w) w.processes)) (nat_eq n config.budget) is
 
 -- a run whose verdict is `Open` has not used up the budget
 pub open_left : (script : Script) (config : Config) (w : World) (n : ℕ) → verdict_of script config w n ≡ Open → nat_eq n config.budget ≡ false

@@ -1,5 +1,5 @@
--- The numbers of a run that is limited in its entries: of its threads and keys, and those in its entries.
-use Rattle.std.proofs.Common.{◌≡◌, ℕ, ◌+◌, ◌*◌, ◌<◌, ◌≤◌, Bool, true, false, not, ◌&&◌, cond, List, [], ◌∷◌, length, map, filter, count_by, get_or, Option, Some, None, inl, inr, refl, sym, ap, ◌∙◌, subst, arith, length-append, zero-add, eqb-true}
+-- The numbers of a run that is limited in its entries: of its processes, threads and keys, and those in its entries.
+use Rattle.std.proofs.Common.{◌≡◌, ℕ, suc, ◌+◌, ◌*◌, ◌<◌, ◌≤◌, Bool, true, false, not, ◌&&◌, cond, List, [], ◌∷◌, length, map, filter, flat_map, count_by, get_or, Option, Some, None, inl, inr, refl, sym, ap, ◌∙◌, subst, arith, length-append, zero-add, eqb-true}
 use Rattle.std.specs.Prelude.{All, nat_eq, nat_le, find, option_map, option_and_then}
 use Rattle.std.specs.List.{list_any, range_with_len}
 use Rattle.std.proofs.lemmas.Bool.{false≢true, and_parts, or_cases, leb-true}
@@ -23,9 +23,10 @@ use Rattle.pct_model.specs.declared.transition.NewThread.{NewThread}
 use Rattle.pct_model.specs.declared.transition.Transition.{Transition}
 use Rattle.pct_model.specs.Keys.{KeyPlace, new_keys, left_keys}
 use Rattle.pct_model.specs.World.{Thread, SharedState, ProcessEnd, Process, World, first_process, opening}
-use Rattle.pct_model.specs.Actions.{shared_after, process_after, has_ended, orphaned, other_process_after, for_each, thread_moved, thread_created, threads_moved, changed, is_live_process, after_transition}
+use Rattle.pct_model.specs.Actions.{shared_after, process_after, has_ended, orphaned, as_reaped, other_process_after, inherited, child_of, for_each, thread_moved, thread_created, threads_moved, changed, is_live_process, process_moved, process_made, after_transition}
 use Rattle.pct_model.specs.ChoiceTable.{choices_of, offers}
 use Rattle.pct_model.specs.NextStatement.{NextStatement, next_of, body_at}
+use Rattle.pct_model.specs.OtherProcesses.{family_among, is_unreaped, relative_of}
 use Rattle.pct_model.specs.OtherThreads.{Waiter, Others, waiter_by, waiters_among, others_of}
 use Rattle.pct_model.specs.ThreadSlots.{holds_slot, is_on, is_free, next_id, free_ids, by_slot, is_live_thread}
 use Rattle.pct_model.specs.TransitionTable.{transition_by}
@@ -37,7 +38,8 @@ use Rattle.pct_engine_laws.proofs.ListFacts.{any-map, All-flat_map}
 use Rattle.pct_engine_laws.proofs.LongerRuns.{run_parts, run_step-is, run_after}
 use Rattle.pct_engine_laws.proofs.KeyNumbers.{HasFewOn, new_keys_within, left_keys_within, few_keys_more, few_keys_after, no_keys_few}
 use Rattle.pct_engine_laws.proofs.WhatTransitionsMake.{Creates, MakesWith, transition_makes}
-use Rattle.pct_engine_laws.proofs.ThreadChanges.{transition_keeps}
+use Rattle.pct_engine_laws.proofs.ProcessNumbers.{AreNumbered, numbered_after, numbered_then, new_pid_is_next, child_pid, made_by}
+use Rattle.pct_engine_laws.proofs.ThreadChanges.{transition_keeps, inherited_id}
 use Rattle.pct_transition_cases.proofs.OfferedChoices.{Offered, may_go, may_act, may_create, may_make_key, may_pick, may_hand_on, may_destroy, offered_of}
 
 -- ---- the numbers of a process
@@ -49,9 +51,9 @@ pub record HasFew (n pid : ℕ) (threads : List Thread) (keys : List KeyPlace) :
   pub ids : All (λ (t : Thread). t.id ≤ 64 + 64 * n) threads
   pub keys_few : All (HasFewOn n) keys
 
--- a transition makes a thread and a key with numbers that are limited by n
-abbrev MakesWithin : ℕ → Transition → Type 0
-MakesWithin n o = MakesWith (λ id. id ≤ 64 + 64 * n) (λ k. k ≤ 128 + 128 * n) o
+-- a transition makes a thread and a key with numbers that are limited by n, and a process with the next number after this many
+abbrev MakesWithin : ℕ → ℕ → Transition → Type 0
+MakesWithin n made o = MakesWith (λ id. id ≤ 64 + 64 * n) (λ k. k ≤ 128 + 128 * n) (λ pid. pid ≡ suc made) o
 
 -- ---- the ids of new threads
 
@@ -118,10 +120,10 @@ case_within limit shared t others waiting ids made left (may_pick frame c n amon
 case_within limit shared t others waiting ids made left (may_hand_on next c m n enabled among) = waiter_among (λ (k : ℕ). k ≤ limit) n (others.waiters c) (waiting c) among
 case_within limit shared t others waiting ids made left (may_destroy next k none among) = all_among (λ (n : ℕ). n ≤ limit) k (left_keys shared.keys t.specific) left among
 
-module _ (script : Script) (config : Config) (p : Process) (t : Thread) (choice : Alt) (n : ℕ) (slots : config.slots ≤ 64) (has : HasFew n p.pid p.threads p.shared.keys) (offered : offers (choices_of script config p t) choice ≡ true) where
+module _ (script : Script) (config : Config) (w : World) (p : Process) (t : Thread) (choice : Alt) (n : ℕ) (slots : config.slots ≤ 64) (has : HasFew n p.pid p.threads p.shared.keys) (offered : offers (choices_of script config w p t) choice ≡ true) where
   -- what it sees of the others
   abbrev others : Others
-  others = others_of config.slots p.threads t.id
+  others = others_of config.slots w p t.id
 
   ids_within : All (λ (id : ℕ). id ≤ 64 + 64 * n) others.new_ids
   unfolding others_of
@@ -130,6 +132,10 @@ module _ (script : Script) (config : Config) (p : Process) (t : Thread) (choice 
   waiters_within : (c : ℕ) → All (λ (w : Waiter). w.id ≤ 64 + 64 * n) (others.waiters c)
   unfolding others_of
   waiters_within c = waiting_within (λ (id : ℕ). id ≤ 64 + 64 * n) config.slots c p.threads has.ids
+
+  new_pid : (pid : ℕ) → others.family.new_pid ≡ Some pid → pid ≡ suc (length w.processes)
+  unfolding others_of family_among
+  new_pid pid is = new_pid_is_next (length w.processes) pid (map relative_of (filter is_unreaped w.processes)) is
 
   -- a choice that the thread is offered
   choice_within : IsChoiceWithin (128 + 128 * n) choice
@@ -142,11 +148,12 @@ module _ (script : Script) (config : Config) (p : Process) (t : Thread) (choice 
       (offered_of p.shared t others choice (next_of script t.frames) t.status offered)
 
   -- what its transition makes
-  made_within : MakesWithin n (transition_by script config p t choice)
+  made_within : MakesWithin n (length w.processes) (transition_by script config w p t choice)
   made_within =
-      transition_makes (λ id. id ≤ 64 + 64 * n) (λ k. k ≤ 128 + 128 * n) config.passes (body_at script t.frames) p.shared t others
+      transition_makes (λ id. id ≤ 64 + 64 * n) (λ k. k ≤ 128 + 128 * n) (λ pid. pid ≡ suc (length w.processes)) config.passes (body_at script t.frames) p.shared t others
       (λ id among. all_among (λ (i : ℕ). i ≤ 64 + 64 * n) id others.new_ids ids_within among)
       (λ k among. all_among (λ (i : ℕ). i ≤ 128 + 128 * n) k (new_keys p.shared.keys) (new_keys_within n p.shared.keys has.keys_few) among)
+      new_pid
       choice (next_of script t.frames) t.status offered
 
 -- ---- a process after a transition
@@ -176,9 +183,14 @@ same_if true None p = refl
 same_if true (Some end) p = refl
 same_if false end p = refl
 
+reaped_same : (named : Bool) (p : Process) → numbered (cond named (record p { ended = as_reaped p.ended }) p) ≡ numbered p
+reaped_same true p = refl
+reaped_same false p = refl
+
 other_action_same : (pid : ℕ) (a : Action) (p : Process) → numbered (other_process_after pid a p) ≡ numbered p
 unfolding other_process_after
 other_action_same pid (action.EndProcess n) p = same_if (nat_eq p.parent pid) p.ended p
+other_action_same pid (action.Reap child) p = reaped_same (nat_eq p.pid child) p
 other_action_same pid _ p = refl
 
 other_same : (pid : ℕ) (actions : List Action) (p : Process) → numbered (for_each (other_process_after pid) actions p) ≡ numbered p
@@ -203,8 +215,8 @@ few_more n m pid threads keys within has = record {
 }
 
 -- the process of the thread after its transition
-own_few : (n tid : ℕ) (o : Transition) (p : Process) → MakesWithin n o → HasFewIn n p → HasFewIn (n + 1) (changed tid o p)
-own_few n tid o p makes has =
+own_few : (n made tid : ℕ) (o : Transition) (p : Process) → MakesWithin n made o → HasFewIn n p → HasFewIn (n + 1) (changed tid o p)
+own_few n made tid o p makes has =
     let moved : List Thread = map (thread_moved tid o) p.threads in
     let small = λ (t : Thread). t.id ≤ 64 + 64 * n in
     let kept : All small moved = All-map small (thread_moved tid o) p.threads (All-weaker small (λ t. (thread_moved tid o t).id ≤ 64 + 64 * n) (λ t id. subst (λ (k : ℕ). k ≤ 64 + 64 * n) (sym ((transition_keeps tid o).same_id t)) id) p.threads has.ids) in
@@ -221,22 +233,59 @@ own_few n tid o p makes has =
 other_few : (n pid : ℕ) (o : Transition) (p : Process) → HasFewIn n p → HasFewIn (n + 1) (for_each (other_process_after pid) o.actions p)
 other_few n pid o p has = subst (HasFewBy (n + 1)) (sym (other_same pid o.actions p)) (few_more n (n + 1) p.pid p.threads p.shared.keys (omega arith) has)
 
+-- the child of a process
+child_few : (n tid pid : ℕ) (p : Process) → pid ≤ n → HasFewIn n p → HasFewIn n (child_of tid pid p)
+unfolding child_of
+child_few n tid pid p within has =
+    let small = λ (t : Thread). t.id ≤ 64 + 64 * n in
+    record {
+      pid_few = within;
+      few = omega (arith, length-map p.threads (inherited tid), has.few);
+      ids = All-map small (inherited tid) p.threads (All-weaker small (λ t. (inherited tid t).id ≤ 64 + 64 * n) (λ t id. subst (λ (k : ℕ). k ≤ 64 + 64 * n) (sym (inherited_id tid t)) id) p.threads has.ids);
+      keys_few = has.keys_few;
+    }
+
 -- ---- a state
 
--- each process has few threads and keys
-abbrev pub AllHaveFew : ℕ → World → Type 0
-AllHaveFew n w = All (HasFewIn n) w.processes
+-- a state has at most n processes, which are numbered in their order, and each has few threads and keys
+pub record StateWithin (n : ℕ) (w : World) : Type 0 where
+  pub few : length w.processes ≤ n
+  pub pids : AreNumbered 1 w.processes
+  pub each : All (HasFewIn n) w.processes
 
-few_if : (n pid tid : ℕ) (o : Transition) (p : Process) (own : Bool) → MakesWithin n o → HasFewIn n p → HasFewIn (n + 1) (cond own (changed tid o p) (for_each (other_process_after pid) o.actions p))
-few_if n pid tid o p true makes has = own_few n tid o p makes has
-few_if n pid tid o p false makes has = other_few n pid o p has
+-- the same of processes that a transition makes, where this is the next number
+record MadeWithin (n next : ℕ) (made : List Process) : Type 0 where
+  few : length made ≤ 1
+  pids : AreNumbered next made
+  each : All (HasFewIn n) made
+
+pid_if : (pid tid : ℕ) (o : Transition) (p : Process) (own : Bool) → (cond own (changed tid o p) (for_each (other_process_after pid) o.actions p)).pid ≡ p.pid
+pid_if pid tid o p true = ap (λ (parts : ℕ × List Thread × List KeyPlace). parts.0) (own_same o.actions (record p { threads = threads_moved tid o p.threads; shared = for_each shared_after o.actions p.shared }))
+pid_if pid tid o p false = ap (λ (parts : ℕ × List Thread × List KeyPlace). parts.0) (other_same pid o.actions p)
+
+few_if : (n made pid tid : ℕ) (o : Transition) (p : Process) (own : Bool) → MakesWithin n made o → HasFewIn n p → HasFewIn (n + 1) (cond own (changed tid o p) (for_each (other_process_after pid) o.actions p))
+few_if n made pid tid o p true makes has = own_few n made tid o p makes has
+few_if n made pid tid o p false makes has = other_few n pid o p has
 
 -- after a transition
-few_after : (n pid tid : ℕ) (o : Transition) (w : World) → MakesWithin n o → AllHaveFew n w → AllHaveFew (n + 1) (after_transition pid tid o w)
+few_after : (n pid tid : ℕ) (o : Transition) (w : World) → MakesWithin n (length w.processes) o → StateWithin n w → StateWithin (n + 1) (after_transition pid tid o w)
 unfolding after_transition
 few_after n pid tid o w makes has =
-    let next : Process → Process = λ p. cond (is_live_process pid p) (changed tid o p) (for_each (other_process_after pid) o.actions p) in
-    All-map (HasFewIn (n + 1)) next w.processes (All-weaker (HasFewIn n) (λ p. HasFewIn (n + 1) (next p)) (λ p. few_if n pid tid o p (is_live_process pid p) makes) w.processes has)
+    let number : ℕ = length w.processes in
+    let moved : List Process = map (process_moved pid tid o) w.processes in
+    let made : List Process = flat_map (process_made pid tid o) w.processes in
+    let same_number : length moved ≡ number = length-map w.processes (process_moved pid tid o) in
+    let none : MadeWithin (n + 1) (suc number) [] = record { few = omega arith; pids = tt; each = All-nil (HasFewIn (n + 1)) } in
+    let one : (p : Process) → HasFewIn n p → MadeWithin (n + 1) (suc number) (child_of tid (suc number) (changed tid o p) ∷ []) =
+    λ p few.
+    let child : Process = child_of tid (suc number) (changed tid o p) in
+    record { few = omega arith; pids = (child_pid tid (suc number) (changed tid o p), tt); each = All-cons (HasFewIn (n + 1)) child [] (child_few (n + 1) tid (suc number) (changed tid o p) (omega (arith, has.few)) (own_few n number tid o p makes few)) (All-nil (HasFewIn (n + 1))) } in
+    let added : MadeWithin (n + 1) (suc number) made = made_by pid tid o (suc number) makes.process (HasFewIn n) (MadeWithin (n + 1) (suc number)) none one 1 w.processes has.pids has.each in
+    record {
+      few = omega (arith, length-append moved made, same_number, has.few, added.few);
+      pids = numbered_then 1 (suc number) moved made (omega (arith, same_number)) (numbered_after (process_moved pid tid o) (λ p. pid_if pid tid o p (is_live_process pid p)) 1 w.processes has.pids) added.pids;
+      each = All-append (HasFewIn (n + 1)) moved made (All-map (HasFewIn (n + 1)) (process_moved pid tid o) w.processes (All-weaker (HasFewIn n) (λ p. HasFewIn (n + 1) (process_moved pid tid o p)) (λ p. few_if n number pid tid o p (is_live_process pid p) makes) w.processes has.each)) added.each;
+    }
 
 -- ---- an entry
 
@@ -248,19 +297,19 @@ found_all {X} P test (y ∷ ys) x is all = either (test y) refl is (λ later. fo
   either true passes found rest = let same : y ≡ x = same_Some y x found in (subst P same (All-head P y ys all), ap test (sym same) ∙ passes)
   either false passes found rest = rest found
 
--- the entry has numbers of at most a limit, and at most n are made with it
+-- the entry has numbers of at most a limit, and the state after it has its numbers
 record StepsWithin (n : ℕ) (e : Entry) (w : World) : Type 0 where
   numbers : IsEntryWithin (128 + 128 * n) e
-  few : AllHaveFew (n + 1) w
+  state : StateWithin (n + 1) w
 
 -- a step
-step_within : (script : Script) (config : Config) (n : ℕ) (w : World) (e : Entry) (s : Successor) → config.slots ≤ 64 → step script config w e ≡ Some s → AllHaveFew n w → StepsWithin n e s.world
+step_within : (script : Script) (config : Config) (n : ℕ) (w : World) (e : Entry) (s : Successor) → config.slots ≤ 64 → step script config w e ≡ Some s → StateWithin n w → StepsWithin n e s.world
 step_within script config n w e s slots is has =
     let made = step_legal script config w e s is in
     let legal = made.0 in
     let p = legal.process in
     let t = legal.thread in
-    let process = found_all (HasFewIn n) (is_live_process e.pid) w.processes p legal.live has in
+    let process = found_all (HasFewIn n) (is_live_process e.pid) w.processes p legal.live has.each in
     let thread = found_all (λ (x : Thread). x.id ≤ 64 + 64 * n) (is_live_thread e.tid) p.threads t legal.holds process.0.ids in
     let pid : p.pid ≡ e.pid = eqb-true p.pid e.pid (and_parts (nat_eq p.pid e.pid) (not (has_ended p)) process.1).0 in
     let tid : t.id ≡ e.tid = eqb-true t.id e.tid (and_parts (nat_eq t.id e.tid) (holds_slot t) thread.1).0 in
@@ -270,9 +319,9 @@ step_within script config n w e s slots is has =
         worker = legal.worker;
         pid = omega (arith, pid, process.0.pid_few);
         tid = omega (arith, tid, thread.0);
-        choice = choice_within script config p t e.alt n slots process.0 legal.offered;
+        choice = choice_within script config w p t e.alt n slots process.0 legal.offered;
       };
-      few = few_after n e.pid e.tid (transition_by script config p t e.alt) w (made_within script config p t e.alt n slots process.0 legal.offered) has;
+      state = few_after n e.pid e.tid (transition_by script config w p t e.alt) w (made_within script config w p t e.alt n slots process.0 legal.offered) has;
     })
 
 -- ---- runs
@@ -290,26 +339,30 @@ entry_more limit more e within small = record { worker = small.worker; pid = ome
 -- the numbers of a run of these entries, with at most m entries in all
 pub record RunsWithin (m : ℕ) (entries : List Entry) (after : Run) : Type 0 where
   pub numbers : All (IsEntryWithin (128 + 128 * m)) entries
-  pub few : AllHaveFew m after.world
+  pub state : StateWithin m after.world
 
 module _ (script : Script) (config : Config) (m : ℕ) (slots : config.slots ≤ 64) (after : Run) where
-  by_step : (n : ℕ) (r next : Run) (e : Entry) (o : Option Successor) → step script config r.world e ≡ o → option_map (run_after r e) o ≡ Some next → AllHaveFew n r.world → StepsWithin n e next.world
+  by_step : (n : ℕ) (r next : Run) (e : Entry) (o : Option Successor) → step script config r.world e ≡ o → option_map (run_after r e) o ≡ Some next → StateWithin n r.world → StepsWithin n e next.world
   by_step n r next e None at is has = absurd (none-some next is)
   by_step n r next e (Some s) at is has = subst (λ (x : Run). StepsWithin n e x.world) (same_Some (run_after r e s) next is) (step_within script config n r.world e s slots at has)
 
-  runs_then : (n : ℕ) (r : Run) (e : Entry) (entries : List Entry) (o : Option Run) → run_step script config r e ≡ o → option_and_then (λ (next : Run). run_from script config next entries) o ≡ Some after → n ≤ m → AllHaveFew n r.world
-      → ((next : Run) → run_from script config next entries ≡ Some after → AllHaveFew (n + 1) next.world → RunsWithin m entries after) → RunsWithin m (e ∷ entries) after
+  runs_then : (n : ℕ) (r : Run) (e : Entry) (entries : List Entry) (o : Option Run) → run_step script config r e ≡ o → option_and_then (λ (next : Run). run_from script config next entries) o ≡ Some after → n ≤ m → StateWithin n r.world
+      → ((next : Run) → run_from script config next entries ≡ Some after → StateWithin (n + 1) next.world → RunsWithin m entries after) → RunsWithin m (e ∷ entries) after
   runs_then n r e entries None at is within has rest = absurd (none-some after is)
   runs_then n r e entries (Some next) at is within has rest =
       let made = by_step n r next e (step script config r.world e) refl (sym (run_step-is script config r e (step script config r.world e) refl) ∙ at) has in
-      let later = rest next is made.few in
-      record { numbers = All-cons (IsEntryWithin (128 + 128 * m)) e entries (entry_more (128 + 128 * n) (128 + 128 * m) e (omega (arith, within)) made.numbers) later.numbers; few = later.few }
+      let later = rest next is made.state in
+      record { numbers = All-cons (IsEntryWithin (128 + 128 * m)) e entries (entry_more (128 + 128 * n) (128 + 128 * m) e (omega (arith, within)) made.numbers) later.numbers; state = later.state }
 
-  runs_from : (n : ℕ) (r : Run) (entries : List Entry) → run_from script config r entries ≡ Some after → n + length entries ≤ m → AllHaveFew n r.world → RunsWithin m entries after
+  runs_from : (n : ℕ) (r : Run) (entries : List Entry) → run_from script config r entries ≡ Some after → n + length entries ≤ m → StateWithin n r.world → RunsWithin m entries after
   unfolding run_from
   runs_from n r [] is within has = record {
     numbers = All-nil (IsEntryWithin (128 + 128 * m));
-    few = subst (λ (x : Run). AllHaveFew m x.world) (same_Some r after is) (All-weaker (HasFewIn n) (HasFewIn m) (λ p. few_more n m p.pid p.threads p.shared.keys (omega (arith, within))) r.world.processes has);
+    state = subst (λ (x : Run). StateWithin m x.world) (same_Some r after is) (record {
+      few = omega (arith, within, has.few);
+      pids = has.pids;
+      each = All-weaker (HasFewIn n) (HasFewIn m) (λ p. few_more n m p.pid p.threads p.shared.keys (omega (arith, within))) r.world.processes has.each;
+    });
   }
   runs_from n r (e ∷ entries) is within has =
       runs_then n r e entries (run_step script config r e) refl is (omega (arith, within)) has (λ next ran more. runs_from (n + 1) next entries ran (omega (arith, within)) more)
@@ -336,14 +389,14 @@ run_limited script config entries after is =
     let budget = leb-true config.budget MAX_BUDGET p2.1 in
     record { slots = leb-true config.slots MAX_SLOTS p6.1; budget = omega (arith, parts.within, budget) }
 
--- a run makes at most one thread for each entry, beside the initial one
+-- a run makes at most one process and one thread for each entry, beside the initial ones
 pub run_within : (script : Script) (config : Config) (entries : List Entry) (after : Run) → run script config entries ≡ Some after → RunsWithin (1 + length entries) entries after
 unfolding opening
 run_within script config entries after is =
     let parts = run_parts script config entries after is in
     let small = λ (t : Thread). t.id ≤ 64 + 64 * 1 in
     let first : HasFewIn 1 (first_process script) = record { pid_few = omega arith; few = omega arith; ids = All-cons small _ [] (omega arith) (All-nil small); keys_few = no_keys_few } in
-    runs_from script config (1 + length entries) (run_limited script config entries after is).slots after 1 (record { world = opening script; events = [] }) entries parts.ran (omega arith) (All-cons (HasFewIn 1) (first_process script) [] first (All-nil (HasFewIn 1)))
+    runs_from script config (1 + length entries) (run_limited script config entries after is).slots after 1 (record { world = opening script; events = [] }) entries parts.ran (omega arith) (record { few = omega arith; pids = (refl, tt); each = All-cons (HasFewIn 1) (first_process script) [] first (All-nil (HasFewIn 1)) })
 
 -- the entries of a run have numbers of 32 bits
 pub run_numbers_fit : (script : Script) (config : Config) (entries : List Entry) (after : Run) → run script config entries ≡ Some after → All (IsEntryWithin 4294967295) entries

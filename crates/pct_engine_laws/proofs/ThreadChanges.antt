@@ -18,8 +18,8 @@ use Rattle.pct_model.specs.declared.state.Status.TheVariants.{Waiting}
 use Rattle.pct_model.specs.CondCalls.{is_waiting_on, unblocked}
 use Rattle.pct_model.specs.World.{Thread, new_frame, new_thread}
 use Rattle.pct_model.specs.ThreadSlots.{is_ended_status, holds_slot, slot_of, is_on, is_live_thread}
-use Rattle.pct_model.specs.Actions.{thread_at, thread_after, named_after, for_each, moved, thread_moved, thread_created, threads_moved}
-use Rattle.pct_engine_laws.specs.Seen.{SeenSlot, seen_slot, slot_with, on_slot, with_created, slots_moved}
+use Rattle.pct_model.specs.Actions.{thread_at, thread_after, named_after, for_each, moved, thread_moved, thread_created, threads_moved, replica_of, inherited}
+use Rattle.pct_engine_laws.specs.Seen.{SeenSlot, seen_slot, slot_with, on_slot, with_created, slots_moved, slot_inherited}
 use Rattle.pct_engine_laws.proofs.ListFacts.{count_agree, count-map, filter_changed, map-map}
 use Rattle.pct_engine_laws.proofs.IndexedLists.{by_index, item_by_index, changed_by_index}
 
@@ -191,3 +191,52 @@ pub slots_after : (slots tid : ℕ) (o : Transition) (threads : List Thread) →
 slots_after slots tid o threads some =
     slots_with_created slots (map (thread_moved tid o) threads) o.created some
     ∙ ap (with_created slots o.created) (slots_changed slots (thread_moved tid o) (transition_keeps tid o) threads)
+
+-- ---- the slots of a child process
+
+-- a thread, as a child has it, if the child inherits it and if not
+abbrev heir : Thread → Bool → Thread
+heir t inherits = cond inherits (replica_of t) (record t { gone = true })
+
+heir_id : (t : Thread) (inherits : Bool) → (heir t inherits).id ≡ t.id
+heir_id t true = refl
+heir_id t false = refl
+
+-- a child keeps the ids of threads
+pub inherited_id : (tid : ℕ) (t : Thread) → (inherited tid t).id ≡ t.id
+unfolding inherited
+inherited_id tid t = heir_id t (is_live_thread tid t)
+
+module _ (slots tid : ℕ) where
+  heir_on : (s : ℕ) (t : Thread) → is_on slots s (inherited tid t) ≡ is_on slots s t
+  heir_on s t = ap (λ (id : ℕ). nat_eq (slot_of slots id) s) (inherited_id tid t)
+
+  heirs_cons : (t : Thread) (on named holds : Bool) (left kept : List Thread) → nat_eq t.id tid ≡ named → left ≡ map replica_of (filter (λ u. nat_eq u.id tid) kept)
+      → cond (on && holds_slot (heir t (named && holds))) (heir t (named && holds) ∷ left) left ≡ map replica_of (filter (λ u. nat_eq u.id tid) (cond (on && holds) (t ∷ kept) kept))
+  heirs_cons t true true true left kept named e =
+      ap (λ (rest : List Thread). replica_of t ∷ rest) e
+      ∙ sym (ap (λ (b : Bool). map replica_of (cond b (t ∷ filter (λ u. nat_eq u.id tid) kept) (filter (λ u. nat_eq u.id tid) kept))) named)
+  heirs_cons t true false true left kept named e =
+      e ∙ sym (ap (λ (b : Bool). map replica_of (cond b (t ∷ filter (λ u. nat_eq u.id tid) kept) (filter (λ u. nat_eq u.id tid) kept))) named)
+  heirs_cons t true true false left kept named e = e
+  heirs_cons t true false false left kept named e = e
+  heirs_cons t false named holds left kept is e = e
+
+  heirs_on : (s : ℕ) (threads : List Thread) → filter (λ t. is_on slots s t && holds_slot t) (map (inherited tid) threads) ≡ map replica_of (filter (λ t. nat_eq t.id tid) (filter (λ t. is_on slots s t && holds_slot t) threads))
+  unfolding inherited
+  heirs_on s [] = refl
+  heirs_on s (t ∷ threads) =
+      let left : List Thread = filter (λ u. is_on slots s u && holds_slot u) (map (inherited tid) threads) in
+      ap (λ (on : Bool). cond (on && holds_slot (inherited tid t)) (inherited tid t ∷ left) left) (heir_on s t)
+      ∙ heirs_cons t (is_on slots s t) (nat_eq t.id tid) (holds_slot t) left (filter (λ u. is_on slots s u && holds_slot u) threads) refl (heirs_on s threads)
+
+  slot_of_child : (threads : List Thread) (s : ℕ) → seen_slot slots (map (inherited tid) threads) s ≡ slot_inherited tid (seen_slot slots threads s)
+  slot_of_child threads s =
+      let made : count_by (is_on slots s) (map (inherited tid) threads) ≡ count_by (is_on slots s) threads = count-map (is_on slots s) (inherited tid) threads ∙ count_agree (λ t. is_on slots s (inherited tid t)) (is_on slots s) (heir_on s) threads in
+      λ j. record { made = made j; here = heirs_on s threads j }
+
+  -- all slots of a child
+  pub slots_of_child : (threads : List Thread) → by_index (seen_slot slots (map (inherited tid) threads)) slots ≡ map (slot_inherited tid) (by_index (seen_slot slots threads) slots)
+  slots_of_child threads =
+      ap (λ (f : ℕ → SeenSlot). by_index f slots) (fun_ext (slot_of_child threads))
+      ∙ sym (map-map (slot_inherited tid) (seen_slot slots threads) (range_with_len 0 slots))

@@ -15,7 +15,7 @@ use Rattle.pct_model.specs.ChoiceTable.{choices_at, offers}
 use Rattle.pct_model.specs.TransitionTable.{transition_at, acts_or}
 use Rattle.pct_model.specs.Actions.{is_live_process}
 use Rattle.pct_model.specs.Step.{if_offered, transition_of}
-use Rattle.pct_engine_laws.specs.Seen.{SeenProcess, seen_process, seen, is_live_seen}
+use Rattle.pct_engine_laws.specs.Seen.{SeenProcess, seen_process, seen, family_in, is_live_seen}
 use Rattle.pct_engine_laws.specs.SeenSteps.{thread_with, if_offered_in, seen_transition}
 use Rattle.pct_engine_laws.proofs.ListFacts.{find_agree, find-map, find-filter, then-map}
 use Rattle.pct_engine_laws.proofs.AnswerSeen.{thread_seen, others_seen}
@@ -23,19 +23,20 @@ use Rattle.pct_engine_laws.proofs.AnswerSeen.{thread_seen, others_seen}
 -- ---- threads
 
 -- the transition of a thread by an entry
-pub offered_seen : (script : Script) (config : Config) (p : Process) (e : Entry) (t : Thread) → 0 < config.slots → if_offered script config p e t ≡ if_offered_in script config.slots config.passes (seen_process config.slots p) e t
-offered_seen script config p e t some =
-    ap (λ (others : Others). if offers (choices_at p.shared t others (next_of script t.frames) t.status) e.alt then Some (acts_or e.alt t.status (transition_at config.passes (body_at script t.frames) p.shared t others e.alt (next_of script t.frames) t.status)) else None) (others_seen config.slots t.id p.threads some)
+pub offered_seen : (script : Script) (config : Config) (w : World) (p : Process) (e : Entry) (t : Thread) → 0 < config.slots → if_offered script config w p e t ≡ if_offered_in script config.slots config.passes (family_in (seen config.slots w) p.pid) (seen_process config.slots p) e t
+offered_seen script config w p e t some =
+    ap (λ (others : Others). if offers (choices_at p.shared t others (next_of script t.frames) t.status) e.alt then Some (acts_or e.alt t.status (transition_at config.passes (body_at script t.frames) p.shared t others e.alt (next_of script t.frames) t.status)) else None) (others_seen config.slots t.id w p some)
 
 -- the transition of an entry by a process
-pub taken_seen : (script : Script) (config : Config) (e : Entry) (p : Process) → 0 < config.slots → option_and_then (if_offered script config p e) (with_id e.tid p.threads) ≡ option_and_then (if_offered_in script config.slots config.passes (seen_process config.slots p) e) (thread_with config.slots e.tid (seen_process config.slots p).slots)
-taken_seen script config e p some =
-    ap (λ (f : Thread → Option Transition). option_and_then f (with_id e.tid p.threads)) (fun_ext (λ t. offered_seen script config p e t some))
-    ∙ ap (option_and_then (if_offered_in script config.slots config.passes (seen_process config.slots p) e)) (sym (thread_seen config.slots e.tid p.threads some))
+pub taken_seen : (script : Script) (config : Config) (w : World) (e : Entry) (p : Process) → 0 < config.slots → option_and_then (if_offered script config w p e) (with_id e.tid p.threads) ≡ option_and_then (if_offered_in script config.slots config.passes (family_in (seen config.slots w) p.pid) (seen_process config.slots p) e) (thread_with config.slots e.tid (seen_process config.slots p).slots)
+taken_seen script config w e p some =
+    ap (λ (f : Thread → Option Transition). option_and_then f (with_id e.tid p.threads)) (fun_ext (λ t. offered_seen script config w p e t some))
+    ∙ ap (option_and_then (if_offered_in script config.slots config.passes (family_in (seen config.slots w) p.pid) (seen_process config.slots p) e)) (sym (thread_seen config.slots e.tid p.threads some))
 
 -- ---- processes
 
-not_ended : (named : Bool) (end : Option ProcessEnd) → (not (was_reaped end) && (named && not (is_some (option_map (λ x. x.status) end)))) ≡ (named && not (is_some end))
+-- a process that has not ended is kept, and has not ended there
+pub not_ended : (named : Bool) (end : Option ProcessEnd) → (not (was_reaped end) && (named && not (is_some (option_map (λ x. x.status) end)))) ≡ (named && not (is_some end))
 not_ended named None = refl
 not_ended true (Some end) = and-false (not end.reaped)
 not_ended false (Some end) = and-false (not end.reaped)
@@ -54,7 +55,7 @@ process_found slots pid ps =
 pub transition_is_seen : (script : Script) (config : Config) (w : World) (e : Entry) → 0 < config.slots → transition_of script config w e ≡ seen_transition script config (seen config.slots w) e
 transition_is_seen script config w e some =
     let found : find (is_live_seen e.pid) (seen config.slots w).processes ≡ option_map (seen_process config.slots) (find (is_live_process e.pid) w.processes) = process_found config.slots e.pid w.processes in
-    let after : SeenProcess → Option Transition = λ p. option_and_then (if_offered_in script config.slots config.passes p e) (thread_with config.slots e.tid p.slots) in
-    ap (λ (f : Process → Option Transition). option_and_then f (find (is_live_process e.pid) w.processes)) (fun_ext (λ p. taken_seen script config e p some))
+    let after : SeenProcess → Option Transition = λ p. option_and_then (if_offered_in script config.slots config.passes (family_in (seen config.slots w) p.pid) p e) (thread_with config.slots e.tid p.slots) in
+    ap (λ (f : Process → Option Transition). option_and_then f (find (is_live_process e.pid) w.processes)) (fun_ext (λ p. taken_seen script config w e p some))
     ∙ sym (then-map after (seen_process config.slots) (find (is_live_process e.pid) w.processes))
     ∙ sym (ap (option_and_then after) found)

@@ -14,8 +14,8 @@ use Rattle.pct_model.specs.ThreadSlots.{holds_slot}
 use Rattle.pct_model.specs.ChoiceTable.{is_enabled}
 use Rattle.pct_model.specs.Actions.{has_ended}
 use Rattle.pct_model.specs.Run.{is_ready, has_ready, verdict_by, verdict_of}
-use Rattle.pct_engine_laws.specs.Seen.{SeenProcess, seen_process, seen}
-use Rattle.pct_engine_laws.specs.SeenSteps.{threads_on, is_ready_in, has_ready_in, seen_verdict_by, seen_verdict}
+use Rattle.pct_engine_laws.specs.Seen.{SeenProcess, seen_process, seen, threads_on, family_in}
+use Rattle.pct_engine_laws.specs.SeenSteps.{is_ready_in, has_ready_in, seen_verdict_by, seen_verdict}
 use Rattle.pct_engine_laws.proofs.ListFacts.{any_agree, all_agree, any-filter, all-filter, any-map}
 use Rattle.pct_engine_laws.proofs.AnswerSeen.{threads_seen, any_by_slot, choices_seen}
 
@@ -26,21 +26,22 @@ ready_by None ready ready_in e = e
 ready_by (Some end) ready ready_in e = and-false (not end.reaped)
 
 -- a process has a thread that is ready
-pub ready_seen : (script : Script) (config : Config) (p : Process) → 0 < config.slots → (not (was_reaped p.ended) && has_ready_in script config.slots (seen_process config.slots p)) ≡ has_ready script config p
-ready_seen script config p some =
+pub ready_seen : (script : Script) (config : Config) (w : World) (p : Process) → 0 < config.slots → (not (was_reaped p.ended) && has_ready_in script config.slots (family_in (seen config.slots w) p.pid) (seen_process config.slots p)) ≡ has_ready script config w p
+ready_seen script config w p some =
     let kept : SeenProcess = seen_process config.slots p in
-    let ready : Thread → Bool = is_ready_in script config.slots kept in
-    ready_by p.ended (list_any (is_ready script config p) p.threads) (list_any ready (threads_on kept.slots))
+    let ready : Thread → Bool = is_ready_in script config.slots (family_in (seen config.slots w) p.pid) kept in
+    ready_by p.ended (list_any (is_ready script config w p) p.threads) (list_any ready (threads_on kept.slots))
     (ap (list_any ready) (threads_seen config.slots p.threads)
     ∙ any_by_slot config.slots ready p.threads some
-    ∙ any_agree (λ t. holds_slot t && ready t) (is_ready script config p) (λ t. ap (λ (choices : List Alt). holds_slot t && is_enabled choices) (sym (choices_seen script config p t some))) p.threads)
+    ∙ any_agree (λ t. holds_slot t && ready t) (is_ready script config w p) (λ t. ap (λ (choices : List Alt). holds_slot t && is_enabled choices) (sym (choices_seen script config w p t some))) p.threads)
 
 -- some process has a thread that is ready
-pub some_ready_seen : (script : Script) (config : Config) (ps : List Process) → 0 < config.slots → list_any (has_ready_in script config.slots) (map (seen_process config.slots) (filter (λ p. not (was_reaped p.ended)) ps)) ≡ list_any (has_ready script config) ps
-some_ready_seen script config ps some =
-    any-map (has_ready_in script config.slots) (seen_process config.slots) (filter (λ p. not (was_reaped p.ended)) ps)
-    ∙ any-filter (λ p. has_ready_in script config.slots (seen_process config.slots p)) (λ p. not (was_reaped p.ended)) ps
-    ∙ any_agree (λ p. not (was_reaped p.ended) && has_ready_in script config.slots (seen_process config.slots p)) (has_ready script config) (λ p. ready_seen script config p some) ps
+pub some_ready_seen : (script : Script) (config : Config) (w : World) → 0 < config.slots → list_any (λ p. has_ready_in script config.slots (family_in (seen config.slots w) p.pid) p) (seen config.slots w).processes ≡ list_any (has_ready script config w) w.processes
+some_ready_seen script config w some =
+    let ready : SeenProcess → Bool = λ p. has_ready_in script config.slots (family_in (seen config.slots w) p.pid) p in
+    any-map ready (seen_process config.slots) (filter (λ p. not (was_reaped p.ended)) w.processes)
+    ∙ any-filter (λ p. ready (seen_process config.slots p)) (λ p. not (was_reaped p.ended)) w.processes
+    ∙ any_agree (λ p. not (was_reaped p.ended) && ready (seen_process config.slots p)) (has_ready script config w) (λ p. ready_seen script config w p some) w.processes
 
 ended_by : (end : Option ProcessEnd) → (not (not (was_reaped end)) || is_some (option_map (λ x. x.status) end)) ≡ is_some end
 ended_by None = refl
@@ -55,12 +56,12 @@ all_ended_seen slots ps =
 
 -- ---- the verdict
 
-verdict_by_seen : (stop : Option Why) (script : Script) (config : Config) (w : World) (n : ℕ) → 0 < config.slots → verdict_by stop script config w n ≡ seen_verdict_by stop script config (seen config.slots w).processes n
+verdict_by_seen : (stop : Option Why) (script : Script) (config : Config) (w : World) (n : ℕ) → 0 < config.slots → verdict_by stop script config w n ≡ seen_verdict_by stop script config (seen config.slots w) n
 verdict_by_seen (Some why) script config w n some = refl
 verdict_by_seen None script config w n some =
     let undecided : Bool → Verdict = λ ready. cond (not ready) Deadlock (cond (nat_eq n config.budget) Budget Open) in
-    ap (λ (ended : Bool). cond ended Complete (undecided (list_any (has_ready script config) w.processes))) (sym (all_ended_seen config.slots w.processes))
-    ∙ ap (λ (ready : Bool). cond (list_all (λ p. is_some p.ended) (seen config.slots w).processes) Complete (undecided ready)) (sym (some_ready_seen script config w.processes some))
+    ap (λ (ended : Bool). cond ended Complete (undecided (list_any (has_ready script config w) w.processes))) (sym (all_ended_seen config.slots w.processes))
+    ∙ ap (λ (ready : Bool). cond (list_all (λ p. is_some p.ended) (seen config.slots w).processes) Complete (undecided ready)) (sym (some_ready_seen script config w some))
 
 -- the verdict of a run with n entries
 pub verdict_is_seen : (script : Script) (config : Config) (w : World) (n : ℕ) → 0 < config.slots → verdict_of script config w n ≡ seen_verdict script config (seen config.slots w) n

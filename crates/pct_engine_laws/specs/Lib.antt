@@ -4,5 +4,6 @@ pub mod SeenLaws
 pub mod RunLaws
 pub mod ThreadCounts
 pub mod KeyCounts
+pub mod ProcessCounts
 pub mod RunNumbers
 pub mod Fitting

@@ -1,9 +1,9 @@
 -- What an engine keeps of a state of the machine: the processes that are not reaped and, of each, the threads that hold a
--- slot, slot by slot. As long as no process forks, legality, transitions, verdicts and the choices of the scheduler depend on
--- nothing else.
-use Rattle.std.specs.Prelude.{ℕ, ◌+◌, Bool, not, ◌&&◌, if◌then◌else◌, List, [], ◌∷◌, ◌++◌, length, map, filter, flat_map, count_by, Option, Some, None, is_some, nat_eq, slice_get, slice_set, option_map}
+-- slot, slot by slot. Legality, transitions, verdicts and the choices of the scheduler depend on nothing else.
+use Rattle.std.specs.Prelude.{ℕ, ◌+◌, Bool, not, ◌&&◌, ◌||◌, if◌then◌else◌, List, [], ◌∷◌, ◌++◌, length, map, filter, flat_map, count_by, Option, Some, None, is_some, nat_eq, slice_get, slice_set, option_map}
 use Rattle.std.specs.Option.{option_map_or}
-use Rattle.std.specs.List.{range_with_len}
+use Rattle.std.specs.List.{list_all, range_with_len}
+use Rattle.pct_model.specs.declared.process.Relative.{Relative}
 use Rattle.pct_model.specs.declared.stop.Why.{Why}
 use Rattle.pct_model.specs.declared.transition.Action.{Action}
 use Rattle.pct_model.specs.declared.transition.Action.TheVariants as action
@@ -11,7 +11,8 @@ use Rattle.pct_model.specs.declared.transition.NewThread.{NewThread}
 use Rattle.pct_model.specs.declared.transition.Transition.{Transition}
 use Rattle.pct_model.specs.World.{Thread, SharedState, Process, World, was_reaped}
 use Rattle.pct_model.specs.ThreadSlots.{holds_slot, slot_of, is_on}
-use Rattle.pct_model.specs.Actions.{shared_after, stop_after, for_each, thread_moved, thread_created}
+use Rattle.pct_model.specs.Actions.{shared_after, stop_after, for_each, thread_moved, thread_created, replica_of}
+use Rattle.pct_model.specs.OtherProcesses.{Family, family_among}
 
 -- a slot: the number of threads ever made on it, and the thread that holds it
 pub record SeenSlot : Type 0 where
@@ -47,6 +48,24 @@ seen_process slots p = record { pid = p.pid; parent = p.parent; restricted = p.r
 abbrev pub seen : ℕ → World → Seen
 seen slots w = record { processes = map (seen_process slots) (filter (λ p. not (was_reaped p.ended)) w.processes); made = length w.processes; stop = w.stop }
 
+-- the threads on these slots, in their order
+abbrev pub threads_on : List SeenSlot → List Thread
+threads_on rows = flat_map (λ s. s.here) rows
+
+-- each thread but the one with this id has ended
+abbrev pub is_last_in : ℕ → List SeenSlot → Bool
+is_last_in id rows = list_all (λ t. t.ended || nat_eq t.id id) (threads_on rows)
+
+-- ---- the other processes
+
+-- the ids and the end of a process
+abbrev pub relative_in : SeenProcess → Relative
+relative_in p = record { pid = p.pid; parent = p.parent; ended = p.ended }
+
+-- the other processes, as the one with an id sees them
+abbrev pub family_in : Seen → ℕ → Family
+family_in v pid = family_among v.made (map relative_in v.processes) pid
+
 -- ---- after a transition
 
 -- a slot after a transition of the thread with an id; a thread that the transition names can be on any slot
@@ -77,12 +96,17 @@ own_kept _ p = p ∷ []
 
 -- another process after an action of a thread of process pid
 unfoldable pub other_kept : ℕ → Action → SeenProcess → List SeenProcess
+other_kept pid (action.Reap child) p = if nat_eq p.pid child && is_some p.ended then [] else p ∷ []
 other_kept pid (action.EndProcess n) p = if nat_eq p.parent pid then if is_some p.ended then [] else record p { parent = 0 } ∷ [] else p ∷ []
 other_kept pid _ p = p ∷ []
 
+-- the process of the thread after the transition, but for its end
+abbrev pub process_seen : ℕ → ℕ → Transition → SeenProcess → SeenProcess
+process_seen slots tid o p = record p { slots = slots_moved slots tid o p.slots; shared = for_each shared_after o.actions p.shared }
+
 -- the process of the thread after the transition, with this number of slots
 abbrev pub own_process_seen : ℕ → ℕ → Transition → SeenProcess → List SeenProcess
-own_process_seen slots tid o p = for_each (λ a. flat_map (own_kept a)) o.actions (record p { slots = slots_moved slots tid o p.slots; shared = for_each shared_after o.actions p.shared } ∷ [])
+own_process_seen slots tid o p = for_each (λ a. flat_map (own_kept a)) o.actions (process_seen slots tid o p ∷ [])
 
 -- another process after the transition
 abbrev pub other_process_seen : ℕ → Transition → SeenProcess → List SeenProcess
@@ -92,6 +116,29 @@ other_process_seen pid o p = for_each (λ a. flat_map (other_kept pid a)) o.acti
 abbrev pub is_live_seen : ℕ → SeenProcess → Bool
 is_live_seen pid p = nat_eq p.pid pid && not (is_some p.ended)
 
+-- a slot, as a child process has it: it inherits the thread with this id alone
+abbrev pub slot_inherited : ℕ → SeenSlot → SeenSlot
+slot_inherited tid s = record s { here = map replica_of (filter (λ t. nat_eq t.id tid) s.here) }
+
+-- the child with an id that a fork by the thread with an id makes
+abbrev pub child_seen : ℕ → ℕ → SeenProcess → SeenProcess
+child_seen tid pid p = record { pid = pid; parent = p.pid; restricted = not (is_last_in tid p.slots); ended = None; slots = map (slot_inherited tid) p.slots; shared = record p.shared { exit_value = None } }
+
+-- the process that an action makes, if it makes one
+unfoldable pub child_seen_by : ℕ → SeenProcess → Action → List SeenProcess
+child_seen_by tid p (action.MakeChild pid) = child_seen tid pid p ∷ []
+child_seen_by tid p _ = []
+
+-- the processes that the transition makes
+abbrev pub children_seen : ℕ → ℕ → ℕ → Transition → List SeenProcess → List SeenProcess
+children_seen slots pid tid o ps = flat_map (λ p. if is_live_seen pid p then flat_map (child_seen_by tid (process_seen slots tid o p)) o.actions else []) ps
+
+-- the processes that were made before, after the transition
+abbrev pub processes_kept : ℕ → ℕ → ℕ → Transition → List SeenProcess → List SeenProcess
+processes_kept slots pid tid o ps = flat_map (λ p. if is_live_seen pid p then own_process_seen slots tid o p else other_process_seen pid o p) ps
+
 -- all after a transition of thread tid of process pid
 unfoldable pub seen_after : ℕ → ℕ → ℕ → Transition → Seen → Seen
-seen_after slots pid tid o v = record { processes = flat_map (λ p. if is_live_seen pid p then own_process_seen slots tid o p else other_process_seen pid o p) v.processes; made = v.made; stop = for_each stop_after o.actions v.stop }
+seen_after slots pid tid o v =
+    let children : List SeenProcess = children_seen slots pid tid o v.processes in
+    record { processes = processes_kept slots pid tid o v.processes ++ children; made = v.made + length children; stop = for_each stop_after o.actions v.stop }

@@ -1,5 +1,5 @@
 -- Transitions, verdicts and the choices of the scheduler, of what an engine keeps of a state.
-use Rattle.std.specs.Prelude.{ℕ, ◌+◌, ◌*◌, Bool, true, false, not, ◌&&◌, ◌||◌, if◌then◌else◌, List, [], ◌∷◌, ◌++◌, map, filter, flat_map, Option, Some, None, is_some, is_none, nat_eq, option_and_then, find, slice_get}
+use Rattle.std.specs.Prelude.{ℕ, ◌+◌, ◌*◌, Bool, true, false, not, ◌&&◌, if◌then◌else◌, List, [], ◌∷◌, ◌++◌, map, filter, flat_map, Option, Some, None, is_some, is_none, nat_eq, option_and_then, find, slice_get}
 use Rattle.std.specs.List.{list_all, list_any}
 use Rattle.pct_model.specs.declared.script.Script.{Script}
 use Rattle.pct_model.specs.declared.schedule.Alt.{Alt}
@@ -12,17 +12,14 @@ use Rattle.pct_model.specs.declared.transition.Transition.{Transition}
 use Rattle.pct_model.specs.World.{Thread}
 use Rattle.pct_model.specs.ThreadSlots.{slot_of}
 use Rattle.pct_model.specs.NextStatement.{next_of, body_at}
+use Rattle.pct_model.specs.OtherProcesses.{Family}
 use Rattle.pct_model.specs.OtherThreads.{Others, is_joining, waiters_among}
 use Rattle.pct_model.specs.ChoiceTable.{choices_at, offers, is_enabled}
 use Rattle.pct_model.specs.TransitionTable.{transition_at, acts_or}
 use Rattle.pct_model.specs.Chosen.{Candidate, item_at, entry_for}
-use Rattle.pct_engine_laws.specs.Seen.{SeenSlot, SeenProcess, Seen, is_live_seen}
+use Rattle.pct_engine_laws.specs.Seen.{SeenSlot, SeenProcess, Seen, threads_on, is_last_in, family_in, is_live_seen}
 
 -- ---- the threads on slots
-
--- the threads on these slots, in their order
-abbrev pub threads_on : List SeenSlot → List Thread
-threads_on rows = flat_map (λ s. s.here) rows
 
 -- the thread with an id on a slot
 abbrev pub thread_on : ℕ → SeenSlot → Option Thread
@@ -52,51 +49,54 @@ abbrev pub new_ids_from : ℕ → ℕ → List SeenSlot → List ℕ
 new_ids_from slots s [] = []
 new_ids_from slots s (row ∷ rows) = new_id_on slots s row ++ new_ids_from slots (s + 1) rows
 
--- each thread but the one with this id has ended
-abbrev pub is_last_in : ℕ → List SeenSlot → Bool
-is_last_in id rows = list_all (λ t. t.ended || nat_eq t.id id) (threads_on rows)
-
--- what the thread with an id sees of the others
-unfoldable pub others_in : ℕ → List SeenSlot → ℕ → Others
-others_in slots rows tid = record { named = λ id. thread_with slots id rows; another_joins = λ id. is_joined_in id rows; new_ids = new_ids_from slots 0 rows; waiters = λ c. waiters_among c (threads_on rows); is_last = is_last_in tid rows }
+-- what the thread with an id sees of the others: the threads on these slots, and the other processes
+unfoldable pub others_in : ℕ → Family → List SeenSlot → ℕ → Others
+others_in slots family rows tid = record {
+  named = λ id. thread_with slots id rows;
+  another_joins = λ id. is_joined_in id rows;
+  new_ids = new_ids_from slots 0 rows;
+  waiters = λ c. waiters_among c (threads_on rows);
+  is_last = is_last_in tid rows;
+  family = family;
+}
 
 -- ---- one thread
 
--- the choices of a thread of a process
-abbrev pub choices_in : Script → ℕ → SeenProcess → Thread → List Alt
-choices_in script slots p t = choices_at p.shared t (others_in slots p.slots t.id) (next_of script t.frames) t.status
+-- the choices of a thread of a process, which sees these other processes
+abbrev pub choices_in : Script → ℕ → Family → SeenProcess → Thread → List Alt
+choices_in script slots family p t = choices_at p.shared t (others_in slots family p.slots t.id) (next_of script t.frames) t.status
 
 -- what a thread of a process does by a choice, with this limit on the passes over destructors
-abbrev pub transition_in : Script → ℕ → ℕ → SeenProcess → Thread → Alt → Transition
-transition_in script slots passes p t choice = acts_or choice t.status (transition_at passes (body_at script t.frames) p.shared t (others_in slots p.slots t.id) choice (next_of script t.frames) t.status)
+abbrev pub transition_in : Script → ℕ → ℕ → Family → SeenProcess → Thread → Alt → Transition
+transition_in script slots passes family p t choice = acts_or choice t.status (transition_at passes (body_at script t.frames) p.shared t (others_in slots family p.slots t.id) choice (next_of script t.frames) t.status)
 
 -- ---- transitions
 
 -- the transition of a thread by an entry, if its choice is offered
-abbrev pub if_offered_in : Script → ℕ → ℕ → SeenProcess → Entry → Thread → Option Transition
-if_offered_in script slots passes p e t = if offers (choices_in script slots p t) e.alt then Some (transition_in script slots passes p t e.alt) else None
+abbrev pub if_offered_in : Script → ℕ → ℕ → Family → SeenProcess → Entry → Thread → Option Transition
+if_offered_in script slots passes family p e t = if offers (choices_in script slots family p t) e.alt then Some (transition_in script slots passes family p t e.alt) else None
 
 -- the transition that an entry takes
 abbrev pub seen_transition : Script → Config → Seen → Entry → Option Transition
-seen_transition script config v e = option_and_then (λ p. option_and_then (if_offered_in script config.slots config.passes p e) (thread_with config.slots e.tid p.slots)) (find (is_live_seen e.pid) v.processes)
+seen_transition script config v e = option_and_then (λ p. option_and_then (if_offered_in script config.slots config.passes (family_in v p.pid) p e) (thread_with config.slots e.tid p.slots)) (find (is_live_seen e.pid) v.processes)
 
 -- ---- the scheduler
 
 -- a thread of a process has a choice
-abbrev pub is_ready_in : Script → ℕ → SeenProcess → Thread → Bool
-is_ready_in script slots p t = is_enabled (choices_in script slots p t)
+abbrev pub is_ready_in : Script → ℕ → Family → SeenProcess → Thread → Bool
+is_ready_in script slots family p t = is_enabled (choices_in script slots family p t)
 
 -- the threads of a process that are ready; a process that has ended has none
-abbrev pub ready_in : Script → ℕ → SeenProcess → List Thread
-ready_in script slots p = if is_some p.ended then [] else filter (is_ready_in script slots p) (threads_on p.slots)
+abbrev pub ready_in : Script → ℕ → Family → SeenProcess → List Thread
+ready_in script slots family p = if is_some p.ended then [] else filter (is_ready_in script slots family p) (threads_on p.slots)
 
 -- a thread as a candidate
-abbrev pub candidate_in : Script → ℕ → SeenProcess → Thread → Candidate
-candidate_in script slots p t = record { pid = p.pid; tid = t.id; choices = choices_in script slots p t }
+abbrev pub candidate_in : Script → ℕ → Family → SeenProcess → Thread → Candidate
+candidate_in script slots family p t = record { pid = p.pid; tid = t.id; choices = choices_in script slots family p t }
 
 -- the threads that are ready
 unfoldable pub seen_candidates : Script → ℕ → Seen → List Candidate
-seen_candidates script slots v = flat_map (λ p. map (candidate_in script slots p) (ready_in script slots p)) v.processes
+seen_candidates script slots v = flat_map (λ p. map (candidate_in script slots (family_in v p.pid) p) (ready_in script slots (family_in v p.pid) p)) v.processes
 
 -- the entry that a worker's two numbers choose, if the run was not stopped
 abbrev pub seen_chosen : Script → ℕ → Seen → ℕ → ℕ → ℕ → Option Entry
@@ -105,18 +105,18 @@ seen_chosen script slots v worker a b = if is_none v.stop then option_and_then (
 -- ---- the verdict
 
 -- a process has not ended, and one of its threads is ready
-abbrev pub has_ready_in : Script → ℕ → SeenProcess → Bool
-has_ready_in script slots p = not (is_some p.ended) && list_any (is_ready_in script slots p) (threads_on p.slots)
+abbrev pub has_ready_in : Script → ℕ → Family → SeenProcess → Bool
+has_ready_in script slots family p = not (is_some p.ended) && list_any (is_ready_in script slots family p) (threads_on p.slots)
 
 -- the verdict of a run with n entries, by its stop
-abbrev pub seen_verdict_by : Option Why → Script → Config → List SeenProcess → ℕ → Verdict
-seen_verdict_by (Some why) script config processes n = Undefined why
-seen_verdict_by None script config processes n =
-    if list_all (λ p. is_some p.ended) processes then Complete
-    else if not (list_any (has_ready_in script config.slots) processes) then Deadlock
+abbrev pub seen_verdict_by : Option Why → Script → Config → Seen → ℕ → Verdict
+seen_verdict_by (Some why) script config v n = Undefined why
+seen_verdict_by None script config v n =
+    if list_all (λ p. is_some p.ended) v.processes then Complete
+    else if not (list_any (λ p. has_ready_in script config.slots (family_in v p.pid) p) v.processes) then Deadlock
     else if nat_eq n config.budget then Budget
     else Open
 
 -- the verdict of a run with n entries
 unfoldable pub seen_verdict : Script → Config → Seen → ℕ → Verdict
-seen_verdict script config v n = seen_verdict_by v.stop script config v.processes n
+seen_verdict script config v n = seen_verdict_by v.stop script config v n

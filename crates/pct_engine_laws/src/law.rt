@@ -4,6 +4,7 @@ ghost use Rattle.pct_engine_laws.specs.SeenLaws.{TransitionIsSeen, AfterIsSeen, 
 ghost use Rattle.pct_engine_laws.specs.RunLaws.{StepsIfLegal, GoesOnWhileOpen};
 ghost use Rattle.pct_engine_laws.specs.ThreadCounts.{NextIdIsSeen, FewThreadsMade};
 ghost use Rattle.pct_engine_laws.specs.KeyCounts.{FewKeysMade};
+ghost use Rattle.pct_engine_laws.specs.ProcessCounts.{FewProcessesMade};
 ghost use Rattle.pct_engine_laws.specs.RunNumbers.{RunNumbersFit};
 
 /// An empty function whose contract states the theorems. The processes that are not reaped, with the threads that hold a slot,
@@ -12,7 +13,8 @@ ghost use Rattle.pct_engine_laws.specs.RunNumbers.{RunNumbersFit};
 /// legal entry. A run can go on by an entry exactly if its verdict is `Open` and the
 /// entry is legal in the state after the run. The id of the next thread on a slot follows from the number of threads ever made on
 /// it, and a run makes at most one thread for each entry beside the initial one. On each place, a run makes at most one key of
-/// thread-specific data for each entry. The numbers in the entries of a run have 32 bits.
+/// thread-specific data for each entry. A run makes at most one process for each entry beside the first one. The numbers in the
+/// entries of a run have 32 bits.
 pub fn seen_parts_decide()
     ensures transition { TransitionIsSeen }
     ensures after { AfterIsSeen }
@@ -23,5 +25,6 @@ pub fn seen_parts_decide()
     ensures next_id { NextIdIsSeen }
     ensures few { FewThreadsMade }
     ensures few_keys { FewKeysMade }
+    ensures few_processes { FewProcessesMade }
     ensures numbers { RunNumbersFit }
 {}

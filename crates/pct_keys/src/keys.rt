@@ -4,9 +4,9 @@ ghost use Rattle.std.specs.Prelude.{◌≡◌, is_some};
 ghost use Rattle.pct_model.specs.Keys.{if_number};
 
 use crate::place::{Key, PLACES, Place, key_place, no_keys};
-use crate::row::{Row, clear_place, clear_rows};
+use crate::row::{Row, clear_place, new_rows};
 use pct_io::NoMemory;
-use pct_model::MAX_KEYS;
+use pct_model::{MAX_KEYS, MAX_SLOTS};
 use std::alloc::Global;
 use std::marker::Model;
 
@@ -14,34 +14,40 @@ use std::marker::Model;
 /// places for keys and the list of the data of the threads, one for each slot.
 ///
 /// A slot argument is below the number of slots, and a place argument below `MAX_KEYS`.
+///
+/// A table has memory for 64 slots, however many it has, so that no call but `new` takes memory.
 #[derive(Debug, Drop)]
 pub struct Keys {
     places: [Place; PLACES],
+    /// There is room for 64.
     rows: Vec<Row>,
 }
 
 impl Model for Keys {
+    ghost use Rattle.std.specs.Prelude.{◌≤◌, vec_len, vec_capacity};
+    ghost use Rattle.pct_model.specs.declared.limits.TheConstants.{MAX_SLOTS};
     ghost use Rattle.pct_keys.specs.Tables.{Table, IsSound};
 
     ghost Value = { Table };
 
     ghost view = { λ k. record { places = k.places; rows = k.rows.items } };
 
-    ghost invariant = { λ k. IsSound (record { places = k.places; rows = k.rows.items }) };
+    ghost invariant = { λ k. IsSound (record { places = k.places; rows = k.rows.items }) × (vec_len k.rows ≤ MAX_SLOTS) × (MAX_SLOTS ≤ vec_capacity k.rows) };
 }
 
 impl Keys {
-    ghost use Rattle.std.specs.Prelude.{◌≡◌, ◌<◌, ◌+◌, ◌^◌, ℕ, true, false, length, Some, None, IfOk, IfSome, IfNone, is_some, option_and_then, option_map, slice_get};
+    ghost use Rattle.std.specs.Prelude.{◌≡◌, ◌<◌, ◌≤◌, ◌+◌, ◌^◌, ℕ, true, false, length, Some, None, IfOk, IfSome, IfNone, is_some, option_and_then, option_map, slice_get};
     ghost use Rattle.std.specs.Option.{option_map_or};
-    ghost use Rattle.pct_model.specs.declared.limits.TheConstants.{MAX_KEYS};
+    ghost use Rattle.pct_model.specs.declared.limits.TheConstants.{MAX_KEYS, MAX_SLOTS};
     ghost use Rattle.pct_model.specs.Keys.{no_values, key_place, key_at, next_key, key_with, free_places, value_at, with_value, without_value, is_due, due_places, with_pass, is_left, left_places};
     ghost use Rattle.pct_keys.specs.Tables.{IsClear, IsSound, new_table, row_at, on_row, made_key, with_made, with_deleted, replica_of};
 
-    /// A table for this number of slots, without keys. `NoMemory` is returned if the table does not fit into memory.
+    /// A table for at most 64 slots, without keys. `NoMemory` is returned if the table does not fit into memory.
     pub fn new(alloc: Global, slots: u32) -> Result<Keys, NoMemory>
+        requires { slots ≤ MAX_SLOTS }
         ensures { IfOk result (λ keys. keys ≡ new_table slots) }
     {
-        let mut rows = Vec::with_capacity(alloc, slots as usize)?;
+        let mut rows = Vec::with_capacity(alloc, MAX_SLOTS as usize)?;
         for _ in 0..slots {
             rows.push(Row::new())?;
         }
@@ -303,17 +309,16 @@ impl Keys {
         self.rows[slot as usize].clear_all();
     }
 
-    /// Makes this the table of the child process of the thread on the slot (fork). The other table is that of the parent; both have
-    /// the same number of slots. Afterwards the keys are those of the other table, and of the data there are only the values of this
-    /// thread; no place is in a pass.
+    /// Makes this the table of the child process of the thread on the slot (fork). The other table is that of the parent. Afterwards
+    /// this table has as many slots as the other; the keys are those of the other table, and of the data there are only the values
+    /// of this thread; no place is in a pass.
     pub fn copy_from(&mut self, other: &Keys, slot: u32)
-        requires counts { length self.old.rows ≡ length other.now.rows }
-        requires slot { slot < length other.now.rows }
+        requires { slot < length other.now.rows }
         ensures { self.new ≡ replica_of slot other.now }
     {
         let places = other.places;
         self.places = places;
-        clear_rows(&mut self.rows);
+        new_rows(&mut self.rows, other.rows.len());
         let row = other.rows[slot as usize].values_alone();
         self.rows[slot as usize] = row;
     }

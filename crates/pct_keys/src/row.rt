@@ -1,6 +1,6 @@
 //! The thread-specific data of the thread on one slot.
 
-ghost use Rattle.std.specs.Prelude.{◌≡◌, ◌<◌, false, length, map, replicate, slice_get, Some};
+ghost use Rattle.std.specs.Prelude.{◌≡◌, ◌<◌, ◌≤◌, false, length, map, replicate, slice_get, Some, vec_len, vec_capacity};
 ghost use Rattle.pct_model.specs.declared.limits.TheConstants.{MAX_KEYS};
 ghost use Rattle.pct_model.specs.Keys.{no_values, value_at, with_value, without_value, with_pass};
 
@@ -123,8 +123,19 @@ pub(crate) fn clear_place(rows: &mut [Row], place: u32)
     }
 }
 
-/// Gives each slot the data of a new thread.
-pub(crate) fn clear_rows(rows: &mut [Row])
+/// Makes the number of slots `count`, for which there is room, and gives each slot the data of a new thread.
+pub(crate) fn new_rows(rows: &mut Vec<Row>, count: usize)
+    requires { count ≤ vec_capacity rows.old }
+    ensures rows { rows.new.items ≡ replicate count no_values }
+    ensures count { vec_len rows.new ≡ count }
+    ensures room { vec_capacity rows.old ≤ vec_capacity rows.new }
+{
+    rows.resize_with(count, Row::new).unwrap();
+    clear_rows(rows);
+}
+
+// Gives each slot the data of a new thread.
+fn clear_rows(rows: &mut [Row])
     ensures { rows.new ≡ replicate (length rows.old) no_values }
 {
     for row in rows.iter_mut() {

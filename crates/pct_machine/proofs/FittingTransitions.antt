@@ -12,6 +12,7 @@ use Rattle.pct_model.specs.declared.transition.Transition.{Transition}
 use Rattle.pct_model.specs.ChoiceTable.{offers}
 use Rattle.pct_model.specs.Keys.{Key}
 use Rattle.pct_model.specs.NextStatement.{NextStatement, next_of, body_at}
+use Rattle.pct_model.specs.OtherProcesses.{Family}
 use Rattle.pct_model.specs.OtherThreads.{Others}
 use Rattle.pct_model.specs.ThreadSlots.{is_ended_status}
 use Rattle.pct_model.specs.World.{Thread}
@@ -34,13 +35,13 @@ is_there (Some key) none = refl
 
 -- ---- the transition of a thread, by a choice that is offered
 
-module _ (script : Script) (passes tid : ℕ) (d : ProcessData) (t : Thread) (choice : Alt) (found : thread_with (length d.slots) tid d.slots ≡ Some t) where
+module _ (script : Script) (passes tid : ℕ) (family : Family) (d : ProcessData) (t : Thread) (choice : Alt) (found : thread_with (length d.slots) tid d.slots ≡ Some t) where
   abbrev slots : ℕ
   slots = length d.slots
 
   -- its transition
   abbrev taken : Transition
-  taken = transition_in script slots passes (with_data d) t choice
+  taken = transition_in script slots passes family (with_data d) t choice
 
   -- its transition, by case
   abbrev Case : Others → NextStatement → Status → Transition → Type 0
@@ -53,7 +54,7 @@ module _ (script : Script) (passes tid : ℕ) (d : ProcessData) (t : Thread) (ch
   keys_fit on (destructor_called next k f key none is destructor among) = (left_fits d.shared.keys t.specific k on (among refl), (tt, tt))
   keys_fit on _ = assumption
 
-  all_fit_in : {next : NextStatement} {s : Status} {o : Transition} → t.status ≡ s → Case (others_in slots d.slots t.id) next s o → AllFitIn tid o.actions d
+  all_fit_in : {next : NextStatement} {s : Status} {o : Transition} → t.status ≡ s → Case (others_in slots family d.slots t.id) next s o → AllFitIn tid o.actions d
   unfolding others_in
   all_fit_in at (join_ended frame operand e id v target is ended) =
       let has_ended : is_ended_status target.status ≡ true = ap is_ended_status ended in (
@@ -66,15 +67,15 @@ module _ (script : Script) (passes tid : ℕ) (d : ProcessData) (t : Thread) (ch
   all_fit_in at (exit_registered frame result f may) = (ltb-true (length d.shared.exit_functions) 32 (and_parts _ _ may).0, (tt, tt))
   all_fit_in at _ = assumption
 
-  created_fits : {next : NextStatement} {s : Status} {o : Transition} → Case (others_in slots d.slots t.id) next s o → IfSome o.created (λ new. list_any (nat_eq new.id) (new_ids_from slots 0 d.slots) ≡ true)
+  created_fits : {next : NextStatement} {s : Status} {o : Transition} → Case (others_in slots family d.slots t.id) next s o → IfSome o.created (λ new. list_any (nat_eq new.id) (new_ids_from slots 0 d.slots) ≡ true)
   unfolding others_in
   created_fits (thread_made frame result id f v detached n among) = among refl
   created_fits _ = tt
 
   -- the transition that it takes fits the process
-  pub taken_fits : AreOnSlots d.slots → AreOnPlaces d.shared.keys → AllFit (length t.frames) (length t.handlers) t.pass taken.actions → offers (choices_in script slots (with_data d) t) choice ≡ true → Makes tid taken d
+  pub taken_fits : AreOnSlots d.slots → AreOnPlaces d.shared.keys → AllFit (length t.frames) (length t.handlers) t.pass taken.actions → offers (choices_in script slots family (with_data d) t) choice ≡ true → Makes tid taken d
   taken_fits placed on fits offered =
-      let others : Others = others_in slots d.slots t.id in
+      let others : Others = others_in slots family d.slots t.id in
       let next : NextStatement = next_of script t.frames in
       let body : List Stmt = body_at script t.frames in
       let its_case : Case others next t.status taken = case_of passes body d.shared t others true choice next t.status (λ known. offered) in

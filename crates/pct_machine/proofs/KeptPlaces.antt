@@ -1,9 +1,8 @@
 -- The places that are kept, of those from the first on: they become the first ones, in their order.
 use Rattle.std.proofs.Common.{◌≡◌, ℕ, ◌+◌, ◌<◌, ◌≤◌, List, [], ◌∷◌, ◌++◌, length, take, drop, flat_map, slice_set, get_or, sym, ap, ◌∙◌, append-nil, subst, arith}
-use Rattle.std.specs.List.{All, swap}
+use Rattle.std.specs.List.{swap}
 use Rattle.std.proofs.lemmas.List.{take_more, take_more_set, take-set-le, drop_more, drop-set-lt, get_or-set_same, length-set}
 use Rattle.std.proofs.lemmas.List.Edits.{swap_is}
-use Rattle.std.proofs.lemmas.List.Elements.{All-set, All-get_or}
 use Rattle.std.proofs.lemmas.Grind.{flat_map-append, drop_more_same}
 use Rattle.pct_engine_laws.specs.Seen.{SeenProcess}
 
@@ -13,9 +12,8 @@ pub record IsKeptTo (f : SeenProcess → List SeenProcess) (kept index : ℕ) (o
   pub all : length now ≡ length old
   pub done : take kept now ≡ flat_map f (take index old)
   pub rest : drop index now ≡ drop index old
-  pub sizes : (slots : ℕ) → All (λ p. length p.slots ≡ slots) old → All (λ p. length p.slots ≡ slots) now
 
-module _ (f : SeenProcess → List SeenProcess) (kept index : ℕ) (old now : List SeenProcess) (p q : SeenProcess) (within : index < length now) (to : IsKeptTo f kept index old now) (at : p ≡ get_or now index p) (size : length q.slots ≡ length p.slots) where
+module _ (f : SeenProcess → List SeenProcess) (kept index : ℕ) (old now : List SeenProcess) (p q : SeenProcess) (within : index < length now) (to : IsKeptTo f kept index old now) (at : p ≡ get_or now index p) where
   -- what is kept of those before the next index
   taken : take kept now ++ f p ≡ flat_map f (take (index + 1) old)
   taken =
@@ -26,11 +24,6 @@ module _ (f : SeenProcess → List SeenProcess) (kept index : ℕ) (old now : Li
       ∙ sym (flat_map-append f (take index old) (get_or old index p ∷ []))
       ∙ ap (flat_map f) (sym (take_more old index p (omega (arith, to.all))))
 
-  sized : (slots : ℕ) → All (λ p. length p.slots ≡ slots) old → All (λ p. length p.slots ≡ slots) (slice_set now index q)
-  sized slots all =
-      let P = λ (x : SeenProcess). length x.slots ≡ slots in
-      All-set P now index q (size ∙ ap (λ (x : SeenProcess). length x.slots) at ∙ All-get_or P now index p within (to.sizes slots all)) (to.sizes slots all)
-
   -- the next one is not kept
   pub none_kept : f p ≡ [] → IsKeptTo f kept (index + 1) old (slice_set now index q)
   none_kept none = record {
@@ -38,7 +31,6 @@ module _ (f : SeenProcess → List SeenProcess) (kept index : ℕ) (old now : Li
     all = length-set now index q ∙ to.all;
     done = take-set-le kept now index q to.few ∙ sym (append-nil (take kept now)) ∙ ap (λ (ps : List SeenProcess). take kept now ++ ps) (sym none) ∙ taken;
     rest = drop-set-lt (index + 1) now index q (omega (arith)) ∙ drop_more_same now old index to.rest;
-    sizes = sized;
   }
 
   -- the next one is kept
@@ -64,9 +56,5 @@ module _ (f : SeenProcess → List SeenProcess) (kept index : ℕ) (old now : Li
             ∙ drop-set-lt (index + 1) (slice_set now index q) index first (omega (arith))
             ∙ drop-set-lt (index + 1) now index q (omega (arith))
             ∙ drop_more_same now old index to.rest;
-        sizes = λ slots all.
-            let P = λ (x : SeenProcess). length x.slots ≡ slots in
-            let at_first : P first = All-get_or P (slice_set now index q) kept p (omega (arith, long, within, to.few)) (sized slots all) in
-            All-set P moved kept q (size ∙ ap (λ (x : SeenProcess). length x.slots) at ∙ All-get_or P now index p within (to.sizes slots all)) (All-set P (slice_set now index q) index first at_first (sized slots all));
       } in
       subst (IsKeptTo f (kept + 1) (index + 1) old) (sym is) next

@@ -1,20 +1,23 @@
 -- The entries that a machine accepts are those that are legal.
-use Rattle.std.proofs.Common.{◌≡◌, ℕ, ◌<◌, ◌≤◌, not, is_some, take, arith, Bool, true, false, ◌||◌, nat_eq, [], ◌∷◌, ◌&&◌, cond, List, length, Some, None, get_or, refl, sym, ap, ◌∙◌}
+use Rattle.std.proofs.Common.{◌≡◌, ℕ, ◌<◌, ◌≤◌, not, is_some, take, arith, Bool, true, false, ◌||◌, nat_eq, [], ◌∷◌, ◌&&◌, cond, List, length, Some, None, get_or, refl, sym, ap, ◌∙◌, subst}
 use Rattle.std.specs.Prelude.{nat_le, nat_lt, is_none, option_and_then, find, slice_get, position, Option}
 use Rattle.std.specs.List.{position_or_len, list_any}
 use Rattle.std.proofs.Math.Bool.{or-false}
 use Rattle.std.proofs.lemmas.Bool.{cond-true, and_from, and_parts, eqb-true, ne_eqb, false≢true, ltb-false, le-leb}
 use Rattle.std.proofs.lemmas.List.{length-take, get_or-take}
-use Rattle.std.proofs.lemmas.Option.{slice_get-get_or, slice_get_past}
+use Rattle.std.proofs.lemmas.Option.{none-some, same_Some, slice_get-get_or, slice_get_past, get_or_from_slice_get}
 use Rattle.std.proofs.lemmas.List.Folds.{find_at}
 use Rattle.std.proofs.lemmas.List.Quantifiers.{position-Some}
 use Rattle.pct_model.specs.declared.script.Script.{Script}
 use Rattle.pct_model.specs.declared.schedule.Config.{Config}
 use Rattle.pct_model.specs.declared.schedule.Entry.{Entry}
-use Rattle.pct_engine_laws.specs.Seen.{SeenProcess, Seen, is_live_seen}
+use Rattle.pct_model.specs.declared.transition.Transition.{Transition}
+use Rattle.pct_model.specs.OtherProcesses.{Family}
+use Rattle.pct_engine_laws.specs.Seen.{SeenProcess, Seen, is_live_seen, family_in}
 use Rattle.pct_engine_laws.specs.SeenSteps.{seen_transition}
 use Rattle.pct_machine.specs.ProcessSteps.{taken_in}
-use Rattle.pct_machine.specs.Places.{RiseWithin}
+use Rattle.pct_machine.specs.Places.{ProcessList, families, RiseWithin}
+use Rattle.pct_machine.specs.ListChanges.{taken_among}
 use Rattle.pct_machine.specs.Candidates.{takes_entry}
 use Rattle.pct_machine.specs.MachineSteps.{legal_transition}
 
@@ -35,14 +38,22 @@ pub record IsFound (pid i live : ℕ) (places : List SeenProcess) (p : SeenProce
   pub first : find (is_live_seen pid) (take live places) ≡ Some p
 
 -- the first process that passes a test, by its index
-found_at : (test : SeenProcess → Bool) (ps : List SeenProcess) → find test ps ≡ option_and_then (slice_get ps) (position test ps)
+pub found_at : (test : SeenProcess → Bool) (ps : List SeenProcess) → find test ps ≡ option_and_then (slice_get ps) (position test ps)
 found_at test ps = find_at test ps ∙ by (nat_lt (position_or_len test ps) (length ps)) refl where
   by : (b : Bool) → nat_lt (position_or_len test ps) (length ps) ≡ b
       → slice_get ps (position_or_len test ps) ≡ option_and_then (slice_get ps) (cond b (Some (position_or_len test ps)) None)
   by true within = refl
   by false past = slice_get_past ps (position_or_len test ps) (ltb-false (position_or_len test ps) (length ps) past)
 
-pub is_found : (pid i live : ℕ) (places : List SeenProcess) (p : SeenProcess) → position (is_live_seen pid) (take live places) ≡ Some i → p ≡ get_or places i p → IsFound pid i live places p
+-- it passes the test
+pub test_passes : (test : SeenProcess → Bool) (p : SeenProcess) (ps : List SeenProcess) → find test ps ≡ Some p → test p ≡ true
+test_passes test p [] found = absurd (none-some p found)
+test_passes test p (q ∷ ps) found = by (test q) refl (test_passes test p ps) found where
+  by : (b : Bool) → test q ≡ b → (find test ps ≡ Some p → test p ≡ true) → cond b (Some q) (find test ps) ≡ Some p → test p ≡ true
+  by true passes later found = ap test (sym (same_Some q p found)) ∙ passes
+  by false fails later found = later found
+
+is_found : (pid i live : ℕ) (places : List SeenProcess) (p : SeenProcess) → position (is_live_seen pid) (take live places) ≡ Some i → p ≡ get_or places i p → IsFound pid i live places p
 is_found pid i live places p found here =
     let ps : List SeenProcess = take live places in
     let parts = position-Some (is_live_seen pid) ps i p found in
@@ -57,17 +68,40 @@ is_found pid i live places p found here =
       first = found_at (is_live_seen pid) ps ∙ ap (option_and_then (slice_get ps)) found ∙ at;
     }
 
-module _ (script : Script) (config : Config) (v : Seen) (e : Entry) (running : is_some v.stop ≡ false) (worker : e.worker ≤ 16) where
-  admitted : legal_transition script config v e ≡ seen_transition script config v e
-  admitted = cond-true (is_none v.stop && nat_le e.worker 16) (seen_transition script config v e) None (and_from (is_none v.stop) (nat_le e.worker 16) (ap not running) (le-leb e.worker 16 worker))
+-- the same of the list of the processes on these places
+module _ (pid i live made : ℕ) (places : List SeenProcess) (list : ProcessList) (view : record { processes = take live places; made = made } ≡ list) (at : Some i ≡ position (is_live_seen pid) list.processes) where
+  position_is : position (is_live_seen pid) (take live places) ≡ Some i
+  position_is = subst (λ (l : ProcessList). position (is_live_seen pid) l.processes ≡ Some i) (sym view) (sym at)
 
-  -- an entry takes what it takes of its process; without one, it is not legal
-  pub is_taken : (o : Option SeenProcess) → find (is_live_seen e.pid) v.processes ≡ o
-      → legal_transition script config v e ≡ option_and_then (λ p. taken_in script config p e) o
-  is_taken o found = admitted ∙ ap (option_and_then (λ p. taken_in script config p e)) found
+  pub found_in : (p : SeenProcess) → p ≡ get_or places i p → IsFound pid i live places p
+  found_in p here = is_found pid i live places p position_is here
 
-  pub not_legal : position (is_live_seen e.pid) v.processes ≡ None → legal_transition script config v e ≡ None
-  not_legal none = is_taken None (found_at (is_live_seen e.pid) v.processes ∙ ap (option_and_then (slice_get v.processes)) none)
+  -- and of the process that is found by the id
+  pub found_by : (p : SeenProcess) → find (is_live_seen pid) list.processes ≡ Some p → IsFound pid i live places p
+  found_by p found =
+      let ps : List SeenProcess = take live places in
+      let within : i < live = omega (arith, (position-Some (is_live_seen pid) ps i p position_is).0, length-take live places) in
+      let here : slice_get ps i ≡ Some p = sym (found_at (is_live_seen pid) ps ∙ ap (option_and_then (slice_get ps)) position_is) ∙ subst (λ (l : ProcessList). find (is_live_seen pid) l.processes ≡ Some p) (sym view) found in
+      found_in p (sym (get_or_from_slice_get ps i p p here) ∙ get_or-take live places i p within)
+
+-- no process is found
+pub none_found : (pid : ℕ) (ps : List SeenProcess) → position (is_live_seen pid) ps ≡ None → find (is_live_seen pid) ps ≡ None
+none_found pid ps none = found_at (is_live_seen pid) ps ∙ ap (option_and_then (slice_get ps)) none
+
+-- an entry takes what it takes of its process; without one, it takes nothing
+module _ (script : Script) (config : Config) (list : ProcessList) (e : Entry) where
+  pub none_taken : position (is_live_seen e.pid) list.processes ≡ None → taken_among script config list e ≡ None
+  none_taken none = ap (option_and_then (λ p. taken_in script config (families list p.pid) p e)) (none_found e.pid list.processes none)
+
+  pub taken_by : (p : SeenProcess) → find (is_live_seen e.pid) list.processes ≡ Some p → is_live_seen e.pid p ≡ true → taken_among script config list e ≡ taken_in script config (families list e.pid) p e
+  taken_by p found live =
+      ap (option_and_then (λ q. taken_in script config (families list q.pid) q e)) found
+      ∙ ap (λ (pid : ℕ). taken_in script config (families list pid) p e) (named e.pid p live)
+
+-- what a legal entry takes, where the run was not stopped
+pub admitted : (script : Script) (config : Config) (v : Seen) (e : Entry) → is_some v.stop ≡ false → e.worker ≤ 16 → legal_transition script config v e ≡ seen_transition script config v e
+admitted script config v e running worker =
+    cond-true (is_none v.stop && nat_le e.worker 16) (seen_transition script config v e) None (and_from (is_none v.stop) (nat_le e.worker 16) (ap not running) (le-leb e.worker 16 worker))
 
 -- ---- an entry that a process takes
 
@@ -77,23 +111,27 @@ taken_first : {A B : Type 0} (live : Bool) (x : A) (f : A → Option B) (any : B
 taken_first true x f any later alone rest some = sym (or-false (is_some (f x))) ∙ ap (λ b. is_some (f x) || b) (sym (alone refl)) ∙ some
 taken_first false x f any later alone rest some = rest some
 
-module _ (script : Script) (config : Config) (e : Entry) where
+module _ (script : Script) (config : Config) (seen_by : ℕ → Family) (e : Entry) where
   abbrev takes : SeenProcess → Bool
-  takes p = takes_entry script config e p
+  takes p = takes_entry script config seen_by e p
+
+  abbrev taken : SeenProcess → Option Transition
+  taken p = taken_in script config (seen_by p.pid) p e
 
   none_later : (low high : ℕ) (ps : List SeenProcess) → RiseWithin low high ps → e.pid ≤ low → list_any takes ps ≡ false
   none_later low high [] rise past = refl
   none_later low high (p ∷ ps) rise past =
-      ap (λ b. b && is_some (taken_in script config p e) || list_any takes ps) (not_live e.pid p (λ same. omega (arith, rise.0)))
+      ap (λ b. b && is_some (taken p) || list_any takes ps) (not_live e.pid p (λ same. omega (arith, rise.0)))
       ∙ none_later p.pid high ps rise.1 (omega (arith, rise.0))
 
   -- it is the one that is found by the id
-  pub found_takes : (low high : ℕ) (ps : List SeenProcess) → RiseWithin low high ps → list_any takes ps ≡ true → is_some (option_and_then (λ p. taken_in script config p e) (find (is_live_seen e.pid) ps)) ≡ true
+  found_takes : (low high : ℕ) (ps : List SeenProcess) → RiseWithin low high ps → list_any takes ps ≡ true → is_some (option_and_then taken (find (is_live_seen e.pid) ps)) ≡ true
   found_takes low high [] rise any = absurd (false≢true any)
   found_takes low high (p ∷ ps) rise any =
-      taken_first (is_live_seen e.pid p) p (λ q. taken_in script config q e) (list_any takes ps) (find (is_live_seen e.pid) ps)
+      taken_first (is_live_seen e.pid p) p taken (list_any takes ps) (find (is_live_seen e.pid) ps)
       (λ live. none_later p.pid high ps rise.1 (omega (arith, named e.pid p live))) (found_takes p.pid high ps rise.1) any
 
-  -- it is legal
-  pub taken_is_legal : (v : Seen) (high : ℕ) → RiseWithin 0 high v.processes → is_some v.stop ≡ false → e.worker ≤ 16 → list_any takes v.processes ≡ true → is_some (legal_transition script config v e) ≡ true
-  taken_is_legal v high rise running worker any = ap is_some (admitted script config v e running worker) ∙ found_takes 0 high v.processes rise any
+-- it is legal
+pub taken_is_legal : (script : Script) (config : Config) (e : Entry) (v : Seen) (high : ℕ) → RiseWithin 0 high v.processes → is_some v.stop ≡ false → e.worker ≤ 16 → list_any (takes_entry script config (family_in v) e) v.processes ≡ true
+    → is_some (legal_transition script config v e) ≡ true
+taken_is_legal script config e v high rise running worker any = ap is_some (admitted script config v e running worker) ∙ found_takes script config (family_in v) e 0 high v.processes rise any

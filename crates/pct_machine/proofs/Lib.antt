@@ -1,8 +1,13 @@
 mod FittingTransitions
 mod StepsOfProcess
 mod LegalEntries
-mod ProcessEnds
+mod HeldSlots
+mod SingleChanges
+mod ChangedLists
+mod ForkedChildren
 mod PlacesAfter
+mod ChangedPlaces
+mod ForkedPlaces
 mod KeptPlaces
 pub mod ReadySlots
 mod LegalChoices

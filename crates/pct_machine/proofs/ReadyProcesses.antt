@@ -12,7 +12,8 @@ use Rattle.pct_model.specs.declared.stop.Why.{Why}
 use Rattle.pct_model.specs.declared.stop.Verdict.{Verdict}
 use Rattle.pct_model.specs.declared.stop.Verdict.TheVariants as verdict
 use Rattle.pct_model.specs.Chosen.{Candidate, item_at, entry_for}
-use Rattle.pct_engine_laws.specs.Seen.{SeenProcess, Seen}
+use Rattle.pct_model.specs.OtherProcesses.{Family}
+use Rattle.pct_engine_laws.specs.Seen.{SeenProcess, Seen, family_in}
 use Rattle.pct_engine_laws.specs.SeenSteps.{ready_in, candidate_in, has_ready_in, seen_candidates, seen_chosen, seen_verdict, seen_verdict_by}
 use Rattle.pct_engine_laws.proofs.ListFacts.{then-map}
 use Rattle.pct_process.specs.ProcessViews.{thread_on_slot}
@@ -21,7 +22,8 @@ use Rattle.pct_machine.specs.declared.scheduler.Draw.{Draw}
 use Rattle.pct_machine.specs.declared.scheduler.Pick.{Pick}
 use Rattle.pct_machine.specs.declared.scheduler.Pick.TheVariants.{Here, Before}
 use Rattle.pct_machine.specs.Places.{RiseWithin}
-use Rattle.pct_machine.specs.MachineSteps.{AllCanStep, legal_transition}
+use Rattle.pct_machine.specs.ProcessSteps.{AllCanStep}
+use Rattle.pct_machine.specs.MachineSteps.{legal_transition}
 use Rattle.pct_machine.specs.Candidates.{candidates_of, candidates_among, pick_after, takes_entry}
 use Rattle.pct_machine.proofs.LegalEntries.{taken_is_legal}
 use Rattle.pct_machine.proofs.Picks.{among}
@@ -29,38 +31,39 @@ use Rattle.pct_machine.proofs.ReadySlots.{as_many, ready_at}
 
 -- ---- one process
 
-module _ (script : Script) (p : SeenProcess) (set : List ℕ) (are : map (thread_on_slot p.slots) set ≡ map (λ t. Some t) (ready_in script (length p.slots) p)) where
+module _ (script : Script) (family : Family) (p : SeenProcess) (set : List ℕ) (are : map (thread_on_slot p.slots) set ≡ map (λ t. Some t) (ready_in script (length p.slots) family p)) where
   -- it has as many candidates as slots whose threads are ready
-  pub count_is : length set ≡ length (candidates_of script p)
-  count_is = as_many p.slots set (ready_in script (length p.slots) p) are ∙ sym (length-map (ready_in script (length p.slots) p) (candidate_in script (length p.slots) p))
+  pub count_is : length set ≡ length (candidates_of script family p)
+  count_is = as_many p.slots set (ready_in script (length p.slots) family p) are ∙ sym (length-map (ready_in script (length p.slots) family p) (candidate_in script (length p.slots) family p))
 
   -- the candidate at an index
-  pub candidate_at : {T : Type 0} (g : Candidate → Option T) (j : ℕ) (slot : Option ℕ) → slot ≡ slice_get set j → option_and_then g (slice_get (candidates_of script p) j) ≡ option_and_then (λ t. g (candidate_in script (length p.slots) p t)) (option_and_then (thread_on_slot p.slots) slot)
+  pub candidate_at : {T : Type 0} (g : Candidate → Option T) (j : ℕ) (slot : Option ℕ) → slot ≡ slice_get set j → option_and_then g (slice_get (candidates_of script family p) j) ≡ option_and_then (λ t. g (candidate_in script (length p.slots) family p t)) (option_and_then (thread_on_slot p.slots) slot)
   candidate_at g j slot at =
-      ap (option_and_then g) (slice_get-map (candidate_in script (length p.slots) p) (ready_in script (length p.slots) p) j)
-      ∙ then-map g (candidate_in script (length p.slots) p) (slice_get (ready_in script (length p.slots) p) j)
-      ∙ ap (option_and_then (λ t. g (candidate_in script (length p.slots) p t))) (sym (ready_at p.slots set (ready_in script (length p.slots) p) are j slot at).0)
+      ap (option_and_then g) (slice_get-map (candidate_in script (length p.slots) family p) (ready_in script (length p.slots) family p) j)
+      ∙ then-map g (candidate_in script (length p.slots) family p) (slice_get (ready_in script (length p.slots) family p) j)
+      ∙ ap (option_and_then (λ t. g (candidate_in script (length p.slots) family p t))) (sym (ready_at p.slots set (ready_in script (length p.slots) family p) are j slot at).0)
 
   -- a thread holds its slot
   pub slot_held : (j : ℕ) (slot : Option ℕ) → slot ≡ slice_get set j → IfSome slot (λ s. is_some (thread_on_slot p.slots s) ≡ true)
-  slot_held j slot at = (ready_at p.slots set (ready_in script (length p.slots) p) are j slot at).1
+  slot_held j slot at = (ready_at p.slots set (ready_in script (length p.slots) family p) are j slot at).1
 
 -- ---- their slots
 
 abbrev pub AllSized : ℕ → List SeenProcess → Type 0
 AllSized n ps = (i : ℕ) (p : SeenProcess) → slice_get ps i ≡ Some p → length p.slots ≡ n
 
-any_sized : (script : Script) (n : ℕ) (ps : List SeenProcess) → AllSized n ps → list_any (λ p. has_ready_in script (length p.slots) p) ps ≡ list_any (has_ready_in script n) ps
-any_sized script n [] sized = refl
-any_sized script n (p ∷ ps) sized =
-    ap (λ k. has_ready_in script k p || list_any (λ q. has_ready_in script (length q.slots) q) ps) (sized 0 p refl)
-    ∙ ap (λ b. has_ready_in script n p || b) (any_sized script n ps (λ i q at. sized (suc i) q at))
+module _ (script : Script) (n : ℕ) (seen_by : ℕ → Family) where
+  any_sized : (ps : List SeenProcess) → AllSized n ps → list_any (λ p. has_ready_in script (length p.slots) (seen_by p.pid) p) ps ≡ list_any (λ p. has_ready_in script n (seen_by p.pid) p) ps
+  any_sized [] sized = refl
+  any_sized (p ∷ ps) sized =
+      ap (λ k. has_ready_in script k (seen_by p.pid) p || list_any (λ q. has_ready_in script (length q.slots) (seen_by q.pid) q) ps) (sized 0 p refl)
+      ∙ ap (λ b. has_ready_in script n (seen_by p.pid) p || b) (any_sized ps (λ i q at. sized (suc i) q at))
 
-pub among_sized : (script : Script) (n : ℕ) (ps : List SeenProcess) → AllSized n ps → candidates_among script ps ≡ flat_map (λ p. map (candidate_in script n p) (ready_in script n p)) ps
-among_sized script n [] sized = refl
-among_sized script n (p ∷ ps) sized =
-    ap (λ k. map (candidate_in script k p) (ready_in script k p) ++ candidates_among script ps) (sized 0 p refl)
-    ∙ ap (λ cs. map (candidate_in script n p) (ready_in script n p) ++ cs) (among_sized script n ps (λ i q at. sized (suc i) q at))
+  among_sized : (ps : List SeenProcess) → AllSized n ps → candidates_among script seen_by ps ≡ flat_map (λ p. map (candidate_in script n (seen_by p.pid) p) (ready_in script n (seen_by p.pid) p)) ps
+  among_sized [] sized = refl
+  among_sized (p ∷ ps) sized =
+      ap (λ k. map (candidate_in script k (seen_by p.pid) p) (ready_in script k (seen_by p.pid) p) ++ candidates_among script seen_by ps) (sized 0 p refl)
+      ∙ ap (λ cs. map (candidate_in script n (seen_by p.pid) p) (ready_in script n (seen_by p.pid) p) ++ cs) (among_sized ps (λ i q at. sized (suc i) q at))
 
 -- ---- the verdict
 
@@ -69,17 +72,17 @@ abbrev pub verdict_of : Option Why → Bool → Bool → Bool → Verdict
 verdict_of (Some why) ended ready full = verdict.Undefined why
 verdict_of None ended ready full = cond ended verdict.Complete (cond (not ready) verdict.Deadlock (cond full verdict.Budget verdict.Open))
 
-by_stop : (script : Script) (config : Config) (ps : List SeenProcess) (n : ℕ) (o : Option Why) → verdict_of o (list_all (λ p. is_some p.ended) ps) (list_any (has_ready_in script config.slots) ps) (nat_eq n config.budget) ≡ seen_verdict_by o script config ps n
-by_stop script config ps n None = refl
-by_stop script config ps n (Some why) = refl
+module _ (script : Script) (config : Config) (v : Seen) (n : ℕ) (can : AllCanStep config.slots v.processes v.made) where
+  by_stop : (o : Option Why) → verdict_of o (list_all (λ p. is_some p.ended) v.processes) (list_any (λ p. has_ready_in script config.slots (family_in v p.pid) p) v.processes) (nat_eq n config.budget) ≡ seen_verdict_by o script config v n
+  by_stop None = refl
+  by_stop (Some why) = refl
 
-module _ (script : Script) (config : Config) (v : Seen) (n : ℕ) (can : AllCanStep config.slots v) where
-  pub verdict_is : (o : Option Why) (ended ready full : Bool) → o ≡ v.stop → ended ≡ list_all (λ p. is_some p.ended) v.processes → ready ≡ list_any (λ p. has_ready_in script (length p.slots) p) v.processes → full ≡ nat_eq n config.budget
+  pub verdict_is : (o : Option Why) (ended ready full : Bool) → o ≡ v.stop → ended ≡ list_all (λ p. is_some p.ended) v.processes → ready ≡ list_any (λ p. has_ready_in script (length p.slots) (family_in v p.pid) p) v.processes → full ≡ nat_eq n config.budget
       → verdict_of o ended ready full ≡ seen_verdict script config v n
   unfolding seen_verdict
   verdict_is o ended ready full at_stop at_end at_ready at_count =
-      (λ i. verdict_of (at_stop i) (at_end i) ((at_ready ∙ any_sized script config.slots v.processes (λ j p at. (can j p at).all)) i) (at_count i))
-      ∙ by_stop script config v.processes n v.stop
+      (λ i. verdict_of (at_stop i) (at_end i) ((at_ready ∙ any_sized script config.slots (family_in v) v.processes (λ j p at. (can.each j p at).all)) i) (at_count i))
+      ∙ by_stop v.stop
 
 -- ---- the choice
 
@@ -93,14 +96,14 @@ entry_worker worker b (Some c) e is = by_choice (item_at c.choices b) is where
   by_choice None is = absurd (none-some e is)
   by_choice (Some choice) is = sym (ap (λ (x : Entry). x.worker) (same_Some (record { worker = worker; pid = c.pid; tid = c.tid; alt = choice }) e is))
 
-legal_if : (script : Script) (config : Config) (v : Seen) (high : ℕ) → RiseWithin 0 high v.processes → is_some v.stop ≡ false → (o : Option Entry) → IfSome o (λ e. list_any (takes_entry script config e) v.processes ≡ true) → ((e : Entry) → o ≡ Some e → e.worker ≤ 16)
+legal_if : (script : Script) (config : Config) (v : Seen) (high : ℕ) → RiseWithin 0 high v.processes → is_some v.stop ≡ false → (o : Option Entry) → IfSome o (λ e. list_any (takes_entry script config (family_in v) e) v.processes ≡ true) → ((e : Entry) → o ≡ Some e → e.worker ≤ 16)
     → IfSome o (λ e. is_some (legal_transition script config v e) ≡ true)
 legal_if script config v high rise running None taken small = tt
 legal_if script config v high rise running (Some e) taken small = taken_is_legal script config e v high rise running (small e refl) taken
 
-module _ (script : Script) (config : Config) (v : Seen) (draw : Draw) (can : AllCanStep config.slots v) (running : is_some v.stop ≡ false) where
+module _ (script : Script) (config : Config) (v : Seen) (draw : Draw) (can : AllCanStep config.slots v.processes v.made) (running : is_some v.stop ≡ false) where
   abbrev all : List Candidate
-  all = candidates_among script v.processes
+  all = candidates_among script (family_in v) v.processes
 
   whole : (answer : Pick) → answer ≡ pick_after 0 draw all → answer ≡ Here (option_and_then (entry_for draw.worker draw.choice) (item_at all draw.thread))
   unfolding pick_after
@@ -115,7 +118,7 @@ module _ (script : Script) (config : Config) (v : Seen) (draw : Draw) (can : All
   unfolding seen_candidates
   chosen_is entry is =
       cc (whole (Here entry) is)
-      ∙ ap (λ (cs : List Candidate). option_and_then (entry_for draw.worker draw.choice) (item_at cs draw.thread)) (among_sized script config.slots v.processes (λ i p at. (can i p at).all))
+      ∙ ap (λ (cs : List Candidate). option_and_then (entry_for draw.worker draw.choice) (item_at cs draw.thread)) (among_sized script config.slots (family_in v) v.processes (λ i p at. (can.each i p at).all))
       ∙ sym (ap (λ b. cond (not b) (option_and_then (entry_for draw.worker draw.choice) (item_at (seen_candidates script config.slots v) draw.thread)) None) running)
 
   -- it is one of the candidates
@@ -123,7 +126,7 @@ module _ (script : Script) (config : Config) (v : Seen) (draw : Draw) (can : All
   never_before i is = cc (whole (Before i) is)
 
   -- it is legal for a worker within the limit
-  pub chosen_is_legal : (high : ℕ) → RiseWithin 0 high v.processes → (entry : Option Entry) → Here entry ≡ pick_after 0 draw all → IfSome entry (λ e. list_any (takes_entry script config e) v.processes ≡ true) → draw.worker ≤ 16 → IfSome entry (λ e. is_some (legal_transition script config v e) ≡ true)
+  pub chosen_is_legal : (high : ℕ) → RiseWithin 0 high v.processes → (entry : Option Entry) → Here entry ≡ pick_after 0 draw all → IfSome entry (λ e. list_any (takes_entry script config (family_in v) e) v.processes ≡ true) → draw.worker ≤ 16 → IfSome entry (λ e. is_some (legal_transition script config v e) ≡ true)
   chosen_is_legal high rise entry is taken small =
       legal_if script config v high rise running entry taken (λ e some.
       let same : entry ≡ option_and_then (entry_for draw.worker draw.choice) (item_at all draw.thread) = cc (whole (Here entry) is) in

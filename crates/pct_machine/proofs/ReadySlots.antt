@@ -8,8 +8,7 @@ use Rattle.std.proofs.lemmas.List.{length-map, drop_more, drop_all, get_or_past}
 use Rattle.std.proofs.lemmas.Option.{slice_get-map, none-some, same_Some}
 use Rattle.pct_model.specs.World.{Thread}
 use Rattle.pct_set.specs.Slots.{slots_where}
-use Rattle.pct_engine_laws.specs.Seen.{SeenSlot}
-use Rattle.pct_engine_laws.specs.SeenSteps.{threads_on}
+use Rattle.pct_engine_laws.specs.Seen.{SeenSlot, threads_on}
 use Rattle.pct_process.specs.ProcessViews.{first_of, thread_on_slot}
 
 -- an item of an option passes by what is known of it

@@ -6,6 +6,7 @@ use Rattle.pct_model.specs.declared.script.Script.{Script}
 use Rattle.pct_model.specs.declared.schedule.Config.{Config}
 use Rattle.pct_model.specs.declared.schedule.Entry.{Entry}
 use Rattle.pct_model.specs.declared.transition.Transition.{Transition}
+use Rattle.pct_model.specs.OtherProcesses.{Family}
 use Rattle.pct_model.specs.World.{Thread}
 use Rattle.pct_engine_laws.specs.Fitting.{AllFit}
 use Rattle.pct_engine_laws.specs.SeenSteps.{thread_with, transition_in}
@@ -20,11 +21,11 @@ pub thread_of : (o : Option Thread) → is_some o ≡ true → (t : Thread) × (
 thread_of None some = absurd (false≢true some)
 thread_of (Some t) some = (t, refl)
 
-module _ (script : Script) (config : Config) (d : ProcessData) (e : Entry) (slot : ℕ) (o : Transition) (holds : HoldsThread (thread_with (length d.slots) e.tid d.slots) (thread_on_slot d.slots slot)) where
+module _ (script : Script) (config : Config) (family : Family) (d : ProcessData) (e : Entry) (slot : ℕ) (o : Transition) (holds : HoldsThread (thread_with (length d.slots) e.tid d.slots) (thread_on_slot d.slots slot)) where
   -- the transition of a choice that is offered fits the process
-  pub makes : AreOnSlots d.slots → AreOnPlaces d.shared.keys → ((t : Thread) → thread_on_slot d.slots slot ≡ Some t → Takes script config d t e.alt true o) → ((t : Thread) → thread_on_slot d.slots slot ≡ Some t → true ≡ true → AllFit (length t.frames) (length t.handlers) t.pass o.actions) → Makes e.tid o d
+  pub makes : AreOnSlots d.slots → AreOnPlaces d.shared.keys → ((t : Thread) → thread_on_slot d.slots slot ≡ Some t → Takes script config family d t e.alt true o) → ((t : Thread) → thread_on_slot d.slots slot ≡ Some t → true ≡ true → AllFit (length t.frames) (length t.handlers) t.pass o.actions) → Makes e.tid o d
   makes placed on takes fits =
       let t = thread_of (thread_on_slot d.slots slot) holds.some in
-      let is : o ≡ transition_in script (length d.slots) config.passes (with_data d) t.0 e.alt = (takes t.0 t.1).taken refl in
+      let is : o ≡ transition_in script (length d.slots) config.passes family (with_data d) t.0 e.alt = (takes t.0 t.1).taken refl in
       subst (λ (x : Transition). Makes e.tid x d) (sym is)
-      (taken_fits script config.passes e.tid d t.0 e.alt (holds.same ∙ t.1) placed on (subst (λ (x : Transition). AllFit (length t.0.frames) (length t.0.handlers) t.0.pass x.actions) is (fits t.0 t.1 refl)) (takes t.0 t.1).offered_is)
+      (taken_fits script config.passes e.tid family d t.0 e.alt (holds.same ∙ t.1) placed on (subst (λ (x : Transition). AllFit (length t.0.frames) (length t.0.handlers) t.0.pass x.actions) is (fits t.0 t.1 refl)) (takes t.0 t.1).offered_is)

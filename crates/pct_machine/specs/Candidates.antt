@@ -4,6 +4,7 @@ use Rattle.pct_model.specs.declared.script.Script.{Script}
 use Rattle.pct_model.specs.declared.schedule.Config.{Config}
 use Rattle.pct_model.specs.declared.schedule.Entry.{Entry}
 use Rattle.pct_model.specs.Chosen.{Candidate, entry_for}
+use Rattle.pct_model.specs.OtherProcesses.{Family}
 use Rattle.pct_engine_laws.specs.Seen.{SeenProcess, is_live_seen}
 use Rattle.pct_engine_laws.specs.SeenSteps.{ready_in, candidate_in}
 use Rattle.pct_machine.specs.declared.scheduler.Draw.{Draw}
@@ -12,12 +13,12 @@ use Rattle.pct_machine.specs.declared.scheduler.Pick.TheVariants.{Here, Before}
 use Rattle.pct_machine.specs.ProcessSteps.{taken_in}
 
 -- the threads of a process that are ready, as candidates
-abbrev pub candidates_of : Script → SeenProcess → List Candidate
-candidates_of script p = map (candidate_in script (length p.slots) p) (ready_in script (length p.slots) p)
+abbrev pub candidates_of : Script → Family → SeenProcess → List Candidate
+candidates_of script family p = map (candidate_in script (length p.slots) family p) (ready_in script (length p.slots) family p)
 
--- those of some processes
-abbrev pub candidates_among : Script → List SeenProcess → List Candidate
-candidates_among script ps = flat_map (candidates_of script) ps
+-- those of some processes, each of which sees other processes by its id
+abbrev pub candidates_among : Script → (ℕ → Family) → List SeenProcess → List Candidate
+candidates_among script seen_by ps = flat_map (λ p. candidates_of script (seen_by p.pid) p) ps
 
 -- the candidate at an index, by the entry of the worker, or one of a number of other candidates before them
 abbrev pub pick_at : ℕ → ℕ → Draw → List Candidate → Pick
@@ -32,6 +33,10 @@ abbrev pub IfHere : Pick → (Entry → Type 0) → Type 0
 IfHere (Here entry) holds = IfSome entry holds
 IfHere (Before index) holds = Unit {0}
 
--- the process takes the entry
-abbrev pub takes_entry : Script → Config → Entry → SeenProcess → Bool
-takes_entry script config e p = is_live_seen e.pid p && is_some (taken_in script config p e)
+-- the process, which sees these other processes, takes the entry
+abbrev pub takes_in : Script → Config → Family → Entry → SeenProcess → Bool
+takes_in script config family e p = is_live_seen e.pid p && is_some (taken_in script config family p e)
+
+-- the same of a process that sees other processes by its id
+abbrev pub takes_entry : Script → Config → (ℕ → Family) → Entry → SeenProcess → Bool
+takes_entry script config seen_by e p = takes_in script config (seen_by p.pid) e p

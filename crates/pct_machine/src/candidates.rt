@@ -1,37 +1,51 @@
 //! The candidates of the scheduler: the threads that are ready, of one process after the other.
 
-ghost use Rattle.std.specs.Prelude.{◌≡◌, ◌+◌, ◌*◌, ◌<◌, ◌^◌, ℕ, true, length, slice_get, Some, is_some};
+ghost use Rattle.std.specs.Prelude.{◌≡◌, ◌+◌, ◌*◌, ◌<◌, ◌^◌, true, false, length, map, Some, is_some, IfSome};
 ghost use Rattle.std.specs.List.{list_all, list_any};
-ghost use Rattle.pct_engine_laws.specs.Seen.{SeenProcess};
-ghost use Rattle.pct_engine_laws.specs.SeenSteps.{has_ready_in};
-ghost use Rattle.pct_machine.specs.ProcessSteps.{CanStep};
+ghost use Rattle.pct_model.specs.Chosen.{entry_for};
+ghost use Rattle.pct_model.specs.World.{Thread};
+ghost use Rattle.pct_engine_laws.specs.SeenSteps.{has_ready_in, ready_in, candidate_in};
+ghost use Rattle.pct_process.specs.ProcessViews.{thread_on_slot};
+ghost use Rattle.pct_machine.specs.Places.{families};
+ghost use Rattle.pct_machine.specs.ProcessSteps.{CanStep, EachCanStep};
 ghost use Rattle.pct_machine.specs.Candidates.{candidates_among, pick_after, IfHere, takes_entry};
 
 use crate::place::Place;
+use crate::processes::Processes;
 use crate::scheduler::{Draw, Pick};
+use pct_model::Entry;
+use pct_set::SlotSet;
 use pct_transitions::Program;
 
 /// Whether each process has ended.
-pub(crate) fn all_ended(places: &[Place]) -> bool
-    ensures { result ≡ list_all (λ p. is_some p.ended) places.now }
+pub(crate) fn all_ended(processes: &Processes) -> bool
+    ensures { result ≡ list_all (λ p. is_some p.ended) processes.now.processes }
 {
-    places.iter().all(|place| place.has_ended())
+    processes.as_slice().iter().all(|place| place.has_ended())
 }
 
 /// Whether a thread of one of the processes is ready.
-pub(crate) fn any_ready(program: &Program, places: &[Place]) -> bool
-    ensures { result ≡ list_any (λ p. has_ready_in program.now.script (length p.slots) p) places.now }
+pub(crate) fn any_ready(program: &Program, processes: &Processes) -> bool
+    requires { processes.now.made + 1 < 2 ^ 32 }
+    ensures { result ≡ list_any (λ p. has_ready_in program.now.script (length p.slots) (families processes.now p.pid) p) processes.now.processes }
 {
-    places.iter().any(|place| place.has_ready(program))
+    processes.as_slice().iter().any(|place| place.has_ready(processes.around(program, place.pid())))
 }
 
 /// What the number of a draw chooses among the threads of these processes that are ready, which follow this many of other processes.
 /// The threads that are ready are looked for once.
-pub(crate) fn pick(program: &Program, places: &[Place], before: u32, draw: Draw) -> Pick
-    requires can { (i : ℕ) (p : SeenProcess) → slice_get places.now i ≡ Some p → CanStep program.now.config.slots p }
+pub(crate) fn pick(
+    program: &Program,
+    processes: &Processes,
+    places: &[Place],
+    before: u32,
+    draw: Draw,
+) -> Pick
+    requires can { EachCanStep program.now.config.slots places.now }
+    requires made { processes.now.made + 1 < 2 ^ 32 }
     requires few { before + 64 * length places.now < 2 ^ 32 }
-    ensures value { result ≡ pick_after before draw (candidates_among program.now.script places.now) }
-    ensures taken { IfHere result (λ e. list_any (takes_entry program.now.script program.now.config e) places.now ≡ true) }
+    ensures value { result ≡ pick_after before draw (candidates_among program.now.script (families processes.now) places.now) }
+    ensures taken { IfHere result (λ e. list_any (takes_entry program.now.script program.now.config (families processes.now) e) places.now ≡ true) }
 {
     let Some((place, rest)) = places.split_first() else {
         if before == 0 {
@@ -39,8 +53,8 @@ pub(crate) fn pick(program: &Program, places: &[Place], before: u32, draw: Draw)
         }
         return Pick::Before(draw.thread % before);
     };
-    let ready = place.ready(program);
-    let index = match pick(program, rest, before + ready.len(), draw) {
+    let ready = ready(program, processes, place);
+    let index = match pick(program, processes, rest, before + ready.len(), draw) {
         Pick::Here(entry) => return Pick::Here(entry),
         Pick::Before(index) => index,
     };
@@ -48,7 +62,33 @@ pub(crate) fn pick(program: &Program, places: &[Place], before: u32, draw: Draw)
         return Pick::Before(index);
     }
     match ready.nth(index - before) {
-        Some(slot) => Pick::Here(place.entry_on(program, slot, draw)),
+        Some(slot) => Pick::Here(entry_on(program, processes, place, slot, draw)),
         None => Pick::Here(None),
     }
+}
+
+// The slots of the threads of a process that are ready.
+fn ready(program: &Program, processes: &Processes, place: &Place) -> SlotSet
+    requires { processes.now.made + 1 < 2 ^ 32 }
+    ensures { map (thread_on_slot place.now.slots) result ≡ map (λ t. Some t) (ready_in program.now.script (length place.now.slots) (families processes.now place.now.pid) place.now) }
+{
+    place.ready(processes.around(program, place.pid()))
+}
+
+// The entry that a worker's numbers choose for the thread on a slot of a process, which has not ended.
+fn entry_on(
+    program: &Program,
+    processes: &Processes,
+    place: &Place,
+    slot: u32,
+    draw: Draw,
+) -> Option<Entry>
+    requires can { CanStep program.now.config.slots place.now }
+    requires made { processes.now.made + 1 < 2 ^ 32 }
+    requires held { is_some (thread_on_slot place.now.slots slot) ≡ true }
+    requires live { is_some place.now.ended ≡ false }
+    ensures value { (t : Thread) → thread_on_slot place.now.slots slot ≡ Some t → result ≡ entry_for draw.worker draw.choice (candidate_in program.now.script (length place.now.slots) (families processes.now place.now.pid) place.now t) }
+    ensures taken { IfSome result (λ e. takes_entry program.now.script program.now.config (families processes.now) e place.now ≡ true) }
+{
+    place.entry_on(processes.around(program, place.pid()), slot, draw)
 }

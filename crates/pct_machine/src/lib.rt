@@ -2,12 +2,11 @@
 #![tactic(auto)]
 
 mod candidates;
-mod endings;
-mod limits;
+mod changes;
 mod machine;
 mod place;
+mod processes;
 mod scheduler;
 
-pub use limits::MAX_PROCESSES;
 pub use machine::Machine;
 pub use scheduler::Draw;

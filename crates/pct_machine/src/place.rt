@@ -1,12 +1,13 @@
 //! A process of a machine.
 
+use crate::changes::Change;
 use crate::scheduler::{Draw, ready_slots};
 use pct_actions::make;
 use pct_io::NoMemory;
-use pct_model::{Entry, Script, Transition};
+use pct_model::{Entry, Relative, Script, Transition};
 use pct_process::ProcessState;
 use pct_set::SlotSet;
-use pct_transitions::{Program, choice_by, takes};
+use pct_transitions::{Surroundings, choice_by, takes};
 use std::alloc::Global;
 use std::marker::Model;
 
@@ -39,15 +40,18 @@ impl Model for Place {
 }
 
 impl Place {
-    ghost use Rattle.std.specs.Prelude.{◌≡◌, ◌≤◌, true, false, [], ◌∷◌, length, map, Some, is_some, if◌then◌else◌, IfOk, IfSome};
+    ghost use Rattle.std.specs.Prelude.{◌≡◌, ◌≤◌, true, false, ◌&&◌, nat_eq, [], ◌∷◌, length, map, Some, is_some, if◌then◌else◌, IfOk, IfSome};
     ghost use Rattle.pct_model.specs.Chosen.{entry_for};
     ghost use Rattle.pct_model.specs.declared.limits.TheConstants.{MAX_SLOTS};
     ghost use Rattle.pct_model.specs.World.{Thread, first_process};
-    ghost use Rattle.pct_engine_laws.specs.Seen.{is_live_seen, seen_process};
+    ghost use Rattle.pct_engine_laws.specs.Seen.{is_live_seen, seen_process, relative_in, process_seen, child_seen};
     ghost use Rattle.pct_engine_laws.specs.SeenSteps.{ready_in, has_ready_in, candidate_in};
+    ghost use Rattle.pct_process.specs.FamilyViews.{other_processes};
     ghost use Rattle.pct_process.specs.ProcessViews.{thread_on_slot};
-    ghost use Rattle.pct_machine.specs.Candidates.{takes_entry};
-    ghost use Rattle.pct_machine.specs.ProcessSteps.{CanStep, taken_in, process_moved, process_after_end, some_if};
+    ghost use Rattle.pct_machine.specs.declared.changes.Change.TheVariants as change;
+    ghost use Rattle.pct_machine.specs.Candidates.{takes_in};
+    ghost use Rattle.pct_machine.specs.ListChanges.{process_changed};
+    ghost use Rattle.pct_machine.specs.ProcessSteps.{CanStep, HasThread, taken_in, some_if};
 
     /// The first process before the first step, with 1 to 64 thread slots. `NoMemory` is returned if its tables do not fit into memory.
     pub fn first(alloc: Global, script: &Script, slots: u32) -> Result<Place, NoMemory>
@@ -66,6 +70,37 @@ impl Place {
         })
     }
 
+    /// A place that is free, with the memory for a child process. `NoMemory` is returned if there is none.
+    pub fn reserve(alloc: Global) -> Result<Place, NoMemory> {
+        Ok(Place {
+            entry: ProcessEntry {
+                pid: 0,
+                parent: 0,
+                restricted: false,
+                ended: None,
+            },
+            state: ProcessState::reserve(alloc)?,
+        })
+    }
+
+    /// The id of the process.
+    pub fn pid(&self) -> u32
+        ensures { result ≡ self.now.pid }
+    {
+        self.entry.pid
+    }
+
+    /// The ids and the end of the process.
+    pub fn relative(&self) -> Relative
+        ensures { result ≡ relative_in self.now }
+    {
+        Relative {
+            pid: self.entry.pid,
+            parent: self.entry.parent,
+            ended: self.entry.ended,
+        }
+    }
+
     /// Whether the process has this id and has not ended.
     pub fn is_live(&self, pid: u32) -> bool
         ensures { result ≡ is_live_seen pid self.now }
@@ -81,32 +116,32 @@ impl Place {
     }
 
     /// The slots of the threads that are ready. A process that has ended has none.
-    pub fn ready(&self, program: &Program) -> SlotSet
-        ensures { map (thread_on_slot self.now.slots) result ≡ map (λ t. Some t) (ready_in program.now.script (length self.now.slots) self.now) }
+    pub fn ready(&self, around: Surroundings) -> SlotSet
+        ensures { map (thread_on_slot self.now.slots) result ≡ map (λ t. Some t) (ready_in around.entry.program.now.script (length self.now.slots) (other_processes around.entry.family) self.now) }
     {
         if self.has_ended() {
             return SlotSet::new();
         }
-        ready_slots(program, &self.state)
+        ready_slots(around, &self.state)
     }
 
     /// Whether a thread is ready.
-    pub fn has_ready(&self, program: &Program) -> bool
-        ensures { result ≡ has_ready_in program.now.script (length self.now.slots) self.now }
+    pub fn has_ready(&self, around: Surroundings) -> bool
+        ensures { result ≡ has_ready_in around.entry.program.now.script (length self.now.slots) (other_processes around.entry.family) self.now }
     {
-        self.ready(program).len() > 0
+        self.ready(around).len() > 0
     }
 
     /// The entry that a worker's numbers choose for the thread on a slot of the process, which has not ended. `None` if the thread has
     /// no choice.
-    pub fn entry_on(&self, program: &Program, slot: u32, draw: Draw) -> Option<Entry>
-        requires can { CanStep program.now.config.slots self.now }
+    pub fn entry_on(&self, around: Surroundings, slot: u32, draw: Draw) -> Option<Entry>
+        requires can { CanStep around.program.now.config.slots self.now }
         requires held { is_some (thread_on_slot self.now.slots slot) ≡ true }
         requires live { is_some self.now.ended ≡ false }
-        ensures value { (t : Thread) → thread_on_slot self.now.slots slot ≡ Some t → result ≡ entry_for draw.worker draw.choice (candidate_in program.now.script (length self.now.slots) self.now t) }
-        ensures taken { IfSome result (λ e. takes_entry program.now.script program.now.config e self.now ≡ true) }
+        ensures value { (t : Thread) → thread_on_slot self.now.slots slot ≡ Some t → result ≡ entry_for draw.worker draw.choice (candidate_in around.entry.program.now.script (length self.now.slots) (other_processes around.entry.family) self.now t) }
+        ensures taken { IfSome result (λ e. takes_in around.entry.program.now.script around.entry.program.now.config (other_processes around.entry.family) e self.now ≡ true) }
     {
-        let alt = choice_by(program, &self.state, slot, draw.choice)?;
+        let alt = choice_by(around, &self.state, slot, draw.choice)?;
         Some(Entry {
             worker: draw.worker,
             pid: self.entry.pid,
@@ -117,28 +152,56 @@ impl Place {
 
     /// Makes the step of an entry of a thread of the process, and writes the transition that it takes to `transition`. The result is
     /// false exactly if no thread with the id of the entry holds its slot or the choice is not offered, and then the process is as it
-    /// was. The end of the process and the stop of the run are left to the caller.
-    pub fn step(&mut self, program: &Program, entry: &Entry, transition: &mut Transition) -> bool
-        requires { CanStep program.now.config.slots self.old }
-        ensures taken { taken_in program.now.script program.now.config self.old entry.now ≡ some_if result transition.new }
-        ensures made { self.new ≡ (if result then process_moved program.now.config.slots entry.now.tid transition.new self.old else self.old) }
+    /// was. What the transition changes beside the data of the process is left to the caller.
+    pub fn step(&mut self, around: Surroundings, entry: &Entry, transition: &mut Transition) -> bool
+        requires { CanStep around.program.now.config.slots self.old }
+        ensures taken { taken_in around.entry.program.now.script around.entry.program.now.config (other_processes around.entry.family) self.old entry.now ≡ some_if result transition.new }
+        ensures made { self.new ≡ (if result then process_seen around.entry.program.now.config.slots entry.now.tid transition.new self.old else self.old) }
     {
         let Some(slot) = self.state.slot_with(entry.tid) else {
             return false;
         };
-        if !takes(program, &self.state, slot, entry.alt, transition) {
+        if !takes(around, &self.state, slot, entry.alt, transition) {
             return false;
         }
         make(&mut self.state, entry.tid, transition);
         true
     }
 
-    /// Makes the changes of the end of the process with this id, with a status, to this process, which may be that process or another
-    /// one. The result is false exactly if this process is reaped by it.
+    /// Makes this process the child with an id that a fork by the thread with an id of a process makes.
+    pub fn inherit(&mut self, parent: &Place, tid: u32, pid: u32)
+        requires { HasThread tid parent.now.slots }
+        ensures { self.new ≡ child_seen tid pid parent.now }
+    {
+        let Some(slot) = parent.state.slot_with(tid) else {
+            return;
+        };
+        self.entry = ProcessEntry {
+            pid,
+            parent: parent.entry.pid,
+            restricted: !parent.state.is_last(tid),
+            ended: None,
+        };
+        self.state.inherit(&parent.state, slot);
+    }
+
+    /// Makes a change of the list of processes by a thread of the process with this id in this process, which may be that process or
+    /// another one. The result is false exactly if this process is reaped by it.
     #[tactic(auto, unfolding(pct_engine_laws::specs::Seen::own_kept, pct_engine_laws::specs::Seen::other_kept))]
-    pub fn end(&mut self, pid: u32, status: u32) -> bool
-        ensures kept { process_after_end pid status self.old ≡ (if result then self.new ∷ [] else []) }
-        ensures slots { length self.new.slots ≡ length self.old.slots }
+    pub fn change(&mut self, pid: u32, change: Change) -> bool
+        ensures { process_changed pid change self.old ≡ (if result then self.new ∷ [] else []) }
+    {
+        match change {
+            Change::End(status) => self.end(pid, status),
+            Change::Reap(child) => !self.is_ended(child),
+            Change::Make(_) => true,
+        }
+    }
+
+    // Makes the changes of the end of the process with this id, with a status.
+    #[tactic(auto, unfolding(pct_engine_laws::specs::Seen::own_kept, pct_engine_laws::specs::Seen::other_kept))]
+    fn end(&mut self, pid: u32, status: u32) -> bool
+        ensures { process_changed pid (change.End status) self.old ≡ (if result then self.new ∷ [] else []) }
     {
         if self.is_live(pid) {
             self.entry.ended = Some(status);
@@ -149,5 +212,12 @@ impl Place {
         }
         self.entry.parent = 0;
         self.entry.ended.is_none()
+    }
+
+    // Whether the process has this id and has ended.
+    fn is_ended(&self, pid: u32) -> bool
+        ensures { result ≡ (nat_eq self.now.pid pid && is_some self.now.ended) }
+    {
+        self.entry.pid == pid && self.entry.ended.is_some()
     }
 }

@@ -23,10 +23,10 @@ module _ (script : Script) (config : Config) (w : World) (e : Entry) where
   legal_if : (may : Bool) (o : Option Transition) (s : Successor) → (is_none w.stop && nat_le e.worker MAX_WORKER) ≡ may → transition_of script config w e ≡ o → cond may (option_map (successor_of w e) o) None ≡ Some s → IsLegalStep script config w e s
   legal_if true (Some o) s may taken is =
       let tests = and_parts (is_none w.stop) (nat_le e.worker MAX_WORKER) may in
-      option_and_then_some (λ p. option_and_then (if_offered script config p e) (with_id e.tid p.threads)) (find (is_live_process e.pid) w.processes) o taken
-      (λ p live found. option_and_then_some (if_offered script config p e) (with_id e.tid p.threads) o found
+      option_and_then_some (λ p. option_and_then (if_offered script config w p e) (with_id e.tid p.threads)) (find (is_live_process e.pid) w.processes) o taken
+      (λ p live found. option_and_then_some (if_offered script config w p e) (with_id e.tid p.threads) o found
       (λ t holds may_take.
-      let parts = cond_some (offers (choices_of script config p t) e.alt) (transition_by script config p t e.alt) o may_take in
+      let parts = cond_some (offers (choices_of script config w p t) e.alt) (transition_by script config w p t e.alt) o may_take in
       (record { process = p; thread = t; running = not_stopped w.stop tests.0; worker = leb-true e.worker MAX_WORKER tests.1; live = live; holds = holds; offered = parts.0 }, ap (successor_of w e) parts.1 ∙ same_Some (successor_of w e o) s is)))
   legal_if true None s may taken is = absurd (none-some s is)
   legal_if false o s may taken is = absurd (none-some s is)
@@ -43,9 +43,9 @@ module _ (script : Script) (config : Config) (w : World) (e : Entry) where
       let p = legal.process in
       ap (λ (may : Bool). cond may (option_map (successor_of w e) (transition_of script config w e)) None) (and_from (is_none w.stop) (nat_le e.worker MAX_WORKER) (ap is_none legal.running) (le-leb e.worker MAX_WORKER legal.worker))
       ∙ ap (option_map (successor_of w e))
-      (ap (option_and_then (λ p. option_and_then (if_offered script config p e) (with_id e.tid p.threads))) legal.live
-      ∙ ap (option_and_then (if_offered script config p e)) legal.holds
-      ∙ ap (λ (b : Bool). cond b (Some (transition_by script config p legal.thread e.alt)) None) legal.offered)
+      (ap (option_and_then (λ p. option_and_then (if_offered script config w p e) (with_id e.tid p.threads))) legal.live
+      ∙ ap (option_and_then (if_offered script config w p e)) legal.holds
+      ∙ ap (λ (b : Bool). cond b (Some (transition_by script config w p legal.thread e.alt)) None) legal.offered)
 
   legal_at : (o : Option Successor) → step script config w e ≡ o → is_some o ≡ true → Legal script config w e
   legal_at (Some s) is some = (step_legal s is).0

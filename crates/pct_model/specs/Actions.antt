@@ -1,11 +1,13 @@
 -- What a transition changes: the thread that makes it, a thread that it names, the state that the threads of its process share,
--- the process, the other processes, and the run. The thread that makes it and its process are looked up once, before the first
--- action.
-use Rattle.std.specs.Prelude.{ℕ, suc, Bool, true, not, ◌&&◌, if◌then◌else◌, List, [], ◌∷◌, ◌++◌, map, Option, Some, None, is_some, nat_eq, slice_set}
+-- the process, the other processes, and the run; and the process that it makes. The thread that makes it and its process are looked up
+-- once, before the first action.
+use Rattle.std.specs.Prelude.{ℕ, suc, Bool, true, false, not, ◌&&◌, if◌then◌else◌, List, [], ◌∷◌, ◌++◌, map, flat_map, Option, Some, None, is_some, nat_eq, slice_set}
 use Rattle.pct_model.specs.declared.frame.Frame.{Frame}
 use Rattle.pct_model.specs.declared.state.FrameKind.TheVariants.{Start}
+use Rattle.pct_model.specs.declared.state.Phase.TheVariants.{Child}
+use Rattle.pct_model.specs.declared.state.Reason.TheVariants as reason
 use Rattle.pct_model.specs.declared.state.Cause.TheVariants as cause
-use Rattle.pct_model.specs.declared.state.Status.TheVariants.{Running, AtPoint, Joining, InSem, Waiting, Reacquire, Ending, Exiting, Ended}
+use Rattle.pct_model.specs.declared.state.Status.TheVariants.{Running, AtPoint, Joining, InSem, InWaitPid, Waiting, Reacquire, Ending, Forking, Exiting, Ended}
 use Rattle.pct_model.specs.declared.statement.Dest.{Dest}
 use Rattle.pct_model.specs.declared.statement.Dest.TheVariants as destination
 use Rattle.pct_model.specs.declared.stop.Why.{Why}
@@ -15,7 +17,8 @@ use Rattle.pct_model.specs.declared.transition.NewThread.{NewThread}
 use Rattle.pct_model.specs.declared.transition.Transition.{Transition}
 use Rattle.pct_model.specs.Cancelability.{ending_state, ending_mode}
 use Rattle.pct_model.specs.CondCalls.{is_waiting_on, unblocked}
-use Rattle.pct_model.specs.Keys.{key_place, with_key, without_key, with_value, without_value, with_pass}
+use Rattle.pct_model.specs.Keys.{key_place, with_key, without_key, with_value, without_value, with_pass, without_pass}
+use Rattle.pct_model.specs.OtherThreads.{is_last}
 use Rattle.pct_model.specs.World.{Thread, SharedState, ProcessEnd, Process, World, new_frame, new_thread}
 use Rattle.pct_model.specs.ThreadSlots.{is_live_thread}
 
@@ -61,6 +64,8 @@ thread_after (action.BeginJoin id) t = record t { status = Joining id }
 thread_after (action.BeginWait c m) t = record t { status = Waiting c m }
 thread_after (action.LeaveWait c m) t = record t { status = Reacquire c m cause.Canceled }
 thread_after (action.BeginSem s) t = record t { status = InSem s }
+thread_after (action.BeginWaitPid pid) t = record t { status = InWaitPid pid }
+thread_after (action.EnterFork phase pid) t = record t { status = Forking phase 0 0 pid }
 thread_after (action.SetSpecific k v) t = record t { specific = with_value (key_place k) v t.specific }
 thread_after action.BeginPass t = record t { pass = suc t.pass; specific = with_pass t.specific }
 thread_after (action.TakeKey k) t = record t { specific = without_value (key_place k) t.specific }
@@ -127,10 +132,39 @@ abbrev pub orphaned : Option ProcessEnd → Process → Process
 orphaned None p = record p { parent = 0 }
 orphaned (Some end) p = record p { ended = Some (record end { reaped = true }) }
 
+-- the end of a process after its parent waited for it, if it has ended
+abbrev pub as_reaped : Option ProcessEnd → Option ProcessEnd
+as_reaped None = None
+as_reaped (Some end) = Some (record end { reaped = true })
+
 -- another process after an action of a thread of process pid
 unfoldable pub other_process_after : ℕ → Action → Process → Process
+other_process_after pid (action.Reap child) p = if nat_eq p.pid child then record p { ended = as_reaped p.ended } else p
 other_process_after pid (action.EndProcess n) p = if nat_eq p.parent pid then orphaned p.ended p else p
 other_process_after pid _ p = p
+
+-- ---- the process that fork makes
+
+-- the thread of the child: the replica of the thread that called fork (XSH fork). That it has that thread's id, cancelability, cleanup
+-- handlers and thread-specific data, that it is detached if that thread is, and that no request for it is pending, are choices of this
+-- host. It has neither ended nor begun to end, and nothing waits for it
+abbrev pub replica_of : Thread → Thread
+replica_of t = record { id = t.id; detached = t.detached; joined = false; status = Forking Child 0 0 0; ended = false; frames = t.frames; state = t.state; mode = t.mode; pending = false; handlers = t.handlers; reason = reason.None; pass = 0; specific = without_pass t.specific; kept = None; gone = false }
+
+-- a thread of the process, as the child has it: the thread with this id called fork, and the child inherits no other one
+unfoldable pub inherited : ℕ → Thread → Thread
+inherited tid t = if is_live_thread tid t then replica_of t else record t { gone = true }
+
+-- the child, with an id. It inherits what the threads of the process share: the globals, which stand for its memory, the mutexes with
+-- their owners, the semaphores, the keys, and the functions that are registered (XSH fork, atexit). Exit has not begun in it. If the
+-- process has another thread that has not ended, the child may call async-signal-safe functions only (XSH fork)
+unfoldable pub child_of : ℕ → ℕ → Process → Process
+child_of tid pid p = record { pid = pid; parent = p.pid; restricted = not (is_last tid p.threads); ended = None; threads = map (inherited tid) p.threads; shared = record p.shared { exit_value = None } }
+
+-- the process that an action makes, if it makes one: a child of a process whose thread tid forks
+unfoldable pub child_by : ℕ → Process → Action → List Process
+child_by tid p (action.MakeChild pid) = child_of tid pid p ∷ []
+child_by tid p _ = []
 
 -- ---- the run
 
@@ -166,6 +200,14 @@ changed tid o p = for_each process_after o.actions (record p { threads = threads
 abbrev pub is_live_process : ℕ → Process → Bool
 is_live_process pid p = nat_eq p.pid pid && not (has_ended p)
 
+-- a process after a transition of thread tid of process pid
+abbrev pub process_moved : ℕ → ℕ → Transition → Process → Process
+process_moved pid tid o p = if is_live_process pid p then changed tid o p else for_each (other_process_after pid) o.actions p
+
+-- the process that the transition makes, if it makes one: a child of the process of the thread, as that is after the transition
+abbrev pub process_made : ℕ → ℕ → Transition → Process → List Process
+process_made pid tid o p = if is_live_process pid p then flat_map (child_by tid (changed tid o p)) o.actions else []
+
 -- the state after a transition of thread tid of process pid
 unfoldable pub after_transition : ℕ → ℕ → Transition → World → World
-after_transition pid tid o w = record { processes = map (λ p. if is_live_process pid p then changed tid o p else for_each (other_process_after pid) o.actions p) w.processes; stop = for_each stop_after o.actions w.stop }
+after_transition pid tid o w = record { processes = map (process_moved pid tid o) w.processes ++ flat_map (process_made pid tid o) w.processes; stop = for_each stop_after o.actions w.stop }

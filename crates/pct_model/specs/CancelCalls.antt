@@ -26,6 +26,7 @@ use Rattle.pct_model.specs.Points.{point_at}
 use Rattle.pct_model.specs.ThreadCalls.{join_point}
 use Rattle.pct_model.specs.CondCalls.{cond_wait_point, leaves_wait, hands_on}
 use Rattle.pct_model.specs.SemCalls.{sem_wait_point}
+use Rattle.pct_model.specs.ForkCalls.{waitpid_point}
 use Rattle.pct_model.specs.Transitions.{goes_on, acts, no_change}
 
 -- ---- pthread_cancel
@@ -83,6 +84,7 @@ unfoldable pub called_kind : Stmt → Option PointKind
 called_kind (statement.Join id d) = point_kind join_point
 called_kind (statement.CondWait c m) = point_kind cond_wait_point
 called_kind (statement.SemWait s) = point_kind sem_wait_point
+called_kind (statement.WaitPid result pid value) = point_kind waitpid_point
 called_kind statement.TestCancel = point_kind testcancel_point
 called_kind (statement.PointCall index) = point_kind index
 called_kind s = None
@@ -120,13 +122,15 @@ passes_point index next = no_change
 -- ---- acting upon a request
 
 -- a thread acts upon a request, by its status: it begins to end (XSH 2.9.5.3). One that is suspended in pthread_join leaves its
--- target joinable (XSH pthread_join), and one in sem_wait leaves the count as it is. One that is suspended in pthread_cond_wait has to own
--- its mutex first, and a signal that unblocked it is handed on to thread u. That the request stays pending is a choice of this host.
+-- target joinable (XSH pthread_join), one in sem_wait leaves the count as it is, and one in waitpid reaps no child. One that is
+-- suspended in pthread_cond_wait has to own its mutex first, and a signal that unblocked it is handed on to thread u. That the request
+-- stays pending is a choice of this host.
 unfoldable pub acts_on_request : ℕ → Status → Transition
 acts_on_request u status.Running = acts (action.BeginEnd Canceled ∷ []) (what.EndingCanceled ∷ [])
 acts_on_request u (status.AtPoint index) = acts (action.BeginEnd Canceled ∷ []) (what.EndingCanceled ∷ [])
 acts_on_request u (status.Joining id) = acts (action.BeginEnd Canceled ∷ []) (what.EndingCanceled ∷ [])
 acts_on_request u (status.InSem s) = acts (action.BeginEnd Canceled ∷ []) (what.EndingCanceled ∷ [])
+acts_on_request u (status.InWaitPid pid) = acts (action.BeginEnd Canceled ∷ []) (what.EndingCanceled ∷ [])
 acts_on_request u (status.Waiting c m) = leaves_wait c m
 acts_on_request u (status.Reacquire c m cause.Signalled) = hands_on u c m
 acts_on_request u (status.Reacquire c m cause.Broadcast) = leaves_wait c m

@@ -2,7 +2,7 @@
 -- that they name. A thread that holds its slot is ready if it has a choice. Legality (Step.antt), deadlock (Run.antt) and the
 -- scheduler's choice (Chosen.antt) derive from this table. The choices are:
 -- `go`: the thread goes on: it executes its statement or stops at it, fails for lack of room, returns from the call in which it is
--- suspended, or makes the next stage of its end
+-- suspended, or makes the next stage of a fork, of its end or of an exit
 -- `act 0`: it acts upon a request (XSH 2.9.5)
 -- `act n`: it does so in pthread_cond_wait, after a signal unblocked it; the signal is handed on to the thread with this id
 -- `new n`: the thread or the key that it creates gets this number
@@ -23,8 +23,9 @@ use Rattle.pct_model.specs.declared.state.Status.TheVariants as status
 use Rattle.pct_model.specs.Cancelability.{is_deliverable, is_asynchronous}
 use Rattle.pct_model.specs.CancelCalls.{called_kind, is_required, is_optional, may_return}
 use Rattle.pct_model.specs.Keys.{new_keys, left_keys}
-use Rattle.pct_model.specs.World.{Thread, SharedState, Process}
+use Rattle.pct_model.specs.World.{Thread, SharedState, Process, World}
 use Rattle.pct_model.specs.NextStatement.{NextStatement, NoStatement, StatementIn, next_of}
+use Rattle.pct_model.specs.OtherProcesses.{is_running_child}
 use Rattle.pct_model.specs.MutexCalls.{is_free_mutex, is_blocked}
 use Rattle.pct_model.specs.OtherThreads.{Waiter, Others, is_ended_thread, others_of}
 use Rattle.pct_model.specs.StopTable.{is_built}
@@ -149,6 +150,8 @@ module _ (shared : SharedState) (t : Thread) (others : Others) where
   choices_at next (status.Joining id) = go_if (is_ended_thread id others) ++ act_if (is_deliverable t.state t.pending)
   -- XSH sem_wait: the thread is suspended until the count is above 0
   choices_at next (status.InSem s) = go_if (nat_lt 0 (slice_index shared.counts s)) ++ act_if (is_deliverable t.state t.pending)
+  -- XSH waitpid: the thread is suspended until the child has ended; also if another thread has reaped it meanwhile, it goes on
+  choices_at next (status.InWaitPid pid) = go_if (not (is_running_child pid others.family)) ++ act_if (is_deliverable t.state t.pending)
   -- XSH pthread_cond_wait: the thread is blocked until a signal or a broadcast unblocks it. It is not unblocked otherwise, which the
   -- standard allows (spurious wakeups): a choice of this host
   choices_at next (status.Waiting c m) = act_if (is_deliverable t.state t.pending)
@@ -157,15 +160,15 @@ module _ (shared : SharedState) (t : Thread) (others : Others) where
   choices_at next (status.Reacquire c m why) =
       go_if (is_free_mutex m shared) ++ (if is_deliverable t.state t.pending then unblocked_acts why (others.waiters c) else [])
   choices_at next status.Ending = ending_choices t.handlers
+  -- fork is no cancellation point (XSH 2.9.5.2)
+  choices_at next (status.Forking phase index length pid) = alt.Go ∷ []
   -- cancelability is disabled, a choice of this host
   choices_at next status.Exiting = alt.Go ∷ []
   choices_at next (status.Ended v) = []
-  -- InWaitPid, Forking: not reached yet
-  choices_at next _ = []
 
--- the choices of a thread of a process
-abbrev pub choices_of : Script → Config → Process → Thread → List Alt
-choices_of script config p t = choices_at p.shared t (others_of config.slots p.threads t.id) (next_of script t.frames) t.status
+-- the choices of a thread of a process, in a state
+abbrev pub choices_of : Script → Config → World → Process → Thread → List Alt
+choices_of script config w p t = choices_at p.shared t (others_of config.slots w p t.id) (next_of script t.frames) t.status
 
 -- ---- equality of choices, and membership
 

@@ -15,8 +15,8 @@ abbrev pub item_at : {T : Type 0} → List T → ℕ → Option T
 item_at items n = slice_get items (n % length items)
 
 -- the threads of a process that are ready, by rising slot; a process that has ended has none
-abbrev pub ready_of : Script → Config → Process → List Thread
-ready_of script config p = if has_ended p then [] else filter (λ t. is_enabled (choices_of script config p t)) (by_slot config.slots p.threads)
+abbrev pub ready_of : Script → Config → World → Process → List Thread
+ready_of script config w p = if has_ended p then [] else filter (λ t. is_enabled (choices_of script config w p t)) (by_slot config.slots p.threads)
 
 -- a thread of a process, and its choices
 pub record Candidate : Type 0 where
@@ -25,12 +25,12 @@ pub record Candidate : Type 0 where
   pub choices : List Alt
 
 -- a thread of a process as a candidate
-abbrev pub candidate : Script → Config → Process → Thread → Candidate
-candidate script config p t = record { pid = p.pid; tid = t.id; choices = choices_of script config p t }
+abbrev pub candidate : Script → Config → World → Process → Thread → Candidate
+candidate script config w p t = record { pid = p.pid; tid = t.id; choices = choices_of script config w p t }
 
 -- the threads that are ready, by rising process id and then by rising slot
 unfoldable pub candidates : Script → Config → World → List Candidate
-candidates script config w = flat_map (λ p. map (candidate script config p) (ready_of script config p)) w.processes
+candidates script config w = flat_map (λ p. map (candidate script config w p) (ready_of script config w p)) w.processes
 
 -- the entry of a worker for a candidate, by the second number
 abbrev pub entry_for : ℕ → ℕ → Candidate → Option Entry

@@ -19,6 +19,7 @@ use Rattle.pct_model.specs.declared.state.Status.TheVariants as status
 use Rattle.pct_model.specs.declared.statement.Stmt.TheVariants as statement
 use Rattle.pct_model.specs.CancelCalls.{point_kind, is_required}
 use Rattle.pct_model.specs.CondCalls.{cond_wait_point}
+use Rattle.pct_model.specs.ForkCalls.{is_fork}
 use Rattle.pct_model.specs.Keys.{Key, KeyPlace, key_at, value_at}
 use Rattle.pct_model.specs.KnownThreads.{is_known, is_detached, is_joined, newest_event}
 use Rattle.pct_model.specs.LineParsing.{is_empty}
@@ -119,17 +120,34 @@ abbrev pub is_sem_wait_of : ℕ → NextStatement → Bool
 is_sem_wait_of s (StatementIn frame (statement.SemWait sem)) = nat_eq sem s
 is_sem_wait_of s _ = false
 
+-- the next statement is fork
+abbrev pub is_at_fork : NextStatement → Bool
+is_at_fork (StatementIn frame s) = is_fork s
+is_at_fork _ = false
+
+-- the next statement is waitpid
+abbrev pub is_at_waitpid : NextStatement → Bool
+is_at_waitpid (StatementIn frame (statement.WaitPid result pid value)) = true
+is_at_waitpid _ = false
+
 -- the next statement is pthread_cond_wait of the condition variable and the mutex with these indexes
 abbrev pub is_cond_wait_of : ℕ → ℕ → NextStatement → Bool
 is_cond_wait_of c m (StatementIn frame (statement.CondWait cond mutex)) = nat_eq cond c && nat_eq mutex m
 is_cond_wait_of c m _ = false
 
--- a thread with this status is suspended at its next statement, if it is suspended in sem_wait or in pthread_cond_wait
+-- a thread with this status is in the call of its next statement, if it is in sem_wait, waitpid, pthread_cond_wait or fork
 abbrev pub IsSuspendedAt : NextStatement → Status → Type 0
 IsSuspendedAt next (status.InSem s) = is_sem_wait_of s next ≡ true
+IsSuspendedAt next (status.InWaitPid pid) = is_at_waitpid next ≡ true
+IsSuspendedAt next (status.Forking phase index length pid) = is_at_fork next ≡ true
 IsSuspendedAt next (status.Waiting c m) = is_cond_wait_of c m next ≡ true
 IsSuspendedAt next (status.Reacquire c m why) = is_cond_wait_of c m next ≡ true
 IsSuspendedAt next _ = Unit {0}
+
+-- a thread with this status is in fork
+abbrev pub is_forking : Status → Bool
+is_forking (status.Forking phase index length pid) = true
+is_forking _ = false
 
 -- a thread with this status acted upon a request in a condition wait, and does not own its mutex yet
 abbrev pub has_left_wait : Status → Bool
@@ -209,10 +227,14 @@ pub record ThreadKept (script : Script) (keys : List KeyPlace) (t : Thread) (s :
   pub joining : (id : ℕ) → t.status ≡ status.Joining id → is_join (next_of script t.frames) ≡ true
   -- the next statement of a thread that is suspended at a generic cancellation point is a call of this point, which is a required one
   pub at_point : (index : ℕ) → t.status ≡ status.AtPoint index → is_call_of index (next_of script t.frames) ≡ true
-  -- the next statement of a thread that is suspended in sem_wait or in pthread_cond_wait is this call
+  -- the next statement of a thread that is in sem_wait, waitpid, pthread_cond_wait or fork is this call
   pub suspended : IsSuspendedAt (next_of script t.frames) t.status
   -- a thread that acted upon a request in a condition wait has not begun to end before it owns its mutex
   pub leaving : has_left_wait t.status ≡ true → has_begun_to_end t.reason ≡ false
+  -- a thread that is in fork has not begun to end
+  pub forking : is_forking t.status ≡ true → has_begun_to_end t.reason ≡ false
+  -- before its ending event, no handler is left of those that were open then
+  pub none_left : has_begun_to_end t.reason ≡ false → s.left ≡ []
   -- the number of its passes over destructors
   pub passes : s.passes ≡ t.pass
   -- the destructor of a key whose place is in the current pass was not called in it (XSH pthread_key_create)

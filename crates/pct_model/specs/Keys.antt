@@ -107,6 +107,10 @@ due_places places own = filter (is_due places own) (range_with_len 0 MAX_KEYS)
 abbrev pub with_pass : KeyValues → KeyValues
 with_pass own = record own { in_pass = map (λ value. not (nat_eq value 0)) own.values }
 
+-- the data outside passes
+abbrev pub without_pass : KeyValues → KeyValues
+without_pass own = record own { in_pass = replicate MAX_KEYS false }
+
 -- the key on a place is one of the pass, it is due, and its destructor was not called in the pass
 abbrev pub is_left : List KeyPlace → KeyValues → ℕ → Bool
 is_left places own place = option_map_or (λ in_pass. in_pass) (slice_get own.in_pass place) false && is_due places own place

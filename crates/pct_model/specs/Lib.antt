@@ -21,6 +21,7 @@ pub mod Keys
 pub mod World
 pub mod ThreadSlots
 pub mod NextStatement
+pub mod OtherProcesses
 pub mod OtherThreads
 pub mod Transitions
 pub mod ScriptStatements
@@ -31,6 +32,7 @@ pub mod KeyCalls
 pub mod MutexCalls
 pub mod CondCalls
 pub mod SemCalls
+pub mod ForkCalls
 pub mod ThreadEnds
 pub mod ProcessExit
 pub mod StopTable

@@ -1,11 +1,12 @@
--- The threads of a process, as the next step of one of them depends on the others. The tables of stops, of choices and of transitions
--- ask in the words below, and read no slot. The thread itself is among them: its own id names it.
+-- The threads of a process and the other processes, as the next step of a thread depends on them. The tables of stops, of choices and of
+-- transitions ask in the words below, and read no slot. The thread itself is among the threads: its own id names it.
 use Rattle.std.specs.Prelude.{ℕ, Bool, false, not, ◌&&◌, ◌||◌, if◌then◌else◌, List, [], ◌∷◌, flat_map, Option, Some, None, is_none, is_some, nat_eq, option_and_then}
 use Rattle.std.specs.List.{list_all, list_any}
 use Rattle.std.specs.Option.{option_map_or}
 use Rattle.pct_model.specs.declared.state.Status.{Status}
 use Rattle.pct_model.specs.declared.state.Status.TheVariants as status
-use Rattle.pct_model.specs.World.{Thread}
+use Rattle.pct_model.specs.OtherProcesses.{Family, family_of}
+use Rattle.pct_model.specs.World.{Thread, Process, World}
 use Rattle.pct_model.specs.ThreadSlots.{holds_slot, free_ids, by_slot, with_id}
 
 -- ---- what a thread sees of the others
@@ -15,7 +16,7 @@ pub record Waiter : Type 0 where
   pub id : ℕ
   pub mutex : ℕ
 
--- the threads of a process, as one of them sees them, itself included
+-- the threads of a process, as one of them sees them, itself included; and the other processes
 pub record Others : Type 0 where
   -- the thread with an id, if the lifetime of the id is not over (XSH 2.9.2)
   pub named : ℕ → Option Thread
@@ -27,6 +28,8 @@ pub record Others : Type 0 where
   pub waiters : ℕ → List Waiter
   -- each other thread has ended
   pub is_last : Bool
+  -- the children of the process, and the id that a new process gets
+  pub family : Family
 
 -- no thread has the id, or the lifetime of the id is over (XSH 2.9.2)
 abbrev pub no_live_thread : ℕ → Others → Bool
@@ -78,6 +81,13 @@ waiters_among c threads = flat_map (λ t. waiter_by c t.id t.status) threads
 abbrev pub is_last : ℕ → List Thread → Bool
 is_last id threads = list_all (λ t. not (holds_slot t) || (t.ended || nat_eq t.id id)) threads
 
--- what the thread with an id sees of the others, in a process with a number of slots and these threads
-unfoldable pub others_of : ℕ → List Thread → ℕ → Others
-others_of slots threads tid = record { named = λ id. with_id id threads; another_joins = λ id. is_joined_by_one id threads; new_ids = free_ids slots threads; waiters = λ c. waiters_among c (by_slot slots threads); is_last = is_last tid threads }
+-- what the thread with an id of a process with a number of slots sees of the others
+unfoldable pub others_of : ℕ → World → Process → ℕ → Others
+others_of slots w p tid = record {
+  named = λ id. with_id id p.threads;
+  another_joins = λ id. is_joined_by_one id p.threads;
+  new_ids = free_ids slots p.threads;
+  waiters = λ c. waiters_among c (by_slot slots p.threads);
+  is_last = is_last tid p.threads;
+  family = family_of w p.pid;
+}

@@ -18,7 +18,7 @@ unfoldable pub exits : ℕ → Transition
 exits v = acts (action.BeginExit v ∷ []) (ExitBegun v ∷ [])
 
 -- `return` of a value, by the kind of the top frame: a return from `main` in the initial thread acts as exit, one from the
--- start routine of another thread as pthread_exit (XSH pthread_create). A frame of the kind ForkFn comes with fork; none is made
+-- start routine of another thread as pthread_exit (XSH pthread_create). A frame of the kind ForkFn comes with pthread_atfork; none is made
 -- yet.
 unfoldable pub returns_by : FrameKind → ℕ → Transition
 returns_by kind.Main v = exits v

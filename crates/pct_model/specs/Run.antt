@@ -60,19 +60,19 @@ run script config entries =
 -- ---- the verdict
 
 -- the thread holds its slot and is enabled
-abbrev pub is_ready : Script → Config → Process → Thread → Bool
-is_ready script config p t = holds_slot t && is_enabled (choices_of script config p t)
+abbrev pub is_ready : Script → Config → World → Process → Thread → Bool
+is_ready script config w p t = holds_slot t && is_enabled (choices_of script config w p t)
 
 -- the process has not ended, and one of its threads is ready
-abbrev pub has_ready : Script → Config → Process → Bool
-has_ready script config p = not (has_ended p) && list_any (is_ready script config p) p.threads
+abbrev pub has_ready : Script → Config → World → Process → Bool
+has_ready script config w p = not (has_ended p) && list_any (is_ready script config w p) p.threads
 
 -- the verdict, by the stop of the run
 abbrev pub verdict_by : Option Why → Script → Config → World → ℕ → Verdict
 verdict_by (Some why) script config w n = Undefined why
 verdict_by None script config w n =
     if list_all has_ended w.processes then Complete
-    else if not (list_any (has_ready script config) w.processes) then Deadlock
+    else if not (list_any (has_ready script config w) w.processes) then Deadlock
     else if nat_eq n config.budget then Budget
     else Open
 

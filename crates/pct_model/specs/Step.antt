@@ -27,7 +27,7 @@ pub record Legal (script : Script) (config : Config) (w : World) (e : Entry) : T
   -- the thread with this id holds its slot
   pub holds : with_id e.tid process.threads ≡ Some thread
   -- the choice is one of the choices of the thread
-  pub offered : offers (choices_of script config process thread) e.alt ≡ true
+  pub offered : offers (choices_of script config w process thread) e.alt ≡ true
 
 -- the state after a step, and the events of the step; each row of the tables has at most three
 pub record Successor : Type 0 where
@@ -40,19 +40,19 @@ successor_of w e o = record { world = after_transition e.pid e.tid o w; events =
 
 -- the step of a legal entry
 abbrev pub legal_step : (script : Script) (config : Config) (w : World) (e : Entry) → Legal script config w e → Successor
-legal_step script config w e legal = successor_of w e (transition_by script config legal.process legal.thread e.alt)
+legal_step script config w e legal = successor_of w e (transition_by script config w legal.process legal.thread e.alt)
 
 -- the entry is legal, and this is its step
 abbrev pub IsLegalStep : Script → Config → World → Entry → Successor → Type 0
 IsLegalStep script config w e s = (legal : Legal script config w e) × (legal_step script config w e legal ≡ s)
 
 -- the transition of a thread by an entry, if its choice is offered
-abbrev pub if_offered : Script → Config → Process → Entry → Thread → Option Transition
-if_offered script config p e t = if offers (choices_of script config p t) e.alt then Some (transition_by script config p t e.alt) else None
+abbrev pub if_offered : Script → Config → World → Process → Entry → Thread → Option Transition
+if_offered script config w p e t = if offers (choices_of script config w p t) e.alt then Some (transition_by script config w p t e.alt) else None
 
 -- the transition that an entry takes, if a thread that holds its slot, of a process that has not ended, has the choice
 abbrev pub transition_of : Script → Config → World → Entry → Option Transition
-transition_of script config w e = option_and_then (λ p. option_and_then (if_offered script config p e) (with_id e.tid p.threads)) (find (is_live_process e.pid) w.processes)
+transition_of script config w e = option_and_then (λ p. option_and_then (if_offered script config w p e) (with_id e.tid p.threads)) (find (is_live_process e.pid) w.processes)
 
 -- the step of an entry that is legal, else None: the tests are the facts of `Legal`, in their order
 unfoldable pub step : Script → Config → World → Entry → Option Successor

@@ -1,7 +1,7 @@
 -- The stops: uses that POSIX leaves undefined, further uses that this host reports as undefined by its choice, its limits, and what is
 -- not implemented; StopTexts.antt has the class of each. A stop ends the run. An unpaired push or pop, and a return between them (XSH
 -- pthread_cleanup_pop), are refused before the run (Nesting.antt, Checks.antt).
-use Rattle.std.specs.Prelude.{ℕ, Bool, true, false, not, ◌&&◌, List, [], ◌∷◌, length, Option, is_none, is_some, nat_eq, nat_lt, option_map, find}
+use Rattle.std.specs.Prelude.{ℕ, Bool, true, false, not, ◌&&◌, ◌||◌, List, [], ◌∷◌, length, Option, is_none, is_some, nat_eq, nat_lt, option_map, find}
 use Rattle.std.specs.List.{list_any}
 use Rattle.pct_model.specs.declared.statement.Operand.{Operand}
 use Rattle.pct_model.specs.declared.statement.Stmt.{Stmt}
@@ -18,6 +18,7 @@ use Rattle.pct_model.specs.Cancelability.{is_asynchronous}
 use Rattle.pct_model.specs.Jumps.{open_of}
 use Rattle.pct_model.specs.Keys.{key_with}
 use Rattle.pct_model.specs.World.{Thread, SharedState, value_of}
+use Rattle.pct_model.specs.ForkCalls.{is_fork}
 use Rattle.pct_model.specs.MutexCalls.{owns}
 use Rattle.pct_model.specs.OtherThreads.{Others, no_live_thread, is_detached_thread, waits_with_another_mutex}
 
@@ -113,11 +114,17 @@ is_built (statement.Signal c) = true
 is_built (statement.Broadcast c) = true
 is_built (statement.SemWait s) = true
 is_built (statement.SemPost s) = true
+is_built (statement.Fork result child) = true
+is_built (statement.WaitPid result pid value) = true
 is_built (statement.AtExit result f) = true
 is_built (statement.ProcExit v) = true
 is_built (statement.ProcExitNow v) = true
 is_built (statement.PointCall index) = true
 is_built _ = false
+
+-- the statement is not implemented, or it is fork while another thread of the process has not ended
+abbrev pub is_unbuilt : Others → Stmt → Bool
+is_unbuilt others s = not (is_built s) || (is_fork s && not others.is_last)
 
 -- ---- the table
 
@@ -128,7 +135,7 @@ module _ (body : List Stmt) (shared : SharedState) (t : Thread) (others : Others
 
   -- the own stops of each statement, in the order in which they are tested. `others` is the threads of the process as this thread sees
   -- them, itself included: its own id names it, so a self-detach and a self-cancel are no stops of their own. No row yet:
-  -- ForkChildCall, ForkInEnding
+  -- ForkChildCall
   unfoldable pub stops_of : Frame → Stmt → List StopTest
   -- XSH exit: a second call is undefined. XSH pthread_create: a return from `main` in the initial thread is an implicit call of exit;
   -- the `end` that closes `main` is `return 0`
@@ -174,18 +181,20 @@ module _ (body : List Stmt) (shared : SharedState) (t : Thread) (others : Others
   -- XSH pthread_cond_wait: undefined if the caller does not own the mutex, or if a thread is blocked on the condition variable with another
   -- mutex; one that was unblocked and has not returned yet counts no longer. The order of the tests is a choice of this host
   stops_of frame (statement.CondWait c m) = (not (owns t.id m shared), why.NotOwner) ∷ (waits_with_another_mutex c m others, why.CondTwoMutexes) ∷ []
+  -- a limit of this host
+  stops_of frame (statement.Fork result child) = (has_begun_to_end t.reason, why.ForkInEnding) ∷ []
   -- XSH exit: undefined if it is called more than once
   stops_of frame (statement.ProcExit v) = (is_some shared.exit_value, why.ExitTwice) ∷ []
   -- no other implemented statement has a stop of its own
   stops_of frame s = []
 
-  -- the stop of a running thread at a statement, if there is one: whether the statement is implemented is tested first. XSH 2.9.5.4
+  -- the stop of a running thread at a statement, if there is one: whether it is implemented is tested first. XSH 2.9.5.4
   -- has the functions that are async-cancel-safe; that a call of another one with asynchronous cancelability is a stop is a choice of
   -- this host
   unfoldable pub stop_at : Frame → Stmt → Option Why
   stop_at frame s =
       first_stop (
-      (not (is_built s), why.Unbuilt)
+      (is_unbuilt others s, why.Unbuilt)
       ∷ (is_asynchronous t.state t.mode && not (is_allowed_asynchronously s), why.AsyncCall)
       ∷ stops_of frame s
       )

@@ -48,7 +48,7 @@ with_event (what.DtorRun pass key f v) s = record s { destroyed = (pass, key) �
 with_event _ s = s
 
 -- the summary of thread tid of process pid: an event of its own changes it; a fork of which it is the replica gives it the open
--- handlers of the thread that called fork, and nothing else (XSH fork); no other event changes it
+-- handlers of the thread that called fork, and nothing else (as the machine does: Actions.antt); no other event changes it
 abbrev pub summary_of : ℕ → ℕ → List Event → ThreadSummary
 summary_of pid tid [] = no_events
 summary_of pid tid (e ∷ earlier) =

@@ -14,7 +14,7 @@ use Rattle.pct_model.specs.declared.state.Status.TheVariants as status
 use Rattle.pct_model.specs.declared.stop.Why.{Why}
 use Rattle.pct_model.specs.declared.transition.Transition.{Transition}
 use Rattle.pct_model.specs.Jumps.{open_of}
-use Rattle.pct_model.specs.World.{Thread, SharedState, Process, value_of}
+use Rattle.pct_model.specs.World.{Thread, SharedState, Process, World, value_of}
 use Rattle.pct_model.specs.NextStatement.{NextStatement, StatementIn, next_of, body_at}
 use Rattle.pct_model.specs.OtherThreads.{Others, exit_value_with, others_of}
 use Rattle.pct_model.specs.Transitions.{no_change, stops}
@@ -26,6 +26,7 @@ use Rattle.pct_model.specs.KeyCalls.{creates_key_by, deletes_key, sets_specific,
 use Rattle.pct_model.specs.MutexCalls.{locks, unlocks}
 use Rattle.pct_model.specs.CondCalls.{begins_wait, reacquires, signals_by, broadcasts}
 use Rattle.pct_model.specs.SemCalls.{begins_sem_wait, takes, posts}
+use Rattle.pct_model.specs.ForkCalls.{begins_fork, goes_on_forking, begins_waitpid, waits_at}
 use Rattle.pct_model.specs.ThreadCalls.{creates_by, begins_join, joins_at, detaches, gets_self}
 use Rattle.pct_model.specs.ThreadEnds.{ends_by_exit, goes_on_ending}
 use Rattle.pct_model.specs.ProcessExit.{exits, returns_by, ends_now, goes_on_exiting, may_register, registers_if}
@@ -90,6 +91,9 @@ module _ (passes : ℕ) (body : List Stmt) (shared : SharedState) (t : Thread) (
   runs frame (statement.Broadcast c) = broadcasts (suc frame.pc) c (length (others.waiters c))
   runs frame (statement.SemWait s) = begins_sem_wait s
   runs frame (statement.SemPost s) = posts (suc frame.pc) s (slice_index shared.counts s)
+  -- XSH fork, waitpid
+  runs frame (statement.Fork result child) = begins_fork
+  runs frame (statement.WaitPid result pid d) = begins_waitpid (others.family.child (value frame pid)) (value frame pid) (suc frame.pc) result
   -- XSH atexit, exit, _exit
   runs frame (statement.AtExit result f) = registers_if (may_register shared) (suc frame.pc) result f
   runs frame (statement.ProcExit v) = exits (value frame v)
@@ -109,13 +113,17 @@ module _ (passes : ℕ) (body : List Stmt) (shared : SharedState) (t : Thread) (
   transition_at next (status.Joining id) = joins_at (exit_value_with id others) id next
   -- XSH sem_wait: the count is above 0
   transition_at next (status.InSem s) = takes s (slice_index shared.counts s) next
+  -- XSH waitpid: the child has ended, or there is no such child any more
+  transition_at next (status.InWaitPid pid) = waits_at (others.family.child pid) pid next
   -- XSH pthread_cond_wait: the mutex has no owner
   transition_at next (status.Reacquire c m why) = reacquires t.id c m why next
   -- XSH 2.9.5.3, pthread_exit, pthread_key_create: cleanup handlers, then destructors, then the end
   transition_at next status.Ending = goes_on_ending others.is_last passes shared.keys t choice t.handlers
+  -- XSH fork
+  transition_at next (status.Forking phase index length pid) = goes_on_forking phase pid others.family.new_pid next
   -- XSH exit
   transition_at next status.Exiting = goes_on_exiting shared.exit_functions shared.exit_value
-  -- no choice is offered to any other thread (ChoiceTable.antt)
+  -- no choice by which it goes on is offered to any other thread (ChoiceTable.antt)
   transition_at next _ = no_change
 
 -- by the choice `act` a thread acts upon a request, and by every other choice it goes on
@@ -123,6 +131,6 @@ abbrev pub acts_or : Alt → Status → Transition → Transition
 acts_or (alt.Act n) s goes = acts_on_request n s
 acts_or _ s goes = goes
 
--- what a thread of a process does by a choice
-abbrev pub transition_by : Script → Config → Process → Thread → Alt → Transition
-transition_by script config p t choice = acts_or choice t.status (transition_at config.passes (body_at script t.frames) p.shared t (others_of config.slots p.threads t.id) choice (next_of script t.frames) t.status)
+-- what a thread of a process does by a choice, in a state
+abbrev pub transition_by : Script → Config → World → Process → Thread → Alt → Transition
+transition_by script config w p t choice = acts_or choice t.status (transition_at config.passes (body_at script t.frames) p.shared t (others_of config.slots w p t.id) choice (next_of script t.frames) t.status)

@@ -12,6 +12,7 @@ mod line_kind;
 mod name;
 mod parsed_line;
 mod point;
+mod process;
 mod refusal;
 mod role;
 mod schedule;
@@ -29,15 +30,17 @@ pub use frame::Frame;
 pub use keyword::Keyword;
 pub use limits::{
     MAX_BUDGET, MAX_COUNT, MAX_DECLARED, MAX_EXIT_FUNCTIONS, MAX_FRAMES, MAX_FUNCTIONS,
-    MAX_HANDLERS, MAX_INPUT, MAX_KEYS, MAX_LOCALS, MAX_PASSES, MAX_SLOTS, MAX_STATEMENTS,
-    MAX_WORKER, MIN_PASSES,
+    MAX_HANDLERS, MAX_INPUT, MAX_KEYS, MAX_LOCALS, MAX_PASSES, MAX_PROCESSES, MAX_SLOTS,
+    MAX_STATEMENTS, MAX_WORKER, MIN_PASSES,
 };
 pub use line_kind::{ArgumentKind, LINE_KINDS, LineKind, SymbolKind};
 pub use name::{MAX_NAME, Name};
 pub use parsed_line::{Argument, ParsedLine, Token, Tokens};
 pub use point::{
     COND_WAIT_POINT, JOIN_POINT, Point, PointKind, PointWait, SEM_WAIT_POINT, TESTCANCEL_POINT,
+    WAITPID_POINT,
 };
+pub use process::{Child, Relative};
 pub use refusal::{ParseWhy, ScheduleWhy};
 pub use role::{Block, Change, Role};
 pub use schedule::{Alt, Config, Entry};

@@ -11,6 +11,8 @@ pub const JOIN_POINT: u32 = 22;
 pub const TESTCANCEL_POINT: u32 = 23;
 /// The index of sem_wait in the table of cancellation points.
 pub const SEM_WAIT_POINT: u32 = 32;
+/// The index of waitpid in the table of cancellation points.
+pub const WAITPID_POINT: u32 = 44;
 
 /// Whether a function shall be a cancellation point (required), or may be one (optional).
 #[derive(Clone, Copy)]

@@ -55,7 +55,8 @@ pub enum Status {
     /// Suspended in pthread_cond_wait until it owns the mutex again.
     Reacquire(u32, u32, Cause),
     Ending,
-    /// In fork: the phase, the index of the next fork handler, the number of fork handlers, and the result.
+    /// In fork: the phase, the index of the next fork handler, the number of fork handlers, and the id of the child, which is 0 before
+    /// the fork, after one that failed, and in the child itself.
     Forking(Phase, u32, u32, u32),
     Exiting,
     Ended(u32),

@@ -1,7 +1,7 @@
 //! Transitions of the machine: what a thread does in one step.
 
 use crate::event::What;
-use crate::state::{FrameKind, Mode, Reason, State, Status};
+use crate::state::{FrameKind, Mode, Phase, Reason, State, Status};
 use crate::statement::Dest;
 use crate::stop::Why;
 use crate::up_to_three::UpToThree;
@@ -45,6 +45,10 @@ pub enum Action {
     LeaveWait(u32, u32),
     /// The thread is suspended in sem_wait, for the semaphore with this index.
     BeginSem(u32),
+    /// The thread is suspended in waitpid, for the process with this id.
+    BeginWaitPid(u32),
+    /// The thread is in this phase of fork; in the process that called fork it has the id of the child, 0 if there is none.
+    EnterFork(Phase, u32),
     /// The thread with this id was joined.
     EndJoin(u32),
     /// A cancellation request for the thread with this id is pending, unless that thread has ended. It may be the thread itself.
@@ -83,6 +87,10 @@ pub enum Action {
     AddExit(u32),
     /// The newest function that is registered is removed.
     TakeExit,
+    /// A child process with this id is made. It inherits the thread.
+    MakeChild(u32),
+    /// The child process with this id, which has ended, is reaped.
+    Reap(u32),
     /// The process ends with a status.
     EndProcess(u32),
     /// The run stops.

@@ -1,12 +1,16 @@
 -- The first process before the first step is that of the initial state.
-use Rattle.std.proofs.Common.{◌≡◌, ℕ, zero, suc, ◌+◌, ◌*◌, ◌<◌, false, List, [], ◌∷◌, map, length, replicate, Option, Some, None, refl, sym, ap, ◌∙◌, arith}
+use Rattle.std.proofs.Common.{◌≡◌, ℕ, zero, suc, ◌+◌, ◌*◌, ◌<◌, ◌≤◌, false, List, [], ◌∷◌, map, length, replicate, Option, Some, None, refl, sym, ap, ◌∙◌, arith}
 use native.Mathlib.Nat.{zero-mod}
 use Rattle.std.specs.Prelude.{slice_set}
-use Rattle.std.proofs.lemmas.List.{map-set, get_or-replicate, length-replicate}
+use Rattle.std.proofs.lemmas.List.{map-set, get_or-replicate, length-map, length-replicate}
+use Rattle.pct_model.specs.declared.limits.TheConstants.{MAX_DECLARED}
+use Rattle.pct_model.specs.declared.line_kind.SymbolKind.TheVariants as kind
 use Rattle.pct_model.specs.declared.script.Script.{Script}
+use Rattle.pct_model.specs.declared.script.SemDecl.{SemDecl}
 use Rattle.pct_model.specs.declared.state.FrameKind.TheVariants.{Main}
 use Rattle.pct_model.specs.Names.{names_of, main_of}
 use Rattle.pct_model.specs.Keys.{no_keys, no_values}
+use Rattle.pct_model.proofs.StaticFacts.{limits_kept}
 use Rattle.pct_threads.specs.Slots.{Held, Slot, unused, created, with_change, with_call_alone}
 use Rattle.pct_threads.specs.Tables.{next_id_at, on_held, with_created}
 use Rattle.pct_threads.proofs.TableLemmas.{length-on_slot, on_slot-then}
@@ -15,6 +19,12 @@ use Rattle.pct_engine_laws.specs.Seen.{SeenSlot}
 use Rattle.pct_engine_laws.proofs.OpeningSeen.{first_on_slot, first_thread, first_slots, one_thread_on_first}
 use Rattle.pct_process.specs.ThreadViews.{threads_of, slot_view}
 use Rattle.pct_process.specs.ProcessViews.{with_row, slots_of, shared_of, first_data}
+
+-- a script declares few globals, mutexes and semaphores
+pub few_declared : (script : Script) → (length script.globals ≤ MAX_DECLARED) × (length script.mutexes ≤ MAX_DECLARED) × (length script.sems ≤ MAX_DECLARED)
+few_declared s =
+    let limits = (limits_kept (record { globals = s.globals; mutexes = s.mutexes; conds = s.conds; sems = s.sems; funcs = s.funcs }) s.passes_checks).kinds in
+    (limits kind.Global, limits kind.Mutex, omega (arith, limits kind.Sem, length-map s.sems (λ (d : SemDecl). d.name)))
 
 map-replicate : {A B : Type 0} (f : A → B) (n : ℕ) (x : A) → map f (replicate n x) ≡ replicate n (f x)
 map-replicate f zero x = refl

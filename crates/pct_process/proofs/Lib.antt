@@ -1,3 +1,5 @@
 pub mod RowViews
 pub mod ViewedSlots
 mod FirstProcess
+mod InheritedData
+mod LastThread

@@ -60,8 +60,12 @@ module _ (keys : Table) (threads : List Slot) (fit : length keys.rows ≡ length
   held_on k (Some h) = refl
 
   -- there is a thread on a slot exactly if it is occupied
-  pub occupied_is : (k : ℕ) → is_some (thread_on_slot slots k) ≡ is_occupied_at threads k
+  occupied_is : (k : ℕ) → is_some (thread_on_slot slots k) ≡ is_occupied_at threads k
   occupied_is k = ap (λ (o : Option Thread). is_some o) (thread_on_slot-is k) ∙ held_on k (held_at threads k)
+
+  -- a slot on which there is a thread is occupied
+  pub occupied_on : (k : ℕ) (seen : List SeenSlot) → slots ≡ seen → is_some (thread_on_slot seen k) ≡ true → is_occupied_at threads k ≡ true
+  occupied_on k seen are some = sym (occupied_is k) ∙ ap (λ (rows : List SeenSlot). is_some (thread_on_slot rows k)) are ∙ some
 
   -- the slots that are occupied
   pub occupied-are : slots_where (is_occupied_at threads) ≡ slots_where (λ k. is_some (thread_on_slot slots k))

@@ -1,2 +1,3 @@
 pub mod ThreadViews
 pub mod ProcessViews
+pub mod FamilyViews

@@ -1,10 +1,10 @@
 -- What the tables of a process represent: its slots, and the state that its threads share, as the definitions have them.
-use Rattle.std.specs.Prelude.{◌≡◌, ℕ, true, List, [], ◌∷◌, map, slice_index_or, Option, Some, None, is_some}
+use Rattle.std.specs.Prelude.{◌≡◌, ℕ, true, List, [], ◌∷◌, map, slice_index_or, Option, Some, None, is_some, option_map}
 use Rattle.pct_model.specs.declared.script.Script.{Script}
 use Rattle.pct_model.specs.Keys.{KeyPlace, KeyValues}
 use Rattle.pct_model.specs.World.{Thread, SharedState, new_shared, first_process}
 use Rattle.pct_threads.specs.Slots.{Slot}
-use Rattle.pct_engine_laws.specs.Seen.{SeenSlot, seen_process}
+use Rattle.pct_engine_laws.specs.Seen.{SeenSlot, seen_process, slot_inherited}
 use Rattle.pct_process.specs.ThreadViews.{slot_view, with_specific}
 
 -- ---- slots
@@ -41,6 +41,11 @@ pub record HoldsThread (found held : Option Thread) : Type 0 where
   pub same : found ≡ held
   pub some : is_some held ≡ true
 
+-- the thread with this id holds slot k, and no other slot
+pub record HoldsOneSlot (tid k : ℕ) (slots : List SeenSlot) : Type 0 where
+  pub here : option_map (λ t. t.id) (thread_on_slot slots k) ≡ Some tid
+  pub alone : (other : ℕ) → option_map (λ t. t.id) (thread_on_slot slots other) ≡ Some tid → other ≡ k
+
 -- ---- the process
 
 -- the data of a process, beside its ids, its parent and its end: its slots, and the state that its threads share
@@ -55,3 +60,8 @@ shared_of globals owners counts keys exit_functions exit_value = record { global
 -- the data of the first process before the first step, with this number of slots
 abbrev pub first_data : ℕ → Script → ProcessData
 first_data slots script = record { slots = (seen_process slots (first_process script)).slots; shared = new_shared script }
+
+-- the data of the child that a fork by the thread with an id makes: it inherits this thread alone, and the shared state; exit has not
+-- begun in it (XSH fork)
+abbrev pub data_inherited : ℕ → ProcessData → ProcessData
+data_inherited tid p = record { slots = map (slot_inherited tid) p.slots; shared = record p.shared { exit_value = None } }

@@ -63,4 +63,14 @@ impl ExitFunctions {
     {
         let _newest = self.items.pop();
     }
+
+    /// Makes these the functions of another process.
+    pub fn copy_from(&mut self, other: &ExitFunctions)
+        ensures { self.new ≡ other.now }
+    {
+        self.items.clear();
+        self.items
+            .try_extend_from_slice(other.items.as_slice())
+            .unwrap();
+    }
 }

@@ -2,9 +2,13 @@
 #![tactic(auto)]
 
 mod exit_functions;
+mod family;
 mod numbers;
 mod process_state;
+mod relatives;
 
 pub use exit_functions::ExitFunctions;
+pub use family::Family;
 pub use numbers::Numbers;
 pub use process_state::ProcessState;
+pub use relatives::Relatives;

@@ -1,15 +1,17 @@
 //! Numbers that the threads of a process share.
 
-use pct_io::NoMemory;
-use pct_model::SemDecl;
-use std::alloc::Global;
+ghost use Rattle.std.specs.Prelude.{◌≡◌, ◌≤◌, length, map, replicate, slice_set};
+ghost use Rattle.pct_model.specs.declared.limits.TheConstants.{MAX_DECLARED};
+
+use arrayvec::ArrayVec;
+use pct_model::{MAX_DECLARED, SemDecl};
 use std::marker::Model;
 
-/// The values of the globals of a process, or the owners of its mutexes, or the counts of its semaphores. In a contract it is the list
-/// of them.
+/// The values of the globals of a process, or the owners of its mutexes, or the counts of its semaphores: at most MAX_DECLARED (32). In a
+/// contract it is the list of them.
 #[derive(Drop)]
 pub struct Numbers {
-    values: Vec<u32>,
+    values: ArrayVec<u32, MAX_DECLARED>,
 }
 
 impl Model for Numbers {
@@ -21,26 +23,28 @@ impl Model for Numbers {
 }
 
 impl Numbers {
-    ghost use Rattle.std.specs.Prelude.{◌≡◌, IfOk, map, replicate, slice_set};
-
-    /// This many numbers, each 0. `NoMemory` is returned if they do not fit into memory.
-    pub fn new(alloc: Global, count: usize) -> Result<Numbers, NoMemory>
-        ensures { IfOk result (λ numbers. numbers ≡ replicate count 0) }
+    /// This many numbers, each 0.
+    pub fn new(count: usize) -> Numbers
+        requires { count ≤ MAX_DECLARED }
+        ensures { result ≡ replicate count 0 }
     {
-        Ok(Numbers {
-            values: vec![in alloc; 0; count]?,
-        })
+        let mut values = ArrayVec::new();
+        for _ in 0..count {
+            values.push(0);
+        }
+        Numbers { values }
     }
 
-    /// The initial counts of semaphores. `NoMemory` is returned if they do not fit into memory.
-    pub fn counts_of(alloc: Global, sems: &[SemDecl]) -> Result<Numbers, NoMemory>
-        ensures { IfOk result (λ numbers. numbers ≡ map (λ d. d.count) sems.now) }
+    /// The initial counts of semaphores.
+    pub fn counts_of(sems: &[SemDecl]) -> Numbers
+        requires { length sems.now ≤ MAX_DECLARED }
+        ensures { result ≡ map (λ d. d.count) sems.now }
     {
-        let mut values = Vec::with_capacity(alloc, sems.len())?;
+        let mut values = ArrayVec::new();
         for sem in sems {
-            values.push(sem.count)?;
+            values.push(sem.count);
         }
-        Ok(Numbers { values })
+        Numbers { values }
     }
 
     /// The values, by index.
@@ -58,5 +62,15 @@ impl Numbers {
         if i < self.values.len() {
             self.values[i] = value;
         }
+    }
+
+    /// Makes these the numbers of another process.
+    pub fn copy_from(&mut self, other: &Numbers)
+        ensures { self.new ≡ other.now }
+    {
+        self.values.clear();
+        self.values
+            .try_extend_from_slice(other.values.as_slice())
+            .unwrap();
     }
 }

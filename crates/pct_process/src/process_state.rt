@@ -1,12 +1,17 @@
 //! The data of one process: its threads, and what they share.
 
+ghost use Rattle.std.specs.Prelude.{◌≡◌, ◌<◌, length};
+ghost use Rattle.std.specs.List.{list_all};
+ghost use Rattle.pct_threads.specs.Tables.{held_at};
+ghost use Rattle.pct_process.specs.ThreadViews.{has_no_other, record_inherited};
+
 use crate::exit_functions::ExitFunctions;
 use crate::numbers::Numbers;
 use pct_io::NoMemory;
 use pct_keys::Keys;
-use pct_model::{FrameKind, Script, main_of};
+use pct_model::{FrameKind, Phase, Reason, Script, Status, main_of};
 use pct_set::SlotSet;
-use pct_threads::Threads;
+use pct_threads::{Thread, Threads};
 use std::alloc::Global;
 use std::marker::Model;
 
@@ -42,11 +47,12 @@ impl Model for ProcessState {
 }
 
 impl ProcessState {
-    ghost use Rattle.std.specs.Prelude.{◌≡◌, ◌≤◌, true, length, option_map, is_some, Some, None, All, IfNone, IfOk, IfSome};
+    ghost use Rattle.std.specs.Prelude.{◌≡◌, ◌≤◌, ℕ, true, length, option_map, is_some, Some, None, All, IfNone, IfOk, IfSome};
     ghost use Rattle.pct_model.specs.declared.limits.TheConstants.{MAX_SLOTS};
     ghost use Rattle.pct_set.specs.Slots.{slots_where};
+    ghost use Rattle.pct_engine_laws.specs.Seen.{is_last_in};
     ghost use Rattle.pct_engine_laws.specs.SeenSteps.{thread_with};
-    ghost use Rattle.pct_process.specs.ProcessViews.{thread_on_slot, HoldsThread, first_data};
+    ghost use Rattle.pct_process.specs.ProcessViews.{thread_on_slot, HoldsThread, HoldsOneSlot, first_data, data_inherited};
 
     /// The first process before the first step, with 1 to 64 slots: thread 1 is in `main`. `NoMemory` is returned if its tables do not
     /// fit into memory.
@@ -62,12 +68,42 @@ impl ProcessState {
         Ok(ProcessState {
             threads,
             keys: Keys::new(alloc, slots)?,
-            globals: Numbers::new(alloc, script.globals.as_slice().len())?,
-            owners: Numbers::new(alloc, script.mutexes.as_slice().len())?,
-            counts: Numbers::counts_of(alloc, script.sems.as_slice())?,
+            globals: Numbers::new(script.globals.as_slice().len()),
+            owners: Numbers::new(script.mutexes.as_slice().len()),
+            counts: Numbers::counts_of(script.sems.as_slice()),
             exit_functions: ExitFunctions::new(),
             exit_value: None,
         })
+    }
+
+    /// Memory for the data of a process that a fork makes, with at most 64 slots. Hardly any of it is written to before `inherit`.
+    /// `NoMemory` is returned if the tables do not fit into memory.
+    pub fn reserve(alloc: Global) -> Result<ProcessState, NoMemory> {
+        Ok(ProcessState {
+            threads: Threads::new(alloc, 1)?,
+            keys: Keys::new(alloc, 1)?,
+            globals: Numbers::new(0),
+            owners: Numbers::new(0),
+            counts: Numbers::new(0),
+            exit_functions: ExitFunctions::new(),
+            exit_value: None,
+        })
+    }
+
+    /// Makes this the data of the child that a fork by the thread on a slot of the parent makes. The child has this thread alone, and
+    /// what the threads of the parent share. No memory is taken.
+    pub fn inherit(&mut self, parent: &ProcessState, slot: u32)
+        requires { is_some (thread_on_slot parent.now.slots slot) ≡ true }
+        ensures { (tid : ℕ) → HoldsOneSlot tid slot parent.now.slots → self.new ≡ data_inherited tid parent.now }
+    {
+        self.threads.clone_one_from(&parent.threads, slot);
+        become_replica(self.threads.write(slot));
+        self.keys.copy_from(&parent.keys, slot);
+        self.globals.copy_from(&parent.globals);
+        self.owners.copy_from(&parent.owners);
+        self.counts.copy_from(&parent.counts);
+        self.exit_functions.copy_from(&parent.exit_functions);
+        self.exit_value = None;
     }
 
     /// The number of slots.
@@ -107,4 +143,47 @@ impl ProcessState {
             None
         }
     }
+
+    /// Whether each thread but the one with an id has ended.
+    pub fn is_last(&self, tid: u32) -> bool
+        ensures { result ≡ is_last_in tid self.now.slots }
+    {
+        is_last(&self.threads, tid)
+    }
+}
+
+// Whether each thread of a table but the one with an id has ended.
+fn is_last(threads: &Threads, tid: u32) -> bool
+    ensures { result ≡ list_all (λ s. has_no_other tid s.here) threads.now }
+{
+    for slot in 0..threads.slot_count() {
+        if !has_no_other(threads, slot, tid) {
+            return false;
+        }
+    }
+    true
+}
+
+// Whether the thread on a slot has ended or has the id. A free slot has no thread.
+fn has_no_other(threads: &Threads, slot: u32, tid: u32) -> bool
+    requires { slot < length threads.now }
+    ensures { result ≡ has_no_other tid (held_at threads.now slot) }
+{
+    if threads.is_occupied(slot) {
+        threads.read(slot).ended || threads.place(slot).id == tid
+    } else {
+        true
+    }
+}
+
+// Makes the record of a thread that is in fork that of its replica in the child.
+fn become_replica(thread: &mut Thread)
+    ensures { thread.new ≡ record_inherited thread.old }
+{
+    thread.status = Status::Forking(Phase::Child, 0, 0, 0);
+    thread.cancel.pending = false;
+    thread.reason = Reason::None;
+    thread.pass = 0;
+    thread.kept = None;
+    thread.ended = false;
 }

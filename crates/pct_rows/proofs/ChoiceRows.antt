@@ -80,9 +80,13 @@ nobody_ready = (refl, refl, refl)
 
 -- ---- creations
 
+-- a state with these processes
+abbrev pub state_of : List Process → World
+state_of processes = record { processes = processes; stop = None }
+
 -- a thread sees no others
 abbrev pub nobody : Others
-nobody = others_of 0 [] 1
+nobody = others_of 0 (state_of []) (process 1 []) 1
 
 -- a new thread gets one of the ids of the free slots, by rising slot; without one the call fails
 new_thread_ids : map (λ ids. running_choices (new_shared smallest) (ready 1) (record nobody { new_ids = ids }) (statement.Create destination.Drop destination.Drop 0 (operand.Num 0) false)) ((5 ∷ 2 ∷ []) ∷ [] ∷ []) ≡ (alt.New 5 ∷ alt.New 2 ∷ []) ∷ (alt.Go ∷ []) ∷ []

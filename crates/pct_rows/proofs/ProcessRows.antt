@@ -1,23 +1,25 @@
--- Processes that end, and threads that exit, in states that no run of a script reaches, some of them while fork is not implemented (XSH
--- exit, atexit, fork).
+-- Processes that are made, that end and that are reaped, and threads that exit, in states that no run of a script reaches, some of them
+-- while a fork of a process with several threads is not implemented (XSH exit, atexit, fork, waitpid).
 use Rattle.std.proofs.Common.{◌≡◌, ℕ, Bool, true, false, List, [], ◌∷◌, map, Option, Some, None, refl}
-use Rattle.std.specs.Prelude.{option_map, replicate}
+use Rattle.std.specs.Prelude.{drop, option_map, replicate}
 use Rattle.pct_model.specs.declared.event.Caller.TheVariants as caller
 use Rattle.pct_model.specs.declared.event.What.{What}
 use Rattle.pct_model.specs.declared.event.What.TheVariants as what
+use Rattle.pct_model.specs.declared.process.Child.{Child}
 use Rattle.pct_model.specs.declared.state.FrameKind.TheVariants as kind
+use Rattle.pct_model.specs.declared.state.Phase.TheVariants.{Child as ChildPhase}
+use Rattle.pct_model.specs.declared.state.State.TheVariants.{Disable}
 use Rattle.pct_model.specs.declared.state.Reason.TheVariants as reason
 use Rattle.pct_model.specs.declared.state.Status.{Status}
 use Rattle.pct_model.specs.declared.state.Status.TheVariants as status
 use Rattle.pct_model.specs.declared.statement.Dest.TheVariants as destination
 use Rattle.pct_model.specs.declared.transition.Action.TheVariants as action
 use Rattle.pct_model.specs.declared.transition.Transition.{Transition}
-use Rattle.pct_model.specs.Keywords.{keyword_text}
-use Rattle.pct_model.specs.Names.{main_of}
 use Rattle.pct_model.specs.World.{Thread, SharedState, ProcessEnd, Process, World, was_reaped, new_frame, new_thread, new_shared, first_process}
+use Rattle.pct_model.specs.OtherProcesses.{family_of}
 use Rattle.pct_model.specs.ProcessExit.{goes_on_exiting, may_register, registers_if}
 use Rattle.pct_model.specs.Transitions.{goes_on, acts, no_change}
-use Rattle.pct_model.specs.Actions.{thread_at, thread_after, named_after, shared_after, process_after, other_process_after, stop_after, after_transition}
+use Rattle.pct_model.specs.Actions.{shared_after, child_of, after_transition}
 use Rattle.pct_model.specs.Step.{step}
 use Rattle.pct_model.specs.Outcome.{default_config}
 use Rattle.pct_rows.proofs.OnLiterals.{runs_on_literals}
@@ -42,13 +44,59 @@ parent_and_end p = (p.parent, option_map (λ (end : ProcessEnd). end.status) p.e
 
 -- as a process ends, its ended children are reaped, its other children lose their parent, and other processes are unchanged
 end_of_a_process : map parent_and_end (after_transition 2 1 ends_with_7 family).processes ≡ (0, None, false) ∷ (1, Some 7, false) ∷ (2, Some 5, true) ∷ (0, None, false) ∷ (1, Some 6, false) ∷ []
-unfolding main_of keyword_text after_transition thread_at thread_after named_after shared_after process_after other_process_after stop_after
+unfolding runs_on_literals
 end_of_a_process = refl
 
 -- a process without a parent is reaped as it ends
 end_of_the_first : map parent_and_end (after_transition 1 1 ends_with_7 family).processes ≡ (0, Some 7, true) ∷ (0, None, false) ∷ (2, Some 5, false) ∷ (2, None, false) ∷ (1, Some 6, true) ∷ []
-unfolding main_of keyword_text after_transition thread_at thread_after named_after shared_after process_after other_process_after stop_after
+unfolding runs_on_literals
 end_of_the_first = refl
+
+-- a child that is waited for is reaped, and no other process
+reaping : map parent_and_end (after_transition 1 1 (acts (action.Reap 5 ∷ []) []) family).processes ≡ (0, None, false) ∷ (1, None, false) ∷ (2, Some 5, false) ∷ (2, None, false) ∷ (1, Some 6, true) ∷ []
+unfolding runs_on_literals
+reaping = refl
+
+-- ---- fork
+
+-- a child is the last one of the processes, with the process that forked as its parent
+abbrev pid_and_parent : Process → ℕ × ℕ
+pid_and_parent p = (p.pid, p.parent)
+
+forking : map pid_and_parent (after_transition 2 1 (acts (action.MakeChild 6 ∷ []) []) family).processes ≡ (1, 0) ∷ (2, 1) ∷ (3, 2) ∷ (4, 2) ∷ (5, 1) ∷ (6, 2) ∷ []
+unfolding runs_on_literals
+forking = refl
+
+-- thread 2 calls fork in a process whose thread 1 has not ended: it has a handler, disabled cancelability and a request, and is detached
+abbrev forks : Thread
+forks = record (new_thread 2 true (new_frame 3 7 kind.Start)) { state = Disable; pending = true; handlers = (4, 5) ∷ [] }
+
+abbrev made : Process
+made = child_of 2 6 (record (first_process smallest) { threads = new_thread 1 false (new_frame 0 0 kind.Main) ∷ forks ∷ []; shared = record (new_shared smallest) { owners = 1 ∷ 2 ∷ []; exit_functions = 8 ∷ []; exit_value = Some 3 } })
+
+-- the child has thread 2 alone, without the request; thread 1 is gone
+threads_of_the_child : map (λ (t : Thread). t.gone) made.threads ≡ true ∷ false ∷ []
+unfolding runs_on_literals
+threads_of_the_child = refl
+
+replica : drop 1 made.threads ≡ record forks { status = status.Forking ChildPhase 0 0 0; pending = false } ∷ []
+unfolding runs_on_literals
+replica = refl
+
+-- it has what the threads share; exit has not begun in it; and it is the child of a process with several threads
+rest_of_the_child : (made.shared.owners ≡ 1 ∷ 2 ∷ []) × (made.shared.exit_functions ≡ 8 ∷ []) × (made.shared.exit_value ≡ None) × (made.restricted ≡ true)
+unfolding runs_on_literals
+rest_of_the_child = (refl, refl, refl, refl)
+
+-- seven processes that were not reaped leave room for one more, and eight do not; ended ones count
+next_ids : map (λ n. (family_of (record { processes = replicate n (child 1 0 (Some 5)); stop = None }) 1).new_pid) (0 ∷ 7 ∷ 8 ∷ []) ≡ Some 1 ∷ Some 8 ∷ None ∷ []
+unfolding runs_on_literals
+next_ids = refl
+
+-- process 2 has the children 3 and 4, of which 3 has ended; process 5 is none of its children
+children : map (λ pid. option_map (λ (c : Child). c.ended) ((family_of family 2).child pid)) (3 ∷ 4 ∷ 5 ∷ 2 ∷ []) ≡ Some (Some 5) ∷ Some None ∷ None ∷ None ∷ []
+unfolding runs_on_literals
+children = refl
 
 -- ---- the end of the last thread
 

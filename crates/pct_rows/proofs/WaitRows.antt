@@ -24,7 +24,7 @@ use Rattle.pct_model.specs.ChoiceTable.{running_choices, choices_of}
 use Rattle.pct_model.specs.Actions.{after_transition}
 use Rattle.pct_rows.proofs.OnLiterals.{runs_on_literals}
 use Rattle.pct_rows.proofs.ExampleScripts.{smallest}
-use Rattle.pct_rows.proofs.ChoiceRows.{config, ready, in_status, process, nobody}
+use Rattle.pct_rows.proofs.ChoiceRows.{config, ready, in_status, process, state_of, nobody}
 
 -- mutex 0 has this owner; semaphore 0 has the count 0, semaphore 1 the count 1
 abbrev shared : ℕ → SharedState
@@ -40,7 +40,7 @@ waiters = in_status 3 (status.Waiting 1 5) ∷ in_status 4 (status.Waiting 2 0) 
 -- the choices of thread 1 with a status among other threads, where mutex 0 has this owner: without a request, with one, and with one
 -- while cancelability is disabled
 abbrev choices : List Thread → Status → ℕ → List (List Alt)
-choices others s owner = map (choices_of smallest config (record (process 1 (in_status 1 s ∷ others)) { shared = shared owner })) (in_status 1 s ∷ record (in_status 1 s) { pending = true } ∷ record (in_status 1 s) { pending = true; state = Disable } ∷ [])
+choices others s owner = map (choices_of smallest config (state_of []) (record (process 1 (in_status 1 s ∷ others)) { shared = shared owner })) (in_status 1 s ∷ record (in_status 1 s) { pending = true } ∷ record (in_status 1 s) { pending = true; state = Disable } ∷ [])
 
 -- a thread that was unblocked from a wait on condition variable 1 with mutex 0, which has no owner, or thread 2 owns it
 abbrev unblocked_choices : List Thread → Cause → List (List (List Alt))
@@ -88,7 +88,7 @@ unfolding runs_on_literals
 asynchronous_at_a_lock = refl
 
 -- a signal unblocks one of the threads that wait on its condition variable
-at_a_signal : map (λ c. running_choices (shared 0) (ready 1) (others_of 4 waiters 1) (statement.Signal c)) (1 ∷ 2 ∷ 3 ∷ []) ≡ (alt.Pick 6 ∷ alt.Pick 3 ∷ []) ∷ (alt.Pick 4 ∷ []) ∷ (alt.Go ∷ []) ∷ []
+at_a_signal : map (λ c. running_choices (shared 0) (ready 1) (others_of 4 (state_of []) (process 1 waiters) 1) (statement.Signal c)) (1 ∷ 2 ∷ 3 ∷ []) ≡ (alt.Pick 6 ∷ alt.Pick 3 ∷ []) ∷ (alt.Pick 4 ∷ []) ∷ (alt.Go ∷ []) ∷ []
 unfolding runs_on_literals
 at_a_signal = refl
 

@@ -1,6 +1,7 @@
 //! The table of the threads of one process.
 
-ghost use Rattle.std.specs.Prelude.{◌≡◌, ◌<◌, ◌&&◌, not, true, nat_lt, length, map, if◌then◌else◌};
+ghost use Rattle.std.specs.Prelude.{◌≡◌, ◌<◌, ◌≤◌, ◌&&◌, not, true, nat_lt, length, map, if◌then◌else◌, vec_capacity};
+ghost use Rattle.pct_model.specs.declared.limits.TheConstants.{MAX_SLOTS};
 ghost use Rattle.pct_threads.specs.Slots.{freed};
 ghost use Rattle.pct_set.specs.Slots.{with_slot, without_slot};
 
@@ -8,7 +9,7 @@ use crate::frame_words::kind_of;
 use crate::row::Row;
 use crate::{Place, Thread};
 use pct_io::NoMemory;
-use pct_model::{Frame, FrameKind};
+use pct_model::{Frame, FrameKind, MAX_SLOTS};
 use pct_set::SlotSet;
 use std::alloc::Global;
 use std::marker::Model;
@@ -18,15 +19,18 @@ use std::marker::Model;
 /// holds it, if there is one, with its frames newest first.
 ///
 /// A slot argument is below the number of slots. Unless a call says otherwise, its slot is occupied.
+///
+/// A table has memory for 64 slots, however many it has, so that no call but `new` takes memory.
 #[derive(Debug, Drop)]
 pub struct Threads {
+    /// There is room for 64.
     rows: Vec<Row>,
     /// The slots that are occupied.
     occupied: SlotSet,
 }
 
 impl Model for Threads {
-    ghost use Rattle.std.specs.Prelude.{List, length, ◌≡◌, ◌≤◌};
+    ghost use Rattle.std.specs.Prelude.{List, length, ◌≡◌, ◌≤◌, vec_capacity};
     ghost use Rattle.pct_model.specs.declared.limits.TheConstants.{MAX_SLOTS};
     ghost use Rattle.pct_set.specs.Slots.{slots_where};
     ghost use Rattle.pct_threads.specs.Slots.{Slot};
@@ -36,7 +40,7 @@ impl Model for Threads {
 
     ghost view = { λ t. t.rows.items };
 
-    ghost invariant = { λ t. (1 ≤ length t.rows.items) × (length t.rows.items ≤ MAX_SLOTS) × (t.occupied ≡ slots_where (is_occupied_at t.rows.items)) };
+    ghost invariant = { λ t. (1 ≤ length t.rows.items) × (length t.rows.items ≤ MAX_SLOTS) × (t.occupied ≡ slots_where (is_occupied_at t.rows.items)) × (MAX_SLOTS ≤ vec_capacity t.rows) };
 }
 
 impl Threads {
@@ -57,7 +61,7 @@ impl Threads {
         requires few { slots ≤ MAX_SLOTS }
         ensures { IfOk result (λ threads. threads ≡ replicate slots unused) }
     {
-        let mut rows = Vec::with_capacity(alloc, slots as usize)?;
+        let mut rows = Vec::with_capacity(alloc, MAX_SLOTS as usize)?;
         for _ in 0..slots {
             rows.push(Row::new())?;
         }
@@ -215,12 +219,11 @@ impl Threads {
         retain_if(&mut self.occupied, slot, row.is_occupied());
     }
 
-    /// Makes this the table of the child process of a thread (fork). The other table is that of the parent; both have the same
-    /// number of slots, and the thread's slot is occupied in the other. Afterwards it alone is occupied, by a copy of the
-    /// thread with the same id; and as many threads were ever created on each slot as in the other table.
+    /// Makes this the table of the child process of a thread (fork). The other table is that of the parent, and the thread's
+    /// slot is occupied in it. Afterwards this table has as many slots as the other; the thread's slot alone is occupied, by a
+    /// copy of the thread with the same id; and as many threads were ever created on each slot as in the other table.
     pub fn clone_one_from(&mut self, other: &Threads, slot: u32)
-        requires counts { length self.old ≡ length other.now }
-        requires occupied { is_occupied_at other.now slot ≡ true }
+        requires { is_occupied_at other.now slot ≡ true }
         ensures { self.new ≡ replica_of slot other.now }
     {
         free_as(&mut self.rows, other);
@@ -352,12 +355,17 @@ impl Threads {
     }
 }
 
-// Gives back every slot, and makes the number of threads ever created on each that of the other table.
+// Makes the number of slots that of the other table, gives back every slot, and makes the number of threads ever created on each
+// that of the other table.
 fn free_as(rows: &mut Vec<Row>, other: &Threads)
-    requires { length rows.old.items ≡ length other.now }
-    ensures { rows.new.items ≡ map freed other.now }
+    requires { MAX_SLOTS ≤ vec_capacity rows.old }
+    ensures slots { rows.new.items ≡ map freed other.now }
+    ensures few { length other.now ≤ MAX_SLOTS }
+    ensures room { MAX_SLOTS ≤ vec_capacity rows.new }
 {
-    for slot in 0..other.slot_count() {
+    let count = other.slot_count();
+    rows.resize_with(count as usize, Row::new).unwrap();
+    for slot in 0..count {
         rows[slot as usize].free_as(other.row(slot));
     }
 }

@@ -9,12 +9,15 @@ use Rattle.pct_model.specs.declared.frame.Frame.{Frame}
 use Rattle.pct_model.specs.declared.limits.TheConstants.{MAX_FRAMES, MAX_HANDLERS}
 use Rattle.pct_model.specs.declared.point.PointKind.{PointKind}
 use Rattle.pct_model.specs.declared.point.PointKind.TheVariants.{Required, Optional}
+use Rattle.pct_model.specs.declared.process.Child.{Child}
 use Rattle.pct_model.specs.declared.schedule.Alt.{Alt}
 use Rattle.pct_model.specs.declared.schedule.Alt.TheVariants as alt
 use Rattle.pct_model.specs.declared.state.Cause.{Cause}
 use Rattle.pct_model.specs.declared.state.Cause.TheVariants as cause
 use Rattle.pct_model.specs.declared.state.FrameKind.{FrameKind}
 use Rattle.pct_model.specs.declared.state.FrameKind.TheVariants as kind
+use Rattle.pct_model.specs.declared.state.Phase.{Phase}
+use Rattle.pct_model.specs.declared.state.Phase.TheVariants.{Prepare, Parent, Child as ChildPhase}
 use Rattle.pct_model.specs.declared.state.Status.{Status}
 use Rattle.pct_model.specs.declared.state.Status.TheVariants as status
 use Rattle.pct_model.specs.declared.statement.Dest.{Dest}
@@ -30,6 +33,7 @@ use Rattle.pct_model.specs.CancelCalls.{requests, sets_state, sets_mode, tests_c
 use Rattle.pct_model.specs.ChoiceTable.{choices_at, offers}
 use Rattle.pct_model.specs.CleanupHandlers.{pushes, pops}
 use Rattle.pct_model.specs.CondCalls.{begins_wait, reacquires, leaves_wait, hands_on, signals_by, broadcasts}
+use Rattle.pct_model.specs.ForkCalls.{begins_fork, forks_by, returns_in_parent, returns_in_child, goes_on_forking, finds_no_child, begins_waitpid, reaps, reaps_if, waits_at}
 use Rattle.pct_model.specs.Jumps.{open_of}
 use Rattle.pct_model.specs.KeyCalls.{creates_key, fails_to_create_key, creates_key_by, deletes_key, sets_specific, gets_specific}
 use Rattle.pct_model.specs.Keys.{Key, key_place, key_with, left_keys, value_at}
@@ -39,14 +43,14 @@ use Rattle.pct_model.specs.OtherThreads.{Others, waits_with_another_mutex, exit_
 use Rattle.pct_model.specs.ProcessExit.{exits, returns_by, ends_now, goes_on_exiting, may_register, registers_if}
 use Rattle.pct_model.specs.ScriptStatements.{jumps, emits, sets, adds, calls, after_block, after_test, after_end}
 use Rattle.pct_model.specs.SemCalls.{begins_sem_wait, takes, posts}
-use Rattle.pct_model.specs.StopTable.{StopTest, first_stop, is_stack_full, has_begun_to_end, is_in_handler, is_allowed_asynchronously, is_built, stops_of, stop_at}
+use Rattle.pct_model.specs.StopTable.{StopTest, first_stop, is_stack_full, has_begun_to_end, is_in_handler, is_allowed_asynchronously, is_unbuilt, stops_of, stop_at}
 use Rattle.pct_model.specs.ThreadCalls.{creates, fails_to_create, creates_by, begins_join, ends_join, joins_at, detaches, gets_self}
 use Rattle.pct_model.specs.ThreadEnds.{end_value, ends_by_exit, ends_thread, calls_destructor, due_keys, goes_on_ending}
 use Rattle.pct_model.specs.Transitions.{goes_on, acts}
 use Rattle.pct_model.specs.TransitionTable.{ends_block, stops_or, runs, transition_at, acts_or}
 use Rattle.pct_model.specs.World.{Thread, SharedState, value_of}
 use Rattle.pct_transition_cases.proofs.OfferedChoices.{is_acting, goes_at, Offered, offered_alive, may_go_on, act_enabled, heir_among, picked_among, id_among, key_among, left_among, offered_of, free_to_lock}
-use Rattle.pct_transition_cases.proofs.TransitionCases.{past_nop, past_if, past_while, past_else, past_end, Returns, by_return, by_end, TransitionCase, rests, stopped, jumped, emitted, variable_set, variable_added, function_called, main_returned, start_returned, call_left, handler_left, exit_function_left, thread_made, thread_not_made, join_begun, join_ended, thread_detached, self_got, request_sent, state_set, mode_set, cancel_tested, point_begun, point_done, point_passed, canceled, canceled_at_point, canceled_in_join, canceled_in_sem_wait, mutex_locked, mutex_unlocked, wait_begun, wait_ended, canceled_in_wait, canceled_after_wait, signal_handed_on, ended_in_wait, signal_sent, signal_lost, broadcast_sent, sem_wait_begun, sem_taken, sem_posted, key_made, key_not_made, key_deleted, specific_set, specific_got, handler_pushed, handler_popped, handler_called, exit_called, handler_run, destructor_called, pass_begun, thread_ended, thread_ended_with_keys, last_ended, last_ended_with_keys, exit_registered, exit_not_registered, process_exited, process_ended_now, exit_function_called, process_ended}
+use Rattle.pct_transition_cases.proofs.TransitionCases.{past_nop, past_if, past_while, past_else, past_end, Returns, by_return, by_end, TransitionCase, rests, stopped, jumped, emitted, variable_set, variable_added, function_called, main_returned, start_returned, call_left, handler_left, exit_function_left, thread_made, thread_not_made, join_begun, join_ended, thread_detached, self_got, request_sent, state_set, mode_set, cancel_tested, point_begun, point_done, point_passed, canceled, canceled_at_point, canceled_in_join, canceled_in_sem_wait, canceled_in_waitpid, mutex_locked, mutex_unlocked, wait_begun, wait_ended, canceled_in_wait, canceled_after_wait, signal_handed_on, ended_in_wait, signal_sent, signal_lost, broadcast_sent, sem_wait_begun, sem_taken, sem_posted, fork_begun, process_forked, process_not_forked, fork_failed, fork_returned, waitpid_begun, child_reaped, no_child_found, child_lost, key_made, key_not_made, key_deleted, specific_set, specific_got, handler_pushed, handler_popped, handler_called, exit_called, handler_run, destructor_called, pass_begun, thread_ended, thread_ended_with_keys, last_ended, last_ended_with_keys, exit_registered, exit_not_registered, process_exited, process_ended_now, exit_function_called, process_ended}
 
 -- ---- stops
 
@@ -60,15 +64,16 @@ no_stop (test ∷ tests) none = by_test test.0 refl none (no_stop tests)
     by_test true is some later = absurd (none-some test.1 (sym some))
     by_test false is none later = ap (λ (b : Bool). b || list_any (λ (s : StopTest). s.0) tests) is ∙ later none
 
--- where a statement does not stop, it may be called with the cancelability of the thread, and none of its own stops applies
+-- where a statement does not stop, it is implemented, it may be called with the cancelability of the thread, and none of its own stops applies
 no_stops : (body : List Stmt) (shared : SharedState) (t : Thread) (others : Others) (frame : Frame) (s : Stmt) → stop_at body shared t others frame s ≡ None
-    → (is_asynchronous t.state t.mode && not (is_allowed_asynchronously s) ≡ false) × (list_any (λ (test : StopTest). test.0) (stops_of body shared t others frame s) ≡ false)
+    → (is_unbuilt others s ≡ false) × ((is_asynchronous t.state t.mode && not (is_allowed_asynchronously s) ≡ false) × (list_any (λ (test : StopTest). test.0) (stops_of body shared t others frame s) ≡ false))
 unfolding stop_at
 no_stops body shared t others frame s none =
     let own : Bool = list_any (λ (test : StopTest). test.0) (stops_of body shared t others frame s) in
     let called : Bool = is_asynchronous t.state t.mode && not (is_allowed_asynchronously s) in
-    let all : (not (is_built s) || (called || own)) ≡ false = no_stop ((not (is_built s), Unbuilt) ∷ (called, AsyncCall) ∷ stops_of body shared t others frame s) none in
-    or_parts called own (or_parts (not (is_built s)) (called || own) all).1
+    let all : (is_unbuilt others s || (called || own)) ≡ false = no_stop ((is_unbuilt others s, Unbuilt) ∷ (called, AsyncCall) ∷ stops_of body shared t others frame s) none in
+    let parts : (is_unbuilt others s ≡ false) × ((called || own) ≡ false) = or_parts (is_unbuilt others s) (called || own) all in
+    (parts.0, or_parts called own parts.1)
 
 -- a test that stands alone
 alone : (b : Bool) → (b || false) ≡ false → b ≡ false
@@ -173,6 +178,11 @@ module _ (passes : ℕ) (body : List Stmt) (shared : SharedState) (t : Thread) (
   register_case frame result f true is = exit_registered frame result f is
   register_case frame result f false is = exit_not_registered frame result f
 
+  waitpid_case : (frame : Frame) (result d : Dest) (pid : Operand) (found : Option Child) → Case (StatementIn frame (statement.WaitPid result pid d)) status.Running (begins_waitpid found (value frame pid) (suc frame.pc) result)
+  unfolding finds_no_child
+  waitpid_case frame result d pid (Some child) = waitpid_begun frame result d pid
+  waitpid_case frame result d pid None = no_child_found frame result d pid
+
   pop_by : (frame : Frame) (v : Operand) (f a : ℕ) (handlers : List (ℕ × ℕ)) → t.handlers ≡ (f, a) ∷ handlers → (drop : Bool) → not drop && is_stack_full t.frames ≡ false
       → Case (StatementIn frame (statement.Pop v)) status.Running (cond drop (goes_on (suc frame.pc) (action.PopHandler ∷ []) (what.Popped f a false ∷ [])) (goes_on (suc frame.pc) (action.PopHandler ∷ action.Call f a kind.PopHandler ∷ []) (what.Popped f a true ∷ [])))
   pop_by frame v f a handlers is true none = handler_popped frame v f a handlers is
@@ -186,7 +196,7 @@ module _ (passes : ℕ) (body : List Stmt) (shared : SharedState) (t : Thread) (
 
   running_case : (choice : Alt) (frame : Frame) (s : Stmt) → Legal choice (StatementIn frame s) status.Running → stop_at body shared t others frame s ≡ None
       → Case (StatementIn frame s) status.Running (runs passes body shared t others choice frame s)
-  unfolding runs emits sets adds jumps calls gets_self ends_by_exit pushes sets_state sets_mode tests_cancel deletes_key sets_specific gets_specific locks unlocks begins_wait broadcasts begins_sem_wait posts exits ends_now stops_of
+  unfolding runs emits sets adds jumps calls gets_self ends_by_exit pushes sets_state sets_mode tests_cancel deletes_key sets_specific gets_specific locks unlocks begins_wait broadcasts begins_sem_wait posts begins_fork exits ends_now stops_of
   running_case choice frame (statement.Emit v) may none = emitted frame v
   running_case choice frame (statement.Set d v) may none = variable_set frame d v
   running_case choice frame (statement.Add d v) may none = variable_added frame d v
@@ -195,36 +205,39 @@ module _ (passes : ℕ) (body : List Stmt) (shared : SharedState) (t : Thread) (
   running_case choice frame statement.Else may none = jumped frame statement.Else (after_block body frame.pc) past_else
   running_case choice frame (statement.While v) may none = jumped frame (statement.While v) (after_test body frame.pc (value frame v)) (past_while v)
   running_case choice frame statement.End may none = end_case frame (open_of body frame.pc) refl
-  running_case choice frame (statement.Do f v) may none = function_called frame f v (below_limit (length t.frames) MAX_FRAMES (alone (is_stack_full t.frames) (no_stops body shared t others frame (statement.Do f v) none).1))
+  running_case choice frame (statement.Do f v) may none = function_called frame f v (below_limit (length t.frames) MAX_FRAMES (alone (is_stack_full t.frames) (no_stops body shared t others frame (statement.Do f v) none).1.1))
   running_case choice frame (statement.Return v) may none = return_case frame (statement.Return v) (value frame v) (by_return v) frame.kind refl
   running_case choice frame (statement.Create result id f v detached) may none = create_case choice frame result id f v detached (may_be may)
-  running_case choice frame (statement.Join id d) may none = join_case frame id d (others.named (value frame id)) refl (no_stops body shared t others frame (statement.Join id d) none).1
-  running_case choice frame (statement.Detach id) may none = detach_case frame id (others.named (value frame id)) refl (no_stops body shared t others frame (statement.Detach id) none).1
-  running_case choice frame (statement.CancelThread id) may none = request_case frame id (others.named (value frame id)) refl (no_stops body shared t others frame (statement.CancelThread id) none).1
+  running_case choice frame (statement.Join id d) may none = join_case frame id d (others.named (value frame id)) refl (no_stops body shared t others frame (statement.Join id d) none).1.1
+  running_case choice frame (statement.Detach id) may none = detach_case frame id (others.named (value frame id)) refl (no_stops body shared t others frame (statement.Detach id) none).1.1
+  running_case choice frame (statement.CancelThread id) may none = request_case frame id (others.named (value frame id)) refl (no_stops body shared t others frame (statement.CancelThread id) none).1.1
   running_case choice frame (statement.SelfId d) may none = self_got frame d
   running_case choice frame statement.TestCancel may none = cancel_tested frame
-  running_case choice frame (statement.SetState enable old) may none = state_set frame enable old (alone (enable && is_in_handler t.frames) (no_stops body shared t others frame (statement.SetState enable old) none).1)
+  running_case choice frame (statement.SetState enable old) may none = state_set frame enable old (alone (enable && is_in_handler t.frames) (no_stops body shared t others frame (statement.SetState enable old) none).1.1)
   running_case choice frame (statement.SetMode asynchronous old) may none = mode_set frame asynchronous old
   running_case choice frame (statement.PointCall index) may none = point_case frame index (point_kind index) refl
   running_case choice frame (statement.KeyCreate result key destructor) may none = create_key_case choice frame result key destructor (may_be may)
-  running_case choice frame (statement.KeyDelete key) may none = key_deleted frame key (alone (is_none (key_with (value frame key) shared.keys)) (no_stops body shared t others frame (statement.KeyDelete key) none).1)
-  running_case choice frame (statement.SetSpecific key v) may none = specific_set frame key v (alone (is_none (key_with (value frame key) shared.keys)) (no_stops body shared t others frame (statement.SetSpecific key v) none).1)
+  running_case choice frame (statement.KeyDelete key) may none = key_deleted frame key (alone (is_none (key_with (value frame key) shared.keys)) (no_stops body shared t others frame (statement.KeyDelete key) none).1.1)
+  running_case choice frame (statement.SetSpecific key v) may none = specific_set frame key v (alone (is_none (key_with (value frame key) shared.keys)) (no_stops body shared t others frame (statement.SetSpecific key v) none).1.1)
   running_case choice frame (statement.GetSpecific d key) may none = specific_got frame d key
-  running_case choice frame (statement.ThreadExit v) may none = exit_called frame v (alone (has_begun_to_end t.reason) (no_stops body shared t others frame (statement.ThreadExit v) none).1)
-  running_case choice frame (statement.Push f v) may none = handler_pushed frame f v (below_limit (length t.handlers) MAX_HANDLERS (alone (not (nat_lt (length t.handlers) MAX_HANDLERS)) (no_stops body shared t others frame (statement.Push f v) none).1))
-  running_case choice frame (statement.Pop v) may none = pop_case frame v t.handlers refl (alone (not (nat_eq (value frame v) 0) && is_stack_full t.frames) (no_stops body shared t others frame (statement.Pop v) none).1)
-  running_case choice frame (statement.Lock m) may none = mutex_locked frame m (λ known. free_to_lock shared t others choice frame m (no_stops body shared t others frame (statement.Lock m) none).0 (may known))
-  running_case choice frame (statement.Unlock m) may none = mutex_unlocked frame m (not-false (owns t.id m shared) (alone (not (owns t.id m shared)) (no_stops body shared t others frame (statement.Unlock m) none).1))
+  running_case choice frame (statement.ThreadExit v) may none = exit_called frame v (alone (has_begun_to_end t.reason) (no_stops body shared t others frame (statement.ThreadExit v) none).1.1)
+  running_case choice frame (statement.Push f v) may none = handler_pushed frame f v (below_limit (length t.handlers) MAX_HANDLERS (alone (not (nat_lt (length t.handlers) MAX_HANDLERS)) (no_stops body shared t others frame (statement.Push f v) none).1.1))
+  running_case choice frame (statement.Pop v) may none = pop_case frame v t.handlers refl (alone (not (nat_eq (value frame v) 0) && is_stack_full t.frames) (no_stops body shared t others frame (statement.Pop v) none).1.1)
+  running_case choice frame (statement.Lock m) may none = mutex_locked frame m (λ known. free_to_lock shared t others choice frame m (no_stops body shared t others frame (statement.Lock m) none).1.0 (may known))
+  running_case choice frame (statement.Unlock m) may none = mutex_unlocked frame m (not-false (owns t.id m shared) (alone (not (owns t.id m shared)) (no_stops body shared t others frame (statement.Unlock m) none).1.1))
   running_case choice frame (statement.CondWait c m) may none =
       let other : Bool = waits_with_another_mutex c m others in
-      let parts : (not (owns t.id m shared) ≡ false) × ((other || false) ≡ false) = or_parts (not (owns t.id m shared)) (other || false) (no_stops body shared t others frame (statement.CondWait c m) none).1 in
+      let parts : (not (owns t.id m shared) ≡ false) × ((other || false) ≡ false) = or_parts (not (owns t.id m shared)) (other || false) (no_stops body shared t others frame (statement.CondWait c m) none).1.1 in
       wait_begun frame c m (not-false (owns t.id m shared) parts.0) (alone other parts.1)
   running_case choice frame (statement.Signal c) may none = signal_case choice frame c (may_be may)
   running_case choice frame (statement.Broadcast c) may none = broadcast_sent frame c
   running_case choice frame (statement.SemWait sem) may none = sem_wait_begun frame sem
   running_case choice frame (statement.SemPost sem) may none = sem_posted frame sem
+  running_case choice frame (statement.Fork result child) may none =
+      fork_begun frame result child (alone (has_begun_to_end t.reason) (no_stops body shared t others frame (statement.Fork result child) none).1.1) (not-false others.is_last (no_stops body shared t others frame (statement.Fork result child) none).0)
+  running_case choice frame (statement.WaitPid result pid d) may none = waitpid_case frame result d pid (others.family.child (value frame pid))
   running_case choice frame (statement.AtExit result f) may none = register_case frame result f (may_register shared) refl
-  running_case choice frame (statement.ProcExit v) may none = process_exited frame v (alone (is_some shared.exit_value) (no_stops body shared t others frame (statement.ProcExit v) none).1)
+  running_case choice frame (statement.ProcExit v) may none = process_exited frame v (alone (is_some shared.exit_value) (no_stops body shared t others frame (statement.ProcExit v) none).1.1)
   running_case choice frame (statement.ProcExitNow v) may none = process_ended_now frame v
   running_case choice frame s may none = rests (StatementIn frame s) status.Running (λ known. refl)
 
@@ -258,6 +271,37 @@ module _ (passes : ℕ) (body : List Stmt) (shared : SharedState) (t : Thread) (
   reacquired_case c m cause.Canceled next free = ended_in_wait next c m free
   reacquired_case c m why (StatementIn frame (statement.CondWait cond mutex)) free = wait_ended frame cond mutex c m why refl free
   reacquired_case c m why next free = rests next (status.Reacquire c m why) (λ known. refl)
+
+  reaped_case : (frame : Frame) (result d : Dest) (operand : Operand) (pid : ℕ) (child : Child) → others.family.child pid ≡ Some child → (ended : Option ℕ) → child.ended ≡ ended
+      → Case (StatementIn frame (statement.WaitPid result operand d)) (status.InWaitPid pid) (reaps_if ended pid (suc frame.pc) result d)
+  unfolding reaps
+  reaped_case frame result d operand pid child is (Some n) ended = child_reaped frame result d operand pid n child is ended
+  reaped_case frame result d operand pid child is None ended = rests (StatementIn frame (statement.WaitPid result operand d)) (status.InWaitPid pid) (λ known. refl)
+
+  waited_case : (pid : ℕ) (found : Option Child) → others.family.child pid ≡ found → (next : NextStatement) → Case next (status.InWaitPid pid) (waits_at found pid next)
+  unfolding finds_no_child
+  waited_case pid (Some child) is (StatementIn frame (statement.WaitPid result operand d)) = reaped_case frame result d operand pid child is child.ended refl
+  waited_case pid None is (StatementIn frame (statement.WaitPid result operand d)) = child_lost frame result d operand pid
+  waited_case pid found is next = rests next (status.InWaitPid pid) (λ known. refl)
+
+  -- ---- threads in fork
+
+  forked_case : (index length pid : ℕ) (next : NextStatement) (new_pid : Option ℕ) → others.family.new_pid ≡ new_pid → Case next (status.Forking Prepare index length pid) (forks_by new_pid)
+  unfolding forks_by
+  forked_case index length pid next (Some new) is = process_forked next index length pid new is
+  forked_case index length pid next None is = process_not_forked next index length pid
+
+  parent_case : (frame : Frame) (result child : Dest) (index length pid : ℕ) (none : Bool)
+      → Case (StatementIn frame (statement.Fork result child)) (status.Forking Parent index length pid) (cond none (goes_on (suc frame.pc) (action.Write result 1 ∷ []) []) (goes_on (suc frame.pc) (action.Write result 0 ∷ action.Write child pid ∷ []) []))
+  parent_case frame result child index length pid true = fork_failed frame result child index length pid
+  parent_case frame result child index length pid false = fork_returned frame result child Parent index length pid pid
+
+  forking_case : (phase : Phase) (index length pid : ℕ) (next : NextStatement) → Case next (status.Forking phase index length pid) (goes_on_forking phase pid others.family.new_pid next)
+  unfolding returns_in_parent returns_in_child
+  forking_case Prepare index length pid next = forked_case index length pid next others.family.new_pid refl
+  forking_case Parent index length pid (StatementIn frame (statement.Fork result child)) = parent_case frame result child index length pid (nat_eq pid 0)
+  forking_case ChildPhase index length pid (StatementIn frame (statement.Fork result child)) = fork_returned frame result child ChildPhase index length pid 0
+  forking_case phase index length pid next = rests next (status.Forking phase index length pid) (λ known. refl)
 
   -- ---- threads that end
 
@@ -319,8 +363,10 @@ module _ (passes : ℕ) (body : List Stmt) (shared : SharedState) (t : Thread) (
   going_case choice next (status.AtPoint index) may = point_passed_case index next
   going_case choice next (status.Joining id) may = join_ended_case id next (others.named id) refl
   going_case choice next (status.InSem sem) may = taken_case sem next (goes choice next (status.InSem sem) may)
+  going_case choice next (status.InWaitPid pid) may = waited_case pid (others.family.child pid) refl next
   going_case choice next (status.Reacquire c m why) may = reacquired_case c m why next (goes choice next (status.Reacquire c m why) may)
   going_case choice next status.Ending may = ending_case choice next (λ known. (may known).0) t.handlers refl
+  going_case choice next (status.Forking phase index length pid) may = forking_case phase index length pid next
   going_case choice next status.Exiting may = exit_case next shared.exit_functions refl shared.exit_value
   going_case choice next s may = rests next s (λ known. offered_alive (offered_of shared t others choice next s (may known).0))
 
@@ -336,6 +382,7 @@ module _ (passes : ℕ) (body : List Stmt) (shared : SharedState) (t : Thread) (
   acting_case n next (status.AtPoint index) may = canceled_at_point next index (λ known. act_enabled (may known))
   acting_case n next (status.Joining id) may = canceled_in_join next id (λ known. act_enabled (may known))
   acting_case n next (status.InSem sem) may = canceled_in_sem_wait next sem (λ known. act_enabled (may known))
+  acting_case n next (status.InWaitPid pid) may = canceled_in_waitpid next pid (λ known. act_enabled (may known))
   acting_case n next (status.Waiting c m) may = canceled_in_wait next c m (λ known. act_enabled (may known))
   acting_case n next (status.Reacquire c m cause.Signalled) may = handing_case n next c m may (nat_eq n 0) refl
   acting_case n next (status.Reacquire c m cause.Broadcast) may = canceled_after_wait next c m cause.Broadcast refl (λ known. act_enabled (may known))

@@ -20,6 +20,7 @@ use Rattle.pct_model.specs.Cancelability.{is_deliverable, is_asynchronous}
 use Rattle.pct_model.specs.CancelCalls.{called_kind, is_required, is_optional, may_return}
 use Rattle.pct_model.specs.ChoiceTable.{ChoiceRow, first_row, go_if, act_if, new_or_go, dtor_or_go, pick_or_go, hand_on_or_act, unblocked_acts, is_create, is_key_create, is_signal, waiters_to_signal, running_rows, running_choices, ending_choices, choices_at, same_choice, offers}
 use Rattle.pct_model.specs.Keys.{new_keys, left_keys}
+use Rattle.pct_model.specs.OtherProcesses.{is_running_child}
 use Rattle.pct_model.specs.MutexCalls.{is_free_mutex}
 use Rattle.pct_model.specs.NextStatement.{NextStatement, StatementIn}
 use Rattle.pct_model.specs.OtherThreads.{Others, is_ended_thread}
@@ -33,11 +34,12 @@ abbrev pub is_acting : Alt → Bool
 is_acting (alt.Act n) = true
 is_acting _ = false
 
--- a thread with this status may go on, as far as the status tells: what it waits for has occurred
+-- a thread with this status may go on: what the status waits for, if it waits, has occurred
 abbrev pub goes_at : SharedState → Others → Status → Bool
 goes_at shared others (status.AtPoint index) = may_return index
 goes_at shared others (status.Joining id) = is_ended_thread id others
 goes_at shared others (status.InSem sem) = nat_lt 0 (slice_index shared.counts sem)
+goes_at shared others (status.InWaitPid pid) = not (is_running_child pid others.family)
 goes_at shared others (status.Waiting c m) = false
 goes_at shared others (status.Reacquire c m why) = is_free_mutex m shared
 goes_at shared others (status.Ended v) = false
@@ -240,12 +242,15 @@ module _ (shared : SharedState) (t : Thread) (others : Others) (choice : Alt) wh
   offered_of next (status.AtPoint index) offered = suspended_offered next (status.AtPoint index) refl offered
   offered_of next (status.Joining id) offered = suspended_offered next (status.Joining id) refl offered
   offered_of next (status.InSem sem) offered = suspended_offered next (status.InSem sem) refl offered
+  offered_of next (status.InWaitPid pid) offered = suspended_offered next (status.InWaitPid pid) refl offered
   offered_of next (status.Waiting c m) offered = suspended_offered next (status.Waiting c m) refl offered
   offered_of next (status.Reacquire c m why) offered =
       let delivered : Bool = is_deliverable t.state t.pending in
       go_or_has (Offered shared t others next (status.Reacquire c m why)) choice (is_free_mutex m shared) (cond delivered (unblocked_acts why (others.waiters c)) [])
       (may_go next (status.Reacquire c m why)) (unblocked_offered next c m why delivered (deliverable_enabled t.state t.pending)) offered
   offered_of next status.Ending offered = ending_offered next t.handlers refl offered
+  offered_of next (status.Forking phase index length pid) offered =
+      each_has (Offered shared t others next (status.Forking phase index length pid)) choice (alt.Go ∷ []) (may_go next (status.Forking phase index length pid) refl, tt) offered
   offered_of next status.Exiting offered = each_has (Offered shared t others next status.Exiting) choice (alt.Go ∷ []) (may_go next status.Exiting refl, tt) offered
   offered_of next _ offered = absurd (false≢true offered)
 

@@ -9,9 +9,12 @@ use Rattle.pct_model.specs.declared.event.What.TheVariants as what
 use Rattle.pct_model.specs.declared.frame.Frame.{Frame}
 use Rattle.pct_model.specs.declared.limits.TheConstants.{MAX_FRAMES, MAX_HANDLERS}
 use Rattle.pct_model.specs.declared.point.PointKind.TheVariants.{Required}
+use Rattle.pct_model.specs.declared.process.Child.{Child}
 use Rattle.pct_model.specs.declared.state.Cause.{Cause}
 use Rattle.pct_model.specs.declared.state.Cause.TheVariants as cause
 use Rattle.pct_model.specs.declared.state.FrameKind.TheVariants as kind
+use Rattle.pct_model.specs.declared.state.Phase.{Phase}
+use Rattle.pct_model.specs.declared.state.Phase.TheVariants.{Prepare, Parent}
 use Rattle.pct_model.specs.declared.state.Reason.TheVariants as reason
 use Rattle.pct_model.specs.declared.state.State.TheVariants.{Enable}
 use Rattle.pct_model.specs.declared.state.Status.{Status}
@@ -25,6 +28,7 @@ use Rattle.pct_model.specs.declared.transition.Action.TheVariants as action
 use Rattle.pct_model.specs.declared.transition.Transition.{Transition}
 use Rattle.pct_model.specs.CancelCalls.{state_number, mode_number, state_if, mode_if, testcancel_point, point_kind}
 use Rattle.pct_model.specs.CondCalls.{cond_wait_point}
+use Rattle.pct_model.specs.ForkCalls.{waitpid_point}
 use Rattle.pct_model.specs.Jumps.{open_of}
 use Rattle.pct_model.specs.Kept.{has_left_wait}
 use Rattle.pct_model.specs.Keys.{Key, key_place, key_with, new_keys, left_keys, value_at}
@@ -121,6 +125,8 @@ module _ (passes : ℕ) (body : List Stmt) (shared : SharedState) (t : Thread) (
         → TransitionCase next (status.Joining id) (acts (action.BeginEnd reason.Canceled ∷ []) (what.EndingCanceled ∷ []))
     canceled_in_sem_wait : (next : NextStatement) (sem : ℕ) → (offered ≡ true → t.state ≡ Enable)
         → TransitionCase next (status.InSem sem) (acts (action.BeginEnd reason.Canceled ∷ []) (what.EndingCanceled ∷ []))
+    canceled_in_waitpid : (next : NextStatement) (pid : ℕ) → (offered ≡ true → t.state ≡ Enable)
+        → TransitionCase next (status.InWaitPid pid) (acts (action.BeginEnd reason.Canceled ∷ []) (what.EndingCanceled ∷ []))
     -- mutexes
     mutex_locked : (frame : Frame) (m : ℕ) → (offered ≡ true → is_free_mutex m shared ≡ true)
         → TransitionCase (StatementIn frame (statement.Lock m)) status.Running (goes_on (suc frame.pc) (action.OwnMutex m t.id ∷ []) (what.Acquired m ∷ []))
@@ -151,6 +157,25 @@ module _ (passes : ℕ) (body : List Stmt) (shared : SharedState) (t : Thread) (
         → TransitionCase (StatementIn frame (statement.SemWait s)) (status.InSem sem) (goes_on (suc frame.pc) (action.SetCount sem (slice_index shared.counts sem - 1) ∷ []) (what.Taken sem ∷ []))
     sem_posted : (frame : Frame) (sem : ℕ)
         → TransitionCase (StatementIn frame (statement.SemPost sem)) status.Running (goes_on (suc frame.pc) (action.SetCount sem (suc (slice_index shared.counts sem) % 4294967296) ∷ []) (what.Posted sem ∷ []))
+    -- processes: the three steps of fork, and waitpid
+    fork_begun : (frame : Frame) (result child : Dest) → has_begun_to_end t.reason ≡ false → others.is_last ≡ true
+        → TransitionCase (StatementIn frame (statement.Fork result child)) status.Running (acts (action.EnterFork Prepare 0 ∷ []) [])
+    process_forked : (next : NextStatement) (index length pid new : ℕ) → others.family.new_pid ≡ Some new
+        → TransitionCase next (status.Forking Prepare index length pid) (acts (action.EnterFork Parent new ∷ action.MakeChild new ∷ []) (what.Forked new ∷ []))
+    process_not_forked : (next : NextStatement) (index length pid : ℕ)
+        → TransitionCase next (status.Forking Prepare index length pid) (acts (action.EnterFork Parent 0 ∷ []) (what.Answer caller.Fork 1 ∷ []))
+    fork_failed : (frame : Frame) (result child : Dest) (index length pid : ℕ)
+        → TransitionCase (StatementIn frame (statement.Fork result child)) (status.Forking Parent index length pid) (goes_on (suc frame.pc) (action.Write result 1 ∷ []) [])
+    fork_returned : (frame : Frame) (result child : Dest) (phase : Phase) (index length pid value : ℕ)
+        → TransitionCase (StatementIn frame (statement.Fork result child)) (status.Forking phase index length pid) (goes_on (suc frame.pc) (action.Write result 0 ∷ action.Write child value ∷ []) [])
+    waitpid_begun : (frame : Frame) (result d : Dest) (pid : Operand)
+        → TransitionCase (StatementIn frame (statement.WaitPid result pid d)) status.Running (acts (action.BeginWaitPid (value frame pid) ∷ []) (what.Called waitpid_point ∷ []))
+    child_reaped : (frame : Frame) (result d : Dest) (operand : Operand) (pid n : ℕ) (child : Child) → others.family.child pid ≡ Some child → child.ended ≡ Some n
+        → TransitionCase (StatementIn frame (statement.WaitPid result operand d)) (status.InWaitPid pid) (goes_on (suc frame.pc) (action.Reap pid ∷ action.Write result 0 ∷ action.Write d n ∷ []) (what.Reaped pid n ∷ []))
+    no_child_found : (frame : Frame) (result d : Dest) (operand : Operand)
+        → TransitionCase (StatementIn frame (statement.WaitPid result operand d)) status.Running (goes_on (suc frame.pc) (action.Write result 3 ∷ []) (what.Answer caller.WaitPid 3 ∷ []))
+    child_lost : (frame : Frame) (result d : Dest) (operand : Operand) (pid : ℕ)
+        → TransitionCase (StatementIn frame (statement.WaitPid result operand d)) (status.InWaitPid pid) (goes_on (suc frame.pc) (action.Write result 3 ∷ []) (what.Answer caller.WaitPid 3 ∷ []))
     -- keys
     key_made : (frame : Frame) (result key : Dest) (destructor : Option ℕ) (k : ℕ) → (offered ≡ true → list_any (nat_eq k) (new_keys shared.keys) ≡ true)
         → TransitionCase (StatementIn frame (statement.KeyCreate result key destructor)) status.Running (goes_on (suc frame.pc) (action.MakeKey k destructor ∷ action.Write result 0 ∷ action.Write key k ∷ []) (what.KeyMade k ∷ []))

@@ -32,6 +32,7 @@ unfolding called_kind
 call_is_built (statement.Join id d) kind is = refl
 call_is_built (statement.CondWait c m) kind is = refl
 call_is_built (statement.SemWait s) kind is = refl
+call_is_built (statement.WaitPid result pid value) kind is = refl
 call_is_built statement.TestCancel kind is = refl
 call_is_built (statement.PointCall index) kind is = refl
 call_is_built s kind is = absurd (none-some kind is)

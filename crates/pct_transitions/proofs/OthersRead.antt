@@ -10,6 +10,7 @@ use Rattle.std.proofs.lemmas.List.Elements.{filter_passes}
 use Rattle.std.proofs.lemmas.List.Folds.{list_any-append, list_any_at}
 use Rattle.std.proofs.lemmas.Option.{none-some, slice_get-get_or, slice_get_past, same_Some}
 use Rattle.pct_model.specs.Keys.{KeyValues}
+use Rattle.pct_model.specs.OtherProcesses.{Family}
 use Rattle.pct_model.specs.OtherThreads.{Others, no_live_thread, is_detached_thread, exit_value_of, exit_value_with, is_joining}
 use Rattle.pct_model.specs.ThreadSlots.{slot_of}
 use Rattle.pct_model.specs.World.{Thread}
@@ -20,8 +21,8 @@ use Rattle.pct_threads.specs.Slots.{Held, Slot, unused, is_occupied, has_id, pla
 use Rattle.pct_threads.specs.Tables.{slot_at, held_at, place_at, thread_at, is_free_at, next_id_at}
 use Rattle.pct_threads.proofs.TableLemmas.{within-free}
 use Rattle.pct_keys.specs.Tables.{Table, row_at}
-use Rattle.pct_engine_laws.specs.Seen.{SeenSlot}
-use Rattle.pct_engine_laws.specs.SeenSteps.{threads_on, is_empty, new_id_on, new_ids_from, others_in}
+use Rattle.pct_engine_laws.specs.Seen.{SeenSlot, threads_on}
+use Rattle.pct_engine_laws.specs.SeenSteps.{is_empty, new_id_on, new_ids_from, others_in}
 use Rattle.pct_engine_laws.proofs.ListFacts.{all_none}
 use Rattle.pct_process.specs.ThreadViews.{thread_of, threads_of, slot_view, with_specific}
 use Rattle.pct_process.specs.ProcessViews.{slots_of, with_rows}
@@ -125,7 +126,7 @@ module _ (keys : Table) (k : ℕ) where
   ended_here None kept is = absurd (none-some kept is)
   ended_here (Some h) kept is = sym (ap (λ (r : Kept). exit_value_of r.status) (same_Some h.thread kept is))
 
-module _ (keys : Table) (threads : List Slot) (fit : length keys.rows ≡ length threads) (tid : ℕ) (others : Others) (sees : others ≡ others_in (length (slots_of keys.rows threads)) (slots_of keys.rows threads) tid) where
+module _ (keys : Table) (threads : List Slot) (fit : length keys.rows ≡ length threads) (tid : ℕ) (family : Family) (others : Others) (sees : others ≡ others_in (length (slots_of keys.rows threads)) family (slots_of keys.rows threads) tid) where
   -- the thread with an id is that on its slot
   module _ (id k : ℕ) (is : k ≡ slot_of (length threads) id) (inside : k < length threads) where
     there : has_id id (slot_at threads k) ≡ true → others.named id ≡ option_map (own keys threads fit k) (held_at threads k)
@@ -173,3 +174,8 @@ module _ (keys : Table) (threads : List Slot) (fit : length keys.rows ≡ length
       ∙ ids_on_rows (length threads) 0 keys.rows (map slot_view threads)
       ∙ ap (λ (n : ℕ). new_ids_from n 0 (slots_of keys.rows threads)) (sym (length-slots_of keys threads fit))
       ∙ ap (λ (o : Others). o.new_ids) (sym sees)
+
+-- the other processes are those of the family
+pub family_read : (slots : ℕ) (family : Family) (rows : List SeenSlot) (tid : ℕ) (others : Others) → others ≡ others_in slots family rows tid → others.family ≡ family
+unfolding others_in
+family_read slots family rows tid others sees = ap (λ (o : Others). o.family) sees

@@ -13,6 +13,7 @@ use Rattle.pct_model.specs.declared.state.Status.{Status}
 use Rattle.pct_model.specs.declared.state.Status.TheVariants as status
 use Rattle.pct_model.specs.CondCalls.{is_waiting_on}
 use Rattle.pct_model.specs.Keys.{KeyValues}
+use Rattle.pct_model.specs.OtherProcesses.{Family}
 use Rattle.pct_model.specs.OtherThreads.{Waiter, Others, waits_with_another_mutex, waiter_by, waiters_among}
 use Rattle.pct_model.specs.World.{Thread}
 use Rattle.pct_set.specs.Slots.{slots_where}
@@ -20,7 +21,8 @@ use Rattle.pct_threads.specs.declared.record.Thread.{Thread as Kept}
 use Rattle.pct_threads.specs.Slots.{Held, Slot, unused}
 use Rattle.pct_threads.specs.Tables.{slot_at, held_at, is_occupied_at}
 use Rattle.pct_keys.specs.Tables.{Table}
-use Rattle.pct_engine_laws.specs.SeenSteps.{threads_on, others_in}
+use Rattle.pct_engine_laws.specs.Seen.{threads_on}
+use Rattle.pct_engine_laws.specs.SeenSteps.{others_in}
 use Rattle.pct_engine_laws.proofs.ListFacts.{any_agree, any-flat_map, map-filter}
 use Rattle.pct_process.specs.ThreadViews.{threads_of, with_specific}
 use Rattle.pct_process.specs.ProcessViews.{slots_of}
@@ -100,7 +102,7 @@ module _ (c : ℕ) where
 
 -- ---- what a thread sees
 
-module _ (keys : Table) (threads : List Slot) (fit : length keys.rows ≡ length threads) (tid : ℕ) (others : Others) (sees : others ≡ others_in (length (slots_of keys.rows threads)) (slots_of keys.rows threads) tid) (c : ℕ) where
+module _ (keys : Table) (threads : List Slot) (fit : length keys.rows ≡ length threads) (tid : ℕ) (family : Family) (others : Others) (sees : others ≡ others_in (length (slots_of keys.rows threads)) family (slots_of keys.rows threads) tid) (c : ℕ) where
   -- a thread waits with another mutex
   pub another_mutex_read : (m : ℕ) → list_any (λ s. any_on (λ t. is_waiting_with_another c m t.status) s.here) threads ≡ waits_with_another_mutex c m others
   unfolding others_in

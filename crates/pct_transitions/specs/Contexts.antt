@@ -4,6 +4,7 @@ use Rattle.pct_model.specs.OtherThreads.{Others}
 use Rattle.pct_model.specs.World.{Thread, SharedState}
 use Rattle.pct_engine_laws.specs.Seen.{SeenSlot}
 use Rattle.pct_engine_laws.specs.SeenSteps.{others_in}
+use Rattle.pct_process.specs.FamilyViews.{other_processes}
 use Rattle.pct_process.specs.ProcessViews.{slots_of}
 use Rattle.pct_transitions.specs.declared.context.Context.{Context}
 use Rattle.pct_transitions.specs.Positions.{AreShared, HasRow, IsDecoded, IsPosition}
@@ -14,7 +15,7 @@ slots_in context = slots_of context.position.keys.now.rows context.threads.now
 
 -- this is what the thread sees of the others
 abbrev pub SeesOthers : Context → Others → Type 0
-SeesOthers context others = others ≡ others_in (length (slots_in context)) (slots_in context) context.position.id
+SeesOthers context others = others ≡ others_in (length (slots_in context)) (other_processes context.family) (slots_in context) context.position.id
 
 -- this is the context of the thread, which shares this state with the threads of its process, and sees this of them
 pub record IsContext (shared : SharedState) (t : Thread) (others : Others) (context : Context) : Type 0 where

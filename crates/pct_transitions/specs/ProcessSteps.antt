@@ -5,13 +5,14 @@ use Rattle.pct_model.specs.declared.schedule.Alt.{Alt}
 use Rattle.pct_model.specs.declared.schedule.Config.{Config}
 use Rattle.pct_model.specs.declared.transition.Transition.{Transition}
 use Rattle.pct_model.specs.ChoiceTable.{offers}
+use Rattle.pct_model.specs.OtherProcesses.{Family}
 use Rattle.pct_model.specs.World.{Thread}
 use Rattle.pct_engine_laws.specs.Seen.{SeenProcess}
 use Rattle.pct_engine_laws.specs.SeenSteps.{choices_in, transition_in}
 use Rattle.pct_process.specs.ProcessViews.{ProcessData, slot_on}
 use Rattle.pct_transitions.specs.Numbers.{NextKeysFit}
 
--- a process with this data: what its threads do does not depend on its id, its parent and its end
+-- a process with this data: what its threads do depends on its id, its parent and its end only by the other processes that they see
 abbrev pub with_data : ProcessData → SeenProcess
 with_data d = record { pid = 1; parent = 0; restricted = false; ended = None; slots = d.slots; shared = d.shared }
 
@@ -20,7 +21,7 @@ pub record NewNumbersFit (d : ProcessData) : Type 0 where
   pub ids : (k : ℕ) → k < length d.slots → 1 + k + length d.slots * (slot_on d.slots k).made < 2 ^ 32
   pub keys_fit : NextKeysFit d.shared.keys
 
--- a choice of a thread is offered or not, and if it is, the thread makes this transition
-pub record Takes (script : Script) (config : Config) (d : ProcessData) (t : Thread) (choice : Alt) (offered : Bool) (o : Transition) : Type 0 where
-  pub offered_is : offers (choices_in script (length d.slots) (with_data d) t) choice ≡ offered
-  pub taken : offered ≡ true → o ≡ transition_in script (length d.slots) config.passes (with_data d) t choice
+-- a choice of a thread, which sees these other processes, is offered or not, and if it is, the thread makes this transition
+pub record Takes (script : Script) (config : Config) (family : Family) (d : ProcessData) (t : Thread) (choice : Alt) (offered : Bool) (o : Transition) : Type 0 where
+  pub offered_is : offers (choices_in script (length d.slots) family (with_data d) t) choice ≡ offered
+  pub taken : offered ≡ true → o ≡ transition_in script (length d.slots) config.passes family (with_data d) t choice

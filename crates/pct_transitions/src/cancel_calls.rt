@@ -16,7 +16,8 @@ use crate::transitions::{acts, goes_on, no_change};
 use pct_cancel::point_at;
 use pct_model::{
     Action, COND_WAIT_POINT, Cause, Dest, JOIN_POINT, Mode, PointKind, PointWait, Reason,
-    SEM_WAIT_POINT, State, Status, Stmt, TESTCANCEL_POINT, Transition, UpToThree, What,
+    SEM_WAIT_POINT, State, Status, Stmt, TESTCANCEL_POINT, Transition, UpToThree, WAITPID_POINT,
+    What,
 };
 
 // ---- pthread_cancel
@@ -145,6 +146,7 @@ pub(crate) fn called_kind(statement: &Stmt) -> Option<PointKind>
         Stmt::Join { .. } => point_kind(JOIN_POINT),
         Stmt::CondWait { .. } => point_kind(COND_WAIT_POINT),
         Stmt::SemWait(_) => point_kind(SEM_WAIT_POINT),
+        Stmt::WaitPid { .. } => point_kind(WAITPID_POINT),
         Stmt::TestCancel => point_kind(TESTCANCEL_POINT),
         Stmt::PointCall(index) => point_kind(*index),
         _ => None,
@@ -215,16 +217,20 @@ fn passes(next: u32, index: u32) -> Transition
 // ---- acting upon a request
 
 /// A thread with this status acts upon a request: it begins to end. The thread that it was to join, if it is suspended in
-/// pthread_join, stays joinable; the count of a semaphore, if it is suspended in sem_wait, stays as it is. In pthread_cond_wait the
-/// thread has to own its mutex first, and a signal that it consumed is handed on to the thread with an id (XSH 2.9.5.3, pthread_join,
-/// pthread_cond_wait).
+/// pthread_join, stays joinable; the count of a semaphore, if it is suspended in sem_wait, stays as it is; and a child, if it is
+/// suspended in waitpid, is not reaped. In pthread_cond_wait the thread has to own its mutex first, and a signal that it consumed
+/// is handed on to the thread with an id (XSH 2.9.5.3, pthread_join, pthread_cond_wait).
 #[tactic(auto, unfolding(pct_model::specs::CancelCalls::acts_on_request))]
 #[inline(never)]
 pub(crate) fn acts_on_request(id: u32, status: Status, transition: &mut Transition)
     ensures { transition.new ≡ acts_on_request id status }
 {
     match status {
-        Status::Running | Status::AtPoint(_) | Status::Joining(_) | Status::InSem(_) => {
+        Status::Running
+        | Status::AtPoint(_)
+        | Status::Joining(_)
+        | Status::InSem(_)
+        | Status::InWaitPid(_) => {
             *transition = acts(Action::BeginEnd(Reason::Canceled), What::EndingCanceled);
         }
         Status::Waiting(cond, mutex) | Status::Reacquire(cond, mutex, Cause::Broadcast) => {

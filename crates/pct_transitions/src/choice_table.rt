@@ -285,9 +285,11 @@ pub(crate) fn choices_at(context: &Context) -> Choices
             cancel.deliverable(),
         ),
         Status::InSem(sem) => go_or_act(count_of(context.counts, sem) > 0, cancel.deliverable()),
+        Status::InWaitPid(pid) => go_or_act(!context.is_running_child(pid), cancel.deliverable()),
         Status::Waiting(_, _) => go_or_act(false, cancel.deliverable()),
         Status::Reacquire(cond, mutex, cause) => unblocked_choices(context, cond, mutex, cause),
         Status::Ending => ending_choices(context),
+        Status::Forking(_, _, _, _) => Choices::Go,
         Status::Exiting => Choices::Go,
         _ => Choices::None,
     }

@@ -1,5 +1,5 @@
 //! The transitions of threads: what the next step of a thread does, by what it reads of the thread, of the other threads of its
-//! process, and of what they share. Nothing is changed here.
+//! process, of what they share, and of the other processes. Nothing is changed here.
 #![tactic(auto)]
 
 mod cancel_calls;
@@ -8,8 +8,10 @@ mod cleanup_handlers;
 mod cond_calls;
 mod context;
 mod current;
+mod fork_calls;
 mod key_calls;
 mod mutex_calls;
+mod other_processes;
 mod other_threads;
 mod position;
 mod process_exit;
@@ -23,6 +25,7 @@ mod thread_ends;
 mod transition_table;
 mod transitions;
 
+pub use context::Surroundings;
 pub use process_steps::{choice_by, has_choice, takes};
 pub use program::Program;
 pub use transitions::no_change;

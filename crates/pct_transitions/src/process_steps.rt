@@ -5,13 +5,13 @@ ghost use Rattle.pct_model.specs.World.{Thread};
 ghost use Rattle.pct_model.specs.Chosen.{item_at};
 ghost use Rattle.pct_engine_laws.specs.Fitting.{AllFit};
 ghost use Rattle.pct_engine_laws.specs.SeenSteps.{choices_in, is_ready_in};
+ghost use Rattle.pct_process.specs.FamilyViews.{other_processes};
 ghost use Rattle.pct_process.specs.ProcessViews.{thread_on_slot};
 ghost use Rattle.pct_transitions.specs.Numbers.{AreOnPlaces};
 ghost use Rattle.pct_transitions.specs.ProcessSteps.{with_data, NewNumbersFit, Takes};
 
 use crate::choice_table::choices_at;
-use crate::context::Context;
-use crate::program::Program;
+use crate::context::{Context, Surroundings};
 use crate::transition_table::transition_by;
 use pct_model::{Alt, Transition};
 use pct_process::ProcessState;
@@ -19,21 +19,26 @@ use pct_process::ProcessState;
 // ---- choices
 
 /// Whether the thread on a slot has a choice.
-pub fn has_choice(program: &Program, process: &ProcessState, slot: u32) -> bool
+pub fn has_choice(around: Surroundings, process: &ProcessState, slot: u32) -> bool
     requires { is_some (thread_on_slot process.now.slots slot) ≡ true }
-    ensures { (t : Thread) → thread_on_slot process.now.slots slot ≡ Some t → result ≡ is_ready_in program.now.script (length process.now.slots) (with_data process.now) t }
+    ensures { (t : Thread) → thread_on_slot process.now.slots slot ≡ Some t → result ≡ is_ready_in around.entry.program.now.script (length process.now.slots) (other_processes around.entry.family) (with_data process.now) t }
 {
-    let context = Context::new(program, process, slot);
+    let context = Context::new(around, process, slot);
     choices_at(&context).count(context.position.keys) > 0
 }
 
 /// The choice of the thread on a slot that a number chooses, modulo the number of its choices. `None` exactly if it has none.
-pub fn choice_by(program: &Program, process: &ProcessState, slot: u32, number: u32) -> Option<Alt>
+pub fn choice_by(
+    around: Surroundings,
+    process: &ProcessState,
+    slot: u32,
+    number: u32,
+) -> Option<Alt>
     requires held { is_some (thread_on_slot process.now.slots slot) ≡ true }
     requires numbers { NewNumbersFit process.now }
-    ensures { (t : Thread) → thread_on_slot process.now.slots slot ≡ Some t → result ≡ item_at (choices_in program.now.script (length process.now.slots) (with_data process.now) t) number }
+    ensures { (t : Thread) → thread_on_slot process.now.slots slot ≡ Some t → result ≡ item_at (choices_in around.entry.program.now.script (length process.now.slots) (other_processes around.entry.family) (with_data process.now) t) number }
 {
-    let context = Context::new(program, process, slot);
+    let context = Context::new(around, process, slot);
     let choices = choices_at(&context);
     let count = choices.count(context.position.keys);
     if count == 0 {
@@ -50,7 +55,7 @@ pub fn choice_by(program: &Program, process: &ProcessState, slot: u32, number: u
 
 /// Whether a choice of the thread on a slot is offered. If it is, what the thread does by it is written to `transition`.
 pub fn takes(
-    program: &Program,
+    around: Surroundings,
     process: &ProcessState,
     slot: u32,
     choice: Alt,
@@ -58,13 +63,13 @@ pub fn takes(
 ) -> bool
     requires held { is_some (thread_on_slot process.now.slots slot) ≡ true }
     requires numbers { NewNumbersFit process.now }
-    ensures taken { (t : Thread) → thread_on_slot process.now.slots slot ≡ Some t → Takes program.now.script program.now.config process.now t choice result transition.new }
+    ensures taken { (t : Thread) → thread_on_slot process.now.slots slot ≡ Some t → Takes around.entry.program.now.script around.entry.program.now.config (other_processes around.entry.family) process.now t choice result transition.new }
     ensures fits { (t : Thread) → thread_on_slot process.now.slots slot ≡ Some t → result ≡ true → AllFit (length t.frames) (length t.handlers) t.pass transition.new.actions }
     // This holds of every process.
     ensures places { AreOnPlaces process.now.shared.keys }
 {
     process.keys.sound();
-    let context = Context::new(program, process, slot);
+    let context = Context::new(around, process, slot);
     if !choices_at(&context).offers(context.threads, context.position.keys, choice) {
         return false;
     }

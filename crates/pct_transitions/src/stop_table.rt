@@ -9,7 +9,7 @@ ghost use Rattle.pct_model.specs.World.{Thread, SharedState, body_of};
 ghost use Rattle.pct_model.specs.OtherThreads.{Others, no_live_thread, is_detached_thread, waits_with_another_mutex};
 ghost use Rattle.pct_model.specs.MutexCalls.{owns};
 ghost use Rattle.pct_model.specs.Keys.{key_with};
-ghost use Rattle.pct_model.specs.StopTable.{stop_at, stops_of, first_stop, is_stack_full, has_begun_to_end, exits_twice, closes_function, is_handler_kind, is_in_handler, is_allowed_asynchronously, is_built};
+ghost use Rattle.pct_model.specs.StopTable.{stop_at, stops_of, first_stop, is_stack_full, has_begun_to_end, exits_twice, closes_function, is_handler_kind, is_in_handler, is_allowed_asynchronously, is_built, is_unbuilt};
 ghost use Rattle.pct_transitions.specs.Contexts.{IsContext, IsWhole, SeesOthers};
 
 use crate::context::Context;
@@ -27,7 +27,7 @@ pub(crate) fn stop_at(context: &Context, at: &At) -> Option<Why>
     ensures { (shared : SharedState) (t : Thread) (others : Others) → IsContext shared t others context.now
         → result ≡ stop_at (body_of context.now.program.now.script at.now.frame.now.func) shared t others at.now.frame.now at.now.statement.now }
 {
-    if !is_built(at.statement) {
+    if is_unbuilt(context, at.statement) {
         Some(Why::Unbuilt)
     } else if context.position.thread.cancel.async_on()
         && !is_allowed_asynchronously(at.statement)
@@ -64,6 +64,10 @@ fn own_stop(context: &Context, at: &At) -> Option<Why>
             Why::NotOwner,
         )]),
         Stmt::CondWait { cond, mutex } => stop_of_wait(context, *cond, *mutex),
+        Stmt::Fork { .. } => first_stop(&[(
+            has_begun_to_end(position.thread.reason),
+            Why::ForkInEnding,
+        )]),
         Stmt::ProcExit(_) => first_stop(&[(context.exit_value.is_some(), Why::ExitTwice)]),
         Stmt::ThreadExit(_) => first_stop(&[(
             has_begun_to_end(position.thread.reason),
@@ -244,6 +248,18 @@ fn closes_function(program: &Program, frame: &Frame) -> bool
     program.jumps.open_of(frame.func, frame.pc).is_none()
 }
 
+// Whether the statement is not implemented. A fork is not while another thread of the process has not ended.
+#[inline(always)]
+fn is_unbuilt(context: &Context, statement: &Stmt) -> bool
+    requires { IsWhole context.now }
+    ensures { (others : Others) → SeesOthers context.now others → result ≡ is_unbuilt others statement.now }
+{
+    match statement {
+        Stmt::Fork { .. } => !context.is_last(),
+        _ => !is_built(statement),
+    }
+}
+
 /// Whether the statement is implemented.
 pub(crate) fn is_built(statement: &Stmt) -> bool
     ensures { result ≡ is_built statement.now }
@@ -282,6 +298,8 @@ pub(crate) fn is_built(statement: &Stmt) -> bool
             | Stmt::Broadcast(_)
             | Stmt::SemWait(_)
             | Stmt::SemPost(_)
+            | Stmt::Fork { .. }
+            | Stmt::WaitPid { .. }
             | Stmt::AtExit { .. }
             | Stmt::ProcExit(_)
             | Stmt::ProcExitNow(_)

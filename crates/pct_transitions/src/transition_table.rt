@@ -19,6 +19,7 @@ use crate::cleanup_handlers::{pops, pushes};
 use crate::cond_calls::{begins_wait, broadcasts, reacquires, signals_by};
 use crate::context::Context;
 use crate::current::{At, next_pc, value_of, variable_value};
+use crate::fork_calls::{begins_fork, begins_waitpid, goes_on_forking, waits_at};
 use crate::key_calls::{KeyCreateCall, creates_key_by, deletes_key, gets_specific, sets_specific};
 use crate::mutex_calls::{locks, unlocks};
 use crate::process_exit::{
@@ -37,9 +38,10 @@ use pct_model::{Alt, Status, Stmt, Transition};
 
 /// Writes to `transition` what a thread in this context does by a choice. By `act` it acts upon a request. By every other choice it
 /// goes on: a running thread stops the run, or makes the transition of its next statement; one that is suspended at a cancellation
-/// point goes on; one that joins another returns, once that has ended; one in sem_wait takes the semaphore; one that was unblocked on
-/// a condition variable owns its mutex again; one that is ending runs its handlers and destructors and ends; one that exits its
-/// process runs the functions registered with atexit and ends it; every other thread changes nothing. The program counter and the actions, one after another, keep the limits.
+/// point goes on; one that joins another returns, once that has ended; one in sem_wait takes the semaphore; one in waitpid reaps the
+/// child; one that was unblocked on a condition variable owns its mutex again; one that is ending runs its handlers and destructors
+/// and ends; one in fork makes the child, or returns; one that exits its process runs the functions registered with atexit and ends
+/// it; every other thread changes nothing. The program counter and the actions, one after another, keep the limits.
 pub(crate) fn transition_by(context: &Context, choice: Alt, transition: &mut Transition)
     requires { IsWhole context.now }
     ensures value { (shared : SharedState) (t : Thread) (others : Others) → IsContext shared t others context.now
@@ -69,10 +71,12 @@ fn transition_at(context: &Context, choice: Alt, transition: &mut Transition)
         Status::AtPoint(index) => passes_point(context, index, transition),
         Status::Joining(id) => joins_at(context, id, transition),
         Status::InSem(sem) => takes(context, sem, transition),
+        Status::InWaitPid(pid) => waits_at(context, pid, transition),
         Status::Reacquire(cond, mutex, cause) => {
             reacquires(context, cond, mutex, cause, transition);
         }
         Status::Ending => goes_on_ending(context, passes, choice, transition),
+        Status::Forking(phase, _, _, pid) => goes_on_forking(context, phase, pid, transition),
         Status::Exiting => {
             goes_on_exiting(context.exit_functions, context.exit_value, transition);
         }
@@ -219,6 +223,15 @@ fn runs(context: &Context, at: &At, choice: Alt, transition: &mut Transition)
         Stmt::SemWait(sem) => *transition = begins_sem_wait(*sem),
         Stmt::SemPost(sem) => {
             *transition = posts(next_pc(frame), *sem, count_of(context.counts, *sem));
+        }
+        Stmt::Fork { .. } => *transition = begins_fork(),
+        Stmt::WaitPid {
+            result: answer,
+            pid,
+            ..
+        } => {
+            let pid = value_of(globals, frame, *pid);
+            *transition = begins_waitpid(context, next_pc(frame), pid, *answer);
         }
         Stmt::AtExit {
             result: answer,

@@ -7,12 +7,12 @@ use Rattle.pct_model.specs.declared.script.Script.{Script}
 use Rattle.pct_model.specs.declared.state.Status.{Status}
 use Rattle.pct_model.specs.declared.statement.Stmt.{Stmt}
 use Rattle.pct_model.specs.declared.transition.Transition.{Transition}
-use Rattle.pct_model.specs.Actions.{without_first, shared_after, for_each, changed}
+use Rattle.pct_model.specs.Actions.{without_first, shared_after, for_each, child_of, changed}
 use Rattle.pct_model.specs.Kept.{IsPlainFunction}
 use Rattle.pct_model.specs.NextStatement.{NextStatement, next_of, body_at}
 use Rattle.pct_model.specs.OtherThreads.{Others, others_of}
 use Rattle.pct_model.specs.TransitionTable.{transition_by}
-use Rattle.pct_model.specs.World.{Thread, SharedState, Process}
+use Rattle.pct_model.specs.World.{Thread, SharedState, Process, World}
 use Rattle.pct_transition_cases.proofs.CaseOfTransition.{case_of}
 use Rattle.pct_transition_cases.proofs.PlacedStatements.{IsPlaced, is_placed, statement_placed}
 use Rattle.pct_transition_cases.proofs.TransitionCases.{TransitionCase, exit_registered, exit_function_called}
@@ -44,16 +44,18 @@ module _ (script : Script) where
   RegistersPlain p = ArePlain p.shared.exit_functions
 
   module _ (config : Config) where
-    plain_after : (p : Process) (e : Entry) (t : Thread) → Moves script config p e t → RegistersPlain p → RegistersPlain (changed e.tid (transition_by script config p t e.alt) p)
-    plain_after p e t moves plain =
-        let others : Others = others_of config.slots p.threads t.id in
-        subst (λ (s : SharedState). ArePlain s.exit_functions) (sym (changed_shared e.tid (transition_by script config p t e.alt) p))
+    plain_after : (w : World) (p : Process) (e : Entry) (t : Thread) → Moves script config w p e t → RegistersPlain p → RegistersPlain (changed e.tid (transition_by script config w p t e.alt) p)
+    plain_after w p e t moves plain =
+        let others : Others = others_of config.slots w p t.id in
+        subst (λ (s : SharedState). ArePlain s.exit_functions) (sym (changed_shared e.tid (transition_by script config w p t e.alt) p))
         (case_plain config.passes p.shared t others (is_placed script t.frames) (case_of config.passes (body_at script t.frames) p.shared t others true e.alt (next_of script t.frames) t.status (λ known. moves.offered)) plain)
 
     plain_rule : IsProcessRule unread (λ p k. RegistersPlain p) script config (Moves script config)
+    unfolding child_of
     plain_rule = record {
       initial = tt;
-      own = λ p e t k moves plain. plain_after p e t moves plain;
+      own = λ w p e t k moves plain. plain_after w p e t moves plain;
+      born = λ w p e t k new moves fork plain. plain;
       other = λ pid o p k plain. subst (λ (s : SharedState). ArePlain s.exit_functions) (sym (other_shared pid o p)) plain;
     }
 

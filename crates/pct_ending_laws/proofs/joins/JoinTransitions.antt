@@ -22,7 +22,7 @@ use Rattle.pct_model.specs.OtherThreads.{is_joined_by_one, others_of}
 use Rattle.pct_model.specs.ThreadCalls.{creates, begins_join, ends_join, detaches}
 use Rattle.pct_model.specs.ThreadSlots.{is_ended_status, with_id}
 use Rattle.pct_model.specs.TransitionTable.{transition_by}
-use Rattle.pct_model.specs.World.{Thread, SharedState, Process, value_of}
+use Rattle.pct_model.specs.World.{Thread, SharedState, Process, World, value_of}
 use Rattle.pct_transition_cases.proofs.CaseOfTransition.{case_of}
 use Rattle.pct_transition_cases.proofs.OfferedChoices.{offered_alive, offered_of}
 use Rattle.pct_transition_cases.proofs.TransitionCases.{TransitionCase, rests, thread_made, join_begun, join_ended, thread_detached, request_sent, canceled_in_join}
@@ -85,8 +85,8 @@ pub data Kind (tid : ℕ) (threads : List Thread) (s : Status) : Transition → 
 
 -- ---- the table
 
-module _ (slots : ℕ) (threads : List Thread) (passes : ℕ) (body : List Stmt) (shared : SharedState) (t : Thread) where
-  case_kind : {next : NextStatement} {s : Status} {o : Transition} → TransitionCase passes body shared t (others_of slots threads t.id) false next s o → Kind t.id threads s o
+module _ (slots : ℕ) (w : World) (p : Process) (passes : ℕ) (body : List Stmt) (shared : SharedState) (t : Thread) where
+  case_kind : {next : NextStatement} {s : Status} {o : Transition} → TransitionCase passes body shared t (others_of slots w p t.id) false next s o → Kind t.id p.threads s o
   unfolding others_of creates begins_join ends_join detaches requests acts_on_request
   case_kind (rests next s alive) = quiet (record { actions = refl; events = refl; none = refl }) (λ joins. refl)
   case_kind (thread_made frame result id f v detached new among) = creates_one (suc frame.pc) result id new f (value_of shared.globals frame v) detached refl
@@ -98,14 +98,14 @@ module _ (slots : ℕ) (threads : List Thread) (passes : ℕ) (body : List Stmt)
   case_kind _ = quiet (record { actions = refl; events = refl; none = refl }) (λ joins. absurd (false≢true joins))
 
 -- the kind of each transition of a thread of a process
-pub kind_of : (script : Script) (config : Config) (p : Process) (t : Thread) (choice : Alt) → Kind t.id p.threads t.status (transition_by script config p t choice)
-kind_of script config p t choice =
+pub kind_of : (script : Script) (config : Config) (w : World) (p : Process) (t : Thread) (choice : Alt) → Kind t.id p.threads t.status (transition_by script config w p t choice)
+kind_of script config w p t choice =
     let next : NextStatement = next_of script t.frames in
     let body : List Stmt = body_at script t.frames in
-    case_kind config.slots p.threads config.passes body p.shared t (case_of config.passes body p.shared t (others_of config.slots p.threads t.id) false choice next t.status (λ known. absurd (false≢true known)))
+    case_kind config.slots w p config.passes body p.shared t (case_of config.passes body p.shared t (others_of config.slots w p t.id) false choice next t.status (λ known. absurd (false≢true known)))
 
 -- ---- a thread that moves
 
 -- a thread that has a choice does not have the status of its end
-pub moves_alive : (script : Script) (config : Config) (p : Process) (t : Thread) (choice : Alt) → offers (choices_of script config p t) choice ≡ true → is_ended_status t.status ≡ false
-moves_alive script config p t choice offered = offered_alive (offered_of p.shared t (others_of config.slots p.threads t.id) choice (next_of script t.frames) t.status offered)
+pub moves_alive : (script : Script) (config : Config) (w : World) (p : Process) (t : Thread) (choice : Alt) → offers (choices_of script config w p t) choice ≡ true → is_ended_status t.status ≡ false
+moves_alive script config w p t choice offered = offered_alive (offered_of p.shared t (others_of config.slots w p t.id) choice (next_of script t.frames) t.status offered)

@@ -4,7 +4,7 @@ use mathlib.Core.Bool.{or-false}
 use Rattle.std.proofs.Common.{◌≡◌, ◌≢◌, ℕ, Bool, true, false, not, ◌&&◌, ◌||◌, cond, List, find, nat_eq, Option, Some, option_map, inl, inr, refl, sym, ap, ◌∙◌, subst, eqb-true, eq-eqb}
 use Rattle.std.specs.List.{position_or_len}
 use Rattle.std.specs.Option.{option_or}
-use Rattle.std.proofs.lemmas.Bool.{false≢true, and_parts, or_cases, or_parts, eqb-false, false_from_ne_true}
+use Rattle.std.proofs.lemmas.Bool.{false≢true, true≢false, and_parts, or_cases, or_parts, eqb-false, false_from_ne_true}
 use Rattle.std.proofs.lemmas.Map.Keys.{any_passes_from_place}
 use Rattle.std.proofs.lemmas.Option.{same_Some, cond_some}
 use Rattle.pct_model.specs.declared.script.Script.{Script}
@@ -13,16 +13,17 @@ use Rattle.pct_model.specs.declared.schedule.Entry.{Entry}
 use Rattle.pct_model.specs.declared.state.Status.{Status}
 use Rattle.pct_model.specs.declared.state.Status.TheVariants as status
 use Rattle.pct_model.specs.declared.transition.Transition.{Transition}
-use Rattle.pct_model.specs.Actions.{named_after, moved, thread_moved, thread_created, changed}
+use Rattle.pct_model.specs.Actions.{named_after, moved, thread_moved, thread_created, changed, child_of}
 use Rattle.pct_model.specs.OtherThreads.{is_joining, is_joined_by_one}
 use Rattle.pct_model.specs.ThreadSlots.{is_ended_status, holds_slot, is_live_thread}
 use Rattle.pct_model.specs.TransitionTable.{transition_by}
-use Rattle.pct_model.specs.World.{Thread, Process, first_process}
+use Rattle.pct_model.specs.World.{Thread, Process, World, first_process}
 use Rattle.pct_ending_laws.proofs.lift.KeyedLists.{found_at, found_passes}
 use Rattle.pct_ending_laws.proofs.lift.TakenSteps.{AfterEveryRun}
 use Rattle.pct_ending_laws.proofs.lift.ChangedThreads.{all_keep, settled, same_settled, named_keeps, other_threads}
 use Rattle.pct_ending_laws.proofs.lift.MadeThreads.{own_thread_with, IsLive, live_thread}
 use Rattle.pct_ending_laws.proofs.lift.ThreadsAfter.{initial_thread, Moves, mover, is_mover, each_after, same_gone}
+use Rattle.pct_ending_laws.proofs.lift.InheritedThreads.{each_heir}
 use Rattle.pct_ending_laws.proofs.lift.EveryProcess.{OfEveryProcess, IsProcessRule, unread, every_process_keeps, moves_of_run}
 use Rattle.pct_ending_laws.proofs.joins.JoinTransitions.{is_in_join, MayJoin, Kind, ends, detaches_one, kind_of, moves_alive}
 use Rattle.pct_ending_laws.proofs.joins.NamedThreads.{names_join, names_detach, releases, naming, unnamed, joined_after, detached_after}
@@ -77,19 +78,19 @@ is_seen threads tid t id is here joins =
 
 -- ---- a transition
 
-module _ (script : Script) (config : Config) (p : Process) (e : Entry) (t : Thread) (moves : Moves script config p e t) (rule : HaveJoins p.threads) where
+module _ (script : Script) (config : Config) (w : World) (p : Process) (e : Entry) (t : Thread) (moves : Moves script config w p e t) (rule : HaveJoins p.threads) where
   abbrev o : Transition
-  o = transition_by script config p t e.alt
+  o = transition_by script config w p t e.alt
 
   -- the threads after the transition
   abbrev next : List Thread
   next = (changed e.tid o p).threads
 
   k : Kind t.id p.threads t.status o
-  k = kind_of script config p t e.alt
+  k = kind_of script config w p t e.alt
 
   it : IsLive p e.tid t
-  it = mover script config p e t moves
+  it = mover script config w p e t moves
 
   status_after : (u : Thread) (live : Bool) → is_live_thread e.tid u ≡ live → settled (thread_moved e.tid o u).status ≡ settled (cond live (moved o u) u).status
   status_after u live is = all_keep (λ (x : Thread). settled x.status) named_after (named_keeps (λ (x : Thread). settled x.status) (λ t j p d k s same. same)) o.actions (unnamed e.tid o u) ∙ ap (λ (b : Bool). settled (cond b (moved o u) u).status) is
@@ -121,7 +122,7 @@ module _ (script : Script) (config : Config) (p : Process) (e : Entry) (t : Thre
 
   before_by : (second id : ℕ) (u : Thread) → with second p.threads ≡ Some u → u.gone ≡ false → (live : Bool) → is_live_thread e.tid u ≡ live → (cond live (moved o u) u).status ≡ status.Joining id → Before second id u
   before_by second id u is_u present true live joins =
-      let it = is_mover script config p e t moves second u is_u live in
+      let it = is_mover script config w p e t moves second u is_u live in
       let joins_t : (moved o t).status ≡ status.Joining id = ap (λ (x : Thread). (moved o x).status) (sym it.0) ∙ joins in
       subst (λ (x : Thread). Before second id x) (sym it.0) (subst (λ (n : ℕ). Before n id t) (sym it.1) (mover_before id joins_t (in_join_after t k (ap is_in_join joins_t))))
   before_by second id u is_u present false other joins =
@@ -175,14 +176,14 @@ module _ (script : Script) (config : Config) (p : Process) (e : Entry) (t : Thre
         other = one.other;
         not_joined = joined_after e.tid o k x ∙ ap (λ (n : ℕ). (names_join n (naming k) && holds) || x.joined) x_id ∙ ap (λ (b : Bool). (b && holds) || x.joined) keeps.0 ∙ one.not_joined;
         joinable = detached_after e.tid o k x ∙ ap (λ (n : ℕ). (names_detach n (naming k) && holds) || x.detached) x_id ∙ ap (λ (b : Bool). (b && holds) || x.detached) keeps.1 ∙ one.joinable;
-        alone = each_after script config p e t moves (λ other w. w.gone ≡ false → w.status ≡ status.Joining id → other ≡ second)
+        alone = each_after script config w p e t moves (λ other w. w.gone ≡ false → w.status ≡ status.Joining id → other ≡ second)
             (λ other v is_v present_w joins.
             let here_v : v.gone ≡ false = sym (same_gone e.tid o v) ∙ present_w in
             alone_after second other id u v is_u present is_v here_v before_u (before other id v is_v here_v joins)) (λ other new makes present_w joins. absurd (false≢true (ap is_in_join joins)));
       }
 
   all_join : (wid : ℕ) (w : Thread) → with wid next ≡ Some w → w.gone ≡ false → (id : ℕ) → w.status ≡ status.Joining id → JoinsOne next wid id
-  all_join = each_after script config p e t moves (λ wid w. w.gone ≡ false → (id : ℕ) → w.status ≡ status.Joining id → JoinsOne next wid id)
+  all_join = each_after script config w p e t moves (λ wid w. w.gone ≡ false → (id : ℕ) → w.status ≡ status.Joining id → JoinsOne next wid id)
       (λ wid u is_u present id joins.
       let here_u : u.gone ≡ false = sym (same_gone e.tid o u) ∙ present in
       moved_one wid id u is_u here_u (before wid id u is_u here_u joins)) (λ wid new makes present id joins. absurd (false≢true (ap is_in_join joins)))
@@ -192,7 +193,7 @@ module _ (script : Script) (config : Config) (p : Process) (e : Entry) (t : Thre
   -- a thread that has ended does not move
   ended_stays : (id : ℕ) (u : Thread) → with id p.threads ≡ Some u → is_ended_status u.status ≡ true → (live : Bool) → is_live_thread e.tid u ≡ live → is_ended_status (thread_moved e.tid o u).status ≡ true
   ended_stays id u is_u ended true live =
-      absurd (false≢true (sym (moves_alive script config p t e.alt moves.offered) ∙ ap (λ (x : Thread). is_ended_status x.status) (sym (is_mover script config p e t moves id u is_u live).0) ∙ ended))
+      absurd (false≢true (sym (moves_alive script config w p t e.alt moves.offered) ∙ ap (λ (x : Thread). is_ended_status x.status) (sym (is_mover script config w p e t moves id u is_u live).0) ∙ ended))
   ended_stays id u is_u ended false other = same_settled is_ended_status (λ c m why. refl) (thread_moved e.tid o u).status u.status (status_after u false other) ∙ ended
 
   -- one that is joined has ended
@@ -214,7 +215,7 @@ module _ (script : Script) (config : Config) (p : Process) (e : Entry) (t : Thre
 
   joins_after : HaveJoins next
   joins_after = record {
-    ended = each_after script config p e t moves (λ id w. w.joined ≡ true → is_ended_status w.status ≡ true) ended_by (λ id new makes joined. absurd (false≢true joined));
+    ended = each_after script config w p e t moves (λ id w. w.joined ≡ true → is_ended_status w.status ≡ true) ended_by (λ id new makes joined. absurd (false≢true joined));
     joins = all_join;
   }
 
@@ -231,7 +232,13 @@ joins_rule script config = record {
         ended = λ id t is joined. absurd (false≢true (ap (λ (x : Thread). x.joined) (initial id t is) ∙ joined));
         joins = λ tid t is here id joins. absurd (false≢true (ap (λ (x : Thread). is_in_join x.status) (initial tid t is) ∙ ap is_in_join joins));
       };
-  own = λ p e t k moves rule. joins_after script config p e t moves rule;
+  own = λ w p e t k moves rule. joins_after script config w p e t moves rule;
+  -- the replica is neither joined nor in pthread_join, and each other thread is gone
+  born = λ w p e t k new moves fork rule. record {
+    ended = each_heir e.tid new p t (mover script config w p e t moves) (λ id x. x.joined ≡ true → is_ended_status x.status ≡ true) (λ joined. absurd (false≢true joined)) rule.ended;
+    joins = each_heir e.tid new p t (mover script config w p e t moves) (λ tid x. x.gone ≡ false → (id : ℕ) → x.status ≡ status.Joining id → JoinsOne (child_of e.tid new p).threads tid id)
+        (λ here id joins. absurd (false≢true (ap is_in_join joins))) (λ tid u is here. absurd (true≢false here));
+  };
   other = λ pid o p k rule. subst HaveJoins (sym (other_threads pid o p)) rule;
 }
 

@@ -107,10 +107,10 @@ module _ (script : Script) (config : Config) (before : List Entry) (r : Run) (is
   it_made = made e.tid t taken.is_thread
 
   -- if it has ended, it names no thread
-  ended_silent : t.ended ≡ true → list_all names_none (reverse (transition_by script config p t e.alt).events) ≡ true
+  ended_silent : t.ended ≡ true → list_all names_none (reverse (transition_by script config r.world p t e.alt).events) ≡ true
   ended_silent ended =
       let reported : ThreadSummary = reported_by (of_thread summary e.tid) e.pid r.events in
-      (goes_on script config p t reported e.alt taken.offered (of_made_thread summary (FitsAny script config.passes) r (threads_fit script config before r is) e.pid e.tid t it_made it.here) ended).silent
+      (goes_on script config r.world p t reported e.alt taken.offered (of_made_thread summary (FitsAny script config.passes) r (threads_fit script config before r is) e.pid e.tid t it_made it.here) ended).silent
 
   not_ended : (t.ended ≡ true → false ≡ true) → t.ended ≡ false
   not_ended silent = false_from_ne_true t.ended (λ ended. false≢true (silent ended))
@@ -160,4 +160,4 @@ module _ (script : Script) (config : Config) (before : List Entry) (r : Run) (is
 pub joins_of_run : (script : Script) (config : Config) (entries : List Entry) (r : Run) → run script config entries ≡ Some r → JoinLaw r.events
 joins_of_run script config entries r is =
     every_run script config (λ r. JoinLaw r.events)
-    (λ before r is e p t taken law. lawful_by script config before r is e p t taken (transition_by script config p t e.alt) (kind_of script config p t e.alt) (ended_silent script config before r is e p t taken) law) (λ some. tt) entries r is
+    (λ before r is e p t taken law. lawful_by script config before r is e p t taken (transition_by script config r.world p t e.alt) (kind_of script config r.world p t e.alt) (ended_silent script config before r is e p t taken) law) (λ some. tt) entries r is

@@ -38,6 +38,8 @@ quiet_stays (action.BeginJoin id) is t in_join = absurd (false≢true is)
 quiet_stays (action.BeginWait c m) is t in_join = absurd (false≢true in_join)
 quiet_stays (action.LeaveWait c m) is t in_join = absurd (false≢true in_join)
 quiet_stays (action.BeginSem s) is t in_join = absurd (false≢true in_join)
+quiet_stays (action.BeginWaitPid pid) is t in_join = absurd (false≢true in_join)
+quiet_stays (action.EnterFork phase pid) is t in_join = absurd (false≢true in_join)
 quiet_stays (action.BeginEnd why) is t in_join = absurd (false≢true in_join)
 quiet_stays (action.EndThread v) is t in_join = absurd (false≢true in_join)
 quiet_stays (action.BeginExit v) is t in_join = absurd (false≢true in_join)
@@ -98,11 +100,12 @@ newest_kept t k before newest_is (begun n joins may is unnamed) in_join = ap (λ
 newest_rule : (script : Script) (config : Config) → IsThreadRule newest NewestIsCall script config (λ p. Unit {0})
 newest_rule script config = record {
   initial = λ in_join. absurd (false≢true in_join);
-  created = λ p t before choice new nothing offered newest_is makes in_join. absurd (false≢true in_join);
+  created = λ w p t before choice new nothing offered newest_is makes in_join. absurd (false≢true in_join);
   named = λ a t before newest_is in_join. newest_is (sym (named_keeps (λ (u : Thread). is_in_join u.status) (λ t j p d k s is. same_settled is_in_join (λ c m why. refl) s t.status is) a t) ∙ in_join);
-  kept = λ p t before choice nothing offered newest_is in_join.
-      let k : Kind t.id p.threads t.status (transition_by script config p t choice) = kind_of script config p t choice in
+  kept = λ w p t before choice nothing offered newest_is in_join.
+      let k : Kind t.id p.threads t.status (transition_by script config w p t choice) = kind_of script config w p t choice in
       newest_kept t k before newest_is (in_join_after t k in_join) in_join;
+  replica = λ w p t before index handlers pid nothing forks newest_is in_join. absurd (false≢true in_join);
 }
 
 -- after every run, the newest event of a thread that is suspended in pthread_join is that of the call

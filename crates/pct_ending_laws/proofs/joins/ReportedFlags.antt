@@ -1,7 +1,7 @@
 -- A thread that was made, and that its process inherited, is known, and it is joined or detached exactly if the events report so.
-use mathlib.Core.Bool.{and-true, or-false, or_assoc, and_comm}
+use mathlib.Core.Bool.{and-true, and-false, or-false, or_assoc, and_comm}
 use mathlib.Core.Path.{fun_ext}
-use Rattle.std.proofs.Common.{◌≡◌, ℕ, Bool, true, false, not, ◌&&◌, ◌||◌, cond, List, [], ◌∷◌, map, reverse, find, nat_eq, Option, Some, None, option_and_then, refl, sym, ap, ◌∙◌, subst, eqb-true}
+use Rattle.std.proofs.Common.{◌≡◌, ℕ, Bool, true, false, not, ◌&&◌, ◌||◌, cond, List, [], ◌∷◌, map, reverse, find, nat_eq, Option, Some, None, option_and_then, refl, sym, ap, ap₂, ◌∙◌, subst, eqb-true}
 use Rattle.std.specs.List.{list_any}
 use Rattle.std.specs.Option.{option_map_or}
 use Rattle.std.proofs.lemmas.Bool.{false≢true, or_left, or_right, and_right, false_from_ne_true}
@@ -14,10 +14,9 @@ use Rattle.pct_model.specs.declared.event.What.{What}
 use Rattle.pct_model.specs.declared.transition.Action.{Action}
 use Rattle.pct_model.specs.declared.transition.NewThread.{NewThread}
 use Rattle.pct_model.specs.declared.transition.Transition.{Transition}
-use Rattle.pct_model.specs.World.{Thread, Process, made_process, thread_with, made_thread}
-use Rattle.pct_model.specs.ChoiceTable.{choices_of, offers}
+use Rattle.pct_model.specs.World.{Thread, Process, World, made_process, thread_with, made_thread}
 use Rattle.pct_model.specs.TransitionTable.{transition_by}
-use Rattle.pct_model.specs.Actions.{thread_moved, changed}
+use Rattle.pct_model.specs.Actions.{replica_of, thread_moved, changed}
 use Rattle.pct_model.specs.Run.{Run, event_of, run}
 use Rattle.pct_model.specs.KnownThreads.{makes_process, is_in, is_fork_of, creates_id, is_known, detaches_id, is_detached, joins_id, is_joined}
 use Rattle.pct_model.specs.ThreadSlots.{holds_slot}
@@ -26,7 +25,9 @@ use Rattle.pct_ending_laws.proofs.lift.TakenSteps.{AfterEveryRun}
 use Rattle.pct_ending_laws.proofs.lift.CreatedThreads.{reports_created}
 use Rattle.pct_ending_laws.proofs.lift.ChangedThreads.{other_threads}
 use Rattle.pct_ending_laws.proofs.lift.ReportedBy.{Reading, reported_by, is_reading, after_own}
-use Rattle.pct_ending_laws.proofs.lift.ThreadsAfter.{initial_thread, created_thread, Moves, After, was_made, is_new, is_absent, after, same_gone}
+use Rattle.pct_ending_laws.proofs.lift.ThreadsAfter.{initial_thread, created_thread, Moves, mover, After, was_made, is_new, is_absent, after, same_gone}
+use Rattle.pct_ending_laws.proofs.lift.InheritedThreads.{Heir, is_replica, is_gone, has_none, heir}
+use Rattle.pct_ending_laws.proofs.lift.MadeThreads.{IsLive}
 use Rattle.pct_ending_laws.proofs.lift.EveryProcess.{FitsReports, IsProcessRule, every_process, moves_of_run}
 use Rattle.pct_ending_laws.proofs.joins.JoinTransitions.{Kind, kind_of}
 use Rattle.pct_ending_laws.proofs.joins.NamedThreads.{names_join, names_detach, releases, naming, joined_reported, detached_reported, unnamed, joined_after, detached_after, IsNamed, is_named}
@@ -47,10 +48,11 @@ pub record Flag : Type 0 where
   none : start false ≡ false
   initial : (script : Script) → start true ≡ of (initial_thread script)
   created : (n : NewThread) → of (created_thread n) ≡ new n
-  reports : (script : Script) (config : Config) (p : Process) (e : Entry) (t : Thread) → offers (choices_of script config p t) e.alt ≡ true → (id : ℕ) → list_any (λ w. sets id (event_of e w)) (reverse (transition_by script config p t e.alt).events)
-      ≡ (names id (naming (kind_of script config p t e.alt)) || option_map_or (λ n. nat_eq n.id id && new n) (transition_by script config p t e.alt).created false)
-  changes : (script : Script) (config : Config) (p : Process) (e : Entry) (t u : Thread) → of (thread_moved e.tid (transition_by script config p t e.alt) u) ≡ ((names u.id (naming (kind_of script config p t e.alt)) && holds_slot (unnamed e.tid (transition_by script config p t e.alt) u)) || of u)
+  reports : (script : Script) (config : Config) (w : World) (p : Process) (e : Entry) (t : Thread) → Moves script config w p e t → (id : ℕ) → list_any (λ w. sets id (event_of e w)) (reverse (transition_by script config w p t e.alt).events)
+      ≡ (names id (naming (kind_of script config w p t e.alt)) || option_map_or (λ n. nat_eq n.id id && new n) (transition_by script config w p t e.alt).created false)
+  changes : (script : Script) (config : Config) (w : World) (p : Process) (e : Entry) (t u : Thread) → of (thread_moved e.tid (transition_by script config w p t e.alt) u) ≡ ((names u.id (naming (kind_of script config w p t e.alt)) && holds_slot (unnamed e.tid (transition_by script config w p t e.alt) u)) || of u)
   named : (id : ℕ) (a : Action) → names id a ≡ true → releases id a ≡ true
+  of_replica : (t : Thread) → cond inherits (replica (of t) false) false ≡ of (replica_of t)
 
 module _ (flag : Flag) where
   -- what the events report
@@ -76,13 +78,13 @@ module _ (flag : Flag) where
   named_set gone true holds set is = let parts = is refl in sym (ap (λ (b : Bool). not b && (holds || set)) parts.0 ∙ ap (λ (b : Bool). b || set) parts.1)
   named_set gone false holds set is = refl
 
-  module _ (script : Script) (config : Config) (p : Process) (e : Entry) (t : Thread) (k : ℕ → Bool) (moves : Moves script config p e t) (reported : AreReported p k) where
+  module _ (script : Script) (config : Config) (w : World) (p : Process) (e : Entry) (t : Thread) (k : ℕ → Bool) (moves : Moves script config w p e t) (reported : AreReported p k) where
     abbrev o : Transition
-    o = transition_by script config p t e.alt
+    o = transition_by script config w p t e.alt
 
     -- the action that names a thread
     abbrev its_kind : Kind t.id p.threads t.status o
-    its_kind = kind_of script config p t e.alt
+    its_kind = kind_of script config w p t e.alt
 
     abbrev names : ℕ → Bool
     names id = flag.names id (naming its_kind)
@@ -99,7 +101,7 @@ module _ (flag : Flag) where
     later id = list_any (λ w. flag.sets id (event_of e w)) (reverse o.events) || k id
 
     reports : (id : ℕ) → list_any (λ w. flag.sets id (event_of e w)) (reverse o.events) ≡ (names id || creates id)
-    reports = flag.reports script config p e t moves.offered
+    reports = flag.reports script config w p e t moves
 
     -- of a thread that was not made
     unmade : (id : ℕ) → thread_with id p ≡ None → later id ≡ creates id
@@ -107,12 +109,12 @@ module _ (flag : Flag) where
         let unnamed_is : names id ≡ false = false_from_ne_true (names id) (λ named. let it = named_holds id named in none-some it.target (sym is ∙ it.made)) in
         ap (λ (b : Bool). b || k id) (reports id ∙ ap (λ (b : Bool). b || creates id) unnamed_is) ∙ ap (λ (b : Bool). creates id || b) (reported id ∙ ap is_set is) ∙ or-false (creates id)
 
-    set_by : (id : ℕ) {w : Option Thread} → After script config p e t moves id w → later id ≡ is_set w
+    set_by : (id : ℕ) {found : Option Thread} → After script config w p e t moves id found → later id ≡ is_set found
     set_by id (was_made u is none) =
         let set : Bool = flag.of u in
         let holds : Bool = holds_slot (unnamed e.tid o u) in
         let u_id : u.id ≡ id = eqb-true u.id id (found_passes (λ (x : Thread). nat_eq x.id id) p.threads u is) in
-        let changed_to : flag.of (thread_moved e.tid o u) ≡ ((names id && holds) || set) = flag.changes script config p e t u ∙ ap (λ (n : ℕ). (flag.names n (naming its_kind) && holds) || set) u_id in
+        let changed_to : flag.of (thread_moved e.tid o u) ≡ ((names id && holds) || set) = flag.changes script config w p e t u ∙ ap (λ (n : ℕ). (flag.names n (naming its_kind) && holds) || set) u_id in
         ap (λ (b : Bool). b || k id) (reports id ∙ ap (λ (b : Bool). names id || b) (none flag.new) ∙ or-false (names id)) ∙ ap (λ (b : Bool). names id || b) (reported id ∙ ap is_set is)
         ∙ named_set u.gone (names id) holds set (λ named.
         let it = named_holds id named in
@@ -124,7 +126,24 @@ module _ (flag : Flag) where
     set_by id (is_absent is none) = unmade id is ∙ none flag.new
 
     own_reported : AreReported (changed e.tid o p) (λ id. after_own (reading id) (map (event_of e) (reverse o.events)) (k id))
-    own_reported id = set_later e id (reverse o.events) (k id) ∙ set_by id (after script config p e t moves id)
+    own_reported id = set_later e id (reverse o.events) (k id) ∙ set_by id (after script config w p e t moves id)
+
+    -- what is reported of a thread of the process that a fork makes, if it is the replica or not
+    abbrev reported_at_birth : ℕ → Bool → Bool
+    reported_at_birth id same = cond (flag.inherits && same) (flag.replica (k id) (flag.start false)) (flag.start false)
+
+    unreported : (id : ℕ) → reported_at_birth id false ≡ false
+    unreported id = ap (λ (b : Bool). cond b (flag.replica (k id) (flag.start false)) (flag.start false)) (and-false flag.inherits) ∙ flag.none
+
+    born_by : (id : ℕ) {found : Option Thread} → Heir p e.tid t id found → reported_at_birth id (nat_eq e.tid id) ≡ is_set found
+    born_by id (is_replica named) =
+        let it : IsLive p e.tid t = mover script config w p e t moves in
+        let found : thread_with id p ≡ Some t = ap (λ (n : ℕ). thread_with n p) (sym (eqb-true e.tid id named)) ∙ it.found in
+        let parent : k id ≡ flag.of t = reported id ∙ ap is_set found ∙ ap (λ (gone : Bool). not gone && flag.of t) it.here in
+        ap (reported_at_birth id) named ∙ ap (λ (b : Bool). cond b (flag.replica (k id) (flag.start false)) (flag.start false)) (and-true flag.inherits)
+        ∙ ap₂ (λ (parent none : Bool). cond flag.inherits (flag.replica parent none) none) parent flag.none ∙ flag.of_replica t
+    born_by id (is_gone u found other) = ap (reported_at_birth id) other ∙ unreported id
+    born_by id (has_none other) = ap (reported_at_birth id) other ∙ unreported id
 
   -- ---- every run
 
@@ -135,7 +154,8 @@ module _ (flag : Flag) where
   flag_rule : (script : Script) (config : Config) → IsProcessRule reading AreReported script config (Moves script config)
   flag_rule script config = record {
     initial = λ id. initial_by script (nat_eq 1 id);
-    own = λ p e t k moves reported. own_reported script config p e t k moves reported;
+    own = λ w p e t k moves reported. own_reported script config w p e t k moves reported;
+    born = λ w p e t k new moves fork reported id. born_by script config w p e t k moves reported id (heir e.tid new p t (mover script config w p e t moves) id);
     other = λ pid o p k reported. subst (λ (threads : List Thread). (id : ℕ) → k id ≡ is_set (find (λ t. nat_eq t.id id) threads)) (sym (other_threads pid o p)) reported;
   }
 
@@ -161,9 +181,10 @@ known_flag = record {
   none = refl;
   initial = λ script. refl;
   created = λ n. refl;
-  reports = λ script config p e t offered id. reports_created script config p t e.alt offered e.pid id (nat_eq e.tid id);
-  changes = λ script config p e t u. refl;
+  reports = λ script config w p e t moves id. reports_created script config w p t e.alt moves.offered e.pid moves.made id (nat_eq e.tid id);
+  changes = λ script config w p e t u. refl;
   named = λ id a is. absurd (false≢true is);
+  of_replica = λ t. refl;
 }
 
 known_event : (own fork own_fork creates k : Bool) → (own ≡ true → fork ≡ own_fork) → ((own && creates) || (fork || k)) ≡ cond own ((creates || own_fork) || k) (cond fork true k)
@@ -199,11 +220,12 @@ joined_flag = record {
   none = refl;
   initial = λ script. refl;
   created = λ n. refl;
-  reports = λ script config p e t offered id.
-      let k : Kind t.id p.threads t.status (transition_by script config p t e.alt) = kind_of script config p t e.alt in
-      joined_reported id k ∙ sym (or-false (names_join id (naming k))) ∙ ap (λ (b : Bool). names_join id (naming k) || b) (sym (none_created id (transition_by script config p t e.alt).created));
-  changes = λ script config p e t u. joined_after e.tid (transition_by script config p t e.alt) (kind_of script config p t e.alt) u;
+  reports = λ script config w p e t moves id.
+      let k : Kind t.id p.threads t.status (transition_by script config w p t e.alt) = kind_of script config w p t e.alt in
+      joined_reported id k ∙ sym (or-false (names_join id (naming k))) ∙ ap (λ (b : Bool). names_join id (naming k) || b) (sym (none_created id (transition_by script config w p t e.alt).created));
+  changes = λ script config w p e t u. joined_after e.tid (transition_by script config w p t e.alt) (kind_of script config w p t e.alt) u;
   named = λ id a names. or_left (names_join id a) (names_detach id a) names;
+  of_replica = λ t. refl;
 }
 
 joined_event : (own joins k : Bool) → ((own && joins) || k) ≡ cond own (joins || k) k
@@ -227,9 +249,10 @@ detached_flag = record {
   none = refl;
   initial = λ script. refl;
   created = λ n. refl;
-  reports = λ script config p e t offered id. detached_reported id (kind_of script config p t e.alt);
-  changes = λ script config p e t u. detached_after e.tid (transition_by script config p t e.alt) (kind_of script config p t e.alt) u;
+  reports = λ script config w p e t moves id. detached_reported id (kind_of script config w p t e.alt);
+  changes = λ script config w p e t u. detached_after e.tid (transition_by script config w p t e.alt) (kind_of script config w p t e.alt) u;
   named = λ id a names. or_right (names_join id a) (names_detach id a) names;
+  of_replica = λ t. or-false t.detached;
 }
 
 detached_reading : (tid pid : ℕ) (events : List Event) → is_detached pid tid events ≡ reported_by (reading detached_flag tid) pid events

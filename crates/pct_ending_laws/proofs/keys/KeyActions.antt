@@ -20,7 +20,7 @@ use Rattle.pct_model.specs.Keys.{Key, KeyPlace, key_place, key_at, if_number, ke
 use Rattle.pct_model.specs.NextStatement.{NextStatement, next_of, body_at}
 use Rattle.pct_model.specs.OtherThreads.{Others, others_of}
 use Rattle.pct_model.specs.TransitionTable.{transition_by}
-use Rattle.pct_model.specs.World.{Thread, SharedState, Process, statement_at, value_of}
+use Rattle.pct_model.specs.World.{Thread, SharedState, Process, World, statement_at, value_of}
 use Rattle.pct_transition_cases.proofs.CaseOfTransition.{case_of}
 use Rattle.pct_transition_cases.proofs.PlacedStatements.{IsPlaced, is_placed, statement_placed}
 use Rattle.pct_transition_cases.proofs.TransitionCases.{TransitionCase, key_made, specific_set}
@@ -78,9 +78,9 @@ module _ (script : Script) (names : NamesFunctions script) (passes : ℕ) (share
   case_first placed _ = record { first = tt; rest = refl }
 
 -- only the first action of a transition may change keys
-pub key_actions : (script : Script) (config : Config) (p : Process) (t : Thread) (choice : Alt) → offers (choices_of script config p t) choice ≡ true → OnlyFirst script p.shared.keys (transition_by script config p t choice).actions
-key_actions script config p t choice offered =
-    let others : Others = others_of config.slots p.threads t.id in
+pub key_actions : (script : Script) (config : Config) (w : World) (p : Process) (t : Thread) (choice : Alt) → offers (choices_of script config w p t) choice ≡ true → OnlyFirst script p.shared.keys (transition_by script config w p t choice).actions
+key_actions script config w p t choice offered =
+    let others : Others = others_of config.slots w p t.id in
     let body : List Stmt = body_at script t.frames in
     let next : NextStatement = next_of script t.frames in
     case_first script (names_functions script) config.passes p.shared t others (is_placed script t.frames) (case_of config.passes body p.shared t others true choice next t.status (λ known. offered))

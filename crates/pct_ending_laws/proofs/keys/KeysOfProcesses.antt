@@ -4,6 +4,7 @@ use Rattle.std.proofs.Common.{◌≡◌, ℕ, Bool, true, false, not, ◌&&◌, 
 use Rattle.std.specs.List.{list_all}
 use Rattle.std.proofs.lemmas.Bool.{false≢true}
 use Rattle.std.proofs.lemmas.Option.{cond_some}
+use Rattle.pct_model.specs.declared.limits.TheConstants.{MAX_KEYS}
 use Rattle.pct_model.specs.declared.script.Script.{Script}
 use Rattle.pct_model.specs.declared.schedule.Config.{Config}
 use Rattle.pct_model.specs.declared.schedule.Entry.{Entry}
@@ -11,17 +12,20 @@ use Rattle.pct_model.specs.declared.state.Cause.TheVariants as cause
 use Rattle.pct_model.specs.declared.transition.Action.{Action}
 use Rattle.pct_model.specs.declared.transition.Action.TheVariants as action
 use Rattle.pct_model.specs.declared.transition.Transition.{Transition}
-use Rattle.pct_model.specs.Actions.{without_first, thread_at, thread_after, named_after, shared_after, for_each, moved, thread_moved, changed}
+use Rattle.pct_model.specs.Actions.{without_first, thread_at, thread_after, named_after, shared_after, for_each, child_of, moved, thread_moved, changed}
 use Rattle.pct_model.specs.CondCalls.{is_waiting_on, unblocked}
 use Rattle.pct_model.specs.Kept.{KeysKept}
 use Rattle.pct_model.specs.Keys.{KeyPlace, KeyValues}
 use Rattle.pct_model.specs.ThreadSlots.{is_live_thread}
 use Rattle.pct_model.specs.TransitionTable.{transition_by}
-use Rattle.pct_model.specs.World.{Thread, SharedState, Process, first_process, thread_with}
+use Rattle.pct_model.specs.World.{Thread, SharedState, Process, World, first_process, thread_with}
 use Rattle.pct_ending_laws.proofs.lift.ChangedThreads.{either_keeps, all_keep_if, going_on_keeps, changed_shared, other_threads, other_shared}
 use Rattle.pct_ending_laws.proofs.lift.TakenSteps.{AfterEveryRun}
-use Rattle.pct_ending_laws.proofs.lift.ThreadsAfter.{initial_thread, Moves, each_after}
+use Rattle.pct_ending_laws.proofs.lift.MadeThreads.{IsLive}
+use Rattle.pct_ending_laws.proofs.lift.ThreadsAfter.{initial_thread, Moves, mover, each_after}
+use Rattle.pct_ending_laws.proofs.lift.InheritedThreads.{each_heir}
 use Rattle.pct_ending_laws.proofs.lift.EveryProcess.{OfEveryProcess, IsProcessRule, unread, every_process_keeps, moves_of_run}
+use Rattle.pct_ending_laws.proofs.keys.KeyPlaces.{default_of_replicate}
 use Rattle.pct_ending_laws.proofs.keys.KeyActions.{is_keyless, first_of, OnlyFirst, key_actions}
 use Rattle.pct_ending_laws.proofs.keys.KeptKeys.{keys_after, own_data, named_data, kept_after, no_keys_kept, AreEmpty, new_empty, empty_after}
 
@@ -94,12 +98,12 @@ pub record KeysFit (script : Script) (p : Process) : Type 0 where
   pub keys : KeysKept script p.shared.keys
   pub empty : (tid : ℕ) (t : Thread) → thread_with tid p ≡ Some t → AreEmpty p.shared.keys t.specific
 
-module _ (script : Script) (config : Config) (p : Process) (e : Entry) (t : Thread) (moves : Moves script config p e t) (fits : KeysFit script p) where
+module _ (script : Script) (config : Config) (w : World) (p : Process) (e : Entry) (t : Thread) (moves : Moves script config w p e t) (fits : KeysFit script p) where
   abbrev o : Transition
-  o = transition_by script config p t e.alt
+  o = transition_by script config w p t e.alt
 
   only : OnlyFirst script p.shared.keys o.actions
-  only = key_actions script config p t e.alt moves.offered
+  only = key_actions script config w p t e.alt moves.offered
 
   -- the keys after the transition
   abbrev next : List KeyPlace
@@ -109,7 +113,7 @@ module _ (script : Script) (config : Config) (p : Process) (e : Entry) (t : Thre
   next_is = ap (λ (s : SharedState). s.keys) (changed_shared e.tid o p) ∙ keys_moved o.actions only.rest p.shared
 
   empty_next : (id : ℕ) (w : Thread) → thread_with id (changed e.tid o p) ≡ Some w → AreEmpty next w.specific
-  empty_next = each_after script config p e t moves (λ id w. AreEmpty next w.specific)
+  empty_next = each_after script config w p e t moves (λ id w. AreEmpty next w.specific)
       (λ id u is. subst (AreEmpty next) (sym (data_moved e.tid o only.rest u)) (empty_after script p.shared.keys (first_of o.actions) only.first u.specific (is_live_thread e.tid u) (fits.empty id u is))) (λ id new makes. new_empty next)
 
   fits_after : KeysFit script (changed e.tid o p)
@@ -118,13 +122,24 @@ module _ (script : Script) (config : Config) (p : Process) (e : Entry) (t : Thre
     empty = λ id w is. subst (λ (keys : List KeyPlace). AreEmpty keys w.specific) (sym next_is) (empty_next id w is);
   }
 
+  -- the process that a fork makes has the same keys, and the data of the replica are outside passes
+  born_fits : (new : ℕ) → KeysFit script (child_of e.tid new p)
+  unfolding child_of
+  born_fits new =
+      let it : IsLive p e.tid t = mover script config w p e t moves in
+      record {
+        keys = fits.keys;
+        empty = each_heir e.tid new p t it (λ id x. AreEmpty p.shared.keys x.specific) (λ place none. ((fits.empty e.tid t it.found place none).0, default_of_replicate MAX_KEYS place false)) fits.empty;
+      }
+
 keys_rule : (script : Script) (config : Config) → IsProcessRule unread (λ p k. KeysFit script p) script config (Moves script config)
 keys_rule script config = record {
   initial = record {
     keys = no_keys_kept script;
     empty = λ tid t is. subst (λ (u : Thread). AreEmpty (first_process script).shared.keys u.specific) (cond_some (nat_eq 1 tid) (initial_thread script) t is).1 (new_empty (first_process script).shared.keys);
   };
-  own = λ p e t k moves fits. fits_after script config p e t moves fits;
+  own = λ w p e t k moves fits. fits_after script config w p e t moves fits;
+  born = λ w p e t k new moves fork fits. born_fits script config w p e t moves fits new;
   other = λ pid o p k fits. record {
     keys = subst (λ (s : SharedState). KeysKept script s.keys) (sym (other_shared pid o p)) fits.keys;
     empty = λ tid t is. subst (λ (s : SharedState). AreEmpty s.keys t.specific) (sym (other_shared pid o p)) (fits.empty tid t (ap (λ (threads : List Thread). find (λ u. nat_eq u.id tid) threads) (sym (other_threads pid o p)) ∙ is));

@@ -15,7 +15,7 @@ use Rattle.pct_model.specs.CondCalls.{is_waiting_on, unblocked}
 use Rattle.pct_model.specs.Keys.{KeyValues, key_place, without_value}
 use Rattle.pct_model.specs.World.{Thread, SharedState, ProcessEnd, Process}
 use Rattle.pct_model.specs.ThreadSlots.{is_live_thread}
-use Rattle.pct_model.specs.Actions.{at_pc, thread_at, thread_after, named_after, shared_after, process_after, orphaned, other_process_after, for_each, moved, thread_moved, threads_moved, changed, is_live_process}
+use Rattle.pct_model.specs.Actions.{at_pc, thread_at, thread_after, named_after, shared_after, process_after, orphaned, as_reaped, other_process_after, for_each, moved, thread_moved, threads_moved, changed, is_live_process, process_moved}
 
 -- ---- any change
 
@@ -116,12 +116,9 @@ orphan_keeps (Some end) p = refl
 
 other_action_keeps : (pid : ℕ) (a : Action) (p : Process) → contents (other_process_after pid a p) ≡ contents p
 unfolding other_process_after
+other_action_keeps pid (action.Reap child) p = either_keeps contents (nat_eq p.pid child) (record p { ended = as_reaped p.ended }) p p refl refl
 other_action_keeps pid (action.EndProcess n) p = either_keeps contents (nat_eq p.parent pid) (orphaned p.ended p) p p (orphan_keeps p.ended p) refl
 other_action_keeps pid _ p = refl
-
--- a process after a transition of a thread of the one with an id
-abbrev pub process_moved : ℕ → ℕ → Transition → Process → Process
-process_moved pid tid o p = cond (is_live_process pid p) (changed tid o p) (for_each (other_process_after pid) o.actions p)
 
 changed_keeps : (tid : ℕ) (o : Transition) (p : Process) → contents (changed tid o p) ≡ (p.pid, threads_moved tid o p.threads, for_each shared_after o.actions p.shared)
 changed_keeps tid o p = all_keep contents process_after own_action_keeps o.actions (record p { threads = threads_moved tid o p.threads; shared = for_each shared_after o.actions p.shared })

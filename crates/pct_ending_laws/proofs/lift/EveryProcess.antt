@@ -1,7 +1,7 @@
 -- The lift from steps to runs: a relation between a process and what the events report of it, which each step keeps, and which a fork
 -- passes on to the process that it makes, holds of every process after every run.
 use mathlib.Core.Path.{fun_ext}
-use Rattle.std.proofs.Common.{◌≡◌, ℕ, ◌<◌, Bool, true, false, cond, List, [], ◌∷◌, ◌++◌, map, reverse, find, nat_eq, IfSome, Option, Some, None, option_map, refl, sym, ap, ◌∙◌, subst, subst₂, eqb-true, ne_eqb, mul-zero, arith}
+use Rattle.std.proofs.Common.{◌≡◌, ℕ, ◌<◌, Bool, true, false, cond, List, [], ◌∷◌, ◌++◌, map, reverse, find, nat_eq, Option, Some, None, option_map, refl, sym, ap, ◌∙◌, subst, subst₂, eqb-true, ne_eqb, mul-zero, arith}
 use Rattle.std.specs.List.{list_any}
 use Rattle.std.specs.Option.{option_or}
 use Rattle.std.proofs.lemmas.Bool.{or_from}
@@ -18,17 +18,19 @@ use Rattle.pct_model.specs.World.{Thread, Process, World, first_process, opening
 use Rattle.pct_model.specs.ThreadSlots.{with_id}
 use Rattle.pct_model.specs.ChoiceTable.{choices_of, offers}
 use Rattle.pct_model.specs.TransitionTable.{transition_by}
-use Rattle.pct_model.specs.Actions.{other_process_after, for_each, thread_moved, changed, after_transition}
+use Rattle.pct_model.specs.Actions.{other_process_after, for_each, child_of, thread_moved, changed, process_moved, after_transition}
+use Rattle.pct_model.specs.ForkCalls.{forks_by}
 use Rattle.pct_model.specs.Run.{Run, event_of}
 use Rattle.pct_ending_laws.proofs.lift.KeyedLists.{found_passes, not_found}
 use Rattle.pct_ending_laws.proofs.lift.TakenSteps.{IsTaken, first_run, AfterEveryRun, every_run}
-use Rattle.pct_ending_laws.proofs.lift.CreatedThreads.{creates_with_next_id}
-use Rattle.pct_ending_laws.proofs.lift.ChangedThreads.{thread_moved_keeps, process_moved, changed_threads, other_threads}
+use Rattle.pct_ending_laws.proofs.lift.CreatedThreads.{Forks, Makes, makes_none, forks, creates_with_next_id}
+use Rattle.pct_ending_laws.proofs.lift.ChangedThreads.{thread_moved_keeps, changed_threads, other_threads}
 use Rattle.pct_ending_laws.proofs.lift.ThreadIds.{HaveIds, ids_pushed, ids_after}
-use Rattle.pct_ending_laws.proofs.lift.MadeThreads.{Makes, makes_none, forks, process_made, IsStep, is_step, process_after_step, other_process_is, process_is_made, own_process_is}
-use Rattle.pct_ending_laws.proofs.lift.ProcessIds.{HavePids, next_is_new, have_pids}
+use Rattle.pct_ending_laws.proofs.lift.MadeThreads.{child_made, IsStep, is_step, process_after_step, other_process_is, process_is_made, own_process_is}
+use Rattle.pct_ending_laws.proofs.lift.ProcessIds.{HavePids, next_is_new, was_made, have_pids}
 use Rattle.pct_ending_laws.proofs.lift.ReportedBy.{Reading, reported_by, after_own, own_after, other_after, at_birth, born_after}
 use Rattle.pct_ending_laws.proofs.lift.ThreadsAfter.{initial_thread, Moves}
+use Rattle.pct_ending_laws.proofs.lift.InheritedThreads.{ids_born}
 
 -- the rule holds of every process that was made
 abbrev pub OfEveryProcess : (Process → Type 0) → Run → Type 0
@@ -36,8 +38,8 @@ OfEveryProcess K r = (pid : ℕ) (p : Process) → made_process pid r.world ≡ 
 
 module _ (script : Script) (config : Config) where
   -- what is known of each legal entry that goes on from a run
-  abbrev pub Known : (Process → Entry → Thread → Type 0) → Run → Type 0
-  Known M r = (e : Entry) (p : Process) (t : Thread) → IsTaken script config r.world e p t → M p e t
+  abbrev pub Known : (World → Process → Entry → Thread → Type 0) → Run → Type 0
+  Known M r = (e : Entry) (p : Process) (t : Thread) → IsTaken script config r.world e p t → M r.world p e t
 
   -- its process
   pub process_taken : AfterEveryRun script config (λ r. (e : Entry) (p : Process) (t : Thread) → IsTaken script config r.world e p t → made_process e.pid r.world ≡ Some p)
@@ -60,13 +62,16 @@ module _ {T : Type 0} (f : ℕ → Reading T) (R : Process → (ℕ → T) → T
   pub of_made : (r : Run) → AllFit r → (pid : ℕ) (p : Process) → made_process pid r.world ≡ Some p → R p (reported pid r.events)
   of_made r fit pid p is = subst (λ (found : Option Process). FitsReports found (reported pid r.events)) is (fit pid)
 
-  module _ (script : Script) (config : Config) (M : Process → Entry → Thread → Type 0) where
+  module _ (script : Script) (config : Config) (M : World → Process → Entry → Thread → Type 0) where
     -- the relation holds of the initial process, and each step keeps it, where this is known of the step
     pub record IsProcessRule : Type 0 where
       pub initial : R (first_process script) (λ n. (f n).start true)
       -- a transition of a thread of the process
-      pub own : (p : Process) (e : Entry) (t : Thread) (k : ℕ → T) → M p e t → R p k
-          → R (changed e.tid (transition_by script config p t e.alt) p) (λ n. after_own (f n) (map (event_of e) (reverse (transition_by script config p t e.alt).events)) (k n))
+      pub own : (w : World) (p : Process) (e : Entry) (t : Thread) (k : ℕ → T) → M w p e t → R p k
+          → R (changed e.tid (transition_by script config w p t e.alt) p) (λ n. after_own (f n) (map (event_of e) (reverse (transition_by script config w p t e.alt).events)) (k n))
+      -- the process that a fork of a thread of the process makes
+      pub born : (w : World) (p : Process) (e : Entry) (t : Thread) (k : ℕ → T) (new : ℕ) → M w p e t → Forks w t.status new (transition_by script config w p t e.alt) → R p k
+          → R (child_of e.tid new p) (λ n. at_birth (f n) e new (k n) ((f n).start false))
       -- a transition of a thread of another process
       pub other : (pid : ℕ) (o : Transition) (p : Process) (k : ℕ → T) → R p k → R (for_each (other_process_after pid) o.actions p) k
 
@@ -81,9 +86,9 @@ module _ {T : Type 0} (f : ℕ → Reading T) (R : Process → (ℕ → T) → T
 
       -- ---- a step
 
-      module _ (r : Run) (e : Entry) (p : Process) (t : Thread) (taken : IsTaken script config r.world e p t) (pids : HavePids config.slots r.world) (known : M p e t) (fit : AllFit r) where
+      module _ (r : Run) (e : Entry) (p : Process) (t : Thread) (taken : IsTaken script config r.world e p t) (pids : HavePids config.slots r.world) (known : M r.world p e t) (fit : AllFit r) where
         abbrev o : Transition
-        o = transition_by script config p t e.alt
+        o = transition_by script config r.world p t e.alt
 
         -- its events, newest first
         abbrev added : List What
@@ -99,7 +104,7 @@ module _ {T : Type 0} (f : ℕ → Reading T) (R : Process → (ℕ → T) → T
         own_process : R (process_moved e.pid e.tid o p) (later e.pid)
         own_process =
             subst₂ R (sym (own_process_is e.pid e.tid r.world p pids.distinct taken.is_process o)) (fun_ext (λ n. sym (own_after (f n) e r.events added)))
-            (rule.own p e t (reported e.pid r.events) known (of_made r fit e.pid p process_is))
+            (rule.own r.world p e t (reported e.pid r.events) known (of_made r fit e.pid p process_is))
 
         -- a process that was made before, which no event makes again
         process_by : (pid : ℕ) (q : Process) (same : Bool) → made_process pid r.world ≡ Some q → nat_eq e.pid pid ≡ same → list_any (makes_process pid) added ≡ false → R q (reported pid r.events) → R (process_moved e.pid e.tid o q) (later pid)
@@ -110,18 +115,27 @@ module _ {T : Type 0} (f : ℕ → Reading T) (R : Process → (ℕ → T) → T
             subst₂ R (sym (other_process_is e.pid e.tid o q pid (found_passes (λ (x : Process). nat_eq x.pid pid) r.world.processes q is) differs)) (fun_ext (λ n. sym (other_after (f n) e r.events pid differs added quiet)))
             (rule.other e.pid o q (reported pid r.events) holds)
 
-        -- what is reported of the process that a fork makes
-        abbrev born : ℕ → ℕ → T
-        born pid n = at_birth (f n) e r.events pid ((f n).start false)
+        -- the process with an id that the step makes
+        abbrev child : ℕ → Process
+        child new = child_of e.tid new p
 
-        fit_by : (pid : ℕ) (found : Option Process) {child : Option Process} → made_process pid r.world ≡ found → FitsReports found (reported pid r.events) → Makes r.world added child → IfSome child (λ c. R c (born c.pid))
-            → FitsReports (option_or (option_map (process_moved e.pid e.tid o) found) (find (λ q. nat_eq q.pid pid) (process_made child))) (later pid)
-        fit_by pid (Some q) is holds (makes_none quiet) leaf = process_by pid q (nat_eq e.pid pid) is refl (quiet pid) holds
-        fit_by pid (Some q) is holds (forks c next only) leaf =
-            let new : made_process c.pid r.world ≡ None = not_found (λ (x : Process). x.pid) c.pid r.world.processes (next_is_new config.slots r.world pids c.pid next) in
-            let differs : nat_eq c.pid pid ≡ false = ne_eqb c.pid pid (λ same. none-some q (sym new ∙ ap (λ n. made_process n r.world) same ∙ is)) in
-            process_by pid q (nat_eq e.pid pid) is refl (ap (list_any (makes_process pid)) only ∙ or_from (nat_eq c.pid pid) false differs refl) holds
-        fit_by pid None is holds makes leaf = new_by makes leaf
+        added_is : (new : ℕ) → Forks r.world t.status new o → added ≡ Forked new ∷ []
+        unfolding forks_by
+        added_is new fork = ap (λ (x : Transition). reverse x.events) fork.is
+
+        -- no event makes another process
+        quiet_of : (new : ℕ) → Forks r.world t.status new o → (pid : ℕ) → nat_eq new pid ≡ false → list_any (makes_process pid) added ≡ false
+        quiet_of new fork pid other = ap (list_any (makes_process pid)) (added_is new fork) ∙ or_from (nat_eq new pid) false other refl
+
+        fit_by : (pid : ℕ) (found : Option Process) {made : Option ℕ} → made_process pid r.world ≡ found → FitsReports found (reported pid r.events) → Makes r.world t.status o made
+            → FitsReports (option_or (option_map (process_moved e.pid e.tid o) found) (find (λ q. nat_eq q.pid pid) (child_made e.tid p made))) (later pid)
+        unfolding child_of
+        fit_by pid (Some q) is holds (makes_none nothing quiet) = process_by pid q (nat_eq e.pid pid) is refl (quiet pid) holds
+        fit_by pid (Some q) is holds (forks new fork) =
+            let absent : made_process new r.world ≡ None = not_found (λ (x : Process). x.pid) new r.world.processes (next_is_new config.slots r.world pids new fork.is_next) in
+            let differs : nat_eq new pid ≡ false = ne_eqb new pid (λ same. none-some q (sym absent ∙ ap (λ n. made_process n r.world) same ∙ is)) in
+            process_by pid q (nat_eq e.pid pid) is refl (quiet_of new fork pid differs) holds
+        fit_by pid None is holds makes = new_by makes
           where
             differs : nat_eq e.pid pid ≡ false
             differs = ne_eqb e.pid pid (λ same. none-some p (sym is ∙ ap (λ n. made_process n r.world) (sym same) ∙ process_is))
@@ -129,22 +143,21 @@ module _ {T : Type 0} (f : ℕ → Reading T) (R : Process → (ℕ → T) → T
             unmade : list_any (makes_process pid) added ≡ false → FitsReports None (later pid)
             unmade quiet = λ n. other_after (f n) e r.events pid differs added quiet ∙ holds n
 
-            forked : (c : Process) → added ≡ Forked c.pid ∷ [] → R c (born c.pid) → (same : Bool) → nat_eq c.pid pid ≡ same → FitsReports (cond same (Some c) None) (later pid)
-            forked c only leaf true same =
-                let it : c.pid ≡ pid = eqb-true c.pid pid same in
-                let event : added ≡ Forked pid ∷ [] = only ∙ ap (λ m. Forked m ∷ []) it in
-                let is_born : (n : ℕ) → later pid n ≡ born pid n = λ n. ap (λ (events : List What). reported_by (f n) pid (map (event_of e) events ++ r.events)) event ∙ born_after (f n) e r.events pid differs ∙ ap (at_birth (f n) e r.events pid) (holds n) in
-                subst (R c) (fun_ext (λ n. sym (is_born n))) (subst (λ (m : ℕ). R c (born m)) it leaf)
-            forked c only leaf false other = unmade (ap (list_any (makes_process pid)) only ∙ or_from (nat_eq c.pid pid) false other refl)
+            forked : (new : ℕ) → Forks r.world t.status new o → (same : Bool) → nat_eq new pid ≡ same → FitsReports (cond same (Some (child new)) None) (later pid)
+            forked new fork true same =
+                let event : added ≡ Forked pid ∷ [] = added_is new fork ∙ ap (λ m. Forked m ∷ []) (eqb-true new pid same) in
+                let born : ℕ → ℕ → T = λ m n. at_birth (f n) e m (reported e.pid r.events n) ((f n).start false) in
+                let is_born : (n : ℕ) → later pid n ≡ born pid n = λ n. ap (λ (events : List What). reported_by (f n) pid (map (event_of e) events ++ r.events)) event ∙ born_after (f n) e r.events pid differs ∙ ap (at_birth (f n) e pid (reported e.pid r.events n)) (holds n) in
+                subst (R (child new)) (fun_ext (λ n. ap (λ (m : ℕ). born m n) (eqb-true new pid same) ∙ sym (is_born n))) (rule.born r.world p e t (reported e.pid r.events) new known fork (of_made r fit e.pid p process_is))
+            forked new fork false other = unmade (quiet_of new fork pid other)
 
-            new_by : {child : Option Process} → Makes r.world added child → IfSome child (λ c. R c (born c.pid)) → FitsReports (find (λ q. nat_eq q.pid pid) (process_made child)) (later pid)
-            new_by (makes_none quiet) leaf = unmade (quiet pid)
-            new_by (forks c next only) leaf = forked c only leaf (nat_eq c.pid pid) refl
+            new_by : {made : Option ℕ} → Makes r.world t.status o made → FitsReports (find (λ q. nat_eq q.pid pid) (child_made e.tid p made)) (later pid)
+            new_by (makes_none nothing quiet) = unmade (quiet pid)
+            new_by (forks new fork) = forked new fork (nat_eq new pid) refl
 
-        -- a state after the step, where the relation holds of the process that the step makes, if it makes one
-        fit_after : (after : World) (child : Option Process) → IsStep e o r.world after child → IfSome child (λ c. R c (born c.pid)) → AllFit (record { world = after; events = map (event_of e) added ++ r.events })
-        fit_after after child step leaf pid =
-            subst (λ (q : Option Process). FitsReports q (later pid)) (sym (process_after_step e o r.world after child step pid)) (fit_by pid (made_process pid r.world) refl (fit pid) step.makes leaf)
+        fit_after : (after : World) → IsStep e p t o r.world after → AllFit (record { world = after; events = map (event_of e) added ++ r.events })
+        fit_after after step pid =
+            subst (λ (q : Option Process). FitsReports q (later pid)) (sym (process_after_step e p t o r.world after step pid)) (fit_by pid (made_process pid r.world) refl (fit pid) step.makes)
 
       -- ---- every run
 
@@ -152,8 +165,9 @@ module _ {T : Type 0} (f : ℕ → Reading T) (R : Process → (ℕ → T) → T
       pub every_process : AfterEveryRun script config (Known script config M) → AfterEveryRun script config AllFit
       every_process known =
           every_run script config AllFit (λ before r is e p t taken fit.
-          let o : Transition = transition_by script config p t e.alt in
-          fit_after r e p t taken (have_pids script config before r is) (known before r is e p t taken) fit (after_transition e.pid e.tid o r.world) None (is_step script config r.world e p t taken.offered) tt) (λ some. first_fit)
+          let o : Transition = transition_by script config r.world p t e.alt in
+          let pids : HavePids config.slots r.world = have_pids script config before r is in
+          fit_after r e p t taken pids (known before r is e p t taken) fit (after_transition e.pid e.tid o r.world) (is_step script config r.world e p t pids.distinct taken)) (λ some. first_fit)
 
 -- ---- rules of processes alone
 
@@ -163,14 +177,14 @@ unread n = record { start = λ initial. tt; next = λ e k. tt; inherits = λ e. 
 
 module _ (script : Script) (config : Config) where
   -- after every run, a rule of processes holds of every process, if each step keeps it, where something is known of the step
-  pub every_process_keeps : (M : Process → Entry → Thread → Type 0) (Q : Process → Type 0) → IsProcessRule unread (λ p k. Q p) script config M → AfterEveryRun script config (Known script config M) → AfterEveryRun script config (OfEveryProcess Q)
+  pub every_process_keeps : (M : World → Process → Entry → Thread → Type 0) (Q : Process → Type 0) → IsProcessRule unread (λ p k. Q p) script config M → AfterEveryRun script config (Known script config M) → AfterEveryRun script config (OfEveryProcess Q)
   every_process_keeps M Q rule known entries r is = of_made unread (λ p k. Q p) r (every_process unread (λ p k. Q p) script config M rule known entries r is)
 
   -- ---- the ids of threads
 
   -- the entry takes a choice of the thread
-  abbrev Takes : Process → Entry → Thread → Type 0
-  Takes p e t = (0 < config.slots) × (with_id e.tid p.threads ≡ Some t) × (offers (choices_of script config p t) e.alt ≡ true)
+  abbrev Takes : World → Process → Entry → Thread → Type 0
+  Takes w p e t = (0 < config.slots) × (with_id e.tid p.threads ≡ Some t) × (offers (choices_of script config w p t) e.alt ≡ true)
 
   -- the threads of a process have ids, if there are slots
   abbrev IfSlots : Process → Type 0
@@ -180,8 +194,9 @@ module _ (script : Script) (config : Config) where
   ids_rule = record {
     -- thread 1 is the first one on slot 0
     initial = λ some. ids_pushed config.slots [] (record { numbers = λ s k t low at. absurd (none-some t at); distinct = tt }) (initial_thread script) (0, some, omega (arith, mul-zero config.slots)) some;
-    own = λ p e t k takes ids some. subst (HaveIds config.slots) (sym (changed_threads e.tid (transition_by script config p t e.alt) p))
-        (ids_after config.slots (thread_moved e.tid (transition_by script config p t e.alt)) (λ u. ap (λ (i : ℕ × Bool). i.0) (thread_moved_keeps e.tid (transition_by script config p t e.alt) u)) p.threads (transition_by script config p t e.alt).created some (creates_with_next_id script config p t e.alt takes.2) (ids some));
+    own = λ w p e t k takes ids some. subst (HaveIds config.slots) (sym (changed_threads e.tid (transition_by script config w p t e.alt) p))
+        (ids_after config.slots (thread_moved e.tid (transition_by script config w p t e.alt)) (λ u. ap (λ (i : ℕ × Bool). i.0) (thread_moved_keeps e.tid (transition_by script config w p t e.alt) u)) p.threads (transition_by script config w p t e.alt).created some (creates_with_next_id script config w p t e.alt takes.2) (ids some));
+    born = λ w p e t k new takes fork ids some. ids_born config.slots e.tid new p (ids some);
     other = λ pid o p k ids some. subst (HaveIds config.slots) (sym (other_threads pid o p)) (ids some);
   }
 
@@ -192,8 +207,10 @@ module _ (script : Script) (config : Config) where
   -- a legal entry moves a thread whose process has ids
   pub moves_of_run : AfterEveryRun script config (Known script config (Moves script config))
   moves_of_run entries r is e p t taken =
-      record { is_thread = taken.is_thread; offered = taken.offered; some = (have_pids script config entries r is).some; ids = ids_of_run entries r is e.pid p (process_taken script config entries r is e p t taken) }
+      let pids : HavePids config.slots r.world = have_pids script config entries r is in
+      let process_is : made_process e.pid r.world ≡ Some p = process_taken script config entries r is e p t taken in
+      record { is_thread = taken.is_thread; offered = taken.offered; some = pids.some; ids = ids_of_run entries r is e.pid p process_is; made = was_made config.slots r.world pids e.pid p process_is }
 
   -- and what holds of every process holds of its process
-  pub moves_in : (K : Process → Type 0) → AfterEveryRun script config (OfEveryProcess K) → AfterEveryRun script config (Known script config (λ p e t. K p × Moves script config p e t))
+  pub moves_in : (K : Process → Type 0) → AfterEveryRun script config (OfEveryProcess K) → AfterEveryRun script config (Known script config (λ w p e t. K p × Moves script config w p e t))
   moves_in K of_processes entries r is e p t taken = (of_processes entries r is e.pid p (process_taken script config entries r is e p t taken), moves_of_run entries r is e p t taken)

@@ -2,26 +2,30 @@
 -- every thread after every run.
 use mathlib.Core.Bool.{and-true, and-false}
 use Rattle.std.proofs.Common.{◌≡◌, ℕ, Bool, true, false, ◌&&◌, cond, List, [], ◌∷◌, map, reverse, find, nat_eq, Option, Some, None, option_and_then, refl, sym, ap, ◌∙◌, subst, subst₂, ne_eqb, eqb-true}
-use Rattle.std.proofs.lemmas.Bool.{true≢false, and_left, eqb-false}
+use Rattle.std.proofs.lemmas.Bool.{false≢true, true≢false, and_left, eqb-false}
 use Rattle.std.proofs.lemmas.Option.{none-some, same_Some}
 use Rattle.pct_model.specs.declared.script.Script.{Script}
 use Rattle.pct_model.specs.declared.schedule.Alt.{Alt}
 use Rattle.pct_model.specs.declared.schedule.Config.{Config}
 use Rattle.pct_model.specs.declared.schedule.Entry.{Entry}
+use Rattle.pct_model.specs.declared.state.Phase.TheVariants.{Prepare}
+use Rattle.pct_model.specs.declared.state.Status.TheVariants.{Forking}
 use Rattle.pct_model.specs.declared.transition.Action.{Action}
 use Rattle.pct_model.specs.declared.transition.NewThread.{NewThread}
 use Rattle.pct_model.specs.declared.transition.Transition.{Transition}
-use Rattle.pct_model.specs.World.{Thread, Process, made_process, thread_with, made_thread}
+use Rattle.pct_model.specs.World.{Thread, Process, World, made_process, thread_with, made_thread}
 use Rattle.pct_model.specs.ThreadSlots.{holds_slot, is_live_thread}
 use Rattle.pct_model.specs.ChoiceTable.{choices_of, offers}
 use Rattle.pct_model.specs.TransitionTable.{transition_by}
-use Rattle.pct_model.specs.Actions.{named_after, for_each, moved, thread_moved, changed}
+use Rattle.pct_model.specs.Actions.{named_after, for_each, replica_of, child_of, moved, thread_moved, changed}
 use Rattle.pct_model.specs.Run.{Run, event_of}
 use Rattle.pct_ending_laws.proofs.lift.KeyedLists.{found_passes}
 use Rattle.pct_ending_laws.proofs.lift.TakenSteps.{AfterEveryRun}
 use Rattle.pct_ending_laws.proofs.lift.ChangedThreads.{other_threads}
-use Rattle.pct_ending_laws.proofs.lift.ReportedBy.{ThreadReading, reported_by, of_thread, after_own, after_all, read_step}
+use Rattle.pct_ending_laws.proofs.lift.ReportedBy.{ThreadReading, reported_by, of_thread, after_own, at_birth, after_all, read_step}
 use Rattle.pct_ending_laws.proofs.lift.ThreadsAfter.{initial_thread, created_thread, Moves, mover, After, was_made, is_new, is_absent, after, same_gone}
+use Rattle.pct_ending_laws.proofs.lift.CreatedThreads.{Forks}
+use Rattle.pct_ending_laws.proofs.lift.InheritedThreads.{Heir, is_replica, is_gone, has_none, heir}
 use Rattle.pct_ending_laws.proofs.lift.EveryProcess.{OfEveryProcess, FitsReports, IsProcessRule, every_process, moves_in}
 
 module _ {T : Type 0} (g : ThreadReading T) (L : Thread → T → Type 0) where
@@ -50,44 +54,38 @@ module _ {T : Type 0} (g : ThreadReading T) (L : Thread → T → Type 0) where
   of_its_threads r of pid p made tid t is here =
       (reported_by (of_thread g tid) pid r.events, of_made_thread r of pid tid t (ap (option_and_then (thread_with tid)) made ∙ is) here)
 
-  -- ---- the threads of a process that a fork makes; no transition makes one yet
+  -- ---- the threads of a process that a fork makes
 
-  -- a process has the replica of the thread of an entry, and its other threads are gone
-  pub record Inherits (e : Entry) (replica : Thread) (child : Process) : Type 0 where
-    pub own : thread_with e.tid child ≡ Some replica
-    pub here : replica.gone ≡ false
-    pub others : (tid : ℕ) (u : Thread) → nat_eq e.tid tid ≡ false → thread_with tid child ≡ Some u → u.gone ≡ true
+  module _ (p : Process) (tid : ℕ) (t : Thread) (k : ℕ → T) (leaf : L (replica_of t) (cond g.inherits (g.replica (k tid) g.start) g.start)) where
+    -- what is reported of a thread of the process as it is made, which is the replica or not
+    abbrev pub reported_at_birth : ℕ → Bool → T
+    reported_at_birth id same = cond (g.inherits && same) (g.replica (k id) g.start) g.start
 
-  module _ (e : Entry) (replica : Thread) (child : Process) (inherits : Inherits e replica child) (k : ℕ → T) (leaf : L replica (cond g.inherits (g.replica (k e.tid) g.start) g.start)) where
-    -- what is reported of a thread of the process as it is made
-    abbrev pub at_birth : ℕ → Bool → T
-    at_birth tid same = cond (g.inherits && same) (g.replica (k tid) g.start) g.start
-
-    nothing : (tid : ℕ) → at_birth tid false ≡ g.start
-    nothing tid = ap (λ b. cond b (g.replica (k tid) g.start) g.start) (and-false g.inherits)
-
-    born_by : (tid : ℕ) (same : Bool) (found : Option Thread) → nat_eq e.tid tid ≡ same → thread_with tid child ≡ found → OfThread found (at_birth tid same)
-    born_by tid true found same is =
-        let it : e.tid ≡ tid = eqb-true e.tid tid same in
-        subst (λ (x : Option Thread). OfThread x (at_birth tid true)) (sym inherits.own ∙ ap (λ id. thread_with id child) it ∙ is)
-        (record { here = λ here. subst₂ (λ n b. L replica (cond b (g.replica (k n) g.start) g.start)) it (sym (and-true g.inherits)) leaf; gone = λ gone. absurd (true≢false (sym gone ∙ inherits.here)) })
-    born_by tid false None differs is = nothing tid
-    born_by tid false (Some u) differs is = record { here = λ here. absurd (true≢false (sym (inherits.others tid u differs is) ∙ here)); gone = λ gone. nothing tid }
+    nothing : (id : ℕ) → reported_at_birth id false ≡ g.start
+    nothing id = ap (λ b. cond b (g.replica (k id) g.start) g.start) (and-false g.inherits)
 
     -- the relation holds of each of its threads, if it holds of the replica
-    pub born_fit : (tid : ℕ) → OfThread (thread_with tid child) (at_birth tid (nat_eq e.tid tid))
-    born_fit tid = born_by tid (nat_eq e.tid tid) (thread_with tid child) refl refl
+    pub born_by : (id : ℕ) (same : Bool) {found : Option Thread} → nat_eq tid id ≡ same → Heir p tid t id found → OfThread found (reported_at_birth id same)
+    born_by id true same (is_replica named) =
+        record { here = λ here. subst₂ (λ n b. L (replica_of t) (cond b (g.replica (k n) g.start) g.start)) (eqb-true tid id same) (sym (and-true g.inherits)) leaf; gone = λ gone. absurd (false≢true gone) }
+    born_by id false other (is_gone u found differs) = record { here = λ here. absurd (true≢false here); gone = λ gone. nothing id }
+    born_by id false other (has_none differs) = nothing id
+    born_by id true same (is_gone u found differs) = absurd (true≢false (sym same ∙ differs))
+    born_by id true same (has_none differs) = absurd (true≢false (sym same ∙ differs))
+    born_by id false other (is_replica named) = absurd (true≢false (sym named ∙ other))
 
   module _ (script : Script) (config : Config) (K : Process → Type 0) where
     -- a relation that holds of each new thread and that each step keeps, in a process of which a rule holds
     pub record IsThreadRule : Type 0 where
       pub initial : L (initial_thread script) g.start
       -- the thread that a transition of a thread creates
-      pub created : (p : Process) (t : Thread) (k : T) (choice : Alt) (new : NewThread) → K p → offers (choices_of script config p t) choice ≡ true → L t k → (transition_by script config p t choice).created ≡ Some new → L (created_thread new) g.start
+      pub created : (w : World) (p : Process) (t : Thread) (k : T) (choice : Alt) (new : NewThread) → K p → offers (choices_of script config w p t) choice ≡ true → L t k → (transition_by script config w p t choice).created ≡ Some new → L (created_thread new) g.start
       -- an action of another thread of the process, which may name the thread
       pub named : (a : Action) (t : Thread) (k : T) → L t k → L (named_after a t) k
       -- a transition of the thread
-      pub kept : (p : Process) (t : Thread) (k : T) (choice : Alt) → K p → offers (choices_of script config p t) choice ≡ true → L t k → L (moved (transition_by script config p t choice) t) (after_all g (reverse (transition_by script config p t choice).events) k)
+      pub kept : (w : World) (p : Process) (t : Thread) (k : T) (choice : Alt) → K p → offers (choices_of script config w p t) choice ≡ true → L t k → L (moved (transition_by script config w p t choice) t) (after_all g (reverse (transition_by script config w p t choice).events) k)
+      -- the replica of the thread, in the process that its fork makes
+      pub replica : (w : World) (p : Process) (t : Thread) (k : T) (index handlers pid : ℕ) → K p → t.status ≡ Forking Prepare index handlers pid → L t k → L (replica_of t) (cond g.inherits (g.replica k g.start) g.start)
 
     module _ (rule : IsThreadRule) where
       initial_by : (initial : Bool) → OfThread (cond initial (Some (initial_thread script)) None) g.start
@@ -100,17 +98,17 @@ module _ {T : Type 0} (g : ThreadReading T) (L : Thread → T → Type 0) where
       named_all [] t k holds = holds
       named_all (a ∷ actions) t k holds = named_all actions (named_after a t) k (rule.named a t k holds)
 
-      module _ (p : Process) (e : Entry) (t : Thread) (in_process : K p) (moves : Moves script config p e t) where
+      module _ (w : World) (p : Process) (e : Entry) (t : Thread) (in_process : K p) (moves : Moves script config w p e t) where
         abbrev o : Transition
-        o = transition_by script config p t e.alt
+        o = transition_by script config w p t e.alt
 
         -- the thread itself
         own_moved : (k : T) → OfMade t k → OfMade (thread_moved e.tid o t) (after_all g (reverse o.events) k)
         own_moved k of =
-            let present : t.gone ≡ false = (mover script config p e t moves).here in
+            let present : t.gone ≡ false = (mover script config w p e t moves).here in
             record {
               here = λ here. named_all o.actions (cond (is_live_thread e.tid t) (moved o t) t) (after_all g (reverse o.events) k)
-                  (subst (λ b. L (cond b (moved o t) t) (after_all g (reverse o.events) k)) (sym (mover script config p e t moves).live) (rule.kept p t k e.alt in_process moves.offered (of.here present)));
+                  (subst (λ b. L (cond b (moved o t) t) (after_all g (reverse o.events) k)) (sym (mover script config w p e t moves).live) (rule.kept w p t k e.alt in_process moves.offered (of.here present)));
               gone = λ gone. absurd (true≢false (sym gone ∙ same_gone e.tid o t ∙ present));
             }
 
@@ -126,10 +124,10 @@ module _ {T : Type 0} (g : ThreadReading T) (L : Thread → T → Type 0) where
           of_found tid before is = subst (λ (x : Option Thread). OfThread x (k tid)) is (of tid)
 
           it_is_made : thread_with e.tid p ≡ Some t
-          it_is_made = (mover script config p e t moves).found
+          it_is_made = (mover script config w p e t moves).found
 
           -- the thread with an id after the step
-          moved_by : (tid : ℕ) (same : Bool) {w : Option Thread} → nat_eq e.tid tid ≡ same → After script config p e t moves tid w → OfThread w (cond same (after_all g (reverse o.events) (k tid)) (k tid))
+          moved_by : (tid : ℕ) (same : Bool) {found : Option Thread} → nat_eq e.tid tid ≡ same → After script config w p e t moves tid found → OfThread found (cond same (after_all g (reverse o.events) (k tid)) (k tid))
           moved_by tid true same (was_made u is none) =
               let it : t ≡ u = same_Some t u (sym it_is_made ∙ ap (λ id. thread_with id p) (eqb-true e.tid tid same) ∙ is) in
               subst (λ (x : Thread). OfMade x (k tid) → OfMade (thread_moved e.tid o x) (after_all g (reverse o.events) (k tid))) it (own_moved (k tid)) (of_found tid (Some u) is)
@@ -138,8 +136,8 @@ module _ {T : Type 0} (g : ThreadReading T) (L : Thread → T → Type 0) where
               other_moved u (k tid) (and_left (nat_eq u.id e.tid) (holds_slot u) (ne_eqb u.id e.tid (λ same. eqb-false e.tid tid differs (sym same ∙ named)))) (of_found tid (Some u) is)
           moved_by tid false differs (is_new new is makes named) =
               let nothing : k tid ≡ g.start = of_found tid None is in
-              let it : L t (k e.tid) = (of_found e.tid (Some t) it_is_made).here (mover script config p e t moves).here in
-              record { here = λ here. subst (L (created_thread new)) (sym nothing) (rule.created p t (k e.tid) e.alt new in_process moves.offered it makes); gone = λ gone. nothing }
+              let it : L t (k e.tid) = (of_found e.tid (Some t) it_is_made).here (mover script config w p e t moves).here in
+              record { here = λ here. subst (L (created_thread new)) (sym nothing) (rule.created w p t (k e.tid) e.alt new in_process moves.offered it makes); gone = λ gone. nothing }
           moved_by tid false differs (is_absent is none) = of_found tid None is
           moved_by tid true same (is_new new is makes named) = absurd (none-some t (sym is ∙ ap (λ id. thread_with id p) (sym (eqb-true e.tid tid same)) ∙ it_is_made))
           moved_by tid true same (is_absent is none) = absurd (none-some t (sym is ∙ ap (λ id. thread_with id p) (sym (eqb-true e.tid tid same)) ∙ it_is_made))
@@ -147,7 +145,13 @@ module _ {T : Type 0} (g : ThreadReading T) (L : Thread → T → Type 0) where
           moved_fit : (tid : ℕ) → OfThread (thread_with tid (changed e.tid o p)) (after_own (of_thread g tid) (map (event_of e) (reverse o.events)) (k tid))
           moved_fit tid =
               subst (OfThread (thread_with tid (changed e.tid o p))) (sym (read_step g e tid (nat_eq e.tid tid) refl (reverse o.events) (k tid)))
-              (moved_by tid (nat_eq e.tid tid) refl (after script config p e t moves tid))
+              (moved_by tid (nat_eq e.tid tid) refl (after script config w p e t moves tid))
+
+          -- the threads of the process that the step makes, if it is a fork
+          born_fit : (new : ℕ) → Forks w t.status new o → (tid : ℕ) → OfThread (thread_with tid (child_of e.tid new p)) (at_birth (of_thread g tid) e new (k tid) g.start)
+          born_fit new fork tid =
+              let it : L t (k e.tid) = (of_found e.tid (Some t) it_is_made).here (mover script config w p e t moves).here in
+              born_by p e.tid t k (rule.replica w p t (k e.tid) fork.index fork.handlers fork.pid in_process fork.in_fork it) tid (nat_eq e.tid tid) refl (heir e.tid new p t (mover script config w p e t moves) tid)
 
       -- ---- processes
 
@@ -155,10 +159,11 @@ module _ {T : Type 0} (g : ThreadReading T) (L : Thread → T → Type 0) where
       abbrev AllThreads : Process → (ℕ → T) → Type 0
       AllThreads p k = (tid : ℕ) → OfThread (thread_with tid p) (k tid)
 
-      process_rule : IsProcessRule (of_thread g) AllThreads script config (λ p e t. K p × Moves script config p e t)
+      process_rule : IsProcessRule (of_thread g) AllThreads script config (λ w p e t. K p × Moves script config w p e t)
       process_rule = record {
         initial = λ tid. initial_by (nat_eq 1 tid);
-        own = λ p e t k known of. moved_fit p e t known.0 known.1 k of;
+        own = λ w p e t k known of. moved_fit w p e t known.0 known.1 k of;
+        born = λ w p e t k new known fork of. born_fit w p e t known.0 known.1 k of new fork;
         other = λ pid o p k of. subst (λ (threads : List Thread). (tid : ℕ) → OfThread (find (λ t. nat_eq t.id tid) threads) (k tid)) (sym (other_threads pid o p)) of;
       }
 
@@ -169,4 +174,4 @@ module _ {T : Type 0} (g : ThreadReading T) (L : Thread → T → Type 0) where
       -- after every run, the relation holds of every thread, if the rule holds of every process
       pub every_thread : AfterEveryRun script config (OfEveryProcess K) → AfterEveryRun script config OfEveryThread
       every_thread of_processes entries r is pid tid =
-          by_process tid (made_process pid r.world) (λ id. reported_by (of_thread g id) pid r.events) (every_process (of_thread g) AllThreads script config (λ p e t. K p × Moves script config p e t) process_rule (moves_in script config K of_processes) entries r is pid)
+          by_process tid (made_process pid r.world) (λ id. reported_by (of_thread g id) pid r.events) (every_process (of_thread g) AllThreads script config (λ w p e t. K p × Moves script config w p e t) process_rule (moves_in script config K of_processes) entries r is pid)

@@ -1,8 +1,8 @@
 -- Lists whose items have numbers: look-up by number, and changes that keep the numbers.
-use Rattle.std.proofs.Common.{◌≡◌, ℕ, zero, suc, Bool, true, false, ◌&&◌, ◌||◌, cond, List, [], ◌∷◌, ◌++◌, length, map, filter, find, Option, Some, None, nat_eq, option_map, slice_get, ◌⊎◌, inl, inr, refl, sym, ap, ◌∙◌, subst, eqb-true, ne_eqb}
+use Rattle.std.proofs.Common.{◌≡◌, ℕ, zero, suc, Bool, true, false, ◌&&◌, ◌||◌, cond, List, [], ◌∷◌, ◌++◌, length, flat_map, map, filter, find, Option, Some, None, nat_eq, option_map, slice_get, ◌⊎◌, inl, inr, refl, sym, ap, ap₂, ◌∙◌, subst, append-nil, eqb-true, ne_eqb}
 use Rattle.std.specs.Prelude.{⊤}
 use Rattle.std.specs.List.{list_all, list_any, position_or_len}
-use Rattle.std.proofs.lemmas.Bool.{false≢true, true≢false, true_from_ne_false, eqb-false, or_parts, or_from}
+use Rattle.std.proofs.lemmas.Bool.{false≢true, true≢false, true_from_ne_false, and_left, and_parts, eqb-false, or_parts, or_from}
 use Rattle.std.proofs.lemmas.List.Folds.{find_at, list_all_at, list_any-append}
 use Rattle.std.proofs.lemmas.List.Sums.{passes_at_first}
 use Rattle.std.proofs.lemmas.Option.{none-some, same_Some, slice_get_within, get_or_from_slice_get}
@@ -65,6 +65,27 @@ module _ {A : Type 0} (key : A → ℕ) where
   only_one test n [] y distinct is = absurd (none-some y is)
   only_one test n (x ∷ xs) y distinct is =
       only_one_by (test x) n x y xs (nat_eq (key x) n) (find (λ z. nat_eq (key z) n && test z) xs) refl distinct.0 (only_one test n xs y distinct.1) is
+
+  -- ---- lists made of items
+
+  module _ {B : Type 0} (made : A → List B) (test : A → Bool) (n : ℕ) (nothing : (x : A) → (nat_eq (key x) n && test x) ≡ false → made x ≡ []) where
+    none_give : (xs : List A) → list_any (λ m. nat_eq m n) (map key xs) ≡ false → flat_map made xs ≡ []
+    none_give [] absent = refl
+    none_give (x ∷ xs) absent =
+        let parts = or_parts (nat_eq (key x) n) (list_any (λ m. nat_eq m n) (map key xs)) absent in
+        ap₂ (λ (first rest : List B). first ++ rest) (nothing x (and_left (nat_eq (key x) n) (test x) parts.0)) (none_give xs parts.1)
+
+    one_gives_by : (x y : A) (xs : List A) (passes : Bool) → (nat_eq (key x) n && test x) ≡ passes → list_any (λ m. nat_eq m (key x)) (map key xs) ≡ false
+        → (find (λ z. nat_eq (key z) n && test z) xs ≡ Some y → flat_map made xs ≡ made y) → cond passes (Some x) (find (λ z. nat_eq (key z) n && test z) xs) ≡ Some y → (made x ++ flat_map made xs) ≡ made y
+    one_gives_by x y xs true passes absent later is =
+        let same : key x ≡ n = eqb-true (key x) n (and_parts (nat_eq (key x) n) (test x) passes).0 in
+        ap₂ (λ (first rest : List B). first ++ rest) (ap made (same_Some x y is)) (none_give xs (subst (λ (k : ℕ). list_any (λ m. nat_eq m k) (map key xs) ≡ false) same absent)) ∙ append-nil (made y)
+    one_gives_by x y xs false fails absent later is = ap (λ (first : List B). first ++ flat_map made xs) (nothing x fails) ∙ later is
+
+    -- where no number is there twice, and only an item that has a number and passes a test makes something
+    pub only_one_gives : (xs : List A) (y : A) → AreDistinct (map key xs) → find (λ x. nat_eq (key x) n && test x) xs ≡ Some y → flat_map made xs ≡ made y
+    only_one_gives [] y distinct is = absurd (none-some y is)
+    only_one_gives (x ∷ xs) y distinct is = one_gives_by x y xs (nat_eq (key x) n && test x) refl distinct.0 (only_one_gives xs y distinct.1) is
 
   -- an item with a number, at its index in a list
   abbrev IsAt : ℕ → List A → Type 0

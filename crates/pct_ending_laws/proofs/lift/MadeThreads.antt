@@ -1,57 +1,63 @@
 -- The processes and threads that were made, after a step.
-use Rattle.std.proofs.Common.{◌≡◌, ℕ, ◌+◌, Bool, true, false, not, ◌&&◌, ◌||◌, cond, List, [], ◌∷◌, ◌++◌, length, map, reverse, find, nat_eq, Option, Some, None, option_map, sym, ap, ◌∙◌, append-nil, ne_eqb, eqb-true}
-use Rattle.std.specs.List.{list_any}
+use Rattle.std.proofs.Common.{◌≡◌, ℕ, Bool, true, false, not, ◌&&◌, ◌||◌, cond, List, [], ◌∷◌, ◌++◌, flat_map, map, find, nat_eq, Option, Some, None, option_map, sym, ap, ◌∙◌, ne_eqb, eqb-true}
 use Rattle.std.specs.Option.{option_or}
 use Rattle.std.proofs.lemmas.Bool.{and_left, and_parts, not-true, eqb-false}
 use Rattle.std.proofs.lemmas.List.Folds.{find-append}
-use Rattle.pct_model.specs.KnownThreads.{makes_process}
-use Rattle.pct_model.specs.declared.event.What.{What}
-use Rattle.pct_model.specs.declared.event.What.TheVariants.{Forked}
 use Rattle.pct_model.specs.declared.schedule.Config.{Config}
 use Rattle.pct_model.specs.declared.schedule.Entry.{Entry}
 use Rattle.pct_model.specs.declared.script.Script.{Script}
+use Rattle.pct_model.specs.declared.state.Status.{Status}
 use Rattle.pct_model.specs.declared.transition.Transition.{Transition}
 use Rattle.pct_model.specs.World.{Thread, Process, World, made_process, thread_with}
 use Rattle.pct_model.specs.ThreadSlots.{holds_slot, is_ended_status, is_live_thread, with_id}
-use Rattle.pct_model.specs.ChoiceTable.{choices_of, offers}
 use Rattle.pct_model.specs.TransitionTable.{transition_by}
-use Rattle.pct_model.specs.Actions.{has_ended, other_process_after, for_each, thread_moved, thread_created, changed, is_live_process, after_transition}
-use Rattle.pct_ending_laws.proofs.lift.KeyedLists.{AreDistinct, found_passes, only_one, item_changed}
+use Rattle.pct_model.specs.Actions.{has_ended, other_process_after, for_each, thread_moved, thread_created, child_of, child_by, changed, is_live_process, process_moved, process_made, after_transition}
+use Rattle.pct_model.specs.ForkCalls.{forks_by}
+use Rattle.pct_ending_laws.proofs.lift.KeyedLists.{AreDistinct, found_passes, only_one, only_one_gives, item_changed}
 use Rattle.pct_ending_laws.proofs.lift.ThreadIds.{ids_of}
-use Rattle.pct_ending_laws.proofs.lift.ChangedThreads.{pids_of, thread_moved_keeps, process_moved, changed_threads, process_moved_pid}
-use Rattle.pct_ending_laws.proofs.lift.CreatedThreads.{makes_no_process}
+use Rattle.pct_ending_laws.proofs.lift.TakenSteps.{IsTaken}
+use Rattle.pct_ending_laws.proofs.lift.ChangedThreads.{pids_of, thread_moved_keeps, changed_threads, process_moved_pid}
+use Rattle.pct_ending_laws.proofs.lift.CreatedThreads.{Makes, makes_none, forks, its_process}
+use Rattle.pct_ending_laws.proofs.lift.ChildProcesses.{same_child}
 
 -- ---- the process that a step makes
 
--- the events of a step from a state, newest first, report the process that it makes, if it makes one: it has the next pid
-pub data Makes (w : World) (added : List What) : Option Process → Type 0 where
-  makes_none : ((pid : ℕ) → list_any (makes_process pid) added ≡ false) → Makes w added None
-  forks : (child : Process) → child.pid ≡ 1 + length w.processes → added ≡ Forked child.pid ∷ [] → Makes w added (Some child)
+-- the process with an id that a transition makes, if it makes one: a thread with another id, of a process, is inherited
+abbrev pub child_made : ℕ → Process → Option ℕ → List Process
+child_made tid p None = []
+child_made tid p (Some new) = child_of tid new p ∷ []
 
-abbrev pub process_made : Option Process → List Process
-process_made None = []
-process_made (Some child) = child ∷ []
+child_is : (tid : ℕ) (p : Process) (w : World) (s : Status) (o : Transition) {made : Option ℕ} → Makes w s o made → flat_map (child_by tid (changed tid o p)) o.actions ≡ child_made tid p made
+unfolding forks_by child_by
+child_is tid p w s o (makes_none nothing quiet) = nothing tid (changed tid o p)
+child_is tid p w s o (forks new fork) = ap (λ (x : Transition). flat_map (child_by tid (changed tid o p)) x.actions) fork.is ∙ ap (λ (child : Process). child ∷ []) (same_child w s new o fork tid p)
 
--- a step of an entry, by a transition, leads to a state
-pub record IsStep (e : Entry) (o : Transition) (w after : World) (child : Option Process) : Type 0 where
-  pub processes : after.processes ≡ map (process_moved e.pid e.tid o) w.processes ++ process_made child
-  pub makes : Makes w (reverse o.events) child
+-- a step of an entry, by a transition of thread t of process p, leads to a state
+pub record IsStep (e : Entry) (p : Process) (t : Thread) (o : Transition) (w after : World) : Type 0 where
+  pub made : Option ℕ
+  pub makes : Makes w t.status o made
+  pub processes : after.processes ≡ map (process_moved e.pid e.tid o) w.processes ++ child_made e.tid p made
 
--- no transition makes a process yet
-pub is_step : (script : Script) (config : Config) (w : World) (e : Entry) (p : Process) (t : Thread) → offers (choices_of script config p t) e.alt ≡ true
-    → IsStep e (transition_by script config p t e.alt) w (after_transition e.pid e.tid (transition_by script config p t e.alt) w) None
+-- no two processes have one pid, so that only the process of the thread makes one
+pub is_step : (script : Script) (config : Config) (w : World) (e : Entry) (p : Process) (t : Thread) → AreDistinct (pids_of w.processes) → IsTaken script config w e p t
+    → IsStep e p t (transition_by script config w p t e.alt) w (after_transition e.pid e.tid (transition_by script config w p t e.alt) w)
 unfolding after_transition
-is_step script config w e p t offered = record {
-  processes = sym (append-nil (map (process_moved e.pid e.tid (transition_by script config p t e.alt)) w.processes));
-  makes = makes_none (makes_no_process script config p t e.alt offered);
-}
+is_step script config w e p t distinct taken =
+    let o : Transition = transition_by script config w p t e.alt in
+    let its = its_process script config w p t e.alt taken.offered in
+    let children : flat_map (process_made e.pid e.tid o) w.processes ≡ flat_map (child_by e.tid (changed e.tid o p)) o.actions =
+    only_one_gives (λ (q : Process). q.pid) (process_made e.pid e.tid o) (λ q. not (has_ended q)) e.pid (λ q other. ap (λ b. cond b (flat_map (child_by e.tid (changed e.tid o q)) o.actions) []) other) w.processes p distinct taken.is_process
+    ∙ ap (λ b. cond b (flat_map (child_by e.tid (changed e.tid o p)) o.actions) []) (found_passes (is_live_process e.pid) w.processes p taken.is_process) in
+    record { made = its.0; makes = its.1; processes = ap (λ (made : List Process). map (process_moved e.pid e.tid o) w.processes ++ made) (children ∙ child_is e.tid p w t.status o its.1) }
 
 -- a process that was made
-pub process_after_step : (e : Entry) (o : Transition) (w after : World) (child : Option Process) → IsStep e o w after child → (pid : ℕ) → made_process pid after ≡ option_or (option_map (process_moved e.pid e.tid o) (made_process pid w)) (find (λ q. nat_eq q.pid pid) (process_made child))
-process_after_step e o w after child step pid =
+pub process_after_step : (e : Entry) (p : Process) (t : Thread) (o : Transition) (w after : World) (step : IsStep e p t o w after) (pid : ℕ)
+    → made_process pid after ≡ option_or (option_map (process_moved e.pid e.tid o) (made_process pid w)) (find (λ q. nat_eq q.pid pid) (child_made e.tid p step.made))
+process_after_step e p t o w after step pid =
     let move : Process → Process = process_moved e.pid e.tid o in
-    ap (λ (ps : List Process). find (λ (q : Process). nat_eq q.pid pid) ps) step.processes ∙ find-append (λ (q : Process). nat_eq q.pid pid) (map move w.processes) (process_made child)
-    ∙ ap (λ (q : Option Process). option_or q (find (λ (x : Process). nat_eq x.pid pid) (process_made child))) (item_changed (λ (q : Process). q.pid) move (process_moved_pid e.pid e.tid o) pid w.processes)
+    let made : List Process = child_made e.tid p step.made in
+    ap (λ (ps : List Process). find (λ (q : Process). nat_eq q.pid pid) ps) step.processes ∙ find-append (λ (q : Process). nat_eq q.pid pid) (map move w.processes) made
+    ∙ ap (λ (q : Option Process). option_or q (find (λ (x : Process). nat_eq x.pid pid) made)) (item_changed (λ (q : Process). q.pid) move (process_moved_pid e.pid e.tid o) pid w.processes)
 
 module _ (pid tid : ℕ) (o : Transition) where
   -- a process with another id

@@ -43,6 +43,10 @@ module _ {T : Type 0} (f : Reading T) where
   after_own [] k = k
   after_own (e ∷ events) k = f.next e (after_own events k)
 
+  -- what is reported of the process that a fork makes, by what was reported of the process that forks, and of this one
+  abbrev pub at_birth : Entry → ℕ → T → T → T
+  at_birth e pid parent k = cond (f.inherits (event_of e (Forked pid))) (f.born parent k) k
+
   module _ (e : Entry) (earlier : List Event) where
     -- the events of a step, of its own process
     pub own_after : (added : List What) → reported_by e.pid (map (event_of e) added ++ earlier) ≡ after_own (map (event_of e) added) (reported_by e.pid earlier)
@@ -62,11 +66,8 @@ module _ {T : Type 0} (f : Reading T) where
         ap (λ (own : Bool). cond own (f.next (event_of e w) k) (cond (f.inherits (event_of e w) && makes_process pid w) made k)) differs
         ∙ ap (λ (makes : Bool). cond makes made k) (and_right (f.inherits (event_of e w)) (makes_process pid w) parts.0) ∙ other_after pid differs added parts.1
 
-    -- what is reported of the process that a fork makes, by what was reported of this one
-    abbrev pub at_birth : ℕ → T → T
-    at_birth pid k = cond (f.inherits (event_of e (Forked pid))) (f.born (reported_by e.pid earlier) k) k
-
-    pub born_after : (pid : ℕ) → nat_eq e.pid pid ≡ false → reported_by pid (event_of e (Forked pid) ∷ earlier) ≡ at_birth pid (reported_by pid earlier)
+    -- of the process that they make
+    pub born_after : (pid : ℕ) → nat_eq e.pid pid ≡ false → reported_by pid (event_of e (Forked pid) ∷ earlier) ≡ at_birth e pid (reported_by e.pid earlier) (reported_by pid earlier)
     born_after pid differs =
         let k : T = reported_by pid earlier in
         let made : T = f.born (reported_by e.pid earlier) k in

@@ -21,7 +21,7 @@ use Rattle.pct_model.proofs.LegalSteps.{step_legal}
 pub record IsTaken (script : Script) (config : Config) (w : World) (e : Entry) (p : Process) (t : Thread) : Type 0 where
   pub is_process : find (is_live_process e.pid) w.processes ≡ Some p
   pub is_thread : with_id e.tid p.threads ≡ Some t
-  pub offered : offers (choices_of script config p t) e.alt ≡ true
+  pub offered : offers (choices_of script config w p t) e.alt ≡ true
 
 -- the run with one more entry, which takes a transition
 abbrev pub with_step : Entry → Transition → Run → Run
@@ -51,7 +51,7 @@ module _ (script : Script) (config : Config) where
     process : Process
     thread : Thread
     taken : IsTaken script config r.world e process thread
-    is_next : with_step e (transition_by script config process thread e.alt) r ≡ next
+    is_next : with_step e (transition_by script config r.world process thread e.alt) r ≡ next
 
   leads_by : (r : Run) (e : Entry) (next : Run) (o : Option Successor) → step script config r.world e ≡ o → option_map (λ (s : Successor). record { world = s.world; events = map (event_of e) (reverse s.events) ++ r.events }) o ≡ Some next → LeadsTo r e next
   leads_by r e next (Some s) stepped is =
@@ -80,7 +80,7 @@ module _ (script : Script) (config : Config) where
   -- ---- every run
 
   module _ (Holds : Run → Type 0)
-      (keeps : (before : List Entry) (r : Run) → run script config before ≡ Some r → (e : Entry) (p : Process) (t : Thread) → IsTaken script config r.world e p t → Holds r → Holds (with_step e (transition_by script config p t e.alt) r)) where
+      (keeps : (before : List Entry) (r : Run) → run script config before ≡ Some r → (e : Entry) (p : Process) (t : Thread) → IsTaken script config r.world e p t → Holds r → Holds (with_step e (transition_by script config r.world p t e.alt) r)) where
     step_keeps : (before : List Entry) (r next : Run) (e : Entry) → run script config before ≡ Some r → run_step script config r e ≡ Some next → Holds r → Holds next
     step_keeps before r next e is stepped holds =
         let to = leads r e next stepped in

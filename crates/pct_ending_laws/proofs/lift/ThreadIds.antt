@@ -89,7 +89,7 @@ module _ (slots : ℕ) (change : Thread → Thread) (same_id : (t : Thread) → 
       let from = mapped_some change (slice_get on k) t (sym (slice_get-map change on k) ∙ ap (λ (found : List Thread). slice_get found k) (sym (changed_on s)) ∙ at) in
       ap (λ (u : Thread). u.id) (sym from.2) ∙ same_id from.0 ∙ have s k from.0 low from.1
 
-  ids_changed : HaveIds slots threads → HaveIds slots (map change threads)
+  pub ids_changed : HaveIds slots threads → HaveIds slots (map change threads)
   ids_changed have = record {
     numbers = numbers_changed have.numbers;
     distinct = subst AreDistinct (sym (keys_changed (λ (t : Thread). t.id) change same_id threads)) have.distinct;

@@ -1,5 +1,5 @@
 -- The threads of a process after a transition of one of them: those that were made before it, and the one that it creates.
-use Rattle.std.proofs.Common.{◌≡◌, ℕ, ◌<◌, Bool, true, false, ◌&&◌, cond, find, nat_eq, Option, Some, None, option_map, refl, sym, ap, ◌∙◌, subst, eqb-true}
+use Rattle.std.proofs.Common.{◌≡◌, ℕ, ◌<◌, ◌≤◌, Bool, true, false, ◌&&◌, cond, length, find, nat_eq, Option, Some, None, option_map, refl, sym, ap, ◌∙◌, subst, eqb-true}
 use Rattle.std.specs.Option.{option_map_or, option_or}
 use Rattle.std.proofs.lemmas.Bool.{and_parts, and_left, false_from_ne_true}
 use Rattle.std.proofs.lemmas.Option.{none-some, same_Some}
@@ -14,7 +14,7 @@ use Rattle.pct_model.specs.ChoiceTable.{choices_of, offers}
 use Rattle.pct_model.specs.Names.{names_of, main_of}
 use Rattle.pct_model.specs.ThreadSlots.{holds_slot, is_live_thread, with_id}
 use Rattle.pct_model.specs.TransitionTable.{transition_by}
-use Rattle.pct_model.specs.World.{Thread, Process, new_frame, new_thread, thread_with}
+use Rattle.pct_model.specs.World.{Thread, Process, World, new_frame, new_thread, thread_with}
 use Rattle.pct_ending_laws.proofs.lift.KeyedLists.{found_passes, not_found}
 use Rattle.pct_ending_laws.proofs.lift.ChangedThreads.{thread_moved_keeps}
 use Rattle.pct_ending_laws.proofs.lift.CreatedThreads.{creates_with_next_id}
@@ -29,17 +29,19 @@ initial_thread script = new_thread 1 false (new_frame (main_of (names_of script.
 abbrev pub created_thread : NewThread → Thread
 created_thread new = new_thread new.id new.detached (new_frame new.func new.arg kind.Start)
 
-module _ (script : Script) (config : Config) (p : Process) (e : Entry) (t : Thread) where
+module _ (script : Script) (config : Config) (w : World) (p : Process) (e : Entry) (t : Thread) where
   -- the entry moves thread t of the process, whose threads have ids
   pub record Moves : Type 0 where
     pub is_thread : with_id e.tid p.threads ≡ Some t
-    pub offered : offers (choices_of script config p t) e.alt ≡ true
+    pub offered : offers (choices_of script config w p t) e.alt ≡ true
     pub some : 0 < config.slots
     pub ids : HaveIds config.slots p.threads
+    -- its process was made
+    pub made : e.pid ≤ length w.processes
 
   module _ (moves : Moves) where
     abbrev o : Transition
-    o = transition_by script config p t e.alt
+    o = transition_by script config w p t e.alt
 
     -- ---- the thread that moves
 
@@ -69,7 +71,7 @@ module _ (script : Script) (config : Config) (p : Process) (e : Entry) (t : Thre
     not_created : (id : ℕ) (u : Thread) → thread_with id p ≡ Some u → (new : Option NewThread) → o.created ≡ new → (test : NewThread → Bool) → option_map_or (λ n. nat_eq n.id id && test n) new false ≡ false
     not_created id u is None makes test = refl
     not_created id u is (Some new) makes test = and_left (nat_eq new.id id) (test new) (false_from_ne_true (nat_eq new.id id) (λ same.
-        let next = is_next_id config.slots p.threads new.id (creates_with_next_id script config p t e.alt moves.offered new makes) in
+        let next = is_next_id config.slots p.threads new.id (creates_with_next_id script config w p t e.alt moves.offered new makes) in
         let none : thread_with new.id p ≡ None = not_found (λ (x : Thread). x.id) new.id p.threads (is_fresh config.slots p.threads moves.ids (created_thread new) next moves.some) in
         none-some u (sym none ∙ ap (λ (n : ℕ). thread_with n p) (eqb-true new.id id same) ∙ is)))
 

@@ -8,14 +8,14 @@ use Rattle.pct_model.specs.declared.schedule.Config.{Config}
 use Rattle.pct_model.specs.declared.schedule.Entry.{Entry}
 use Rattle.pct_model.specs.declared.script.Script.{Script}
 use Rattle.pct_model.specs.declared.transition.Transition.{Transition}
-use Rattle.pct_model.specs.Actions.{changed}
+use Rattle.pct_model.specs.Actions.{child_of, changed}
 use Rattle.pct_model.specs.CondLaw.{OwnersLaw}
 use Rattle.pct_model.specs.Kept.{IsSuspendedAt, EachProcess, OwnersKept}
 use Rattle.pct_model.specs.NextStatement.{next_of, body_at}
 use Rattle.pct_model.specs.OtherThreads.{Others, others_of}
 use Rattle.pct_model.specs.Run.{event_of}
 use Rattle.pct_model.specs.TransitionTable.{transition_by}
-use Rattle.pct_model.specs.World.{Thread, SharedState, Process}
+use Rattle.pct_model.specs.World.{Thread, SharedState, Process, World}
 use Rattle.pct_transition_cases.proofs.CaseOfTransition.{case_of}
 use Rattle.pct_transition_cases.proofs.PlacedStatements.{is_placed}
 use Rattle.pct_transition_cases.proofs.TransitionCases.{TransitionCase}
@@ -40,24 +40,24 @@ module _ (script : Script) (config : Config) where
   Fit p reported = OwnersFit script p.shared.owners reported
 
   -- the entry moves thread t of the process, which stands at the call in which it is suspended
-  abbrev MovesAt : Process → Entry → Thread → Type 0
-  MovesAt p e t = Moves script config p e t × IsSuspendedAt (next_of script t.frames) t.status
+  abbrev MovesAt : World → Process → Entry → Thread → Type 0
+  MovesAt w p e t = Moves script config w p e t × IsSuspendedAt (next_of script t.frames) t.status
 
   moves_at : AfterEveryRun script config (Known script config MovesAt)
   moves_at before r is e p t taken =
-      let moves : Moves script config p e t = moves_of_run script config before r is e p t taken in
-      let it : IsLive p e.tid t = mover script config p e t moves in
+      let moves : Moves script config r.world p e t = moves_of_run script config before r is e p t taken in
+      let it : IsLive p e.tid t = mover script config r.world p e t moves in
       (moves, (threads_kept script config before r is e.pid e.tid p t (process_taken script config before r is e p t taken) it.found it.here).suspended)
 
-  module _ (p : Process) (e : Entry) (t : Thread) (moves : MovesAt p e t) where
+  module _ (w : World) (p : Process) (e : Entry) (t : Thread) (moves : MovesAt w p e t) where
     abbrev o : Transition
-    o = transition_by script config p t e.alt
+    o = transition_by script config w p t e.alt
 
     abbrev others : Others
-    others = others_of config.slots p.threads t.id
+    others = others_of config.slots w p t.id
 
     its_id : t.id ≡ e.tid
-    its_id = (mover script config p e t moves.0).number
+    its_id = (mover script config w p e t moves.0).number
 
     its_case : TransitionCase config.passes (body_at script t.frames) p.shared t others true (next_of script t.frames) t.status o
     its_case = case_of config.passes (body_at script t.frames) p.shared t others true e.alt (next_of script t.frames) t.status (λ known. moves.0.offered)
@@ -71,9 +71,11 @@ module _ (script : Script) (config : Config) where
     lawful_after earlier fits = case_lawful script config.passes p.shared t others e its_id earlier fits its_case
 
   owners_rule : IsProcessRule owner Fit script config MovesAt
+  unfolding child_of
   owners_rule = record {
     initial = record { places = length-replicate (length script.mutexes) 0; same = no_owner (length script.mutexes) };
-    own = λ p e t k moves fits. fit_after p e t moves k fits;
+    own = λ w p e t k moves fits. fit_after w p e t moves k fits;
+    born = λ w p e t k new moves fork fits. fits;
     other = λ pid o p k fits. subst (λ (s : SharedState). OwnersFit script s.owners k) (sym (other_shared pid o p)) fits;
   }
 
@@ -89,4 +91,4 @@ module _ (script : Script) (config : Config) where
   -- the law of the owners of mutexes
   pub owners_of_run : AfterEveryRun script config (λ r. OwnersLaw r.events)
   owners_of_run = every_run script config (λ r. OwnersLaw r.events) (λ before r is e p t taken.
-      lawful_after p e t (moves_at before r is e p t taken) r.events (of_made owner Fit r (owners_fit before r is) e.pid p (process_taken script config before r is e p t taken))) (λ some. tt)
+      lawful_after r.world p e t (moves_at before r is e p t taken) r.events (of_made owner Fit r (owners_fit before r is) e.pid p (process_taken script config before r is e p t taken))) (λ some. tt)

@@ -23,7 +23,7 @@ use Rattle.pct_model.specs.Statements.{encode}
 use Rattle.pct_model.specs.ThreadSlots.{is_ended_status}
 use Rattle.pct_model.specs.ThreadSummary.{ThreadSummary}
 use Rattle.pct_model.specs.TransitionTable.{transition_by}
-use Rattle.pct_model.specs.World.{Thread, SharedState, Process}
+use Rattle.pct_model.specs.World.{Thread, SharedState, Process, World}
 use Rattle.pct_transition_cases.proofs.TransitionCases.{TransitionCase, rests, thread_made, thread_detached, request_sent, thread_ended, thread_ended_with_keys, last_ended, last_ended_with_keys}
 use Rattle.pct_transition_cases.proofs.CaseOfTransition.{case_of}
 use Rattle.pct_transition_cases.proofs.PlacedStatements.{IsPlaced, is_placed}
@@ -109,21 +109,22 @@ module _ (passes : ℕ) (body : List Stmt) (shared : SharedState) (t : Thread) (
     after_end (status.AtPoint index) fits c = absurd (not_ended fits.0.not_ended)
     after_end (status.Joining id) fits c = absurd (not_ended fits.0.not_ended)
     after_end (status.InSem sem) fits c = absurd (not_ended fits.0.not_ended)
+    after_end (status.InWaitPid pid) fits c = absurd (not_ended fits.0.not_ended)
     after_end (status.Waiting n m) fits c = absurd (not_ended fits.0.not_ended)
     after_end (status.Reacquire n m cause) fits c = absurd (not_ended fits.0.not_ended)
     after_end status.Ending fits c = absurd (not_ended fits.not_ended)
+    after_end (status.Forking phase index length pid) fits c = absurd (not_ended fits.0.not_ended)
     after_end (status.Ended v) fits c = absurd (case_ended c)
     after_end status.Exiting fits c = case_exiting c
-    after_end _ fits c = absurd fits
 
     any_after_end : (s : Status) {next : NextStatement} {o : Transition} → ByAnyStatus script s why frames handlers reported → IsPlaced script frames body next → TransitionCase passes body shared t others true next s o → GoesOn s o
     any_after_end s (inl fits) placed c = after_end s fits c
     any_after_end s (inr exits) placed c = exit_after_end script reported s frames exits placed c
 
 -- a thread that has ended goes on to exit its process
-pub goes_on : (script : Script) (config : Config) (p : Process) (t : Thread) (reported : ThreadSummary) (choice : Alt) → offers (choices_of script config p t) choice ≡ true → FitsAny script config.passes t reported → t.ended ≡ true → GoesOn t.status (transition_by script config p t choice)
-goes_on script config p t reported choice offered fits ended =
-    let others : Others = others_of config.slots p.threads t.id in
+pub goes_on : (script : Script) (config : Config) (w : World) (p : Process) (t : Thread) (reported : ThreadSummary) (choice : Alt) → offers (choices_of script config w p t) choice ≡ true → FitsAny script config.passes t reported → t.ended ≡ true → GoesOn t.status (transition_by script config w p t choice)
+goes_on script config w p t reported choice offered fits ended =
+    let others : Others = others_of config.slots w p t.id in
     any_after_end config.passes (body_at script t.frames) p.shared t others script t.reason t.frames t.handlers reported (fits.agrees.end ∙ ended) t.status fits.by_status (is_placed script t.frames)
     (case_of config.passes (body_at script t.frames) p.shared t others true choice (next_of script t.frames) t.status (λ known. offered))
 

@@ -61,6 +61,7 @@ module _ (script : Script) (passes : ℕ) where
       end = agrees.end;
       functions = agrees.functions;
       disabled = λ any. refl;
+      none_left = λ alive. absurd (false≢true (sym alive ∙ begun));
     };
     placed = tt;
     by_status = record {
@@ -112,6 +113,7 @@ module _ (script : Script) (passes : ℕ) where
           end = fits.agrees.end;
           functions = fits.agrees.functions;
           disabled = λ any. refl;
+          none_left = fits.agrees.none_left;
         };
         placed = tt;
         by_status = (refl, refl);
@@ -186,6 +188,7 @@ module _ (script : Script) (passes : ℕ) where
           end = fits.agrees.end;
           functions = fits.agrees.functions.1;
           disabled = fits.agrees.disabled;
+          none_left = λ alive. absurd (false≢true (sym alive ∙ fits.by_status.has_reason));
         };
         placed = (matches.first_within f fits.agrees.functions.0, tt);
         by_status = record {
@@ -270,6 +273,7 @@ module _ (script : Script) (passes : ℕ) where
           end = refl;
           functions = tt;
           disabled = fits.agrees.disabled;
+          none_left = fits.agrees.none_left;
         };
         placed = fits.placed;
         by_status = record {
@@ -291,6 +295,7 @@ module _ (script : Script) (passes : ℕ) where
           end = refl;
           functions = tt;
           disabled = λ any. refl;
+          none_left = fits.agrees.none_left;
         };
         placed = tt;
         by_status = (refl, refl);

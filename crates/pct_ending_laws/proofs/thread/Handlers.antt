@@ -71,6 +71,7 @@ module _ (script : Script) (passes : ℕ) (matches : PushesMatch script) where
           end = fits.agrees.end;
           functions = (in_script, fits.agrees.functions);
           disabled = fits.agrees.disabled;
+          none_left = fits.agrees.none_left;
         };
         placed = (matches.next_within frame (statement.Push f x) at refl, fits.placed.1);
         by_status = record {
@@ -107,6 +108,7 @@ module _ (script : Script) (passes : ℕ) (matches : PushesMatch script) where
           end = fits.agrees.end;
           functions = fits.agrees.functions.1;
           disabled = fits.agrees.disabled;
+          none_left = fits.agrees.none_left;
         };
         placed = (matches.next_within frame (statement.Pop x) at refl, fits.placed.1);
         by_status = record {

@@ -14,7 +14,7 @@ use Rattle.pct_model.specs.declared.state.Reason.{Reason}
 use Rattle.pct_model.specs.declared.state.Status.{Status}
 use Rattle.pct_model.specs.declared.state.Status.TheVariants as status
 use Rattle.pct_model.specs.Keys.{KeyPlace}
-use Rattle.pct_model.specs.Kept.{KeysKept, AreOpen, open_functions, HasOneBottom, bottom_kind, is_bottom_kind, is_end_kind, is_exit_kind, has_no_frame, is_ending_status, is_exiting, IsSuspendedAt, has_left_wait, IsPlainFunction, ThreadKept}
+use Rattle.pct_model.specs.Kept.{KeysKept, AreOpen, open_functions, HasOneBottom, bottom_kind, is_bottom_kind, is_end_kind, is_exit_kind, has_no_frame, is_ending_status, is_exiting, IsSuspendedAt, is_forking, has_left_wait, IsPlainFunction, ThreadKept}
 use Rattle.pct_model.specs.LineParsing.{is_empty}
 use Rattle.pct_model.specs.NextStatement.{next_of}
 use Rattle.pct_model.specs.StopTable.{has_begun_to_end}
@@ -166,12 +166,13 @@ module _ (script : Script) where
     of_status (status.AtPoint index) frames by = of_framed (status.AtPoint index) frames refl refl by.0
     of_status (status.Joining id) frames by = of_framed (status.Joining id) frames refl refl by.0
     of_status (status.InSem sem) frames by = of_framed (status.InSem sem) frames refl refl by.0
+    of_status (status.InWaitPid pid) frames by = of_framed (status.InWaitPid pid) frames refl refl by.0
     of_status (status.Waiting c m) frames by = of_framed (status.Waiting c m) frames refl refl by.0
     of_status (status.Reacquire c m cause) frames by = of_framed (status.Reacquire c m cause) frames refl refl by.0
     of_status status.Ending frames by = without_frames status.Ending frames by.no_frames of_ending by
+    of_status (status.Forking phase index length pid) frames by = of_framed (status.Forking phase index length pid) frames refl refl by.0
     of_status (status.Ended v) frames by = without_frames (status.Ended v) frames by.no_frames (of_ended v) by
     of_status status.Exiting frames by = without_frames status.Exiting frames by.0 (λ exits. of_exiting status.Exiting [] exits.1 refl tt refl tt) by
-    of_status _ frames by = absurd by
 
     of_any : (st : Status) (frames : List Frame) → ByAnyStatus script st why frames handlers s → StatusFacts st why frames handlers s
     of_any st frames (inl by) = of_status st frames by
@@ -180,6 +181,8 @@ module _ (script : Script) where
 
     suspended_by : (st : Status) (frames : List Frame) → ByAnyStatus script st why frames handlers s → IsSuspendedAt (next_of script frames) st
     suspended_by (status.InSem sem) frames by = (outside_exit script why handlers s (status.InSem sem) frames refl by).1
+    suspended_by (status.InWaitPid pid) frames by = (outside_exit script why handlers s (status.InWaitPid pid) frames refl by).1
+    suspended_by (status.Forking phase index length pid) frames by = (outside_exit script why handlers s (status.Forking phase index length pid) frames refl by).1
     suspended_by (status.Waiting c m) frames by = (outside_exit script why handlers s (status.Waiting c m) frames refl by).1
     suspended_by (status.Reacquire c m cause) frames by = (outside_exit script why handlers s (status.Reacquire c m cause) frames refl by).1
     suspended_by _ frames by = tt
@@ -187,6 +190,10 @@ module _ (script : Script) where
     leaving_by : (st : Status) (frames : List Frame) → ByAnyStatus script st why frames handlers s → has_left_wait st ≡ true → has_begun_to_end why ≡ false
     leaving_by (status.Reacquire c m cause) frames by leaves = (outside_exit script why handlers s (status.Reacquire c m cause) frames refl by).2 leaves
     leaving_by _ frames by leaves = absurd (false≢true leaves)
+
+    forking_by : (st : Status) (frames : List Frame) → ByAnyStatus script st why frames handlers s → is_forking st ≡ true → has_begun_to_end why ≡ false
+    forking_by (status.Forking phase index length pid) frames by forks = (outside_exit script why handlers s (status.Forking phase index length pid) frames refl by).2
+    forking_by _ frames by forks = absurd (false≢true forks)
 
   -- ---- threads
 
@@ -216,6 +223,8 @@ module _ (script : Script) where
         at_point = λ index is. (by (status.AtPoint index) refl is).1;
         suspended = suspended_by t.reason t.handlers s t.status t.frames fits.by_status;
         leaving = leaving_by t.reason t.handlers s t.status t.frames fits.by_status;
+        forking = forking_by t.reason t.handlers s t.status t.frames fits.by_status;
+        none_left = fits.agrees.none_left;
         passes = fits.in_passes.current;
         not_destroyed = λ place key in_pass at. not_taken passes t.pass t.specific.in_pass s.passes s.destroyed fits.in_passes key.number
             (ap (is_in t.specific.in_pass) (on_own_place script keys kept place key at) ∙ get_or_from_slice_get t.specific.in_pass place true false in_pass);

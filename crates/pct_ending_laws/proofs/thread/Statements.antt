@@ -60,7 +60,7 @@ module _ (script : Script) (passes : ℕ) (matches : PushesMatch script) where
   -- a new thread, in a frame of a kind that may be its only one
   pub new_fits : (id f a : ℕ) (detached : Bool) (k : FrameKind) → f < length script.funcs → Below k reason.None [] ⊥ → Fits script passes (new_thread id detached (new_frame f a k)) no_events
   new_fits id f a detached k in_script alone = record {
-    agrees = record { handlers_agree = refl; reason = refl; end = refl; functions = tt; disabled = λ any. absurd (false≢true any) };
+    agrees = record { handlers_agree = refl; reason = refl; end = refl; functions = tt; disabled = λ any. absurd (false≢true any); none_left = λ alive. refl };
     placed = (matches.first_within f in_script, tt);
     by_status = record {
       not_ended = refl;
@@ -152,7 +152,7 @@ module _ (script : Script) (passes : ℕ) (matches : PushesMatch script) where
         let keeps =
         going_on_keeps script passes (record t { state = state_if enable }) frame below status.Running reported (suc frame.pc) (action.Write old (state_number t.state) ∷ []) (what.StateSet enable ∷ []) (matches.next frame s at) (matches.next_within frame s at refl) refl refl (tt, tt)
         (record {
-          agrees = record { handlers_agree = fits.agrees.handlers_agree; reason = fits.agrees.reason; end = fits.agrees.end; functions = fits.agrees.functions; disabled = state_allowed enable outside };
+          agrees = record { handlers_agree = fits.agrees.handlers_agree; reason = fits.agrees.reason; end = fits.agrees.end; functions = fits.agrees.functions; disabled = state_allowed enable outside; none_left = fits.agrees.none_left };
           placed = fits.placed;
           by_status = fits.by_status;
           in_passes = fits.in_passes;

@@ -109,19 +109,19 @@ module _ (script : Script) where
     not_exiting : s.exiting ≡ false;
   }
 
-  -- a thread, by its status: where it is suspended, and that it has not begun to end while it leaves a wait; no thread has one of the
-  -- other statuses yet
+  -- a thread, by its status: where it is suspended, and that it has not begun to end while it leaves a wait or is in fork
   abbrev pub ByStatus : Status → Reason → List Frame → List (ℕ × ℕ) → ThreadSummary → Type 0
   ByStatus status.Running why frames handlers s = HasFrames why frames handlers s
   ByStatus (status.AtPoint index) why frames handlers s = HasFrames why frames handlers s × (is_call_of index (next_of script frames) ≡ true)
   ByStatus (status.Joining id) why frames handlers s = HasFrames why frames handlers s × (is_join (next_of script frames) ≡ true)
   ByStatus (status.InSem sem) why frames handlers s = HasFrames why frames handlers s × IsSuspendedAt (next_of script frames) (status.InSem sem)
+  ByStatus (status.InWaitPid pid) why frames handlers s = HasFrames why frames handlers s × IsSuspendedAt (next_of script frames) (status.InWaitPid pid)
   ByStatus (status.Waiting c m) why frames handlers s = HasFrames why frames handlers s × IsSuspendedAt (next_of script frames) (status.Waiting c m)
   ByStatus (status.Reacquire c m cause) why frames handlers s = HasFrames why frames handlers s × IsSuspendedAt (next_of script frames) (status.Reacquire c m cause) × (has_left_wait (status.Reacquire c m cause) ≡ true → has_begun_to_end why ≡ false)
+  ByStatus (status.Forking phase index length pid) why frames handlers s = HasFrames why frames handlers s × IsSuspendedAt (next_of script frames) (status.Forking phase index length pid) × (has_begun_to_end why ≡ false)
   ByStatus status.Ending why frames handlers s = GoesToHandlers why frames handlers s
   ByStatus (status.Ended v) why frames handlers s = HasEnded v why frames handlers s
   ByStatus status.Exiting why frames handlers s = (frames ≡ []) × (s.exiting ≡ true)
-  ByStatus _ why frames handlers s = ⊥
 
   -- a thread that runs a function registered with atexit, in its only frame
   abbrev pub RunsExitFunction : Status → List Frame → ThreadSummary → Type 0
@@ -148,6 +148,7 @@ module _ (script : Script) where
     end : is_some s.ended ≡ ended;
     functions : AllByRecursion IsHandler handlers;
     disabled : (has_begun_to_end why || s.exiting) ≡ true → state ≡ Disable;
+    none_left : has_begun_to_end why ≡ false → s.left ≡ [];
   }
 
   module _ (passes : ℕ) where

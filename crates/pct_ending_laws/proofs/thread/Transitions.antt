@@ -10,6 +10,7 @@ use Rattle.pct_model.specs.declared.schedule.Config.{Config}
 use Rattle.pct_model.specs.declared.script.Script.{Script}
 use Rattle.pct_model.specs.declared.state.Cause.TheVariants as cause
 use Rattle.pct_model.specs.declared.state.FrameKind.TheVariants as kind
+use Rattle.pct_model.specs.declared.state.Phase.TheVariants.{Prepare, Parent}
 use Rattle.pct_model.specs.declared.state.Status.{Status}
 use Rattle.pct_model.specs.declared.state.Status.TheVariants as status
 use Rattle.pct_model.specs.declared.statement.Operand.{Operand}
@@ -22,16 +23,16 @@ use Rattle.pct_model.specs.Actions.{thread_at, thread_after}
 use Rattle.pct_model.specs.CancelCalls.{mode_number, mode_if, testcancel_point, point_kind, is_required}
 use Rattle.pct_model.specs.ChoiceTable.{choices_of, offers}
 use Rattle.pct_model.specs.CondCalls.{cond_wait_point}
-use Rattle.pct_model.specs.Kept.{is_join, is_call_of, is_sem_wait_of, is_cond_wait_of, KeysKept, IsPlainFunction}
+use Rattle.pct_model.specs.Kept.{is_join, is_call_of, is_sem_wait_of, is_at_fork, is_at_waitpid, is_cond_wait_of, KeysKept, IsPlainFunction}
 use Rattle.pct_model.specs.NextStatement.{NextStatement, next_in, next_of, body_at}
 use Rattle.pct_model.specs.OtherThreads.{Others, others_of}
 use Rattle.pct_model.specs.ThreadEnds.{end_value}
 use Rattle.pct_model.specs.ThreadSummary.{ThreadSummary, no_events}
 use Rattle.pct_model.specs.TransitionTable.{transition_by}
-use Rattle.pct_model.specs.World.{Thread, SharedState, Process, value_of, new_frame, new_thread}
+use Rattle.pct_model.specs.World.{Thread, SharedState, Process, World, value_of, new_frame, new_thread}
 use Rattle.pct_transition_cases.proofs.CaseOfTransition.{case_of}
 use Rattle.pct_transition_cases.proofs.PlacedStatements.{IsPlaced, on_top, is_placed, statement_placed}
-use Rattle.pct_transition_cases.proofs.TransitionCases.{TransitionCase, rests, stopped, jumped, emitted, variable_set, variable_added, function_called, main_returned, start_returned, call_left, handler_left, exit_function_left, thread_made, thread_not_made, join_begun, join_ended, thread_detached, self_got, request_sent, state_set, mode_set, cancel_tested, point_begun, point_done, point_passed, canceled, canceled_at_point, canceled_in_join, canceled_in_sem_wait, mutex_locked, mutex_unlocked, wait_begun, wait_ended, canceled_in_wait, canceled_after_wait, signal_handed_on, ended_in_wait, signal_sent, signal_lost, broadcast_sent, sem_wait_begun, sem_taken, sem_posted, key_made, key_not_made, key_deleted, specific_set, specific_got, handler_pushed, handler_popped, handler_called, exit_called, handler_run, destructor_called, pass_begun, thread_ended, thread_ended_with_keys, last_ended, last_ended_with_keys, exit_registered, exit_not_registered, process_exited, process_ended_now, exit_function_called, process_ended}
+use Rattle.pct_transition_cases.proofs.TransitionCases.{TransitionCase, rests, stopped, jumped, emitted, variable_set, variable_added, function_called, main_returned, start_returned, call_left, handler_left, exit_function_left, thread_made, thread_not_made, join_begun, join_ended, thread_detached, self_got, request_sent, state_set, mode_set, cancel_tested, point_begun, point_done, point_passed, canceled, canceled_at_point, canceled_in_join, canceled_in_sem_wait, canceled_in_waitpid, mutex_locked, mutex_unlocked, wait_begun, wait_ended, canceled_in_wait, canceled_after_wait, signal_handed_on, ended_in_wait, signal_sent, signal_lost, broadcast_sent, sem_wait_begun, sem_taken, sem_posted, fork_begun, process_forked, process_not_forked, fork_failed, fork_returned, waitpid_begun, child_reaped, no_child_found, child_lost, key_made, key_not_made, key_deleted, specific_set, specific_got, handler_pushed, handler_popped, handler_called, exit_called, handler_run, destructor_called, pass_begun, thread_ended, thread_ended_with_keys, last_ended, last_ended_with_keys, exit_registered, exit_not_registered, process_exited, process_ended_now, exit_function_called, process_ended}
 use Rattle.pct_ending_laws.proofs.StaticPushes.{PushesMatch}
 use Rattle.pct_ending_laws.proofs.lift.ThreadsAfter.{created_thread}
 use Rattle.pct_ending_laws.proofs.lift.OfferedNumbers.{left_key_of}
@@ -97,6 +98,7 @@ module _ (script : Script) (passes : ℕ) (matches : PushesMatch script) (names 
   case_keeps {frames} place (canceled_at_point next index enabled) rule = cancel_keeps script passes t (status.AtPoint index) frames reported rule rule.by_status.0 (enabled refl)
   case_keeps {frames} place (canceled_in_join next id enabled) rule = cancel_keeps script passes t (status.Joining id) frames reported rule rule.by_status.0 (enabled refl)
   case_keeps {frames} place (canceled_in_sem_wait next sem enabled) rule = cancel_keeps script passes t (status.InSem sem) frames reported rule rule.by_status.0 (enabled refl)
+  case_keeps {frames} place (canceled_in_waitpid next pid enabled) rule = cancel_keeps script passes t (status.InWaitPid pid) frames reported rule rule.by_status.0 (enabled refl)
   -- mutexes
   case_keeps (on_top frame below s at) (mutex_locked _ m free) rule = next_keeps script passes matches t frame below reported rule status.Running (statement.Lock m) at refl refl (action.OwnMutex m t.id ∷ []) (what.Acquired m ∷ []) refl refl (tt, tt)
   case_keeps (on_top frame below s at) (mutex_unlocked _ m owned) rule = next_keeps script passes matches t frame below reported rule status.Running (statement.Unlock m) at refl refl (action.OwnMutex m 0 ∷ []) (what.Released m ∷ []) refl refl (tt, tt)
@@ -119,6 +121,24 @@ module _ (script : Script) (passes : ℕ) (matches : PushesMatch script) (names 
   case_keeps (on_top frame below s at) (sem_taken _ n sem some) rule =
       next_keeps script passes matches t frame below reported (awake script passes t (status.InSem sem) (frame ∷ below) reported rule rule.by_status.0) (status.InSem sem) (statement.SemWait n) at refl refl (action.SetCount sem _ ∷ []) (what.Taken sem ∷ []) refl refl (tt, tt)
   case_keeps (on_top frame below s at) (sem_posted _ sem) rule = next_keeps script passes matches t frame below reported rule status.Running (statement.SemPost sem) at refl refl (action.SetCount sem _ ∷ []) (what.Posted sem ∷ []) refl refl (tt, tt)
+  -- processes
+  case_keeps (on_top frame below s at) (fork_begun _ result child alive last) rule =
+      record { own = suspends script passes t status.Running (frame ∷ below) reported rule rule.by_status (status.Forking Prepare 0 0 0) (rule.by_status, ap (λ (x : Option Stmt). is_at_fork (next_in frame x)) at, alive); lawful = tt }
+  case_keeps {frames} place (process_forked next index length pid new is) rule =
+      record { own = suspends script passes t (status.Forking Prepare index length pid) frames reported rule rule.by_status.0 (status.Forking Parent 0 0 new) rule.by_status; lawful = (tt, tt) }
+  case_keeps {frames} place (process_not_forked next index length pid) rule =
+      record { own = suspends script passes t (status.Forking Prepare index length pid) frames reported rule rule.by_status.0 (status.Forking Parent 0 0 0) rule.by_status; lawful = (tt, tt) }
+  case_keeps (on_top frame below s at) (fork_failed _ result child index length pid) rule =
+      next_keeps script passes matches t frame below reported (awake script passes t (status.Forking Parent index length pid) (frame ∷ below) reported rule rule.by_status.0) (status.Forking Parent index length pid) (statement.Fork result child) at refl refl (action.Write result 1 ∷ []) [] refl refl tt
+  case_keeps (on_top frame below s at) (fork_returned _ result child phase index length pid n) rule =
+      next_keeps script passes matches t frame below reported (awake script passes t (status.Forking phase index length pid) (frame ∷ below) reported rule rule.by_status.0) (status.Forking phase index length pid) (statement.Fork result child) at refl refl (action.Write result 0 ∷ action.Write child n ∷ []) [] refl refl tt
+  case_keeps (on_top frame below s at) (waitpid_begun _ result d pid) rule =
+      record { own = suspends script passes t status.Running (frame ∷ below) reported rule rule.by_status (status.InWaitPid (value frame pid)) (rule.by_status, ap (λ (x : Option Stmt). is_at_waitpid (next_in frame x)) at); lawful = (tt, tt) }
+  case_keeps (on_top frame below s at) (child_reaped _ result d operand pid n child is ended) rule =
+      next_keeps script passes matches t frame below reported (awake script passes t (status.InWaitPid pid) (frame ∷ below) reported rule rule.by_status.0) (status.InWaitPid pid) (statement.WaitPid result operand d) at refl refl (action.Reap pid ∷ action.Write result 0 ∷ action.Write d n ∷ []) (what.Reaped pid n ∷ []) refl refl (tt, tt)
+  case_keeps (on_top frame below s at) (no_child_found _ result d operand) rule = next_keeps script passes matches t frame below reported rule status.Running (statement.WaitPid result operand d) at refl refl (action.Write result 3 ∷ []) (what.Answer caller.WaitPid 3 ∷ []) refl refl (tt, tt)
+  case_keeps (on_top frame below s at) (child_lost _ result d operand pid) rule =
+      next_keeps script passes matches t frame below reported (awake script passes t (status.InWaitPid pid) (frame ∷ below) reported rule rule.by_status.0) (status.InWaitPid pid) (statement.WaitPid result operand d) at refl refl (action.Write result 3 ∷ []) (what.Answer caller.WaitPid 3 ∷ []) refl refl (tt, tt)
   -- keys
   case_keeps (on_top frame below s at) (key_made _ result key destructor k among) rule = next_keeps script passes matches t frame below reported rule status.Running (statement.KeyCreate result key destructor) at refl refl (action.MakeKey k destructor ∷ action.Write result 0 ∷ action.Write key k ∷ []) (what.KeyMade k ∷ []) refl refl (tt, tt)
   case_keeps (on_top frame below s at) (key_not_made _ result key destructor) rule = next_keeps script passes matches t frame below reported rule status.Running (statement.KeyCreate result key destructor) at refl refl (action.Write result 1 ∷ []) (what.Answer caller.KeyCreate 1 ∷ []) refl refl (tt, tt)
@@ -169,15 +189,15 @@ module _ (script : Script) (passes : ℕ) (matches : PushesMatch script) (names 
   case_created place _ new is = absurd (none-some new is)
 
 -- a transition of a thread, by any choice
-pub transition_keeps : (script : Script) → PushesMatch script → NamesFunctions script → (config : Config) (p : Process) (t : Thread) (reported : ThreadSummary) (choice : Alt) → KeysKept script p.shared.keys → RegistersPlain script p → offers (choices_of script config p t) choice ≡ true
-    → FitsAny script config.passes t reported → KeepsAny script config.passes t reported (transition_by script config p t choice)
-transition_keeps script matches names config p t reported choice kept registered offered rule =
-    let others : Others = others_of config.slots p.threads t.id in
+pub transition_keeps : (script : Script) → PushesMatch script → NamesFunctions script → (config : Config) (w : World) (p : Process) (t : Thread) (reported : ThreadSummary) (choice : Alt) → KeysKept script p.shared.keys → RegistersPlain script p → offers (choices_of script config w p t) choice ≡ true
+    → FitsAny script config.passes t reported → KeepsAny script config.passes t reported (transition_by script config w p t choice)
+transition_keeps script matches names config w p t reported choice kept registered offered rule =
+    let others : Others = others_of config.slots w p t.id in
     rule_keeps script config.passes matches names p.shared kept registered t others reported t.status t.frames (is_placed script t.frames) (case_of config.passes (body_at script t.frames) p.shared t others true choice (next_of script t.frames) t.status (λ known. offered)) rule rule.by_status
 
 -- the thread that it creates
-pub created_fits : (script : Script) → PushesMatch script → NamesFunctions script → (config : Config) (p : Process) (t : Thread) (choice : Alt) → KeysKept script p.shared.keys → RegistersPlain script p → offers (choices_of script config p t) choice ≡ true
-    → (new : NewThread) → (transition_by script config p t choice).created ≡ Some new → FitsAny script config.passes (created_thread new) no_events
-created_fits script matches names config p t choice kept registered offered =
-    let others : Others = others_of config.slots p.threads t.id in
+pub created_fits : (script : Script) → PushesMatch script → NamesFunctions script → (config : Config) (w : World) (p : Process) (t : Thread) (choice : Alt) → KeysKept script p.shared.keys → RegistersPlain script p → offers (choices_of script config w p t) choice ≡ true
+    → (new : NewThread) → (transition_by script config w p t choice).created ≡ Some new → FitsAny script config.passes (created_thread new) no_events
+created_fits script matches names config w p t choice kept registered offered =
+    let others : Others = others_of config.slots w p t.id in
     case_created script config.passes matches names p.shared kept registered t others no_events (is_placed script t.frames) (case_of config.passes (body_at script t.frames) p.shared t others true choice (next_of script t.frames) t.status (λ known. offered))

@@ -20,7 +20,7 @@ use Rattle.pct_model.specs.NextStatement.{NextStatement, next_of, body_at}
 use Rattle.pct_model.specs.OtherThreads.{Others, others_of}
 use Rattle.pct_model.specs.Run.{event_of}
 use Rattle.pct_model.specs.TransitionTable.{transition_by}
-use Rattle.pct_model.specs.World.{Thread, SharedState, Process}
+use Rattle.pct_model.specs.World.{Thread, SharedState, Process, World}
 use Rattle.pct_transition_cases.proofs.CaseOfTransition.{case_of}
 use Rattle.pct_transition_cases.proofs.PlacedStatements.{IsPlaced, is_placed, statement_placed}
 use Rattle.pct_transition_cases.proofs.TransitionCases.{TransitionCase, point_begun, signal_handed_on}
@@ -61,9 +61,9 @@ module _ (script : Script) (passes : ℕ) (shared : SharedState) (t : Thread) (o
   case_neighbours {o = o} place _ = record { calls = refl; hand_ons = refl }
 
 -- the events of a transition
-pub are_neighbours : (script : Script) (config : Config) (p : Process) (t : Thread) (choice : Alt) → AreNeighbours (reverse (transition_by script config p t choice).events)
-are_neighbours script config p t choice =
-    let others : Others = others_of config.slots p.threads t.id in
+pub are_neighbours : (script : Script) (config : Config) (w : World) (p : Process) (t : Thread) (choice : Alt) → AreNeighbours (reverse (transition_by script config w p t choice).events)
+are_neighbours script config w p t choice =
+    let others : Others = others_of config.slots w p t.id in
     case_neighbours script config.passes p.shared t others (is_placed script t.frames) (case_of config.passes (body_at script t.frames) p.shared t others false choice (next_of script t.frames) t.status (λ known. absurd (false≢true known)))
 
 -- ---- the events of a run

@@ -24,7 +24,7 @@ use Rattle.pct_model.specs.OtherThreads.{Others, others_of}
 use Rattle.pct_model.specs.ThreadSlots.{is_live_thread}
 use Rattle.pct_model.specs.TransitionTable.{transition_by}
 use Rattle.pct_model.specs.WaitStages.{WaitStage, NoWait, AtCall, InWait, Leaving, LeavingSignal, stage_after, wait_stage, may_follow}
-use Rattle.pct_model.specs.World.{Thread, SharedState, Process}
+use Rattle.pct_model.specs.World.{Thread, SharedState, Process, World}
 use Rattle.pct_transition_cases.proofs.CaseOfTransition.{case_of}
 use Rattle.pct_transition_cases.proofs.PlacedStatements.{IsPlaced, is_placed, statement_placed}
 use Rattle.pct_transition_cases.proofs.TransitionCases.{TransitionCase, rests, point_begun, wait_ended, canceled_in_wait, canceled_after_wait, signal_handed_on, ended_in_wait}
@@ -111,9 +111,9 @@ module _ (script : Script) (passes : ℕ) (shared : SharedState) (t : Thread) (o
   case_keeps {frames} {s = s} {o = o} k place _ is = at_stage (own s frames) o NoWait is (record { own = refl; lawful = refl })
 
 -- a transition of a thread, by any choice
-pub transition_keeps : (script : Script) (config : Config) (p : Process) (t : Thread) (k : WaitStage) (choice : Alt) → WaitKept t.status k → KeepsWait t k (transition_by script config p t choice)
-transition_keeps script config p t k choice is =
-    let others : Others = others_of config.slots p.threads t.id in
+pub transition_keeps : (script : Script) (config : Config) (w : World) (p : Process) (t : Thread) (k : WaitStage) (choice : Alt) → WaitKept t.status k → KeepsWait t k (transition_by script config w p t choice)
+transition_keeps script config w p t k choice is =
+    let others : Others = others_of config.slots w p t.id in
     case_keeps script config.passes p.shared t others k (is_placed script t.frames) (case_of config.passes (body_at script t.frames) p.shared t others false choice (next_of script t.frames) t.status (λ known. absurd (false≢true known))) is
 
 -- ---- a thread that another one unblocks

@@ -46,9 +46,10 @@ module _ (script : Script) (config : Config) where
   thread_rule : IsThreadRule stage IsInWait script config (λ p. Unit {0})
   thread_rule = record {
     initial = refl;
-    created = λ p t k choice new nothing offered is makes. refl;
+    created = λ w p t k choice new nothing offered is makes. refl;
     named = named_keeps_wait;
-    kept = λ p t k choice nothing offered is. (transition_keeps script config p t k choice is).own;
+    kept = λ w p t k choice nothing offered is. (transition_keeps script config w p t k choice is).own;
+    replica = λ w p t k index handlers pid nothing forks is. refl;
   }
 
   -- ---- runs
@@ -56,14 +57,14 @@ module _ (script : Script) (config : Config) where
   waits_fit : AfterEveryRun script config (OfEveryThread stage IsInWait)
   waits_fit = every_thread stage IsInWait script config (λ p. Unit {0}) thread_rule (λ entries r is pid p made. tt)
 
-  waits_kept : (before : List Entry) (r : Run) → run script config before ≡ Some r → (e : Entry) (p : Process) (t : Thread) → IsTaken script config r.world e p t → WaitsLaw r.events → WaitsLaw (with_step e (transition_by script config p t e.alt) r).events
+  waits_kept : (before : List Entry) (r : Run) → run script config before ≡ Some r → (e : Entry) (p : Process) (t : Thread) → IsTaken script config r.world e p t → WaitsLaw r.events → WaitsLaw (with_step e (transition_by script config r.world p t e.alt) r).events
   waits_kept before r is e p t taken law =
-      let moves : Moves script config p e t = moves_of_run script config before r is e p t taken in
-      let m = mover script config p e t moves in
+      let moves : Moves script config r.world p e t = moves_of_run script config before r is e p t taken in
+      let m = mover script config r.world p e t moves in
       let k : WaitStage = reported_by (of_thread stage e.tid) e.pid r.events in
       let made = ap (option_and_then (thread_with e.tid)) (process_taken script config before r is e p t taken) ∙ m.found in
       let in_wait : IsInWait t k = of_made_thread stage IsInWait r (waits_fit before r is) e.pid e.tid t made m.here in
-      waits_later e r.events (reverse (transition_by script config p t e.alt).events) (transition_keeps script config p t k e.alt in_wait).lawful law
+      waits_later e r.events (reverse (transition_by script config r.world p t e.alt).events) (transition_keeps script config r.world p t k e.alt in_wait).lawful law
 
   -- the law of condition waits
   pub waits_of_run : AfterEveryRun script config (λ r. WaitsLaw r.events)
@@ -72,12 +73,12 @@ module _ (script : Script) (config : Config) where
   -- the law of signals that are handed on
   pub hand_ons_of_run : AfterEveryRun script config (λ r. HandOnLaw r.events)
   hand_ons_of_run = every_run script config (λ r. HandOnLaw r.events)
-      (λ before r is e p t taken law. hand_ons_later e r.events (reverse (transition_by script config p t e.alt).events) (are_neighbours script config p t e.alt).hand_ons law) (λ some. tt)
+      (λ before r is e p t taken law. hand_ons_later e r.events (reverse (transition_by script config r.world p t e.alt).events) (are_neighbours script config r.world p t e.alt).hand_ons law) (λ some. tt)
 
   -- each call of pthread_cond_wait releases its mutex at once
   pub calls_of_run : AfterEveryRun script config (λ r. CallsRelease None r.events)
   calls_of_run = every_run script config (λ r. CallsRelease None r.events)
-      (λ before r is e p t taken release. calls_later e r.events None (reverse (transition_by script config p t e.alt).events) (are_neighbours script config p t e.alt).calls release) (λ some. tt)
+      (λ before r is e p t taken release. calls_later e r.events None (reverse (transition_by script config r.world p t e.alt).events) (are_neighbours script config r.world p t e.alt).calls release) (λ some. tt)
 
   -- the condition wait of each thread is unfinished exactly if the thread is in it
   pub waits_kept_of_run : (entries : List Entry) (r : Run) → run script config entries ≡ Some r → (pid tid : ℕ) (t : Thread) → made_thread pid tid r.world ≡ Some t → t.gone ≡ false → WaitKept t.status (wait_stage pid tid r.events)

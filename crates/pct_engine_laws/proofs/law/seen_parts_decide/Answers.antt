@@ -5,6 +5,7 @@ use Rattle.pct_engine_laws.proofs.ChosenSeen.{chosen_is_seen}
 use Rattle.pct_engine_laws.proofs.OpenRuns.{steps_if_legal, goes_on_while_open}
 use Rattle.pct_engine_laws.proofs.FewThreads.{few_made}
 use Rattle.pct_engine_laws.proofs.FewKeys.{few_keys_made}
+use Rattle.pct_engine_laws.proofs.FewProcesses.{few_processes_made}
 use Rattle.pct_engine_laws.proofs.RunNumbers.{run_numbers_fit}
 use Rattle.pct_engine_laws.proofs.law.seen_parts_decide.Goals as goal
 
@@ -31,6 +32,9 @@ returns-clause-few c = few_made
 
 pub returns-clause-few_keys : goal.returns-clause-few_keys
 returns-clause-few_keys c = few_keys_made
+
+pub returns-clause-few_processes : goal.returns-clause-few_processes
+returns-clause-few_processes c = few_processes_made
 
 pub returns-clause-numbers : goal.returns-clause-numbers
 returns-clause-numbers c = run_numbers_fit

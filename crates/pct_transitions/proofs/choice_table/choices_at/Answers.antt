@@ -18,3 +18,6 @@ returns-in-InSem-clause-within c = c.go_or_act-in-InSem.ensures.within _
 
 pub returns-in-Waiting-clause-within : goal.returns-in-Waiting-clause-within
 returns-in-Waiting-clause-within c = c.go_or_act-in-Waiting.ensures.within _
+
+pub returns-in-InWaitPid-clause-within : goal.returns-in-InWaitPid-clause-within
+returns-in-InWaitPid-clause-within c = c.go_or_act-in-InWaitPid.ensures.within _

@@ -6,6 +6,7 @@ use Rattle.pct_model.specs.Chosen.{item_at}
 use Rattle.pct_model.specs.ChoiceTable.{choices_at}
 use Rattle.pct_model.specs.NextStatement.{next_of}
 use Rattle.pct_engine_laws.specs.SeenSteps.{others_in}
+use Rattle.pct_process.specs.FamilyViews.{other_processes}
 use Rattle.pct_transitions.specs.Listed.{listed}
 use Rattle.pct_transitions.proofs.OfferedLists.{has_row}
 use Rattle.pct_transitions.proofs.process_steps.choice_by.Goals as goal
@@ -18,7 +19,7 @@ returns-then-count-eq0 c = λ t at.
     let p = c.args.process.now in
     let context = c.new-context.result in
     let is = c.new-context.ensures.context t at in
-    let others = others_in (length p.slots) p.slots t.id in
+    let others = others_in (length p.slots) (other_processes c.args.around.family) p.slots t.id in
     let these = listed context.threads.now context.position.keys.now c.choices_at-choices.result in
     let choices = c.choices_at-choices.ensures.value p.shared t others is ∙ (λ i. choices_at p.shared t others (next_of (c.new-context.ensures.program i).script t.frames) t.status) in
     let none : length these ≡ 0 = sym (c.count-count.ensures context.threads.now) ∙ c.if-count-eq0.true in
@@ -29,7 +30,7 @@ returns c = λ t at.
     let p = c.args.process.now in
     let context = c.new-context.result in
     let is = c.new-context.ensures.context t at in
-    let others = others_in (length p.slots) p.slots t.id in
+    let others = others_in (length p.slots) (other_processes c.args.around.family) p.slots t.id in
     let these = listed context.threads.now context.position.keys.now c.choices_at-choices.result in
     let choices = c.choices_at-choices.ensures.value p.shared t others is ∙ (λ i. choices_at p.shared t others (next_of (c.new-context.ensures.program i).script t.frames) t.status) in
     c.nth.ensures ∙ ap (λ (n : ℕ). slice_get these (c.args.number % n)) (c.count-count.ensures context.threads.now) ∙ ap (λ (xs : List Alt). item_at xs c.args.number) choices

@@ -3,6 +3,7 @@ use Rattle.pct_model.specs.declared.schedule.Alt.{Alt}
 use Rattle.pct_model.specs.ChoiceTable.{choices_at, is_enabled}
 use Rattle.pct_model.specs.NextStatement.{next_of}
 use Rattle.pct_engine_laws.specs.SeenSteps.{others_in}
+use Rattle.pct_process.specs.FamilyViews.{other_processes}
 use Rattle.pct_transitions.specs.Listed.{listed}
 use Rattle.pct_transitions.proofs.OfferedLists.{has_row, enabled_by_count}
 use Rattle.pct_transitions.proofs.process_steps.has_choice.Goals as goal
@@ -14,7 +15,7 @@ pub returns : goal.returns
 returns c = λ t at.
     let p = c.args.process.now in
     let is = c.new-context.ensures.context t at in
-    let others = others_in (length p.slots) p.slots t.id in
+    let others = others_in (length p.slots) (other_processes c.args.around.family) p.slots t.id in
     let choices = c.choices_at.ensures.value p.shared t others is ∙ (λ i. choices_at p.shared t others (next_of (c.new-context.ensures.program i).script t.frames) t.status) in
     let context = c.new-context.result in
     let these = listed context.threads.now context.position.keys.now c.choices_at.result in

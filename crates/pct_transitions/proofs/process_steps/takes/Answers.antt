@@ -5,6 +5,7 @@ use Rattle.pct_model.specs.ChoiceTable.{choices_at, offers}
 use Rattle.pct_model.specs.NextStatement.{next_of, body_at}
 use Rattle.pct_model.specs.TransitionTable.{acts_or, transition_at}
 use Rattle.pct_engine_laws.specs.SeenSteps.{others_in}
+use Rattle.pct_process.specs.FamilyViews.{other_processes}
 use Rattle.pct_process.specs.ProcessViews.{ProcessData}
 use Rattle.pct_transitions.specs.Numbers.{AreOnPlaces}
 use Rattle.pct_transitions.specs.Programs.{ProgramValue}
@@ -15,7 +16,7 @@ pub returns-then-not-offers-clause-taken : goal.returns-then-not-offers-clause-t
 returns-then-not-offers-clause-taken c = λ t at.
     let p = c.args.process.now in
     let is = c.new-context.ensures.context t at in
-    let others = others_in (length p.slots) p.slots t.id in
+    let others = others_in (length p.slots) (other_processes c.args.around.family) p.slots t.id in
     let choices = c.choices_at.ensures.value p.shared t others is ∙ (λ i. choices_at p.shared t others (next_of (c.new-context.ensures.program i).script t.frames) t.status) in
     record {
       offered_is = sym (c.offers.ensures ∙ ap (λ (these : List Alt). offers these c.args.choice) choices) ∙ c.if-not-offers.true;
@@ -26,7 +27,7 @@ pub returns-clause-taken : goal.returns-clause-taken
 returns-clause-taken c = λ t at.
     let p = c.args.process.now in
     let is = c.new-context.ensures.context t at in
-    let others = others_in (length p.slots) p.slots t.id in
+    let others = others_in (length p.slots) (other_processes c.args.around.family) p.slots t.id in
     let choices = c.choices_at.ensures.value p.shared t others is ∙ (λ i. choices_at p.shared t others (next_of (c.new-context.ensures.program i).script t.frames) t.status) in
     record {
       offered_is = sym (c.offers.ensures ∙ ap (λ (these : List Alt). offers these c.args.choice) choices) ∙ c.if-not-offers.false;

@@ -1,12 +1,15 @@
 use Rattle.std.proofs.Common.{length, ap, ◌∙◌}
 use Rattle.std.specs.Prelude.{nat_lt, is_some}
-use Rattle.pct_engine_laws.specs.SeenSteps.{threads_on, is_ready_in, ready_in}
+use Rattle.pct_engine_laws.specs.Seen.{threads_on}
+use Rattle.pct_engine_laws.specs.SeenSteps.{is_ready_in, ready_in}
+use Rattle.pct_process.specs.FamilyViews.{other_processes}
 use Rattle.pct_machine.proofs.ReadySlots.{as_many, any_ready_if}
 use Rattle.pct_machine.proofs.place.Place.has_ready.Goals as goal
 
 pub returns : goal.returns
 returns c =
-    let script = c.args.program.now.script in
+    let script = c.args.around.program.now.script in
+    let family = other_processes c.args.around.family in
     let p = c.args.self.now in
-    ap (nat_lt 0) (c.len.ensures.value ∙ as_many p.slots c.ready.result (ready_in script (length p.slots) p) c.ready.ensures)
-    ∙ any_ready_if (is_ready_in script (length p.slots) p) (threads_on p.slots) (is_some p.ended)
+    ap (nat_lt 0) (c.len.ensures.value ∙ as_many p.slots c.ready.result (ready_in script (length p.slots) family p) c.ready.ensures)
+    ∙ any_ready_if (is_ready_in script (length p.slots) family p) (threads_on p.slots) (is_some p.ended)

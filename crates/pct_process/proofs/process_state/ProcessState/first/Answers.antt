@@ -7,7 +7,7 @@ use Rattle.pct_model.specs.Names.{main_of, names_of}
 use Rattle.pct_model.proofs.StaticFacts.{few_functions}
 use Rattle.pct_threads.specs.Slots.{with_call_alone}
 use Rattle.pct_threads.specs.Tables.{on_held, with_created}
-use Rattle.pct_process.proofs.FirstProcess.{data-first, rows-first}
+use Rattle.pct_process.proofs.FirstProcess.{few_declared, data-first, rows-first}
 use Rattle.pct_process.proofs.process_state.ProcessState.first.Goals as goal
 
 pub overflow_cast-main : goal.overflow_cast-main
@@ -16,16 +16,25 @@ overflow_cast-main c =
     let few = few_functions (record { globals = s.globals; mutexes = s.mutexes; conds = s.conds; sems = s.sems; funcs = s.funcs }) s.passes_checks in
     omega (arith, few, c.main_of-main.ensures.bound, ap length c.as_slice.ensures)
 
+pub new-requires-3 : goal.new-requires-3
+new-requires-3 c = omega (arith, (few_declared c.args.script.now).0, ap length c.as_slice-2.ensures)
+
+pub new-requires-4 : goal.new-requires-4
+new-requires-4 c = omega (arith, (few_declared c.args.script.now).1, ap length c.as_slice-3.ensures)
+
+pub counts_of-requires : goal.counts_of-requires
+counts_of-requires c = omega (arith, (few_declared c.args.script.now).2, ap length c.as_slice-4.ensures)
+
 pub returns : goal.returns
 returns c =
-    data-first c.args.script.now c.args.slots c.main_of-main.result c.call_alone.new.self c.in_ok-new.field-0 c.in_ok-new-2.field-0 c.in_ok-new-3.field-0 c.in_ok-counts_of.field-0 c.new-5.result
+    data-first c.args.script.now c.args.slots c.main_of-main.result c.call_alone.new.self c.in_ok-new.field-0 c.new-3.result c.new-4.result c.counts_of.result c.new-5.result
     (omega (arith, c.requires.some))
     (c.main_of-main.ensures.value ∙ ap (λ (funcs : List Func). main_of (names_of funcs)) c.as_slice.ensures)
     (c.call_alone.ensures ∙ ap (on_held 0 (with_call_alone c.main_of-main.result 0 Main)) (c.create.ensures.table ∙ ap (with_created 0 c.main_of-main.result 0 false) c.in_ok-threads.ensures))
     c.in_ok-new.ensures
-    (c.in_ok-new-2.ensures ∙ ap (λ (names : List Name). replicate (length names) 0) c.as_slice-2.ensures)
-    (c.in_ok-new-3.ensures ∙ ap (λ (names : List Name). replicate (length names) 0) c.as_slice-3.ensures)
-    (c.in_ok-counts_of.ensures ∙ ap (λ (sems : List SemDecl). map (λ d. d.count) sems) c.as_slice-4.ensures)
+    (c.new-3.ensures ∙ ap (λ (names : List Name). replicate (length names) 0) c.as_slice-2.ensures)
+    (c.new-4.ensures ∙ ap (λ (names : List Name). replicate (length names) 0) c.as_slice-3.ensures)
+    (c.counts_of.ensures ∙ ap (λ (sems : List SemDecl). map (λ d. d.count) sems) c.as_slice-4.ensures)
     c.new-5.ensures
 
 pub invariant_of-result : goal.invariant_of-result

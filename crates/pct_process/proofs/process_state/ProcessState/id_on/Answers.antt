@@ -1,14 +1,14 @@
-use Rattle.std.proofs.Common.{◌≡◌, Some, sym, ap, ◌∙◌, subst}
-use Rattle.std.specs.Prelude.{is_some, option_map}
+use Rattle.std.proofs.Common.{◌≡◌, Some, ap, subst}
+use Rattle.std.specs.Prelude.{option_map}
 use Rattle.pct_model.specs.World.{Thread}
 use Rattle.pct_process.specs.ProcessViews.{thread_on_slot, ProcessData}
-use Rattle.pct_process.proofs.ViewedSlots.{occupied_is, id_is}
+use Rattle.pct_process.proofs.ViewedSlots.{occupied_on, id_is}
 use Rattle.pct_process.proofs.process_state.ProcessState.id_on.Goals as goal
 
 pub place-requires : goal.place-requires
 place-requires c =
     let s = c.self.inside in
-    sym (occupied_is s.keys s.threads c.self.invariant c.args.slot) ∙ ap (λ (p : ProcessData). is_some (thread_on_slot p.slots c.args.slot)) c.self.view_is ∙ c.requires
+    occupied_on s.keys s.threads c.self.invariant c.args.slot c.args.self.now.slots (ap (λ (p : ProcessData). p.slots) c.self.view_is) c.requires
 
 pub returns : goal.returns
 returns c =

@@ -12,4 +12,4 @@ invariant_of-self c =
     let slot = c.args.slot in
     let after = c.create.new.self in
     let inside = within-free rows slot (subst (λ (t : List Slot). is_free_at t slot ≡ true) (sym c.self.view_is) c.requires.free) in
-    (omega (arith, c.self.invariant.0, length-set rows slot after), omega (arith, c.self.invariant.1, length-set rows slot after), c.insert.ensures ∙ ap (with_slot slot) c.self.invariant.2 ∙ added rows slot after inside (ap is_occupied c.create.ensures))
+    (omega (arith, c.self.invariant.0, length-set rows slot after), omega (arith, c.self.invariant.1, length-set rows slot after), c.insert.ensures ∙ ap (with_slot slot) c.self.invariant.2 ∙ added rows slot after inside (ap is_occupied c.create.ensures), c.self.invariant.3)

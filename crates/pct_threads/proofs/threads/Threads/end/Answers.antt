@@ -12,4 +12,4 @@ invariant_of-self c =
     let after = c.end.new.self in
     let held : is_occupied_at rows slot ≡ true = subst (λ (t : List Slot). is_occupied_at t slot ≡ true) (sym c.self.view_is) c.requires in
     let inside = within-occupied rows slot held in
-    (omega (arith, c.self.invariant.0, length-set rows slot after), omega (arith, c.self.invariant.1, length-set rows slot after), retained rows slot after inside c.is_occupied.result c.self.inside.occupied c.retain_if.new.set held c.is_occupied.ensures c.self.invariant.2 c.retain_if.ensures)
+    (omega (arith, c.self.invariant.0, length-set rows slot after), omega (arith, c.self.invariant.1, length-set rows slot after), retained rows slot after inside c.is_occupied.result c.self.inside.occupied c.retain_if.new.set held c.is_occupied.ensures c.self.invariant.2 c.retain_if.ensures, c.self.invariant.3)

@@ -1,7 +1,11 @@
-use Rattle.std.proofs.Common.{◌≡◌}
-use Rattle.std.specs.Prelude.{replicate}
+use Rattle.std.proofs.Common.{◌≡◌, ◌≤◌}
+use Rattle.std.specs.Prelude.{replicate, vec_capacity}
+use Rattle.pct_model.specs.declared.limits.TheConstants.{MAX_SLOTS}
 use Rattle.pct_threads.specs.Slots.{unused}
 use Rattle.pct_threads.proofs.threads.Threads.new.Given as goal
 
 abbrev pub invariant-loop : goal.invariant-loop
-invariant-loop l = l.rows.items ≡ replicate l.counter unused
+invariant-loop l = record {
+  made : l.rows.items ≡ replicate l.counter unused;
+  room : MAX_SLOTS ≤ vec_capacity l.rows;
+}

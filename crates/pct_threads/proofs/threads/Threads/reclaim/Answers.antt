@@ -12,4 +12,4 @@ invariant_of-self c =
     let slot = c.args.slot in
     let after = c.free.new.self in
     let inside = within-reclaimable rows slot (subst (λ (t : List Slot). is_reclaimable_at t slot ≡ true) (sym c.self.view_is) c.requires) in
-    (omega (arith, c.self.invariant.0, length-set rows slot after), omega (arith, c.self.invariant.1, length-set rows slot after), c.remove.ensures ∙ ap (without_slot slot) c.self.invariant.2 ∙ removed rows slot after inside (ap is_occupied c.free.ensures))
+    (omega (arith, c.self.invariant.0, length-set rows slot after), omega (arith, c.self.invariant.1, length-set rows slot after), c.remove.ensures ∙ ap (without_slot slot) c.self.invariant.2 ∙ removed rows slot after inside (ap is_occupied c.free.ensures), c.self.invariant.3)

@@ -3,6 +3,7 @@ use Rattle.std.specs.Prelude.{is_some}
 use Rattle.pct_threads.proofs.TableLemmas.{within-occupied}
 use Rattle.pct_keys.specs.Tables.{Table}
 use Rattle.pct_engine_laws.specs.SeenSteps.{others_in}
+use Rattle.pct_process.specs.FamilyViews.{other_processes}
 use Rattle.pct_process.specs.ProcessViews.{slots_of, thread_on_slot, ProcessData}
 use Rattle.pct_transitions.specs.Positions.{AreShared, IsPosition}
 use Rattle.pct_transitions.specs.ProcessSteps.{NewNumbersFit}
@@ -23,7 +24,7 @@ position_of-requires-clause-row c =
 
 pub returns-clause-context : goal.returns-clause-context
 returns-clause-context c =
-    let script = c.args.program.now.script in
+    let script = c.args.around.program.now.script in
     let s = c.process.inside in
     let keys = s.keys in
     let threads = s.threads in
@@ -35,8 +36,8 @@ returns-clause-context c =
       shared_is = subst (λ (d : ProcessData). AreShared c.as_slice.result.now c.as_slice-2.result.now c.as_slice-3.result.now read.result.keys.now.places s.exit_functions s.exit_value d.shared) c.process.view_is
           (record { globals_are = c.as_slice.ensures; owners_are = c.as_slice-2.ensures; counts_are = c.as_slice-3.ensures; keys_are = ap (λ (k : Table). k.places) read.ensures.keys; exit_functions_are = refl; exit_value_is = refl });
       position_is = position;
-      others_are = subst (λ (d : ProcessData). others_in (length d.slots) d.slots t.id ≡ others_in (length (slots_of read.result.keys.now.rows threads)) (slots_of read.result.keys.now.rows threads) read.result.id) c.process.view_is
-          (λ i. others_in (length (slots_of (sym read.ensures.keys i).rows threads)) (slots_of (sym read.ensures.keys i).rows threads) (sym position.id_is i));
+      others_are = subst (λ (d : ProcessData). others_in (length d.slots) (other_processes c.args.around.family) d.slots t.id ≡ others_in (length (slots_of read.result.keys.now.rows threads)) (other_processes c.args.around.family) (slots_of read.result.keys.now.rows threads) read.result.id) c.process.view_is
+          (λ i. others_in (length (slots_of (sym read.ensures.keys i).rows threads)) (other_processes c.args.around.family) (slots_of (sym read.ensures.keys i).rows threads) (sym position.id_is i));
     }
 
 pub returns-clause-whole : goal.returns-clause-whole

@@ -3,35 +3,35 @@ use Rattle.std.proofs.lemmas.Option.{slice_get_within}
 use Rattle.pct_model.specs.declared.transition.Action.{Action}
 use Rattle.pct_model.specs.Actions.{for_each, stop_after}
 use Rattle.pct_actions.proofs.RestItems.{drop_item, drop_none}
-use Rattle.pct_machine.specs.MachineSteps.{end_after}
-use Rattle.pct_machine.proofs.endings.+end_all.Goals as goal
+use Rattle.pct_machine.specs.ListChanges.{change_after}
+use Rattle.pct_machine.proofs.changes.+act_all.Goals as goal
 
 pub overflow_add-from : goal.overflow_add-from
 overflow_add-from t c =
     let within : c.args.from < length c.args.actions.now = slice_get_within c.args.actions.now c.args.from c.in-Some.action (sym c.in-Some.ensures.value) in
     omega (arith, within, c.in-Some.ensures.few)
 
-pub end_all-requires : goal.end_all-requires
-end_all-requires t c =
+pub act_all-requires : goal.act_all-requires
+act_all-requires t c =
     let rest : drop c.args.from c.args.actions.now ≡ c.in-Some.action ∷ drop (c.args.from + 1) c.args.actions.now = drop_item c.args.actions.now c.args.from c.in-Some.action (sym c.in-Some.ensures.value) in
     omega (arith, c.decreases, ap length rest)
 
-pub returns-in-Some-clause-ended : goal.returns-in-Some-clause-ended
-returns-in-Some-clause-ended t c =
+pub returns-in-Some-clause-change : goal.returns-in-Some-clause-change
+returns-in-Some-clause-change t c =
     let rest : drop c.args.from c.args.actions.now ≡ c.in-Some.action ∷ drop (c.args.from + 1) c.args.actions.now = drop_item c.args.actions.now c.args.from c.in-Some.action (sym c.in-Some.ensures.value) in
-    c.end_all.ensures.ended
-    ∙ ap (for_each end_after (drop (c.args.from + 1) c.args.actions.now)) c.end_by.ensures.ended
-    ∙ ap (λ (actions : List Action). for_each end_after actions c.args.status.now) (sym rest)
+    c.act_all.ensures.change
+    ∙ ap (for_each change_after (drop (c.args.from + 1) c.args.actions.now)) c.act.ensures.change
+    ∙ ap (λ (actions : List Action). for_each change_after actions c.args.change.now) (sym rest)
 
 pub returns-in-Some-clause-stop : goal.returns-in-Some-clause-stop
 returns-in-Some-clause-stop t c =
     let rest : drop c.args.from c.args.actions.now ≡ c.in-Some.action ∷ drop (c.args.from + 1) c.args.actions.now = drop_item c.args.actions.now c.args.from c.in-Some.action (sym c.in-Some.ensures.value) in
-    c.end_all.ensures.stop
-    ∙ ap (for_each stop_after (drop (c.args.from + 1) c.args.actions.now)) c.end_by.ensures.stop
+    c.act_all.ensures.stop
+    ∙ ap (for_each stop_after (drop (c.args.from + 1) c.args.actions.now)) c.act.ensures.stop
     ∙ ap (λ (actions : List Action). for_each stop_after actions c.args.stop.now) (sym rest)
 
-pub returns-in_default-clause-ended : goal.returns-in_default-clause-ended
-returns-in_default-clause-ended t c = ap (λ (actions : List Action). for_each end_after actions c.args.status.now) (sym (drop_none c.args.actions.now c.args.from (sym c.in_default.ensures.value)))
+pub returns-in_default-clause-change : goal.returns-in_default-clause-change
+returns-in_default-clause-change t c = ap (λ (actions : List Action). for_each change_after actions c.args.change.now) (sym (drop_none c.args.actions.now c.args.from (sym c.in_default.ensures.value)))
 
 pub returns-in_default-clause-stop : goal.returns-in_default-clause-stop
 returns-in_default-clause-stop t c = ap (λ (actions : List Action). for_each stop_after actions c.args.stop.now) (sym (drop_none c.args.actions.now c.args.from (sym c.in_default.ensures.value)))

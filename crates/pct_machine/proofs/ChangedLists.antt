@@ -1,0 +1,74 @@
+-- The list of processes after a transition, by the one change that its actions make.
+use Rattle.std.proofs.Common.{◌≡◌, ℕ, ◌+◌, Bool, true, false, cond, List, [], ◌∷◌, ◌++◌, length, map, flat_map, Option, Some, None, refl, sym, ap, ◌∙◌, append-nil, add-zero}
+use Rattle.std.specs.Option.{option_map_or}
+use Rattle.std.proofs.lemmas.List.Folds.{flat_map-map}
+use Rattle.pct_model.specs.declared.transition.Transition.{Transition}
+use Rattle.pct_model.specs.Actions.{for_each}
+use Rattle.pct_engine_laws.specs.Seen.{SeenProcess, own_kept, other_kept, own_process_seen, other_process_seen, is_live_seen, child_seen_by, children_seen, process_seen, processes_kept}
+use Rattle.pct_engine_laws.proofs.ListFacts.{flat_map_agree}
+use Rattle.pct_machine.specs.declared.changes.Change.{Change}
+use Rattle.pct_machine.specs.declared.changes.Change.TheVariants as change
+use Rattle.pct_machine.specs.Places.{ProcessList}
+use Rattle.pct_machine.specs.ListChanges.{change_after, action_of, process_moved, list_moved, process_changed, list_changed}
+use Rattle.pct_machine.proofs.SingleChanges.{at_most_one, each_alone, own_left, other_left, child_left}
+
+-- what is kept of a process after a change, if there is one
+abbrev kept_by : ℕ → Option Change → SeenProcess → List SeenProcess
+kept_by pid o p = option_map_or (λ c. process_changed pid c p) o (p ∷ [])
+
+-- the child of a process that is made
+abbrev made_by : ℕ → ℕ → Option Change → SeenProcess → List SeenProcess
+made_by pid tid o p = cond (is_live_seen pid p) (option_map_or (λ c. child_seen_by tid p (action_of c)) o []) []
+
+no_processes : (f : SeenProcess → List SeenProcess) → ((p : SeenProcess) → f p ≡ []) → (ps : List SeenProcess) → flat_map f ps ≡ []
+no_processes f none [] = refl
+no_processes f none (p ∷ ps) = ap (λ (first : List SeenProcess). first ++ flat_map f ps) (none p) ∙ no_processes f none ps
+
+cond_same : {A : Type 0} (b : Bool) (x : A) → cond b x x ≡ x
+cond_same true x = refl
+cond_same false x = refl
+
+-- a change that makes no child
+without_child : (pid tid : ℕ) (o : Option Change) → ((p : SeenProcess) → option_map_or (λ c. child_seen_by tid p (action_of c)) o [] ≡ []) → (ps : List SeenProcess) → flat_map (made_by pid tid o) ps ≡ []
+without_child pid tid o none ps = no_processes (made_by pid tid o) (λ p. ap (λ (made : List SeenProcess). cond (is_live_seen pid p) made []) (none p) ∙ cond_same (is_live_seen pid p) []) ps
+
+-- the list after a change, by each process
+list_by : (pid tid : ℕ) (o : Option Change) (list : ProcessList) → record { processes = flat_map (kept_by pid o) list.processes ++ flat_map (made_by pid tid o) list.processes; made = list.made + length (flat_map (made_by pid tid o) list.processes) } ≡ list_changed pid tid o list
+unfolding own_kept other_kept child_seen_by
+list_by pid tid None list =
+    let none = without_child pid tid None (λ p. refl) list.processes in
+    λ i. record { processes = (ap (λ (made : List SeenProcess). flat_map (λ p. p ∷ []) list.processes ++ made) none ∙ append-nil (flat_map (λ p. p ∷ []) list.processes) ∙ each_alone list.processes) i; made = (ap (λ (made : List SeenProcess). list.made + length made) none ∙ add-zero list.made) i }
+list_by pid tid (Some (change.Make child)) list =
+    λ i. record { processes = (flat_map_agree (process_changed pid (change.Make child)) (λ p. p ∷ []) (λ p. cond_same (is_live_seen pid p) (p ∷ [])) list.processes ∙ each_alone list.processes) i ++ flat_map (made_by pid tid (Some (change.Make child))) list.processes; made = list.made + length (flat_map (made_by pid tid (Some (change.Make child))) list.processes) }
+list_by pid tid (Some c) list =
+    let none = without_child pid tid (Some c) (λ p. refl) list.processes in
+    λ i. record { processes = (ap (λ (made : List SeenProcess). flat_map (process_changed pid c) list.processes ++ made) none ∙ append-nil (flat_map (process_changed pid c) list.processes)) i; made = (ap (λ (made : List SeenProcess). list.made + length made) none ∙ add-zero list.made) i }
+
+module _ (slots pid tid : ℕ) (o : Transition) (single : at_most_one o.actions ≡ true) where
+  abbrev made : Option Change
+  made = for_each change_after o.actions None
+
+  abbrev next : SeenProcess → SeenProcess
+  next p = process_moved slots pid tid o p
+
+  -- what is kept of a process, and the child that it makes, by the process after the step of its thread
+  kept_is : (p : SeenProcess) → cond (is_live_seen pid p) (own_process_seen slots tid o p) (other_process_seen pid o p) ≡ kept_by pid made (next p)
+  kept_is p = by (is_live_seen pid p) refl where
+    by : (live : Bool) → is_live_seen pid p ≡ live → cond live (own_process_seen slots tid o p) (other_process_seen pid o p) ≡ kept_by pid made (cond live (process_seen slots tid o p) p)
+    by true live = own_left o.actions single (process_seen slots tid o p) ∙ sym (ap (λ (b : Bool). option_map_or (λ c. cond b (own_kept (action_of c) (process_seen slots tid o p)) (other_kept pid (action_of c) (process_seen slots tid o p))) made (process_seen slots tid o p ∷ [])) live)
+    by false other = other_left o.actions single pid p ∙ sym (ap (λ (b : Bool). option_map_or (λ c. cond b (own_kept (action_of c) p) (other_kept pid (action_of c) p)) made (p ∷ [])) other)
+
+  made_is : (p : SeenProcess) → cond (is_live_seen pid p) (flat_map (child_seen_by tid (process_seen slots tid o p)) o.actions) [] ≡ made_by pid tid made (next p)
+  made_is p = by (is_live_seen pid p) refl where
+    by : (live : Bool) → is_live_seen pid p ≡ live → cond live (flat_map (child_seen_by tid (process_seen slots tid o p)) o.actions) [] ≡ made_by pid tid made (cond live (process_seen slots tid o p) p)
+    by true live = child_left tid (process_seen slots tid o p) o.actions single ∙ sym (ap (λ (b : Bool). cond b (option_map_or (λ c. child_seen_by tid (process_seen slots tid o p) (action_of c)) made []) []) live)
+    by false other = sym (ap (λ (b : Bool). cond b (option_map_or (λ c. child_seen_by tid p (action_of c)) made []) []) other)
+
+  -- the list after the transition
+  pub list_after : (list : ProcessList) → list_changed pid tid made (list_moved slots pid tid o list) ≡ record { processes = processes_kept slots pid tid o list.processes ++ children_seen slots pid tid o list.processes; made = list.made + length (children_seen slots pid tid o list.processes) }
+  list_after list =
+      let ps : List SeenProcess = list.processes in
+      let kept : flat_map (kept_by pid made) (map next ps) ≡ processes_kept slots pid tid o ps = flat_map-map (kept_by pid made) next ps ∙ sym (flat_map_agree (λ p. cond (is_live_seen pid p) (own_process_seen slots tid o p) (other_process_seen pid o p)) (λ p. kept_by pid made (next p)) kept_is ps) in
+      let children : flat_map (made_by pid tid made) (map next ps) ≡ children_seen slots pid tid o ps = flat_map-map (made_by pid tid made) next ps ∙ sym (flat_map_agree (λ p. cond (is_live_seen pid p) (flat_map (child_seen_by tid (process_seen slots tid o p)) o.actions) []) (λ p. made_by pid tid made (next p)) made_is ps) in
+      sym (list_by pid tid made (list_moved slots pid tid o list))
+      ∙ (λ i. record { processes = kept i ++ children i; made = list.made + length (children i) })

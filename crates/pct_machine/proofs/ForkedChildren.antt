@@ -1,0 +1,181 @@
+-- The change of the list of processes that a transition makes can be made: a child has the next id, there is room for it, and the thread
+-- that forks holds its slot.
+use Rattle.std.proofs.Common.{◌≡◌, ℕ, suc, ◌<◌, Bool, true, false, not, ◌&&◌, ◌||◌, cond, List, [], ◌∷◌, map, length, Option, Some, None, refl, sym, ap, ◌∙◌, subst}
+use Rattle.std.specs.Prelude.{IfSome, nat_eq, nat_lt, slice_get, find, position, option_map, option_and_then}
+use Rattle.std.proofs.lemmas.Bool.{and_parts, ltb-true}
+use Rattle.std.proofs.lemmas.List.{length-map}
+use Rattle.std.proofs.lemmas.Option.{slice_get-map, option_and_then_some, cond_some}
+use Rattle.pct_model.specs.declared.event.What.TheVariants as what
+use Rattle.pct_model.specs.declared.process.Relative.{Relative}
+use Rattle.pct_model.specs.declared.schedule.Config.{Config}
+use Rattle.pct_model.specs.declared.schedule.Entry.{Entry}
+use Rattle.pct_model.specs.declared.script.Script.{Script}
+use Rattle.pct_model.specs.declared.state.Phase.TheVariants.{Parent}
+use Rattle.pct_model.specs.declared.state.Status.{Status}
+use Rattle.pct_model.specs.declared.statement.Stmt.{Stmt}
+use Rattle.pct_model.specs.declared.transition.Action.TheVariants as action
+use Rattle.pct_model.specs.declared.transition.Transition.{Transition}
+use Rattle.pct_model.specs.Actions.{thread_at, thread_after, named_after, for_each, moved, thread_moved}
+use Rattle.pct_model.specs.ChoiceTable.{offers}
+use Rattle.pct_model.specs.NextStatement.{NextStatement, next_of, body_at}
+use Rattle.pct_model.specs.OtherProcesses.{Family, pid_after, family_among}
+use Rattle.pct_model.specs.OtherThreads.{Others}
+use Rattle.pct_model.specs.ThreadSlots.{is_ended_status, holds_slot, slot_of, is_live_thread}
+use Rattle.pct_model.specs.Transitions.{acts}
+use Rattle.pct_model.specs.World.{Thread, SharedState}
+use Rattle.pct_transition_cases.proofs.CaseOfTransition.{case_of}
+use Rattle.pct_transition_cases.proofs.TransitionCases.{TransitionCase, process_forked}
+use Rattle.pct_engine_laws.specs.Seen.{SeenSlot, SeenProcess, relative_in, slot_after, slots_moved, process_seen, is_live_seen}
+use Rattle.pct_engine_laws.specs.SeenSteps.{thread_on, thread_with, others_in, choices_in, transition_in, if_offered_in}
+use Rattle.pct_engine_laws.proofs.ListFacts.{find_agree, find-map, then-map}
+use Rattle.pct_engine_laws.proofs.ProcessNumbers.{new_pid_is_next}
+use Rattle.pct_engine_laws.proofs.ThreadChanges.{transition_keeps}
+use Rattle.pct_actions.specs.ProcessParts.{on_threads}
+use Rattle.pct_actions.proofs.ChangedSlots.{on_slots_kept, none_leaves}
+use Rattle.pct_machine.specs.declared.changes.Change.{Change}
+use Rattle.pct_machine.specs.declared.changes.Change.TheVariants as change
+use Rattle.pct_machine.specs.Places.{ProcessList, families}
+use Rattle.pct_machine.specs.ProcessSteps.{CanStep, AllCanStep, HasThread, taken_in}
+use Rattle.pct_machine.specs.ListChanges.{taken_among, change_after, list_moved, process_moved, ChangeFits, ChildFits}
+use Rattle.pct_machine.proofs.LegalEntries.{found_at, test_passes}
+use Rattle.pct_machine.proofs.SingleChanges.{at_most_one}
+
+-- the transition that makes a child with an id
+abbrev fork_of : ℕ → Transition
+fork_of child = acts (action.EnterFork Parent child ∷ action.MakeChild child ∷ []) (what.Forked child ∷ [])
+
+-- a transition that makes a child is that of fork, and the child has the id of a new process
+abbrev MakesBy : Family → Transition → Option Change → Type 0
+MakesBy family o (Some (change.Make child)) = (family.new_pid ≡ Some child) × (o ≡ fork_of child)
+MakesBy family o _ = Unit {0}
+
+-- what a transition changes in the list: at most one of its actions changes it
+pub record ChangesList (family : Family) (o : Transition) : Type 0 where
+  pub single : at_most_one o.actions ≡ true
+  pub child : MakesBy family o (for_each change_after o.actions None)
+
+module _ (passes : ℕ) (body : List Stmt) (shared : SharedState) (t : Thread) (others : Others) where
+  by_case : {next : NextStatement} {s : Status} {o : Transition} → TransitionCase passes body shared t others true next s o → ChangesList others.family o
+  unfolding change_after
+  by_case (process_forked next index length pid child is) = record { single = refl; child = (is, refl) }
+  by_case _ = record { single = refl; child = tt }
+
+-- ---- the thread that forks
+
+module _ (tid child : ℕ) where
+  abbrev moves : Thread → Thread
+  moves t = thread_moved tid (fork_of child) t
+
+  -- it holds its slot afterwards, as do the others
+  holds_if : (t : Thread) (live : Bool) → is_live_thread tid t ≡ live → holds_slot (cond live (moved (fork_of child) t) t) ≡ holds_slot t
+  unfolding thread_after thread_at
+  holds_if t true live =
+      let holds : holds_slot t ≡ true = (and_parts (nat_eq t.id tid) (holds_slot t) live).1 in
+      let here : not t.gone ≡ true = (and_parts (not t.gone) (not (is_ended_status t.status && (t.joined || t.detached))) holds).0 in
+      ap (λ (b : Bool). b && true) here ∙ sym holds
+  holds_if t false other = refl
+
+  same_holders : (t : Thread) → holds_slot (moves t) ≡ holds_slot t
+  unfolding named_after
+  same_holders t = holds_if t (is_live_thread tid t) refl
+
+  module _ (slots : List SeenSlot) (has : HasThread tid slots) where
+    abbrev after : List SeenSlot
+    after = slots_moved (length slots) tid (fork_of child) slots
+
+    thread_after_fork : (s : SeenSlot) → thread_on tid (on_threads moves s) ≡ option_map moves (thread_on tid s)
+    thread_after_fork s =
+        find-map (λ t. nat_eq t.id tid) moves s.here
+        ∙ ap (option_map moves) (find_agree (λ t. nat_eq (moves t).id tid) (λ t. nat_eq t.id tid) (λ t. ap (λ (id : ℕ). nat_eq id tid) ((transition_keeps tid (fork_of child)).same_id t)) s.here)
+
+    -- the threads on each slot hold it afterwards, and it is among them
+    pub has_after : HasThread tid after
+    has_after =
+        let rows : map (on_threads moves) slots ≡ after = none_leaves slots has.on_slots moves same_holders in
+        let k : ℕ = slot_of (length slots) tid in
+        record {
+          on_slots = on_slots_kept slots has.on_slots moves (transition_keeps tid (fork_of child));
+          thread = moves has.thread;
+          here =
+              ap (λ (n : ℕ). thread_with n tid after) (length-map slots (slot_after tid (fork_of child)))
+              ∙ ap (thread_with (length slots) tid) (sym rows)
+              ∙ ap (option_and_then (thread_on tid)) (slice_get-map (on_threads moves) slots k)
+              ∙ then-map (thread_on tid) (on_threads moves) (slice_get slots k)
+              ∙ option_and_then_some (thread_on tid) (slice_get slots k) has.thread has.here (λ s at found.
+              ap (option_and_then (λ (s : SeenSlot). thread_on tid (on_threads moves s))) at ∙ thread_after_fork s ∙ ap (option_map moves) found);
+        }
+
+-- ---- a transition that an entry takes
+
+-- the thread that takes it holds its slot
+pub record IsTaken (slots tid : ℕ) (family : Family) (p : SeenProcess) (o : Transition) : Type 0 where
+  pub thread : Thread
+  pub holds : thread_with slots tid p.slots ≡ Some thread
+  pub changes : ChangesList family o
+
+is_taken : (script : Script) (config : Config) (family : Family) (p : SeenProcess) (e : Entry) (o : Transition) → taken_in script config family p e ≡ Some o → IsTaken config.slots e.tid family p o
+unfolding others_in
+is_taken script config family p e o taken =
+    option_and_then_some (if_offered_in script config.slots config.passes family p e) (thread_with config.slots e.tid p.slots) o taken (λ t holds may.
+    let parts = cond_some (offers (choices_in script config.slots family p t) e.alt) (transition_in script config.slots config.passes family p t e.alt) o may in
+    let body : List Stmt = body_at script t.frames in
+    let others : Others = others_in config.slots family p.slots t.id in
+    record {
+      thread = t;
+      holds = holds;
+      changes = subst (ChangesList family) parts.1 (by_case config.passes body p.shared t others (case_of config.passes body p.shared t others true e.alt (next_of script t.frames) t.status (λ known. parts.0)));
+    })
+
+-- of the actions of a transition that an entry takes, at most one changes the list of processes
+pub single_change : (script : Script) (config : Config) (list : ProcessList) (e : Entry) (o : Transition) → taken_among script config list e ≡ Some o → at_most_one o.actions ≡ true
+single_change script config list e o taken =
+    option_and_then_some (λ p. taken_in script config (families list p.pid) p e) (find (is_live_seen e.pid) list.processes) o taken
+    (λ p found takes. (is_taken script config (families list p.pid) p e o takes).changes.single)
+
+-- there is room for a new process
+room_for : (made child : ℕ) (relatives : List Relative) → pid_after made relatives ≡ Some child → length relatives < 8
+room_for made child relatives is = ltb-true (length relatives) 8 (cond_some (nat_lt (length relatives) 8) (suc made) child is).0
+
+module _ (script : Script) (config : Config) (list : ProcessList) (e : Entry) (o : Transition) (can : AllCanStep config.slots list.processes list.made) where
+  abbrev next : SeenProcess → SeenProcess
+  next p = process_moved config.slots e.pid e.tid o p
+
+  same_live : (p : SeenProcess) (live : Bool) → is_live_seen e.pid (cond live (process_seen config.slots e.tid o p) p) ≡ is_live_seen e.pid p
+  same_live p true = refl
+  same_live p false = refl
+
+  module _ (p : SeenProcess) (found : find (is_live_seen e.pid) list.processes ≡ Some p) (taken : IsTaken config.slots e.tid (families list p.pid) p o) where
+    steps : CanStep config.slots p
+    steps =
+        option_and_then_some (slice_get list.processes) (position (is_live_seen e.pid) list.processes) p (sym (found_at (is_live_seen e.pid) list.processes) ∙ found) (λ i is at. can.each i p at)
+
+    child_fits : (child : ℕ) → (families list p.pid).new_pid ≡ Some child → o ≡ fork_of child → ChildFits e.pid e.tid child (list_moved config.slots e.pid e.tid o list)
+    unfolding family_among
+    child_fits child new is =
+        let has : HasThread e.tid p.slots = record { on_slots = steps.on_slots; thread = taken.thread; here = ap (λ (n : ℕ). thread_with n e.tid p.slots) steps.all ∙ taken.holds } in
+        let after : HasThread e.tid (slots_moved config.slots e.tid o p.slots) =
+        subst (λ (x : Transition). HasThread e.tid (slots_moved config.slots e.tid x p.slots)) (sym is)
+        (subst (λ (n : ℕ). HasThread e.tid (slots_moved n e.tid (fork_of child) p.slots)) steps.all (has_after e.tid child p.slots has)) in
+        let live : is_live_seen e.pid p ≡ true = test_passes (is_live_seen e.pid) p list.processes found in
+        let room : length (map relative_in list.processes) < 8 = room_for list.made child (map relative_in list.processes) new in
+        record {
+          next = new_pid_is_next list.made child (map relative_in list.processes) new;
+          room = subst (λ (n : ℕ). n < 8) (length-map list.processes relative_in ∙ sym (length-map list.processes next)) room;
+          parent = next p;
+          live =
+              find-map (is_live_seen e.pid) next list.processes
+              ∙ ap (option_map next) (find_agree (λ q. is_live_seen e.pid (next q)) (is_live_seen e.pid) (λ q. same_live q (is_live_seen e.pid q)) list.processes ∙ found);
+          thread = subst (λ (b : Bool). HasThread e.tid (cond b (process_seen config.slots e.tid o p) p).slots) (sym live) after;
+        }
+
+    change_fits : (made : Option Change) → MakesBy (families list p.pid) o made → IfSome made (λ c. ChangeFits e.pid e.tid c (list_moved config.slots e.pid e.tid o list))
+    change_fits None makes = tt
+    change_fits (Some (change.Make child)) makes = child_fits child makes.0 makes.1
+    change_fits (Some c) makes = tt
+
+  -- the change that a transition of an entry makes can be made
+  pub made_fits : taken_among script config list e ≡ Some o → IfSome (for_each change_after o.actions None) (λ c. ChangeFits e.pid e.tid c (list_moved config.slots e.pid e.tid o list))
+  made_fits taken =
+      option_and_then_some (λ p. taken_in script config (families list p.pid) p e) (find (is_live_seen e.pid) list.processes) o taken (λ p found takes.
+      let it : IsTaken config.slots e.tid (families list p.pid) p o = is_taken script config (families list p.pid) p e o takes in
+      change_fits p found it (for_each change_after o.actions None) it.changes.child)

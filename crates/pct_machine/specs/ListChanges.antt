@@ -1,0 +1,79 @@
+-- The changes of the list of processes by a transition.
+use Rattle.std.specs.Prelude.{◌≡◌, ℕ, suc, ◌+◌, ◌<◌, if◌then◌else◌, List, [], ◌∷◌, ◌++◌, map, length, Option, Some, None, find, option_and_then}
+use Rattle.std.specs.List.{flat_map}
+use Rattle.pct_model.specs.declared.limits.TheConstants.{MAX_PROCESSES}
+use Rattle.pct_model.specs.declared.schedule.Config.{Config}
+use Rattle.pct_model.specs.declared.schedule.Entry.{Entry}
+use Rattle.pct_model.specs.declared.script.Script.{Script}
+use Rattle.pct_model.specs.declared.transition.Action.{Action}
+use Rattle.pct_model.specs.declared.transition.Action.TheVariants as action
+use Rattle.pct_model.specs.declared.transition.Transition.{Transition}
+use Rattle.pct_engine_laws.specs.Seen.{SeenProcess, own_kept, other_kept, process_seen, is_live_seen, child_seen}
+use Rattle.pct_machine.specs.declared.changes.Change.{Change}
+use Rattle.pct_machine.specs.declared.changes.Change.TheVariants as change
+use Rattle.pct_machine.specs.Places.{ProcessList, families}
+use Rattle.pct_machine.specs.ProcessSteps.{HasThread, taken_in}
+
+-- ---- the step of a thread
+
+-- the transition that an entry takes in its process, if it takes one
+abbrev pub taken_among : Script → Config → ProcessList → Entry → Option Transition
+taken_among script config list e = option_and_then (λ p. taken_in script config (families list p.pid) p e) (find (is_live_seen e.pid) list.processes)
+
+-- a process after the transition of a thread of process pid, but for the changes of the list
+abbrev pub process_moved : ℕ → ℕ → ℕ → Transition → SeenProcess → SeenProcess
+process_moved slots pid tid o p = if is_live_seen pid p then process_seen slots tid o p else p
+
+-- all processes
+abbrev pub list_moved : ℕ → ℕ → ℕ → Transition → ProcessList → ProcessList
+list_moved slots pid tid o list = record list { processes = map (process_moved slots pid tid o) list.processes }
+
+-- ---- the changes of the list
+
+-- the change after one more action, where those before it make this one
+unfoldable pub change_after : Action → Option Change → Option Change
+change_after (action.EndProcess n) before = Some (change.End n)
+change_after (action.Reap child) before = Some (change.Reap child)
+change_after (action.MakeChild child) before = Some (change.Make child)
+change_after _ before = before
+
+-- the action that makes a change
+abbrev pub action_of : Change → Action
+action_of (change.End n) = action.EndProcess n
+action_of (change.Reap child) = action.Reap child
+action_of (change.Make child) = action.MakeChild child
+
+-- what is kept of a process after a change by a thread of process pid: it may be that process, or another one
+abbrev pub process_changed : ℕ → Change → SeenProcess → List SeenProcess
+process_changed pid c p = if is_live_seen pid p then own_kept (action_of c) p else other_kept pid (action_of c) p
+
+-- the child with an id of process pid, which inherits the thread with an id
+abbrev pub child_with : ℕ → ℕ → ℕ → List SeenProcess → List SeenProcess
+child_with pid tid child processes = flat_map (λ p. if is_live_seen pid p then child_seen tid child p ∷ [] else []) processes
+
+-- the processes after this child was made
+abbrev pub list_with_child : ℕ → ℕ → ℕ → ProcessList → ProcessList
+list_with_child pid tid child list =
+    let children : List SeenProcess = child_with pid tid child list.processes in
+    record { processes = list.processes ++ children; made = list.made + length children }
+
+-- the processes after a change by the thread with an id of process pid, if there is one
+abbrev pub list_changed : ℕ → ℕ → Option Change → ProcessList → ProcessList
+list_changed pid tid None list = list
+list_changed pid tid (Some (change.Make child)) list = list_with_child pid tid child list
+list_changed pid tid (Some c) list = record list { processes = flat_map (process_changed pid c) list.processes }
+
+-- ---- what they need
+
+-- a child with this id can be made: it is the next one, there is room for it, and the thread with an id of process pid holds its slot
+pub record ChildFits (pid tid child : ℕ) (list : ProcessList) : Type 0 where
+  pub next : child ≡ suc list.made
+  pub room : length list.processes < MAX_PROCESSES
+  pub parent : SeenProcess
+  pub live : find (is_live_seen pid) list.processes ≡ Some parent
+  pub thread : HasThread tid parent.slots
+
+-- the change can be made
+abbrev pub ChangeFits : ℕ → ℕ → Change → ProcessList → Type 0
+ChangeFits pid tid (change.Make child) list = ChildFits pid tid child list
+ChangeFits pid tid _ list = Unit {0}

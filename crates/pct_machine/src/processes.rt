@@ -1,0 +1,226 @@
+//! The processes of a run.
+
+ghost use Rattle.std.specs.Prelude.{◌≡◌, ◌+◌, ◌<◌, ◌≤◌, ◌^◌, [], ◌∷◌, ◌++◌, length, map, take, slice_get, Some, IfOk};
+ghost use Rattle.std.specs.List.{flat_map};
+ghost use Rattle.pct_model.specs.declared.limits.TheConstants.{MAX_SLOTS, MAX_PROCESSES};
+ghost use Rattle.pct_model.specs.OtherProcesses.{family_among};
+ghost use Rattle.pct_model.specs.World.{first_process};
+ghost use Rattle.pct_engine_laws.specs.Seen.{SeenProcess, seen_process, relative_in, child_seen};
+ghost use Rattle.pct_process.specs.FamilyViews.{other_processes};
+ghost use Rattle.pct_machine.specs.ProcessSteps.{HasThread};
+ghost use Rattle.pct_machine.specs.ListChanges.{process_changed};
+
+use crate::changes::Change;
+use crate::place::Place;
+use pct_io::NoMemory;
+use pct_model::{Entry, MAX_PROCESSES, Relative, Script, Transition};
+use pct_process::{Family, Relatives};
+use pct_transitions::{Program, Surroundings};
+use std::alloc::Global;
+use std::marker::Model;
+
+/// The processes of a run. In a contract it is the list of those that are not reaped, by rising id, and the number of processes ever made.
+#[derive(Drop)]
+pub(crate) struct Processes {
+    // MAX_PROCESSES (8) places. The processes are on the first `live` places; the others are free.
+    places: Vec<Place>,
+    live: usize,
+    made: u32,
+    // The ids and the ends of the processes.
+    relatives: Relatives,
+}
+
+impl Model for Processes {
+    ghost use Rattle.std.specs.Prelude.{take};
+    ghost use Rattle.pct_machine.specs.Places.{ProcessList, AreSound};
+
+    ghost Value = { ProcessList };
+
+    ghost view = { λ p. record { processes = take p.live p.places.items; made = p.made } };
+
+    ghost invariant = { λ p. AreSound p.live p.made p.relatives p.places.items };
+}
+
+impl Processes {
+    ghost use Rattle.std.specs.Prelude.{◌≡◌, ◌+◌, ◌<◌, ◌≤◌, ◌^◌, [], ◌∷◌, length, if◌then◌else◌, IfOk, IfSome, position};
+    ghost use Rattle.std.specs.List.{flat_map};
+    ghost use Rattle.pct_model.specs.declared.limits.TheConstants.{MAX_SLOTS, MAX_PROCESSES};
+    ghost use Rattle.pct_model.specs.World.{first_process};
+    ghost use Rattle.pct_engine_laws.specs.Seen.{seen_process, is_live_seen};
+    ghost use Rattle.pct_process.specs.FamilyViews.{other_processes};
+    ghost use Rattle.pct_machine.specs.Places.{RiseWithin, families};
+    ghost use Rattle.pct_machine.specs.ProcessSteps.{AllCanStep, some_if};
+    ghost use Rattle.pct_machine.specs.ListChanges.{taken_among, list_moved, process_changed, list_changed, list_with_child, ChildFits, ChangeFits};
+
+    /// The processes before the first step, with 1 to 64 thread slots. `NoMemory` is returned if the tables of eight processes do not fit
+    /// into memory: no other call takes memory.
+    pub fn first(alloc: Global, script: &Script, slots: u32) -> Result<Processes, NoMemory>
+        requires some { 1 ≤ slots }
+        requires few { slots ≤ MAX_SLOTS }
+        ensures { IfOk result (λ list. list ≡ record { processes = seen_process slots (first_process script.now) ∷ []; made = 1 }) }
+    {
+        let mut relatives = Relatives::new();
+        relatives.push(Relative {
+            pid: 1,
+            parent: 0,
+            ended: None,
+        });
+        Ok(Processes {
+            places: first_places(alloc, script, slots)?,
+            live: 1,
+            made: 1,
+            relatives,
+        })
+    }
+
+    /// The places of the processes.
+    pub fn as_slice(&self) -> &[Place]
+        ensures value { result.now ≡ self.now.processes }
+        ensures few { length result.now ≤ MAX_PROCESSES }
+        // This holds of all processes.
+        ensures rising { RiseWithin 0 self.now.made self.now.processes }
+    {
+        self.places.as_slice().split_at(self.live).0
+    }
+
+    /// What a step of the process with this id depends on beside it.
+    pub fn around<'a>(&'a self, program: &'a Program, pid: u32) -> Surroundings<'a>
+        requires { self.now.made + 1 < 2 ^ 32 }
+        ensures program { result.program.now ≡ program.now }
+        ensures family { other_processes result.family ≡ families self.now pid }
+    {
+        surroundings(program, &self.relatives, self.made, pid)
+    }
+
+    /// Makes the step of an entry of a thread in its process, and writes the transition that it takes to `transition`. The result is
+    /// false exactly if there is no process with the id of the entry that has not ended, no thread with the id of the entry holds its
+    /// slot there, or the choice is not offered, and then the processes are as they were. The changes of the list of processes are left
+    /// to the caller.
+    pub fn step(&mut self, program: &Program, entry: &Entry, transition: &mut Transition) -> bool
+        requires { AllCanStep program.now.config.slots self.old.processes self.old.made }
+        ensures taken { taken_among program.now.script program.now.config self.old entry.now ≡ some_if result transition.new }
+        ensures moved { self.new ≡ (if result then list_moved program.now.config.slots entry.now.pid entry.now.tid transition.new self.old else self.old) }
+    {
+        let Some(index) = self.index_of(entry.pid) else {
+            return false;
+        };
+        let around = surroundings(program, &self.relatives, self.made, entry.pid);
+        self.places[index].step(around, entry, transition)
+    }
+
+    /// Makes a change of the list by the thread with an id of the process with an id, if there is such a change.
+    pub fn change(&mut self, pid: u32, tid: u32, change: Option<Change>)
+        requires { IfSome change (λ c. ChangeFits pid tid c self.old) }
+        ensures { self.new ≡ list_changed pid tid change self.old }
+    {
+        match change {
+            None => {}
+            Some(Change::End(status)) => self.keep(pid, Change::End(status)),
+            Some(Change::Reap(child)) => self.keep(pid, Change::Reap(child)),
+            Some(Change::Make(child)) => self.fork(pid, tid, child),
+        }
+    }
+
+    // Makes a change that makes no process. The processes that are kept stay in their order.
+    fn keep(&mut self, pid: u32, change: Change)
+        ensures { self.new ≡ record self.old { processes = flat_map (process_changed pid change) self.old.processes } }
+    {
+        self.live = keep_places(&mut self.places, self.live, pid, change);
+        let (processes, _) = self.places.as_slice().split_at(self.live);
+        renew(&mut self.relatives, processes);
+    }
+
+    // Makes the child process with an id, which inherits the thread with this id.
+    fn fork(&mut self, pid: u32, tid: u32, child: u32)
+        requires { ChildFits pid tid child self.old }
+        ensures { self.new ≡ list_with_child pid tid child self.old }
+    {
+        let Some(index) = self.index_of(pid) else {
+            return;
+        };
+        fork_place(self.places.as_mut_slice(), self.live, index, tid, child);
+        self.live += 1;
+        self.made = child;
+        let (processes, _) = self.places.as_slice().split_at(self.live);
+        renew(&mut self.relatives, processes);
+    }
+
+    // The place of the process with an id that has not ended.
+    fn index_of(&self, pid: u32) -> Option<usize>
+        ensures { result ≡ position (is_live_seen pid) self.now.processes }
+    {
+        self.as_slice().iter().position(|place| place.is_live(pid))
+    }
+}
+
+// What a step of the process with this id depends on beside it, where these processes were not reaped, of this many that were made.
+fn surroundings<'a>(
+    program: &'a Program,
+    relatives: &'a Relatives,
+    made: u32,
+    pid: u32,
+) -> Surroundings<'a>
+    requires { made + 1 < 2 ^ 32 }
+    ensures program { result.program.now ≡ program.now }
+    ensures family { other_processes result.family ≡ family_among made relatives.now pid }
+{
+    Surroundings {
+        program,
+        family: Family::new(relatives, made, pid),
+    }
+}
+
+// MAX_PROCESSES places, with the first process on the first one.
+fn first_places(alloc: Global, script: &Script, slots: u32) -> Result<Vec<Place>, NoMemory>
+    requires some { 1 ≤ slots }
+    requires few { slots ≤ MAX_SLOTS }
+    ensures { IfOk result (λ places. (take 1 places.items ≡ seen_process slots (first_process script.now) ∷ []) × (length places.items ≡ MAX_PROCESSES)) }
+{
+    let mut places = Vec::with_capacity(alloc, MAX_PROCESSES)?;
+    places.push(Place::first(alloc, script, slots)?)?;
+    for _ in 1..MAX_PROCESSES {
+        places.push(Place::reserve(alloc)?)?;
+    }
+    Ok(places)
+}
+
+// Makes a change that makes no process, where the processes are on the first `live` places. Those that are kept are then on the first
+// places, in their order. Their number is the result.
+fn keep_places(places: &mut Vec<Place>, live: usize, pid: u32, change: Change) -> usize
+    requires { live ≤ length places.old.items }
+    ensures kept { take result places.new.items ≡ flat_map (process_changed pid change) (take live places.old.items) }
+    ensures few { result ≤ live }
+    ensures all { length places.new.items ≡ length places.old.items }
+{
+    let mut kept = 0;
+    for index in 0..live {
+        if places[index].change(pid, change) {
+            places.swap(index, kept);
+            kept += 1;
+        }
+    }
+    kept
+}
+
+// Makes the child process with an id on the place after the first `live` ones: the thread with an id, of the process on a place before
+// it, forks.
+fn fork_place(places: &mut [Place], live: usize, index: usize, tid: u32, pid: u32)
+    requires within { index < live }
+    requires room { live < length places.old }
+    requires thread { (p : SeenProcess) → slice_get places.old index ≡ Some p → HasThread tid p.slots }
+    ensures { (p : SeenProcess) → slice_get places.old index ≡ Some p → take (live + 1) places.new ≡ take live places.old ++ child_seen tid pid p ∷ [] }
+{
+    let (processes, free) = places.split_at_mut(live);
+    free[0].inherit(&processes[index], tid, pid);
+}
+
+// Writes the ids and the ends of the processes anew.
+fn renew(relatives: &mut Relatives, processes: &[Place])
+    requires { length processes.now ≤ MAX_PROCESSES }
+    ensures { relatives.new ≡ map relative_in processes.now }
+{
+    relatives.clear();
+    for process in processes {
+        relatives.push(process.relative());
+    }
+}

@@ -1,0 +1,7 @@
+use Rattle.std.proofs.Common.{◌≡◌, true, take}
+use Rattle.std.specs.List.{list_all}
+use Rattle.pct_process.specs.ThreadViews.{has_no_other}
+use Rattle.pct_process.proofs.process_state.is_last.Given as goal
+
+abbrev pub invariant-loop-slot : goal.invariant-loop-slot
+invariant-loop-slot l = list_all (λ s. has_no_other l.tid s.here) (take l.slot l.threads) ≡ true

@@ -1,0 +1,40 @@
+//! What a thread sees of the other processes, as the tables ask for it. Nothing is looked for before it is asked.
+
+ghost use Rattle.std.specs.Prelude.{◌≡◌};
+ghost use Rattle.pct_model.specs.OtherProcesses.{is_running_child};
+ghost use Rattle.pct_model.specs.OtherThreads.{Others};
+ghost use Rattle.pct_transitions.specs.Contexts.{SeesOthers};
+
+use crate::context::Context;
+use pct_model::Child;
+
+impl<'a> Context<'a> {
+    /// The child of the process with the id, if it was not reaped.
+    #[tactic(auto, using(crate::proofs::OthersRead::family_read))]
+    #[inline(always)]
+    pub(crate) fn child(&self, pid: u32) -> Option<Child>
+        ensures { (others : Others) → SeesOthers self.now others → result ≡ others.family.child pid }
+    {
+        self.family.child(pid)
+    }
+
+    /// Whether the process has a child with the id that has not ended.
+    #[inline(always)]
+    pub(crate) fn is_running_child(&self, pid: u32) -> bool
+        ensures { (others : Others) → SeesOthers self.now others → result ≡ is_running_child pid others.family }
+    {
+        match self.child(pid) {
+            None => false,
+            Some(child) => child.ended.is_none(),
+        }
+    }
+
+    /// The id that a new process gets, if one can be made.
+    #[tactic(auto, using(crate::proofs::OthersRead::family_read))]
+    #[inline(always)]
+    pub(crate) fn new_pid(&self) -> Option<u32>
+        ensures { (others : Others) → SeesOthers self.now others → result ≡ others.family.new_pid }
+    {
+        self.family.new_pid()
+    }
+}
