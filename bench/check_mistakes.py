@@ -228,6 +228,11 @@ SCHEDULES = [
         {"a.replay": SMALLEST + HEADER + "1 1 1 go\n1 1 2 go\nend 2\n"},
     ),
     Case(
+        "an entry of a process that does not exist", "./pct replay a.replay", 7, "refused entry 1\n",
+        ["a.replay:6: entry 1 is not legal\n", "    1 2 1 go\n", "its process does not exist yet", "end the schedule"],
+        {"a.replay": SMALLEST + HEADER + "1 2 1 go\nend 1\n"},
+    ),
+    Case(
         "go where a thread is created", "./pct replay a.replay", 7, "refused entry 1\n",
         ["a.replay:8: entry 1 is not legal\n", "    1 1 1 go\n", "'new N' where it creates a thread", "MACHINE.md"],
         {"a.replay": WORKER + HEADER + "1 1 1 go\nend 1\n"},

@@ -3,7 +3,7 @@
  * Standard: fork, pthread_join
  * Row:      pthread_exit in a forked child
  * Script:   examples/library_exit_in_child.pct
- * Host:     planned: the join gets the value
+ * Host:     the join gets the value
  */
 #define _XOPEN_SOURCE 700
 #include <pthread.h>

@@ -3,7 +3,7 @@
  * Standard: fork
  * Row:      Requests pending at fork
  * Script:   examples/library_fork_pending.pct
- * Host:     planned: not pending in the child
+ * Host:     not pending in the child
  */
 #define _XOPEN_SOURCE 700
 #include <pthread.h>

@@ -4,7 +4,7 @@
  * Standard: 2.9.5.2
  * Row:      Canceled waitpid
  * Script:   examples/library_waitpid_canceled.pct
- * Host:     planned: a child that no waitpid returns: never
+ * Host:     a child that no waitpid returns: never
  */
 #define _XOPEN_SOURCE 700
 #include <pthread.h>
