@@ -153,6 +153,7 @@ impl Place {
     /// Makes the step of an entry of a thread of the process, and writes the transition that it takes to `transition`. The result is
     /// false exactly if no thread with the id of the entry holds its slot or the choice is not offered, and then the process is as it
     /// was. What the transition changes beside the data of the process is left to the caller.
+    #[inline(always)]
     pub fn step(&mut self, around: Surroundings, entry: &Entry, transition: &mut Transition) -> bool
         requires { CanStep around.program.now.config.slots self.old }
         ensures taken { taken_in around.entry.program.now.script around.entry.program.now.config (other_processes around.entry.family) self.old entry.now ≡ some_if result transition.new }

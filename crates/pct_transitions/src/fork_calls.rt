@@ -72,6 +72,7 @@ fn forks_by(new_pid: Option<u32>) -> Transition
 // fork returns in the process that called it, at a statement of the top frame: the result is 0, and the id of the child is written. If
 // no child was made, the result is EAGAIN, which is 1 in this host, and no id is written.
 #[tactic(auto, using(crate::proofs::Bodies::pc_within), unfolding(pct_model::specs::ForkCalls::returns_in_parent))]
+#[inline(always)]
 fn returns_in_parent(context: &Context, at: &At, pid: u32) -> Transition
     requires { IsAt context.now.program.now.script at.now }
     ensures { (new_pid : Option ℕ) → result ≡ goes_on_forking phases.Parent pid new_pid (StatementIn at.now.frame.now at.now.statement.now) }
@@ -102,6 +103,7 @@ fn returns_in_parent(context: &Context, at: &At, pid: u32) -> Transition
 
 // fork returns in the child, at a statement of the top frame: the result is 0, and so is the id that is written.
 #[tactic(auto, using(crate::proofs::Bodies::pc_within), unfolding(pct_model::specs::ForkCalls::returns_in_child))]
+#[inline(always)]
 fn returns_in_child(context: &Context, at: &At) -> Transition
     requires { IsAt context.now.program.now.script at.now }
     ensures { (pid : ℕ) (new_pid : Option ℕ) → result ≡ goes_on_forking phases.Child pid new_pid (StatementIn at.now.frame.now at.now.statement.now) }
@@ -164,6 +166,7 @@ pub(crate) fn waits_at(context: &Context, pid: u32, transition: &mut Transition)
 
 // The same, at a statement of its top frame.
 #[tactic(auto, using(crate::proofs::Bodies::pc_within), unfolding(pct_model::specs::ForkCalls::reaps))]
+#[inline(always)]
 fn waits_in(context: &Context, at: &At, pid: u32) -> Transition
     requires { IsAt context.now.program.now.script at.now }
     ensures { (others : Others) → SeesOthers context.now others → result ≡ waits_at (others.family.child pid) pid (StatementIn at.now.frame.now at.now.statement.now) }
