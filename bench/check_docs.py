@@ -17,11 +17,8 @@ What is checked:
   one of a schedule or an entry. Other forms are passed over.
 - Reasons. docs/reasons.txt, from which ./pct explains a refusal, has each reason of SCRIPT.md and of FORMATS.md, with the
   same usual cause and the same way to mend it.
-- What runs. The definition `is_built` says which statements run. SCRIPT.md lists these and no others under "What runs
-  today"; a section of it has the paragraph "Checked today, not run." if none of the statements in its tables runs, and
-  has it not if all of them run. A section "Not built yet" names the statements that do not run and no others. In
-  README.md a sentence with "Today it runs" speaks only of statements that run, and one with "only checked" or "not built"
-  of none: by the words of SPOKEN.
+- Statements. The tables of SCRIPT.md have all statements that the definitions know, and no others.
+- Stops. The table of stops in FORMATS.md has all stops that the definitions know, and no others.
 
 The last line is `N passed, M failed`. The status is 1 if M is not 0 or N is 0.
 """
@@ -38,28 +35,6 @@ SPECS = ROOT / "crates/pct_model/specs"
 SECONDS = 60
 REFUSAL = re.compile(r"refused (script|schedule|entry)( [0-9]+)( [a-z_]+)?")
 REPLAYED = ["fn main x", "return 0", "end", "%%"]
-NOT_RUN = "Checked today, not run."
-# Words of README.md for statements.
-SPOKEN = {
-    "created": {"pthread_create"},
-    "joined": {"pthread_join"},
-    "detached": {"pthread_detach"},
-    "canceled": {"pthread_cancel"},
-    "variables": {"set", "add"},
-    "loops": {"while"},
-    "calls": {"do"},
-    "cleanup handlers": {"pthread_cleanup_push", "pthread_cleanup_pop"},
-    "cancellation points": {"pthread_testcancel", "POINT"},
-    "thread-specific data": {"pthread_key_create", "pthread_key_delete", "pthread_setspecific", "pthread_getspecific"},
-    "mutexes": {"pthread_mutex_lock", "pthread_mutex_unlock"},
-    "condition variables": {"pthread_cond_wait", "pthread_cond_signal", "pthread_cond_broadcast"},
-    "condition waits": {"pthread_cond_wait", "pthread_cond_signal", "pthread_cond_broadcast"},
-    "semaphores": {"sem_wait", "sem_post"},
-    "process exits": {"exit", "_exit"},
-    "exit functions": {"atexit"},
-    "child processes": {"fork", "waitpid"},
-    "fork handlers": {"pthread_atfork"},
-}
 
 
 # ---- commands and refusals
@@ -169,17 +144,23 @@ def reasons():
         yield f"{refusal} in docs/reasons.txt", pages.get(refusal, "none"), table.get(refusal, "none")
 
 
-# ---- what runs
+# ---- statements and stops
 
 
-def statements():
-    """The keywords of all statements, and of those that are built. POINT stands for the cancellation points."""
+def known_statements():
+    """The keywords of all statements. POINT stands for the cancellation points."""
     text = "\n".join(path.read_text() for path in sorted(SPECS.glob("*.antt")))
     syntax = re.findall(r"^syntax_of \(?line_kind\.(\w+).*?(?:codes \"(\S+)\"|point_name)", text, re.M)
-    keywords = {kind: word or "POINT" for kind, word in syntax if kind != "Declares"}
-    keywords["PointCall"] = keywords.pop("Point")
-    built = re.findall(r"^is_built \(?statement\.(\w+).*= true$", text, re.M)
-    return set(keywords.values()), {keywords[kind] for kind in built}
+    return {word or "POINT" for kind, word in syntax if kind != "Declares"}
+
+
+def known_stops():
+    """The names of all stops, each with its class."""
+    text = (SPECS / "StopTexts.antt").read_text() + (SPECS / "Keywords.antt").read_text()
+    names = dict(re.findall(r"^name_of_stop why\.(\w+) = keyword\.(\w+)$", text, re.M))
+    classes = dict(re.findall(r"^class_of_stop why\.(\w+) = keyword\.(\w+)$", text, re.M))
+    words = dict(re.findall(r"^keyword_text keyword\.(\w+) = codes \"(\S+)\"$", text, re.M))
+    return {f"{words[classes[why]]} {words[name]}" for why, name in names.items()}
 
 
 def codes(text):
@@ -187,53 +168,19 @@ def codes(text):
     return [code.split()[0] for code in re.findall(r"`([^`]+)`", text) if code.strip()]
 
 
-def sections(page):
-    """The sections of a page by their headings of the second level."""
-    for section in re.split(r"^## ", page.read_text(), flags=re.M)[1:]:
-        heading, _, text = section.partition("\n")
-        yield heading, text
-
-
 def names(words):
     return ", ".join(sorted(words)) or "none"
 
 
-def what_runs():
-    """For each list of statements: where it is, the statements in it, and those that the definitions want there."""
-    known, built = statements()
-    script = ROOT / "docs/SCRIPT.md"
-    seen, own = set(), set()
-    for heading, text in sections(script):
-        rows = [line.split("|")[1] for line in text.splitlines() if line.startswith("| ")]
-        listed = {code for row in rows for code in codes(row) if code in known}
-        if "the name of a cancellation point" in text:
-            listed.add("POINT")
-        if heading == "The script's own statements":
-            own = listed
-        if not listed:
-            continue
-        seen |= listed
-        if NOT_RUN in text.splitlines():
-            yield f"docs/SCRIPT.md, {heading}: what does not run", names(listed), names(listed - built)
-        else:
-            yield f"docs/SCRIPT.md, {heading}: what runs", names(listed), names(listed & built)
-    yield "docs/SCRIPT.md: the statements in its tables", names(seen), names(known)
-    head = next(line for line in script.read_text().splitlines() if line.startswith("**What runs today.**"))
-    listed = {code for code in codes(head) if code in known}
-    listed |= own if "(#the-scripts-own-statements)" in head else set()
-    listed |= {"POINT"} if "(#cancellation-points)" in head else set()
-    yield "docs/SCRIPT.md: what runs today", names(listed), names(built)
-    for page in sorted((ROOT / "docs").glob("*.md")):
-        for heading, text in sections(page):
-            if heading == "Not built yet":
-                listed = {code for code in codes(text) if code in known}
-                yield f"docs/{page.name}: what is not built yet", names(listed), names(known - built)
-    for sentence in re.split(r"(?<=[.:])\**\s", (ROOT / "README.md").read_text()):
-        runs, runs_not = "Today it runs" in sentence, "only checked" in sentence or "not built" in sentence
-        if runs or runs_not:
-            spoken = {code for code in codes(sentence) if code in known}
-            spoken |= {word for phrase, meant in SPOKEN.items() if phrase in sentence for word in meant}
-            yield f"README.md, {sentence}", names(spoken), names(spoken & built if runs else spoken - built)
+def lists():
+    """For each list of the pages: where it is, what is in it, and what the definitions want there."""
+    known = known_statements()
+    text = (ROOT / "docs/SCRIPT.md").read_text()
+    listed = {code for line in text.splitlines() if line.startswith("| ") for code in codes(line.split("|")[1]) if code in known}
+    listed |= {"POINT"} if "the name of a cancellation point" in text else set()
+    yield "docs/SCRIPT.md: the statements in its tables", names(listed), names(known)
+    rows = re.findall(r"^\| `((?:undefined|profile) [a-z_]+)` \|", (ROOT / "docs/FORMATS.md").read_text(), re.M)
+    yield "docs/FORMATS.md: the stops in its tables", names(rows), names(known_stops())
 
 
 # ---- all
@@ -242,7 +189,7 @@ def what_runs():
 def checks(program):
     """For each check: where it is, what the page has, and what it should have."""
     yield from reasons()
-    yield from what_runs()
+    yield from lists()
     for page in [ROOT / "README.md", *sorted((ROOT / "docs").glob("*.md"))]:
         for number, command, printed, written in results(page, program):
             yield f"{page.relative_to(ROOT)}:{number}: {command}", printed, written

@@ -52,7 +52,7 @@ case $1 in
         ;;
 esac
 """
-USAGE = "usage: pct run [FILE]"
+USAGE = "usage: pct run [OPTION]... [FILE]"
 SMALLEST = "fn main x\nreturn 0\nend\n"
 FAULTY = "fn main x\nemit\nend\n"
 # The report of the script SMALLEST: main returns, and the process ends.
@@ -321,6 +321,28 @@ CALLS = [
     Case("no words", "./pct", 5, "refused words\n", [USAGE]),
     Case("a call for help", "./pct --help", 5, "refused words\n", [USAGE]),
     Case("two files", "./pct run a.pct b.pct", 5, "refused words\n", [USAGE], {"a.pct": SMALLEST, "b.pct": SMALLEST}),
+    Case("a seed", "./pct run --seed 2 a.pct", 0, REPORT, [], {"a.pct": SMALLEST}),
+    Case(
+        "a budget of one step, after the file", "./pct run a.pct --budget=1", 2,
+        "report 1\n1.1 exit 0\nverdict budget\nschedule 1 1 4 64\n1 1 1 go\nend 1\n", [], {"a.pct": SMALLEST},
+    ),
+    Case(
+        "an option, and a script with a fault", "./pct run --slots 2 a.pct", 6, "refused script 2 word_count\n",
+        ["a.pct:2: word_count\n", "    emit\n", "Mend:"], {"a.pct": FAULTY},
+    ),
+    Case("an option twice", "./pct run --seed 1 --seed 2 a.pct", 5, "refused words\n", [USAGE], {"a.pct": SMALLEST}),
+    Case(
+        "the file in place of a value", "./pct run --seed a.pct < /dev/null", 5, "refused words\n",
+        [USAGE, "--seed N"], {"a.pct": SMALLEST},
+    ),
+    Case("an option without a value", "./pct run a.pct --seed", 5, "refused words\n", [USAGE], {"a.pct": SMALLEST}),
+    Case("a budget of 0", "./pct run --budget 0 a.pct", 5, "refused words\n", [USAGE], {"a.pct": SMALLEST}),
+    Case("an unknown option", "./pct run --steps 3 a.pct", 5, "refused words\n", [USAGE], {"a.pct": SMALLEST}),
+    Case("an option of check", "./pct check --seed 1 a.pct", 5, "refused words\n", [USAGE], {"a.pct": SMALLEST}),
+    Case(
+        "a file that is not there, with an option", "./pct run --seed 1 nowhere.pct", 66, "",
+        ["pct: nowhere.pct is no file that can be read\n"],
+    ),
     Case("points with a file", "./pct points a.pct", 5, "refused words\n", [USAGE], {"a.pct": SMALLEST}),
     Case("a command in upper case", "./pct RUN a.pct", 5, "refused words\n", [USAGE], {"a.pct": SMALLEST}),
     Case("build with a word more", "./pct build now", 5, "refused words\n", [USAGE]),
@@ -348,6 +370,10 @@ UNPROVED = [
     Case(
         "no program, and a file", "./pct run a.pct && cat rt.words", 0, REPORT + "try --seconds 600 -- run\n",
         FROM_UNPROVED, {"a.pct": SMALLEST},
+    ),
+    Case(
+        "no program, an option and a file", "./pct run --seed 2 a.pct && cat rt.words", 0,
+        REPORT + "try --seconds 600 -- run --seed 2\n", FROM_UNPROVED, {"a.pct": SMALLEST},
     ),
     Case(
         "no program, and a refusal", "./pct check a.pct", 6, "refused script 2 word_count\n",

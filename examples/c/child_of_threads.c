@@ -4,7 +4,7 @@
  * Standard: fork
  * Row:      Children of processes with threads
  * Script:   examples/library_child_of_threads.pct
- * Host:     planned: stops the run at the first of these calls, as `profile fork_child_call`
+ * Host:     stops the run at the first of these calls, as `profile fork_child_call`
  */
 #define _XOPEN_SOURCE 700
 #include <pthread.h>

@@ -3,7 +3,7 @@
  * Standard: pthread_atfork
  * Row:      Fork handlers
  * Script:   examples/library_fork_handlers.pct
- * Host:     planned: prepare 2, prepare 1, then in the child child 1, child 2 and in the parent parent 1, parent 2
+ * Host:     prepare 2, prepare 1, then in the child child 1, child 2 and in the parent parent 1, parent 2
  */
 #define _XOPEN_SOURCE 700
 #include <pthread.h>

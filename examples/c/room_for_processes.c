@@ -4,7 +4,7 @@
  * Standard: fork, pthread_atfork, atexit, XBD <limits.h>
  * Row:      Room for processes and handlers
  * Script:   examples/library_room_for_processes.pct
- * Host:     child 8: EAGAIN; fork handler 17: planned: ENOMEM; exit function 33: 1
+ * Host:     child 8: EAGAIN; fork handler 17: ENOMEM; exit function 33: 1
  */
 #define _XOPEN_SOURCE 700
 #include <errno.h>

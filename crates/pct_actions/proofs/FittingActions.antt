@@ -49,6 +49,7 @@ own_of keys threads fit shared p view tid slot o is inside needs =
 
 fits_in : (tid : ℕ) (a : Action) (p : ProcessData) → FitsAnywhere a → FitsIn tid a p
 fits_in tid (action.EndJoin id) p anywhere = absurd anywhere
+fits_in tid (action.AddForkHandlers handlers) p anywhere = absurd anywhere
 fits_in tid (action.AddExit f) p anywhere = absurd anywhere
 fits_in tid _ p anywhere = tt
 
@@ -121,6 +122,7 @@ module _ (tid : ℕ) (o : Transition) (slot : ℕ) (p : ProcessData) (on : AreOn
 
   fit_kept : (a : Action) → FitsIn tid a p → FitsIn tid a (with_slot slot change p)
   fit_kept (action.EndJoin id) fits = (fits.0, other_stays (λ t. is_ended_status t.status ≡ true) id fits.0 fits.1)
+  fit_kept (action.AddForkHandlers handlers) fits = fits
   fit_kept (action.AddExit f) fits = fits
   fit_kept _ fits = tt
 

@@ -1,7 +1,7 @@
 -- What a transition changes in a process, and what it needs of it, in words of the data of the process.
 use Rattle.std.specs.Prelude.{◌≡◌, ◌≢◌, ℕ, ◌<◌, true, List, [], ◌∷◌, length, All, Some, IfSome, nat_eq, slice_get}
 use Rattle.std.specs.List.{list_any}
-use Rattle.pct_model.specs.declared.limits.TheConstants.{MAX_EXIT_FUNCTIONS}
+use Rattle.pct_model.specs.declared.limits.TheConstants.{MAX_FORK_HANDLERS, MAX_EXIT_FUNCTIONS}
 use Rattle.pct_model.specs.declared.transition.Action.{Action}
 use Rattle.pct_model.specs.declared.transition.Action.TheVariants as action
 use Rattle.pct_model.specs.declared.transition.Transition.{Transition}
@@ -35,16 +35,18 @@ AreOnSlots slots = (s : ℕ) (slot : SeenSlot) → slice_get slots s ≡ Some sl
 abbrev pub JoinFits : ℕ → ℕ → List SeenSlot → Type 0
 JoinFits tid id slots = (id ≢ tid) × IfSome (thread_with (length slots) id slots) (λ t. is_ended_status t.status ≡ true)
 
--- an action of the thread with an id fits the process: a thread that it joins can be joined, and there is room for a function that it
--- registers with atexit
+-- an action of the thread with an id fits the process: a thread that it joins can be joined, and there is room for the functions that it
+-- registers with pthread_atfork or atexit
 abbrev pub FitsIn : ℕ → Action → ProcessData → Type 0
 FitsIn tid (action.EndJoin id) p = JoinFits tid id p.slots
+FitsIn tid (action.AddForkHandlers handlers) p = length p.shared.fork_handlers < MAX_FORK_HANDLERS
 FitsIn tid (action.AddExit f) p = length p.shared.exit_functions < MAX_EXIT_FUNCTIONS
 FitsIn tid _ p = Unit {0}
 
 -- the action needs nothing of the process
 abbrev pub FitsAnywhere : Action → Type 0
 FitsAnywhere (action.EndJoin id) = ⊥
+FitsAnywhere (action.AddForkHandlers handlers) = ⊥
 FitsAnywhere (action.AddExit f) = ⊥
 FitsAnywhere _ = Unit {0}
 

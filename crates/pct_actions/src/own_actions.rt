@@ -6,6 +6,7 @@ ghost use Rattle.pct_model.specs.declared.state.Cause.TheVariants as cause;
 ghost use Rattle.pct_model.specs.declared.state.Status.TheVariants as status;
 ghost use Rattle.pct_model.specs.Actions.{frames_written, at_pc, without_first, thread_at, thread_after};
 ghost use Rattle.pct_model.specs.Cancelability.{ending_state, ending_mode};
+ghost use Rattle.pct_model.specs.ForkCalls.{in_fork};
 ghost use Rattle.pct_model.specs.World.{new_frame};
 ghost use Rattle.pct_threads.specs.Slots.{Held, after_change};
 ghost use Rattle.pct_threads.specs.Tables.{held_at, is_occupied_at, on_slot};
@@ -13,7 +14,7 @@ ghost use Rattle.pct_engine_laws.specs.Fitting.{Fits};
 ghost use Rattle.pct_actions.specs.OwnChanges.{on_own, unless_reclaimed};
 
 use pct_cleanup::Handlers;
-use pct_model::{Action, Cause, Dest, FrameKind, Mode, Reason, State, Status};
+use pct_model::{Action, Cause, Dest, ForkAt, FrameKind, Mode, Reason, State, Status};
 use pct_threads::Threads;
 
 /// The thread on a slot goes on at a program counter, if there is one.
@@ -51,9 +52,8 @@ pub(crate) fn act(threads: &mut Threads, slot: u32, action: Action)
         Action::LeaveWait(cond, mutex) => leave_wait(threads, slot, cond, mutex),
         Action::BeginSem(sem) => set_status(threads, slot, Status::InSem(sem)),
         Action::BeginWaitPid(pid) => set_status(threads, slot, Status::InWaitPid(pid)),
-        Action::EnterFork(phase, pid) => {
-            set_status(threads, slot, Status::Forking(phase, 0, 0, pid));
-        }
+        Action::EnterFork(at) => enter_fork(threads, slot, at),
+        Action::KeepFork(at) => keep_fork(threads, slot, at),
         Action::BeginPass => begin_pass(threads, slot),
         Action::BeginEnd(why) => begin_end(threads, slot, why),
         Action::EndThread(value) => end_thread(threads, slot, value),
@@ -116,13 +116,13 @@ fn call_alone(threads: &mut Threads, slot: u32, func: u32, arg: u32, kind: Frame
     set_status(threads, slot, Status::Running);
 }
 
-// The thread leaves its newest frame, and gets a status.
+// The thread leaves its newest frame, and gets a status. It keeps no values of a fork.
 fn leave(threads: &mut Threads, slot: u32, status: Status)
     requires { is_occupied_at threads.old slot ≡ true }
-    ensures { threads.new ≡ on_own slot (λ t. record t { status = status; frames = without_first t.frames }) threads.old }
+    ensures { threads.new ≡ on_own slot (λ t. record t { status = status; frames = without_first t.frames; kept = None }) threads.old }
 {
     leave_frame(threads, slot);
-    set_status(threads, slot, status);
+    resume(threads, slot, status);
 }
 
 // The thread acts upon a request in a condition wait.
@@ -132,6 +132,23 @@ fn leave_wait(threads: &mut Threads, slot: u32, cond: u32, mutex: u32)
 {
     let status = Status::Reacquire(cond, mutex, Cause::Canceled);
     set_status(threads, slot, status);
+}
+
+// The thread is in fork, with these values.
+fn enter_fork(threads: &mut Threads, slot: u32, at: ForkAt)
+    requires { is_occupied_at threads.old slot ≡ true }
+    ensures { threads.new ≡ on_own slot (λ t. record t { status = in_fork at }) threads.old }
+{
+    let status = Status::Forking(at.phase, at.next, at.length, at.answer);
+    set_status(threads, slot, status);
+}
+
+// The thread keeps these values of its fork.
+fn keep_fork(threads: &mut Threads, slot: u32, at: ForkAt)
+    requires { is_occupied_at threads.old slot ≡ true }
+    ensures { threads.new ≡ on_own slot (λ t. record t { kept = Some at }) threads.old }
+{
+    threads.write(slot).kept = Some(at);
 }
 
 // A cleanup handler is pushed.
@@ -178,19 +195,19 @@ fn begin_pass(threads: &mut Threads, slot: u32)
     threads.write(slot).pass += 1;
 }
 
-// The thread leaves all its frames, and begins to exit its process.
+// The thread leaves all its frames, and begins to exit its process. It keeps no values of a fork.
 fn begin_exit(threads: &mut Threads, slot: u32)
     requires { is_occupied_at threads.old slot ≡ true }
-    ensures { threads.new ≡ on_own slot (λ t. record t { status = status.Exiting; frames = []; state = ending_state; mode = ending_mode }) threads.old }
+    ensures { threads.new ≡ on_own slot (λ t. record t { status = status.Exiting; frames = []; state = ending_state; mode = ending_mode; kept = None }) threads.old }
 {
     threads.drop_frames(slot);
     start_exiting(threads, slot);
 }
 
-// The thread leaves all its frames, and begins to end for a reason.
+// The thread leaves all its frames, and begins to end for a reason. It keeps no values of a fork.
 fn begin_end(threads: &mut Threads, slot: u32, why: Reason)
     requires { is_occupied_at threads.old slot ≡ true }
-    ensures { threads.new ≡ on_own slot (λ t. record t { status = status.Ending; frames = []; state = ending_state; mode = ending_mode; reason = why }) threads.old }
+    ensures { threads.new ≡ on_own slot (λ t. record t { status = status.Ending; frames = []; state = ending_state; mode = ending_mode; reason = why; kept = None }) threads.old }
 {
     threads.drop_frames(slot);
     start_ending(threads, slot, why);
@@ -219,22 +236,24 @@ fn mark_ended(threads: &mut Threads, slot: u32)
 // The thread begins to exit its process, and keeps its frames.
 fn start_exiting(threads: &mut Threads, slot: u32)
     requires { is_occupied_at threads.old slot ≡ true }
-    ensures { threads.new ≡ on_own slot (λ t. record t { status = status.Exiting; state = ending_state; mode = ending_mode }) threads.old }
+    ensures { threads.new ≡ on_own slot (λ t. record t { status = status.Exiting; state = ending_state; mode = ending_mode; kept = None }) threads.old }
 {
     let thread = threads.write(slot);
     thread.cancel.begin_end();
     thread.status = Status::Exiting;
+    thread.kept = None;
 }
 
 // The thread begins to end for a reason, and keeps its frames.
 fn start_ending(threads: &mut Threads, slot: u32, why: Reason)
     requires { is_occupied_at threads.old slot ≡ true }
-    ensures { threads.new ≡ on_own slot (λ t. record t { status = status.Ending; state = ending_state; mode = ending_mode; reason = why }) threads.old }
+    ensures { threads.new ≡ on_own slot (λ t. record t { status = status.Ending; state = ending_state; mode = ending_mode; reason = why; kept = None }) threads.old }
 {
     let thread = threads.write(slot);
     thread.cancel.begin_end();
     thread.status = Status::Ending;
     thread.reason = why;
+    thread.kept = None;
 }
 
 // The newest frame, if there is one, is removed.
@@ -245,6 +264,16 @@ fn leave_frame(threads: &mut Threads, slot: u32)
     if threads.place(slot).depth > 0 {
         threads.pop_frame(slot);
     }
+}
+
+// The thread has a status, and keeps no values of a fork.
+fn resume(threads: &mut Threads, slot: u32, status: Status)
+    requires { is_occupied_at threads.old slot ≡ true }
+    ensures { threads.new ≡ on_own slot (λ t. record t { status = status; kept = None }) threads.old }
+{
+    let thread = threads.write(slot);
+    thread.status = status;
+    thread.kept = None;
 }
 
 // The thread has a status.

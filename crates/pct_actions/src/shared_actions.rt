@@ -46,6 +46,7 @@ fn act_on_shared(process: &mut ProcessState, action: Action)
         Action::DeleteKey(key) => delete_key(process, key),
         Action::OwnMutex(mutex, id) => process.owners.set(mutex, id),
         Action::SetCount(sem, count) => process.counts.set(sem, count),
+        Action::AddForkHandlers(handlers) => process.fork_handlers.push(handlers),
         Action::AddExit(func) => process.exit_functions.push(func),
         Action::TakeExit => process.exit_functions.pop(),
         Action::BeginExit(value) => process.exit_value = Some(value),

@@ -1,13 +1,18 @@
 -- What the words of the program ask for, and which part of an input is the script's.
-use Rattle.std.proofs.Common.{◌≡◌, ℕ, true, false, List, [], ◌∷◌, Some, length, take, refl, sym, ap, ◌∙◌, le_refl}
+use Rattle.std.proofs.Common.{◌≡◌, ℕ, Bool, true, false, ◌||◌, if◌then◌else◌, cond, List, [], ◌∷◌, Option, Some, None, length, take, refl, sym, ap, ◌∙◌, le_refl}
+use Rattle.std.specs.Prelude.{bytes_eq, is_some}
+use Rattle.std.specs.Option.{option_map_or}
+use Rattle.std.proofs.lemmas.Option.{none-some}
 use Rattle.std.proofs.lemmas.List.{take_all}
 use Rattle.std.proofs.lemmas.Bool.{false≢true}
 use Rattle.pct_model.specs.declared.keyword.Keyword.{Keyword}
 use Rattle.pct_model.specs.declared.keyword.Keyword.TheVariants as keyword
+use Rattle.pct_model.specs.declared.run_options.RunOptions.{RunOptions}
 use Rattle.pct_model.specs.Keywords.{keyword_text}
 use Rattle.pct_model.specs.Outcome.{is_asked, is_accepted, needs_input, script_part}
+use Rattle.pct_model.specs.RunOptions.{run_options}
 use Rattle.pct_model.proofs.Bytes.{same_bytes}
-use Rattle.pct_command.specs.declared.words.RunOptions.{RunOptions}
+use Rattle.pct_options.proofs.Configs.{run_is_within}
 use Rattle.pct_command.specs.declared.words.Job.{Job}
 use Rattle.pct_command.specs.declared.words.Job.TheVariants.{Run, Replay, Check, Points}
 use Rattle.pct_command.specs.Words.{Asks, HasInput, job_asked, parts_of_job}
@@ -18,29 +23,61 @@ asked_is k [] asked = absurd (false≢true asked)
 asked_is k (w ∷ []) asked = ap (λ (text : List ℕ). text ∷ []) (same_bytes w (keyword_text k) asked)
 asked_is k (w ∷ next ∷ words) asked = absurd (false≢true asked)
 
+-- a value comes only from the branch that has one
+is_chosen : {A : Type 0} (b : Bool) (o : Option A) (x : A) → cond b o None ≡ Some x → b ≡ true
+is_chosen true o x is = refl
+is_chosen false o x is = absurd (none-some x is)
+
+-- `run` and its options are not `replay`
+not_replay : (command : List ℕ) (words : List (List ℕ)) → command ≡ keyword_text keyword.Run → is_asked keyword.Replay (command ∷ words) ≡ false
+unfolding is_asked keyword_text
+not_replay command [] is = ap (λ (w : List ℕ). is_asked keyword.Replay (w ∷ [])) is
+not_replay command (next ∷ words) is = refl
+
+pub run_is_no_replay : (words : List (List ℕ)) (options : RunOptions) → run_options words ≡ Some options → is_asked keyword.Replay words ≡ false
+unfolding run_options
+run_is_no_replay [] options asked = absurd (none-some options asked)
+run_is_no_replay (command ∷ words) options asked =
+    not_replay command words (same_bytes command (keyword_text keyword.Run) (is_chosen (bytes_eq command (keyword_text keyword.Run)) _ options asked))
+
 -- words that name a job name no other
 pub names_job : (words : List (List ℕ)) (job : Job) → Asks words job → job_asked words ≡ Some job
-unfolding is_asked keyword_text
-names_job words (Run options) asks = ap job_asked (asked_is keyword.Run words asks.0) ∙ ap (λ (o : RunOptions). Some (Run o)) (sym asks.1)
+unfolding run_options is_asked keyword_text
+names_job words (Run options) asks =
+    ap (λ (o : Option RunOptions). option_map_or (λ numbers. Some (Run numbers)) o (if is_asked keyword.Replay words then Some Replay else if is_asked keyword.Check words then Some Check else if is_asked keyword.Points words then Some Points else None)) asks
 names_job words Replay asks = ap job_asked (asked_is keyword.Replay words asks)
 names_job words Check asks = ap job_asked (asked_is keyword.Check words asks)
 names_job words Points asks = ap job_asked (asked_is keyword.Points words asks)
 
+-- the job reads the input
+abbrev pub NeedsInput : Job → Type 0
+NeedsInput (Run options) = Unit {0}
+NeedsInput Replay = Unit {0}
+NeedsInput Check = Unit {0}
+NeedsInput Points = ⊥
+
+-- the options that words give have a configuration within the limits
+pub has_input : (words : List (List ℕ)) (job : Job) → Asks words job → NeedsInput job → HasInput job
+has_input words (Run options) asks needs = run_is_within words options asks
+has_input words Replay asks needs = tt
+has_input words Check asks needs = tt
+has_input words Points asks needs = needs
+
 -- words that name a job with an input need one
 pub job_needs_input : (words : List (List ℕ)) (job : Job) → Asks words job → HasInput job → needs_input words ≡ true
-unfolding is_asked keyword_text
-job_needs_input words (Run options) asks has = ap needs_input (asked_is keyword.Run words asks.0)
+unfolding run_options is_asked keyword_text
+job_needs_input words (Run options) asks has = ap (λ (o : Option RunOptions). is_some o || is_asked keyword.Replay words || is_asked keyword.Check words) asks
 job_needs_input words Replay asks has = ap needs_input (asked_is keyword.Replay words asks)
 job_needs_input words Check asks has = ap needs_input (asked_is keyword.Check words asks)
 job_needs_input words Points asks has = absurd has
 
 -- `points` needs none, and is accepted
 pub points_need_none : (words : List (List ℕ)) → is_asked keyword.Points words ≡ true → needs_input words ≡ false
-unfolding is_asked keyword_text
+unfolding run_options is_asked keyword_text
 points_need_none words asked = ap needs_input (asked_is keyword.Points words asked)
 
 pub points_are_accepted : (words : List (List ℕ)) → is_asked keyword.Points words ≡ true → is_accepted words ≡ true
-unfolding is_asked keyword_text
+unfolding run_options is_asked keyword_text
 points_are_accepted words asked = ap is_accepted (asked_is keyword.Points words asked)
 
 pub replay_asks_replay : is_asked keyword.Replay (keyword_text keyword.Replay ∷ []) ≡ true
@@ -48,9 +85,9 @@ unfolding is_asked keyword_text
 replay_asks_replay = refl
 
 -- all of the input of `run` is the script's
-pub part_of_run : (words : List (List ℕ)) (input : List ℕ) → is_asked keyword.Run words ≡ true → script_part words input ≡ input
-unfolding script_part is_asked keyword_text
-part_of_run words input asked = ap (λ (w : List (List ℕ)). script_part w input) (asked_is keyword.Run words asked)
+pub part_of_run : (words : List (List ℕ)) (input : List ℕ) (options : RunOptions) → run_options words ≡ Some options → script_part words input ≡ input
+unfolding script_part
+part_of_run words input options asked = rw (run_is_no_replay words options asked) refl
 
 -- and of that of `check`
 pub part_of_check : (words : List (List ℕ)) (input : List ℕ) → is_asked keyword.Check words ≡ true → script_part words input ≡ input
@@ -65,7 +102,7 @@ part_of_points words input asked = ap (λ (w : List (List ℕ)). script_part w i
 -- the script's part of the input of a job
 pub part_of_job : (words : List (List ℕ)) (job : Job) (input : List ℕ) → Asks words job → script_part words input ≡ take (parts_of_job job input).0 input
 unfolding script_part is_asked keyword_text
-part_of_job words (Run options) input asks = part_of_run words input asks.0 ∙ sym (take_all (length input) input (le_refl _))
+part_of_job words (Run options) input asks = part_of_run words input options asks ∙ sym (take_all (length input) input (le_refl _))
 part_of_job words Replay input asks = ap (λ (w : List (List ℕ)). script_part w input) (asked_is keyword.Replay words asks)
 part_of_job words Check input asks = part_of_check words input asks ∙ sym (take_all (length input) input (le_refl _))
 part_of_job words Points input asks = part_of_points words input asks ∙ sym (take_all (length input) input (le_refl _))

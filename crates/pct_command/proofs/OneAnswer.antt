@@ -1,11 +1,12 @@
 -- A seed has one schedule at the most, and so words and an input have one answer at the most.
 use Rattle.std.proofs.Common.{◌≡◌, inl, inr, ℕ, zero, suc, ◌<◌, ◌≤◌, List, [], ◌∷◌, ◌++◌, Option, Some, None, refl, sym, ap, ◌∙◌, subst, arith, length, get_or, take, drop, take-suc, length-take-le}
-use Rattle.std.specs.Prelude.{slice_get, is_some, option_and_then}
+use Rattle.std.specs.Prelude.{is_some, option_and_then}
 use Rattle.std.proofs.Math.Seq.{take-length}
 use Rattle.std.proofs.lemmas.Bool.{cases_order}
 use Rattle.std.proofs.lemmas.List.{take-append-drop}
 use Rattle.std.proofs.lemmas.Option.{none-some, same_Some, some_pair_parts, slice_get-get_or}
 use Rattle.rand_pcg.specs.Lcg.{Lcg}
+use Rattle.pct_model.specs.declared.run_options.RunOptions.{RunOptions}
 use Rattle.pct_model.specs.declared.script.Script.{Script}
 use Rattle.pct_model.specs.declared.schedule.Alt.TheVariants.{Go}
 use Rattle.pct_model.specs.declared.schedule.Config.{Config}
@@ -13,11 +14,10 @@ use Rattle.pct_model.specs.declared.schedule.Entry.{Entry}
 use Rattle.pct_model.specs.declared.stop.Verdict.{Verdict}
 use Rattle.pct_model.specs.declared.stop.Verdict.TheVariants as verdict
 use Rattle.pct_model.specs.World.{opening}
-use Rattle.pct_model.specs.Chosen.{chosen}
 use Rattle.pct_model.specs.Run.{Run, run_step, run_from, run, verdict_of}
 use Rattle.pct_model.specs.Report.{report}
 use Rattle.pct_model.specs.Spells.{Spells}
-use Rattle.pct_model.specs.Outcome.{script_part, default_config, code_of_verdict}
+use Rattle.pct_model.specs.Outcome.{script_part, code_of_verdict}
 use Rattle.pct_grammar.proofs.Scripts.{spells_one_script}
 use Rattle.pct_engine_laws.proofs.LongerRuns.{run_parts, run_within}
 use Rattle.pct_engine_laws.proofs.OpenRuns.{goes_on_while_open}
@@ -118,11 +118,11 @@ run_below_five script config entries (Some after) (Some told) code text is =
 
 module _ (words : List (List ℕ)) (input : List ℕ) (script : Script) (spelled : Spells (script_part words input) script) where
   -- the report of a `run` has the schedule of the seed
-  seeded : (options : _) (schedule : List Entry) (code : ℕ) (text : List ℕ) → by_job (Some (job.Run options)) input schedule script ≡ Some (code, text)
-      → (code < 5 → IsReportOf (Some (job.Run options)) words input schedule code text) → SeedSchedule script default_config 1 schedule
+  seeded : (options : RunOptions) (schedule : List Entry) (code : ℕ) (text : List ℕ) → by_job (Some (job.Run options)) input schedule script ≡ Some (code, text)
+      → (code < 5 → IsReportOf (Some (job.Run options)) words input schedule code text) → SeedSchedule script options.config options.seed schedule
   seeded options schedule code text is reports =
-      let closed = (reports (run_below_five script default_config schedule (run script default_config schedule) (report script default_config schedule) code text is)).0 in
-      subst (λ (s : Script). SeedSchedule s default_config 1 schedule) (spells_one_script _ closed.script script closed.spelled spelled) closed.seeded
+      let closed = (reports (run_below_five script options.config schedule (run script options.config schedule) (report script options.config schedule) code text is)).0 in
+      subst (λ (s : Script). SeedSchedule s options.config options.seed schedule) (spells_one_script _ closed.script script closed.spelled spelled) closed.seeded
 
   answer_of_job : (asked : Option Job) (one other : List Entry) (code other_code : ℕ) (text other_text : List ℕ)
       → by_job asked input one script ≡ Some (code, text) → by_job asked input other script ≡ Some (other_code, other_text)
@@ -133,8 +133,8 @@ module _ (words : List (List ℕ)) (input : List ℕ) (script : Script) (spelled
   answer_of_job (Some job.Replay) one other code other_code text other_text a b reports other_reports = some_pair_parts code other_code text other_text (sym a ∙ b)
   answer_of_job (Some job.Check) one other code other_code text other_text a b reports other_reports = some_pair_parts code other_code text other_text (sym a ∙ b)
   answer_of_job (Some (job.Run options)) one other code other_code text other_text a b reports other_reports =
-      let same = schedule_is_one (stream_of 1 1) script default_config one other (seeded options one code text a reports) (seeded options other other_code other_text b other_reports) in
-      some_pair_parts code other_code text other_text (sym a ∙ ap (λ (xs : List Entry). run_of script default_config xs) same ∙ b)
+      let same = schedule_is_one (stream_of options.seed 1) script options.config one other (seeded options one code text a reports) (seeded options other other_code other_text b other_reports) in
+      some_pair_parts code other_code text other_text (sym a ∙ ap (λ (xs : List Entry). run_of script options.config xs) same ∙ b)
 
 found_answers : (words : List (List ℕ)) (input : List ℕ) (one other : List Entry) (code other_code : ℕ) (text other_text : List ℕ)
     → Found words input one code text → Found words input other other_code other_text

@@ -18,12 +18,13 @@ use Rattle.pct_model.specs.Spelling.{Fault}
 use Rattle.pct_model.specs.Checks.{first_fault}
 use Rattle.pct_model.specs.Spells.{Spells}
 use Rattle.pct_model.specs.Canon.{canon}
-use Rattle.pct_model.specs.Outcome.{is_asked, needs_input, script_part, schedule_part, default_config, refused_words, refused_input, refused_script, refused_schedule, refused_entry, code_of_verdict, Outcome}
+use Rattle.pct_model.specs.Outcome.{is_asked, needs_input, script_part, schedule_part, refused_words, refused_input, refused_script, refused_schedule, refused_entry, code_of_verdict, Outcome}
 use Rattle.pct_model.specs.Outcome as outcome
+use Rattle.pct_options.proofs.Configs.{run_is_within}
 use Rattle.pct_grammar.proofs.Scripts.{spelled_is_faultless, spells_one_script}
 use Rattle.pct_command.specs.declared.words.Job.{Job}
 use Rattle.pct_command.specs.declared.words.Job.TheVariants as job
-use Rattle.pct_command.specs.Words.{Asks, HasInput, default_options, job_asked}
+use Rattle.pct_command.specs.Words.{Asks, HasInput, job_asked}
 use Rattle.pct_command.proofs.AskedWords.{names_job, job_needs_input, points_need_none, part_of_run, part_of_check}
 
 -- ---- legal runs
@@ -84,7 +85,7 @@ by_schedule script (Ok given) = by_illegal (first_illegal script given.0 given.1
 
 -- of a script, by the job that the words name
 abbrev pub by_job : Option Job → List ℕ → List Entry → Script → Option (ℕ × List ℕ)
-by_job (Some (job.Run options)) input schedule script = run_of script default_config schedule
+by_job (Some (job.Run options)) input schedule script = run_of script options.config schedule
 by_job (Some job.Replay) input schedule script = by_schedule script (sched_of (schedule_part input))
 by_job (Some job.Check) input schedule script = Some (0, canon script)
 by_job (Some job.Points) input schedule script = None
@@ -154,9 +155,9 @@ found words input schedule code text (outcome.Replayed o) =
     ∙ ap (λ (n : Option ℕ). by_illegal n (run_of o.script o.config o.entries)) (run_is_legal o.script o.config o.after o.entries o.is_run)
     ∙ ran o.script o.config o.entries o.after code text o.is_run o.text_is o.code_is)
 found words input schedule code text (outcome.Ran o) =
-    spelled words (job.Run default_options) input schedule o.script code text (o.accepted, refl) refl o.fits
-    (subst (λ (part : List ℕ). Spells part o.script) (sym (part_of_run words input o.accepted)) o.spelled)
-    (ran o.script default_config schedule o.after code text o.is_run o.text_is o.code_is)
+    spelled words (job.Run o.options) input schedule o.script code text o.accepted (run_is_within words o.options o.accepted) o.fits
+    (subst (λ (part : List ℕ). Spells part o.script) (sym (part_of_run words input o.options o.accepted)) o.spelled)
+    (ran o.script o.options.config schedule o.after code text o.is_run o.text_is o.code_is)
 found words input schedule code text (outcome.Checked o) =
     spelled words job.Check input schedule o.script code text o.accepted tt o.fits
     (subst (λ (part : List ℕ). Spells part o.script) (sym (part_of_check words input o.accepted)) o.spelled)

@@ -2,6 +2,7 @@
 use Rattle.std.proofs.Common.{◌≡◌, ◌≢◌, ℕ, ◌<◌, ◌≤◌, true, false, List, [], ◌∷◌, length, Option, Some, Ok, Err, refl, sym, ap, ◌∙◌, subst, arith}
 use Rattle.std.specs.Prelude.{option_map}
 use Rattle.std.specs.Option.{option_map_or}
+use Rattle.pct_model.specs.declared.run_options.RunOptions.{RunOptions}
 use Rattle.pct_model.specs.declared.script.Script.{Script}
 use Rattle.pct_model.specs.declared.schedule.Config.{Config}
 use Rattle.pct_model.specs.declared.schedule.Entry.{Entry}
@@ -17,20 +18,20 @@ use Rattle.pct_model.specs.Spells.{Spells}
 use Rattle.pct_model.specs.Canon.{canon}
 use Rattle.pct_model.specs.Schedule.{sched_of}
 use Rattle.pct_model.specs.Run.{Run, first_illegal, verdict_of}
+use Rattle.pct_model.specs.RunOptions.{run_options}
 use Rattle.pct_model.specs.Report.{report_of, report}
-use Rattle.pct_model.specs.Outcome.{is_asked, is_accepted, needs_input, script_part, schedule_part, default_config, refused_words, refused_input, refused_script, refused_schedule, refused_entry, code_of_verdict, Outcome}
+use Rattle.pct_model.specs.Outcome.{is_asked, is_accepted, needs_input, script_part, schedule_part, refused_words, refused_input, refused_script, refused_schedule, refused_entry, code_of_verdict, Outcome}
 use Rattle.pct_model.specs.Outcome as outcome
 use Rattle.pct_schedule_laws.proofs.ReadBack.{report_is_read_back}
 use Rattle.pct_grammar.proofs.Scripts.{spells_one_script}
 use Rattle.pct_engine.specs.EngineStates.{EngineValue, IsRunOf}
 use Rattle.pct_engine.proofs.EngineLaws.{keeps_laws}
 use Rattle.pct_command.specs.declared.answer.Answer.TheVariants as answer
-use Rattle.pct_command.specs.declared.words.RunOptions.{RunOptions}
 use Rattle.pct_command.specs.declared.words.Job.{Job}
 use Rattle.pct_command.specs.declared.words.Job.TheVariants.{Run as run_job, Replay, Check, Points}
 use Rattle.pct_command.specs.SeedSchedule.{SeedSchedule, IsSeededRun}
 use Rattle.pct_command.specs.Status.{code_of}
-use Rattle.pct_command.specs.Words.{Asks, default_options, job_asked}
+use Rattle.pct_command.specs.Words.{Asks, job_asked}
 use Rattle.pct_command.specs.Command.{IsClosedRun, IsReplayed, IsLawful, IsReportOf, IsAnswer}
 use Rattle.pct_command.specs.Answer.{HasScript, status_of_verdict, verdict_of_run, text_of_run, code_of_answer}
 use Rattle.pct_command.proofs.AskedWords.{names_job, part_of_run, part_of_check, replay_asks_replay}
@@ -84,23 +85,24 @@ replay-outcome words input schedule engine after asked has read is_run =
       text_is = run-report engine after is_run;
     })
 
--- an engine with the configuration of `run`
-abbrev pub by_default : Script → List Entry → EngineValue
-by_default script entries = record { script = script; config = default_config; history = entries }
+-- an engine with the configuration of a `run` with these options
+abbrev pub with_options : RunOptions → Script → List Entry → EngineValue
+with_options options script entries = record { script = script; config = options.config; history = entries }
 
-run-outcome : (words : List (List ℕ)) (input : List ℕ) (script : Script) (entries : List Entry) (after : Run)
-    → is_asked keyword.Run words ≡ true → HasScript words input script → IsRunOf (by_default script entries) after
-    → Outcome words input entries (code_of_answer (answer.Ran (by_default script entries))) (text_of_run (by_default script entries))
-run-outcome words input script entries after asked has is_run =
+run-outcome : (words : List (List ℕ)) (input : List ℕ) (options : RunOptions) (script : Script) (entries : List Entry) (after : Run)
+    → run_options words ≡ Some options → HasScript words input script → IsRunOf (with_options options script entries) after
+    → Outcome words input entries (code_of_answer (answer.Ran (with_options options script entries))) (text_of_run (with_options options script entries))
+run-outcome words input options script entries after asked has is_run =
     outcome.Ran (record {
+      options = options;
       accepted = asked;
       fits = has.fits;
       script = script;
-      spelled = subst (λ (part : List ℕ). Spells part script) (part_of_run words input asked) has.spelled;
+      spelled = subst (λ (part : List ℕ). Spells part script) (part_of_run words input options asked) has.spelled;
       after = after;
       is_run = is_run;
-      code_is = run-code (by_default script entries) after is_run;
-      text_is = run-report (by_default script entries) after is_run;
+      code_is = run-code (with_options options script entries) after is_run;
+      text_is = run-report (with_options options script entries) after is_run;
     })
 
 -- the schedule of a report is replayed from any input that has it
@@ -143,30 +145,29 @@ closed_code verdict.Budget closed e = absurd (omega (arith, e))
 closed_code (verdict.Undefined why) closed e = absurd (omega (arith, e))
 closed_code verdict.Open closed e = closed refl
 
-run-by_default : (words : List (List ℕ)) (input : List ℕ) (script : Script) (entries : List Entry)
-    → is_asked keyword.Run words ≡ true → HasScript words input script → SeedSchedule script default_config 1 entries
-    → IsAnswer words input (code_of_answer (answer.Ran (by_default script entries))) (text_of_run (by_default script entries))
-run-by_default words input script entries asked has seeded =
-    let engine : EngineValue = by_default script entries in
+run-with_options : (words : List (List ℕ)) (input : List ℕ) (options : RunOptions) (script : Script) (entries : List Entry)
+    → run_options words ≡ Some options → HasScript words input script → SeedSchedule script options.config options.seed entries
+    → IsAnswer words input (code_of_answer (answer.Ran (with_options options script entries))) (text_of_run (with_options options script entries))
+run-with_options words input options script entries asked has seeded =
+    let engine : EngineValue = with_options options script entries in
     let read_back = read-back engine seeded.after seeded.is_run in
     let closed : ¬ (verdict_of_run engine ≡ verdict.Open) = λ is_open. seeded.is_closed (sym (run-verdict engine seeded.after seeded.is_run) ∙ is_open) in
-    let closed_run : IsClosedRun words input entries (code_of_answer (answer.Ran engine)) (text_of_run engine) = record { read_back = read_back; script = script; spelled = has.spelled; seeded = seeded; closed = closed_code (verdict_of_run engine) closed } in
+    let closed_run : IsClosedRun options words input entries (code_of_answer (answer.Ran engine)) (text_of_run engine) = record { read_back = read_back; script = script; spelled = has.spelled; seeded = seeded; closed = closed_code (verdict_of_run engine) closed } in
     record {
       schedule = entries;
-      is_outcome = run-outcome words input script entries seeded.after asked has seeded.is_run;
-      is_report = λ below. of-job words (run_job default_options) input entries _ _ (asked, refl) (closed_run, (is-replayed words input engine seeded.after has read_back seeded.is_run, is-lawful words input engine seeded.after has seeded.is_run));
+      is_outcome = run-outcome words input options script entries seeded.after asked has seeded.is_run;
+      is_report = λ below. of-job words (run_job options) input entries _ _ asked (closed_run, (is-replayed words input engine seeded.after has read_back seeded.is_run, is-lawful words input engine seeded.after has seeded.is_run));
     }
 
 pub run-answer : (words : List (List ℕ)) (input : List ℕ) (script : Script) (options : RunOptions) (engine : EngineValue)
-    → is_asked keyword.Run words ≡ true → HasScript words input script → options ≡ default_options → IsSeededRun script options.config options.seed engine
+    → run_options words ≡ Some options → HasScript words input script → IsSeededRun script options.config options.seed engine
     → IsAnswer words input (code_of_answer (answer.Ran engine)) (text_of_run engine)
-run-answer words input script options engine asked has default ran =
-    let of_default : IsSeededRun script default_config 1 engine = subst (λ (o : RunOptions). IsSeededRun script o.config o.seed engine) default ran in
-    let same : by_default script engine.history ≡ engine =
-    ap (λ (s : Script). record engine { script = s; config = default_config }) (sym of_default.script_is)
-    ∙ ap (λ (c : Config). record engine { config = c }) (sym of_default.config_is) in
+run-answer words input script options engine asked has ran =
+    let same : with_options options script engine.history ≡ engine =
+    ap (λ (s : Script). record engine { script = s; config = options.config }) (sym ran.script_is)
+    ∙ ap (λ (c : Config). record engine { config = c }) (sym ran.config_is) in
     subst (λ (e : EngineValue). IsAnswer words input (code_of_answer (answer.Ran e)) (text_of_run e)) same
-    (run-by_default words input script engine.history asked has of_default.schedule_is)
+    (run-with_options words input options script engine.history asked has ran.schedule_is)
 
 replay-read : (words : List (List ℕ)) (input : List ℕ) (engine : EngineValue) (after : Run)
     → is_asked keyword.Replay words ≡ true → HasScript words input engine.script → sched_of (schedule_part input) ≡ Ok (engine.config, engine.history) → IsRunOf engine after

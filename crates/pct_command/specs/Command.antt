@@ -4,6 +4,7 @@ use Rattle.std.specs.Io.KnownBytes.{Appends, Consumes, IsAtEnd, Keeps}
 use Rattle.pct_io.specs.ErrorCounts.{Rose}
 use Rattle.pct_io.specs.Sinks.{AppendsPrefix}
 use Rattle.pct_model.specs.declared.limits.TheConstants.{MAX_INPUT}
+use Rattle.pct_model.specs.declared.run_options.RunOptions.{RunOptions}
 use Rattle.pct_model.specs.declared.script.Script.{Script}
 use Rattle.pct_model.specs.declared.schedule.Config.{Config}
 use Rattle.pct_model.specs.declared.schedule.Entry.{Entry}
@@ -15,7 +16,7 @@ use Rattle.pct_model.specs.Kept.{Kept}
 use Rattle.pct_model.specs.Laws.{Laws}
 use Rattle.pct_model.specs.Report.{report}
 use Rattle.pct_model.specs.Run.{Run, first_illegal, run}
-use Rattle.pct_model.specs.Outcome.{is_asked, is_accepted, needs_input, script_part, schedule_part, default_config, Outcome}
+use Rattle.pct_model.specs.Outcome.{is_asked, is_accepted, needs_input, script_part, schedule_part, Outcome}
 use Rattle.pct_command.specs.declared.status.Status.{Status}
 use Rattle.pct_command.specs.declared.status.Status.TheVariants as status
 use Rattle.pct_command.specs.declared.words.Job.{Job}
@@ -39,13 +40,13 @@ pub record Records (failed s : Status) (before after : ℕ) : Type 0 where
 
 -- ---- what is written
 
--- the report of a `run`: its schedule is read back from the text and is that of seed 1 for the script of the input, and the
--- verdict is not `Open`
-pub record IsClosedRun (words : List (List ℕ)) (input : List ℕ) (schedule : List Entry) (code : ℕ) (text : List ℕ) : Type 0 where
-  pub read_back : sched_of text ≡ Ok (default_config, schedule)
+-- the report of a `run` with these options: its configuration and its schedule are read back from the text, the schedule is that of the
+-- seed for the script of the input, and the verdict is not `Open`
+pub record IsClosedRun (options : RunOptions) (words : List (List ℕ)) (input : List ℕ) (schedule : List Entry) (code : ℕ) (text : List ℕ) : Type 0 where
+  pub read_back : sched_of text ≡ Ok (options.config, schedule)
   pub script : Script
   pub spelled : Spells (script_part words input) script
-  pub seeded : SeedSchedule script default_config 1 schedule
+  pub seeded : SeedSchedule script options.config options.seed schedule
   pub closed : code ≢ 4
 
 -- `replay` of any input with the same script and the schedule of the text has this outcome
@@ -73,7 +74,7 @@ pub record IsLawful (words : List (List ℕ)) (input : List ℕ) (text : List �
 -- what holds of a report, by the job that the words name: the schedule of a `replay` is that of the input; both are replayed, and
 -- keep the laws
 abbrev pub IsReportOf : Option Job → List (List ℕ) → List ℕ → List Entry → ℕ → List ℕ → Type 0
-IsReportOf (Some (job.Run options)) words input schedule code text = IsClosedRun words input schedule code text × (IsReplayed words input code text × IsLawful words input text)
+IsReportOf (Some (job.Run options)) words input schedule code text = IsClosedRun options words input schedule code text × (IsReplayed words input code text × IsLawful words input text)
 IsReportOf (Some job.Replay) words input schedule code text = (sched_of text ≡ sched_of (schedule_part input)) × (IsReplayed words input code text × IsLawful words input text)
 IsReportOf (Some job.Check) words input schedule code text = Unit {0}
 IsReportOf (Some job.Points) words input schedule code text = Unit {0}

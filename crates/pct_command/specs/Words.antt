@@ -1,19 +1,17 @@
 -- The command that the words of the program name.
 use Rattle.std.specs.Prelude.{◌≡◌, ℕ, true, if◌then◌else◌, List, length, Option, Some, None}
+use Rattle.std.specs.Option.{option_map_or}
 use Rattle.pct_model.specs.declared.keyword.Keyword.TheVariants as keyword
 use Rattle.pct_model.specs.Schedule.{replay_parts}
-use Rattle.pct_model.specs.Outcome.{is_asked, default_config}
-use Rattle.pct_command.specs.declared.words.RunOptions.{RunOptions}
+use Rattle.pct_model.specs.Outcome.{is_asked}
+use Rattle.pct_model.specs.Run.{is_config}
+use Rattle.pct_model.specs.RunOptions.{run_options}
 use Rattle.pct_command.specs.declared.words.Job.{Job}
 use Rattle.pct_command.specs.declared.words.Job.TheVariants.{Run, Replay, Check, Points}
 
--- the numbers of a `run` without options
-abbrev pub default_options : RunOptions
-default_options = record { config = default_config; seed = 1; workers = 1; turns = 10000 }
-
--- the words name this job; `run` has the default numbers
+-- the words name this job; `run` has the numbers of its options
 abbrev pub Asks : List (List ℕ) → Job → Type 0
-Asks words (Run options) = (is_asked keyword.Run words ≡ true) × (options ≡ default_options)
+Asks words (Run options) = run_options words ≡ Some options
 Asks words Replay = is_asked keyword.Replay words ≡ true
 Asks words Check = is_asked keyword.Check words ≡ true
 Asks words Points = is_asked keyword.Points words ≡ true
@@ -21,15 +19,16 @@ Asks words Points = is_asked keyword.Points words ≡ true
 -- the job that the words name, if they are accepted
 abbrev pub job_asked : List (List ℕ) → Option Job
 job_asked words =
-    if is_asked keyword.Run words then Some (Run default_options)
-    else if is_asked keyword.Replay words then Some Replay
+    option_map_or (λ options. Some (Run options)) (run_options words) (
+    if is_asked keyword.Replay words then Some Replay
     else if is_asked keyword.Check words then Some Check
     else if is_asked keyword.Points words then Some Points
     else None
+    )
 
--- the job reads the input, and a run has the default numbers
+-- the job reads the input, and the configuration of a run is within the limits
 abbrev pub HasInput : Job → Type 0
-HasInput (Run options) = options ≡ default_options
+HasInput (Run options) = is_config options.config ≡ true
 HasInput Replay = Unit {0}
 HasInput Check = Unit {0}
 HasInput Points = ⊥

@@ -20,11 +20,11 @@ use std::thread::Threads;
 
 /// Performs the command that the words name on the bytes of the source, and writes the answer to the sink.
 ///
-/// The words are `run`, `replay`, `check` or `points`, without any further word. `run` reads a script and runs it: worker 1
-/// makes each step, which two words of its random stream choose under seed 1. `replay` reads a script, a line `%%`, and a
-/// schedule or a whole report, and runs the script under that schedule. Both write a report. `check` reads a script and
-/// writes its canonical text. `points` reads nothing and writes the table of cancellation points (XSH 2.9.5.2). A refusal is
-/// one line that names the reason. `rt` and `gate` are not used yet.
+/// The words are `run` and its options (`--budget N`, `--passes N`, `--slots N` and `--seed N`, each also as `--budget=N`), or
+/// `replay`, `check` or `points` alone. `run` reads a script and runs it: worker 1 makes each step, which two words of its random
+/// stream choose under the seed. `replay` reads a script, a line `%%`, and a schedule or a whole report, and runs the script under
+/// that schedule. Both write a report. `check` reads a script and writes its canonical text. `points` reads nothing and writes the
+/// table of cancellation points (XSH 2.9.5.2). A refusal is one line that names the reason. `rt` and `gate` are not used yet.
 ///
 /// The answer is the first of these that holds, unless it is `ReadFault`, `WriteFault` or `NoMemory`:
 ///

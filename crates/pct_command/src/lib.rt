@@ -15,5 +15,6 @@ mod words;
 
 pub use dispatch::command;
 pub use law::{answers_are_one, outcomes_are_one};
+pub use pct_model::RunOptions;
 pub use status::Status;
-pub use words::{Job, RunOptions, Usage, read_words};
+pub use words::{Job, Usage, read_words};

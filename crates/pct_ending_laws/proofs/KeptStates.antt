@@ -11,6 +11,7 @@ use Rattle.pct_model.specs.Run.{Run, run}
 use Rattle.pct_model.specs.World.{Thread, made_process, made_thread, thread_with}
 use Rattle.pct_ending_laws.specs.EndingLaws.{RunsKeepLaws, StatesAreKept}
 use Rattle.pct_ending_laws.proofs.exits.RegisteredFunctions.{registered_of_run}
+use Rattle.pct_ending_laws.proofs.ForksOfRun.{forks_of_run}
 use Rattle.pct_ending_laws.proofs.ThreadsOfRun.{once_of_run, keys_kept, threads_kept, last_kept}
 use Rattle.pct_ending_laws.proofs.lift.MadeNumbers.{numbers_of_run}
 use Rattle.pct_ending_laws.proofs.joins.JoinTransitions.{is_in_join}
@@ -19,6 +20,7 @@ use Rattle.pct_ending_laws.proofs.joins.JoiningThreads.{JoinsOne, joins_of_proce
 use Rattle.pct_ending_laws.proofs.joins.ReportedFlags.{known_of_run, joined_of_run, detached_of_run}
 use Rattle.pct_ending_laws.proofs.joins.LawfulJoins.{joins_of_run}
 use Rattle.pct_ending_laws.proofs.owners.OwnersOfRun.{owners_of_run, owners_kept}
+use Rattle.pct_ending_laws.proofs.slots.LawfulCreations.{slots_of_run}
 use Rattle.pct_ending_laws.proofs.waits.WaitsOfRun.{waits_of_run, hand_ons_of_run, calls_of_run, waits_kept_of_run}
 
 -- each thread that is suspended in pthread_join
@@ -45,6 +47,7 @@ every_run_keeps_laws script config entries r is = record {
   once = once_of_run script config entries r is;
   joins = joins_of_run script config entries r is;
   conds = record { owners = owners_of_run script config entries r is; waits = waits_of_run script config entries r is; hand_ons = hand_ons_of_run script config entries r is };
+  creations = slots_of_run script config entries r is;
 }
 
 -- the invariant of the state after every run
@@ -53,7 +56,9 @@ every_state_is_kept script config entries r is = record {
   numbers = numbers_of_run script config entries r is;
   known = known_of_run script config entries r is;
   keys = keys_kept script config entries r is;
-  exit_functions = λ pid p made. All-from_recursion (IsPlainFunction script) p.shared.exit_functions (registered_of_run script config entries r is pid p made);
+  exit_functions = λ pid p made. All-from_recursion (IsPlainFunction script) p.shared.exit_functions (registered_of_run script config entries r is pid p made).exit_functions;
+  fork_handlers = λ pid p made. (registered_of_run script config entries r is pid p made).fork_handlers;
+  forks = forks_of_run script config entries r is;
   threads = λ pid p made tid t found here. threads_kept script config entries r is pid tid p t made found here;
   joined = joined_of_run script config entries r is;
   detached = detached_of_run script config entries r is;

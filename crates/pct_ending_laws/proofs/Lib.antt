@@ -4,9 +4,11 @@ pub mod lift
 pub mod keys
 pub mod thread
 pub mod exits
+pub mod ForksOfRun
 pub mod ThreadsOfRun
 pub mod owners
 pub mod LastThreads
 pub mod joins
 pub mod waits
+pub mod slots
 pub mod KeptStates

@@ -106,7 +106,7 @@ module _ (script : Script) (config : Config) where
 
   -- what is known of the process of a thread: its keys are kept, and its registered functions are plain
   abbrev ProcessFits : Process → Type 0
-  ProcessFits p = KeysFit script p × RegistersPlain script p
+  ProcessFits p = KeysFit script p × RegistersPlain script p.shared
 
   keeps : (w : World) (p : Process) (t : Thread) (s : ThreadSummary) (choice : Alt) → ProcessFits p → offers (choices_of script config w p t) choice ≡ true → FitsAny script passes t s → KeepsAny script passes t s (transition_by script config w p t choice)
   keeps w p t s choice known = transition_keeps script (push_matches script) (names_functions script) config w p t s choice known.0.keys known.1
@@ -118,7 +118,7 @@ module _ (script : Script) (config : Config) where
     created = λ w p t s choice new known offered fits is. created_fits script (push_matches script) (names_functions script) config w p t choice known.0.keys known.1 offered new is;
     named = named_fits script passes;
     kept = λ w p t s choice known offered fits. (keeps w p t s choice known offered fits).own;
-    replica = λ w p t s index handlers pid known forks fits. replica_fits script passes t s (ap is_forking forks) fits;
+    replica = λ w p t s index count answer known forks fits. replica_fits script passes t s (ap is_forking forks) fits;
   }
 
   -- ---- runs

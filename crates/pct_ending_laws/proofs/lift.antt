@@ -2,6 +2,7 @@
 pub mod KeyedLists
 pub mod TakenSteps
 pub mod OfferedNumbers
+pub mod HandlerEvents
 pub mod CreatedThreads
 pub mod ChildProcesses
 pub mod ChangedThreads

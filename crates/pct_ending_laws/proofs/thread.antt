@@ -6,6 +6,7 @@ pub mod GoingOn
 pub mod Handlers
 pub mod Ends
 pub mod Statements
+pub mod ForkHandlers
 pub mod Transitions
 pub mod KeptThreads
 pub mod EndingSteps

@@ -10,7 +10,8 @@ ghost use Rattle.pct_ending_laws.specs.EndingLaws.{RunsKeepLaws, StatesAreKept};
 /// twice or while it is detached, and no request and no detach names a thread that is not known, or that has both ended and
 /// been joined or detached; each mutex is acquired while no thread owns it, and released by its owner; a condition wait that
 /// released its mutex goes on only as its thread acquires it again and returns, or acts upon a request, acquires the mutex and
-/// then begins to end; and a signal is handed on only directly after a request was acted upon in a wait.
+/// then begins to end; a signal is handed on only directly after a request was acted upon in a wait; and a new thread gets an id
+/// that no thread of its process had, on a slot on which each earlier thread has ended and was joined or is detached.
 pub fn runs_end_threads()
     ensures laws { RunsKeepLaws }
     ensures kept { StatesAreKept }

@@ -1,3 +1,4 @@
+mod ForkingThreads
 mod ReachedStates
 mod OpenChoices
 mod EngineRuns

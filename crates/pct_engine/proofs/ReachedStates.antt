@@ -18,13 +18,16 @@ use Rattle.pct_engine_laws.specs.KeyCounts.{KeysAtMost}
 use Rattle.pct_engine_laws.proofs.FewKeys.{few_keys_made}
 use Rattle.pct_engine_laws.proofs.FewProcesses.{few_processes_made}
 use Rattle.pct_engine_laws.proofs.FewThreads.{few_made}
+use Rattle.pct_engine_laws.proofs.LongerRuns.{run_parts}
 use Rattle.pct_engine_laws.proofs.PlacedThreads.{HoldsSlot, processes_are_placed}
 use Rattle.pct_engine_laws.proofs.RunNumbers.{run_limited}
+use Rattle.pct_ending_laws.proofs.KeptStates.{every_state_is_kept}
 use Rattle.pct_actions.specs.ProcessChanges.{IsOnSlot}
 use Rattle.pct_transitions.specs.Programs.{ProgramValue}
 use Rattle.pct_machine.specs.ProcessSteps.{EachCanStep, AllCanStep}
 use Rattle.pct_engine.specs.Traces.{TraceValue}
 use Rattle.pct_engine.specs.EngineStates.{StandsFor}
+use Rattle.pct_engine.proofs.ForkingThreads.{forks_have_room}
 
 -- a configuration within the limits has 1 to 64 slots
 pub slots_within : (config : Config) → is_config config ≡ true → (1 ≤ config.slots) × (config.slots ≤ MAX_SLOTS)
@@ -59,6 +62,7 @@ each_can_step : (script : Script) (config : Config) (entries : List Entry) (afte
 each_can_step script config entries after is = λ i p at.
     let n : ℕ = length entries in
     let limits = run_limited script config entries after is in
+    let some : 0 < config.slots = (slots_within config (run_parts script config entries after is).limits).0 in
     let placed = processes_are_placed config.slots after.world i p at in
     let all : length p.slots ≡ config.slots = placed.all in
     let processes : List SeenProcess = (seen config.slots after.world).processes in
@@ -72,6 +76,7 @@ each_can_step script config entries after is = λ i p at.
         ids = λ k low. next_below k (length p.slots) _ n low (omega (arith, all, limits.slots)) (made k _ low) limits.budget;
         keys_fit = λ place low. key_below place _ n low (made_by p.shared.keys place n keys) limits.budget;
       };
+      forks = forks_have_room script config after.world after.events some (every_state_is_kept script config entries after is) i p at;
     }
 
 pid_below : (made n : ℕ) → made ≤ 1 + n → n ≤ 200000 → made + 1 < 2 ^ 32

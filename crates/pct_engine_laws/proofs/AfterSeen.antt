@@ -169,7 +169,7 @@ unfolding child_of
 child_is_seen slots tid pid p some =
     let last : is_last tid p.threads ≡ is_last_in tid (seen_process slots p).slots = last_seen slots tid p.threads some in
     let rows : by_index (seen_slot slots (map (inherited tid) p.threads)) slots ≡ map (slot_inherited tid) (seen_process slots p).slots = slots_of_child slots tid p.threads in
-    λ i. record { pid = pid; parent = p.pid; restricted = not (last i); ended = None; slots = rows i; shared = record p.shared { exit_value = None } }
+    λ i. record { pid = pid; parent = p.pid; ended = None; slots = rows i; shared = record p.shared { exit_value = None; restricted = not (last i) } }
 
 same_child_by : (tid pid : ℕ) (a : Action) (p : Process) → child_of tid pid (process_after a p) ≡ child_of tid pid p
 unfolding child_of process_after

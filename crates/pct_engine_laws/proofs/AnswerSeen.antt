@@ -7,7 +7,7 @@ use Rattle.pct_model.specs.declared.script.Script.{Script}
 use Rattle.pct_model.specs.declared.schedule.Config.{Config}
 use Rattle.pct_model.specs.World.{Thread, Process, World}
 use Rattle.pct_model.specs.ThreadSlots.{holds_slot, slot_of, is_on, is_free, next_id, free_ids, by_slot, is_live_thread, with_id}
-use Rattle.pct_model.specs.NextStatement.{next_of}
+use Rattle.pct_model.specs.NextStatement.{next_of, body_at}
 use Rattle.pct_model.specs.OtherProcesses.{family_among, is_unreaped, family_of}
 use Rattle.pct_model.specs.OtherThreads.{Others, is_joining, is_joined_by_one, waiters_among, is_last, others_of}
 use Rattle.pct_model.specs.ChoiceTable.{choices_at, choices_of}
@@ -134,4 +134,4 @@ others_seen slots tid w p some =
 
 -- the choices of a thread of a process
 pub choices_seen : (script : Script) (config : Config) (w : World) (p : Process) (t : Thread) → 0 < config.slots → choices_of script config w p t ≡ choices_in script config.slots (family_in (seen config.slots w) p.pid) (seen_process config.slots p) t
-choices_seen script config w p t some = ap (λ (others : Others). choices_at p.shared t others (next_of script t.frames) t.status) (others_seen config.slots t.id w p some)
+choices_seen script config w p t some = ap (λ (others : Others). choices_at (body_at script t.frames) p.shared t others (next_of script t.frames) t.status) (others_seen config.slots t.id w p some)

@@ -9,6 +9,7 @@ pub mod ChosenSeen
 pub mod StepSeen
 pub mod OpeningSeen
 pub mod PlacedThreads
+pub mod SeenThreads
 pub mod LongerRuns
 pub mod OpenRuns
 pub mod WhatTransitionsMake

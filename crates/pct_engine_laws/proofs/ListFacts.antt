@@ -236,3 +236,12 @@ unchanged_cons {A} p x y left kept (inr fails) e =
 pub filter_unchanged : {A : Type 0} (p : A → Bool) (f : A → A) → ((a : A) → (f a ≡ a) ⊎ ((p a ≡ false) × (p (f a) ≡ false))) → (xs : List A) → filter p (map f xs) ≡ filter p xs
 filter_unchanged p f each [] = refl
 filter_unchanged p f each (x ∷ xs) = unchanged_cons p x (f x) (filter p (map f xs)) (filter p xs) (each x) (filter_unchanged p f each xs)
+
+both_cons : {A : Type 0} (q : A → Bool) (x : A) (t : Bool) (left kept : List A) → left ≡ filter q kept → cond (t && q x) (x ∷ left) left ≡ filter q (cond t (x ∷ kept) kept)
+both_cons {A} q x true left kept e = ap (λ (rest : List A). cond (q x) (x ∷ rest) rest) e
+both_cons q x false left kept e = e
+
+-- the items that pass both of two tests
+pub filter_both : {A : Type 0} (p q : A → Bool) (xs : List A) → filter (λ a. p a && q a) xs ≡ filter q (filter p xs)
+filter_both p q [] = refl
+filter_both p q (x ∷ xs) = both_cons q x (p x) (filter (λ a. p a && q a) xs) (filter p xs) (filter_both p q xs)

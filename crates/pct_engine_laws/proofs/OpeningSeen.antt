@@ -28,7 +28,7 @@ first_slots slots t = slice_set (replicate slots unused_slot) 0 (first_on_slot t
 -- what is kept of the initial state
 abbrev pub seen_opening : ℕ → Script → Seen
 seen_opening slots script = record {
-  processes = record { pid = 1; parent = 0; restricted = false; ended = None; slots = first_slots slots (first_thread script); shared = new_shared script } ∷ [];
+  processes = record { pid = 1; parent = 0; ended = None; slots = first_slots slots (first_thread script); shared = new_shared script } ∷ [];
   made = 1;
   stop = None;
 }
@@ -55,4 +55,4 @@ pub opening_is_seen : (slots : ℕ) (script : Script) → 0 < slots → seen slo
 unfolding opening
 opening_is_seen slots script some =
     let rows : by_index (seen_slot slots (first_thread script ∷ [])) slots ≡ first_slots slots (first_thread script) = one_thread_on_first slots (first_thread script) some (zero-mod slots) refl in
-    λ i. record { processes = record { pid = 1; parent = 0; restricted = false; ended = None; slots = rows i; shared = new_shared script } ∷ []; made = 1; stop = None }
+    λ i. record { processes = record { pid = 1; parent = 0; ended = None; slots = rows i; shared = new_shared script } ∷ []; made = 1; stop = None }

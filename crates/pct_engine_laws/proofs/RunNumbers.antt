@@ -145,7 +145,7 @@ module _ (script : Script) (config : Config) (w : World) (p : Process) (t : Thre
       let waiting : (c : ℕ) → All (λ (w : Waiter). w.id ≤ 128 + 128 * n) (others.waiters c) =
       λ c. All-weaker (λ (w : Waiter). w.id ≤ 64 + 64 * n) (λ w. w.id ≤ 128 + 128 * n) (λ w. within w.id) (others.waiters c) (waiters_within c) in
       case_within (128 + 128 * n) p.shared t others waiting more (new_keys_within n p.shared.keys has.keys_few) (left_keys_within n p.shared.keys has.keys_few t.specific)
-      (offered_of p.shared t others choice (next_of script t.frames) t.status offered)
+      (offered_of (body_at script t.frames) p.shared t others choice (next_of script t.frames) t.status offered)
 
   -- what its transition makes
   made_within : MakesWithin n (length w.processes) (transition_by script config w p t choice)

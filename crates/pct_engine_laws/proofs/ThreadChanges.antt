@@ -3,7 +3,7 @@ use Rattle.std.proofs.Common.{◌≡◌, ℕ, ◌+◌, ◌-◌, ◌<◌, Bool, t
 use Rattle.std.specs.List.{range_with_len}
 use Rattle.std.specs.Option.{option_map_or}
 use Rattle.std.proofs.Math.Path.{fun_ext}
-use Rattle.std.proofs.lemmas.Bool.{and_right}
+use Rattle.std.proofs.lemmas.Bool.{and_right, false≢true}
 use Rattle.std.proofs.lemmas.List.Elements.{filter-append}
 use Rattle.std.proofs.lemmas.List.Sums.{fold_push}
 use Rattle.pct_model.specs.declared.transition.Action.{Action}
@@ -14,11 +14,11 @@ use Rattle.pct_model.specs.declared.state.Cause.{Cause}
 use Rattle.pct_model.specs.declared.state.Cause.TheVariants.{Broadcast, Signalled}
 use Rattle.pct_model.specs.declared.state.FrameKind.TheVariants.{Start}
 use Rattle.pct_model.specs.declared.state.Status.{Status}
-use Rattle.pct_model.specs.declared.state.Status.TheVariants.{Waiting}
+use Rattle.pct_model.specs.declared.state.Status.TheVariants.{Waiting, Ended}
 use Rattle.pct_model.specs.CondCalls.{is_waiting_on, unblocked}
 use Rattle.pct_model.specs.World.{Thread, new_frame, new_thread}
 use Rattle.pct_model.specs.ThreadSlots.{is_ended_status, holds_slot, slot_of, is_on, is_live_thread}
-use Rattle.pct_model.specs.Actions.{thread_at, thread_after, named_after, for_each, moved, thread_moved, thread_created, threads_moved, replica_of, inherited}
+use Rattle.pct_model.specs.Actions.{thread_at, thread_after, named_after, for_each, moved, thread_moved, thread_created, threads_moved, in_child, replica_of, inherited}
 use Rattle.pct_engine_laws.specs.Seen.{SeenSlot, seen_slot, slot_with, on_slot, with_created, slots_moved, slot_inherited}
 use Rattle.pct_engine_laws.proofs.ListFacts.{count_agree, count-map, filter_changed, map-map}
 use Rattle.pct_engine_laws.proofs.IndexedLists.{by_index, item_by_index, changed_by_index}
@@ -207,20 +207,28 @@ pub inherited_id : (tid : ℕ) (t : Thread) → (inherited tid t).id ≡ t.id
 unfolding inherited
 inherited_id tid t = heir_id t (is_live_thread tid t)
 
+-- a replica of a thread that holds its slot holds it too: a thread that has ended and holds its slot is not detached
+replica_holds : (s : Status) (gone joined detached : Bool) → (not gone && not (is_ended_status s && (joined || detached))) ≡ true → not (is_ended_status (in_child s) && (false || detached)) ≡ true
+replica_holds (Ended v) true joined detached holds = absurd (false≢true holds)
+replica_holds (Ended v) false true detached holds = absurd (false≢true holds)
+replica_holds (Ended v) false false detached holds = holds
+replica_holds _ gone joined detached holds = refl
+
 module _ (slots tid : ℕ) where
   heir_on : (s : ℕ) (t : Thread) → is_on slots s (inherited tid t) ≡ is_on slots s t
   heir_on s t = ap (λ (id : ℕ). nat_eq (slot_of slots id) s) (inherited_id tid t)
 
-  heirs_cons : (t : Thread) (on named holds : Bool) (left kept : List Thread) → nat_eq t.id tid ≡ named → left ≡ map replica_of (filter (λ u. nat_eq u.id tid) kept)
+  heirs_cons : (t : Thread) (on named holds : Bool) (left kept : List Thread) → nat_eq t.id tid ≡ named → holds_slot t ≡ holds → left ≡ map replica_of (filter (λ u. nat_eq u.id tid) kept)
       → cond (on && holds_slot (heir t (named && holds))) (heir t (named && holds) ∷ left) left ≡ map replica_of (filter (λ u. nat_eq u.id tid) (cond (on && holds) (t ∷ kept) kept))
-  heirs_cons t true true true left kept named e =
-      ap (λ (rest : List Thread). replica_of t ∷ rest) e
+  heirs_cons t true true true left kept named held e =
+      ap (λ (b : Bool). cond b (replica_of t ∷ left) left) (replica_holds t.status t.gone t.joined t.detached held)
+      ∙ ap (λ (rest : List Thread). replica_of t ∷ rest) e
       ∙ sym (ap (λ (b : Bool). map replica_of (cond b (t ∷ filter (λ u. nat_eq u.id tid) kept) (filter (λ u. nat_eq u.id tid) kept))) named)
-  heirs_cons t true false true left kept named e =
+  heirs_cons t true false true left kept named held e =
       e ∙ sym (ap (λ (b : Bool). map replica_of (cond b (t ∷ filter (λ u. nat_eq u.id tid) kept) (filter (λ u. nat_eq u.id tid) kept))) named)
-  heirs_cons t true true false left kept named e = e
-  heirs_cons t true false false left kept named e = e
-  heirs_cons t false named holds left kept is e = e
+  heirs_cons t true true false left kept named held e = e
+  heirs_cons t true false false left kept named held e = e
+  heirs_cons t false named holds left kept is held e = e
 
   heirs_on : (s : ℕ) (threads : List Thread) → filter (λ t. is_on slots s t && holds_slot t) (map (inherited tid) threads) ≡ map replica_of (filter (λ t. nat_eq t.id tid) (filter (λ t. is_on slots s t && holds_slot t) threads))
   unfolding inherited
@@ -228,7 +236,7 @@ module _ (slots tid : ℕ) where
   heirs_on s (t ∷ threads) =
       let left : List Thread = filter (λ u. is_on slots s u && holds_slot u) (map (inherited tid) threads) in
       ap (λ (on : Bool). cond (on && holds_slot (inherited tid t)) (inherited tid t ∷ left) left) (heir_on s t)
-      ∙ heirs_cons t (is_on slots s t) (nat_eq t.id tid) (holds_slot t) left (filter (λ u. is_on slots s u && holds_slot u) threads) refl (heirs_on s threads)
+      ∙ heirs_cons t (is_on slots s t) (nat_eq t.id tid) (holds_slot t) left (filter (λ u. is_on slots s u && holds_slot u) threads) refl refl (heirs_on s threads)
 
   slot_of_child : (threads : List Thread) (s : ℕ) → seen_slot slots (map (inherited tid) threads) s ≡ slot_inherited tid (seen_slot slots threads s)
   slot_of_child threads s =

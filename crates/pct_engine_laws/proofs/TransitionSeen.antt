@@ -25,7 +25,7 @@ use Rattle.pct_engine_laws.proofs.AnswerSeen.{thread_seen, others_seen}
 -- the transition of a thread by an entry
 pub offered_seen : (script : Script) (config : Config) (w : World) (p : Process) (e : Entry) (t : Thread) → 0 < config.slots → if_offered script config w p e t ≡ if_offered_in script config.slots config.passes (family_in (seen config.slots w) p.pid) (seen_process config.slots p) e t
 offered_seen script config w p e t some =
-    ap (λ (others : Others). if offers (choices_at p.shared t others (next_of script t.frames) t.status) e.alt then Some (acts_or e.alt t.status (transition_at config.passes (body_at script t.frames) p.shared t others e.alt (next_of script t.frames) t.status)) else None) (others_seen config.slots t.id w p some)
+    ap (λ (others : Others). if offers (choices_at (body_at script t.frames) p.shared t others (next_of script t.frames) t.status) e.alt then Some (acts_or e.alt t.status (transition_at config.passes (body_at script t.frames) p.shared t others e.alt (next_of script t.frames) t.status)) else None) (others_seen config.slots t.id w p some)
 
 -- the transition of an entry by a process
 pub taken_seen : (script : Script) (config : Config) (w : World) (e : Entry) (p : Process) → 0 < config.slots → option_and_then (if_offered script config w p e) (with_id e.tid p.threads) ≡ option_and_then (if_offered_in script config.slots config.passes (family_in (seen config.slots w) p.pid) (seen_process config.slots p) e) (thread_with config.slots e.tid (seen_process config.slots p).slots)

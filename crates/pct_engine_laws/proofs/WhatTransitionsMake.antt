@@ -74,5 +74,5 @@ module _ (P Q R : ℕ → Type 0) where
 
     -- the transition of a thread by a choice that is offered: a thread that it creates has one of the ids for a new thread, a key that
     -- it makes one of the numbers for a new key, and a process that it makes the id of a new one
-    pub transition_makes : (choice : Alt) (next : NextStatement) (s : Status) → offers (choices_at shared t others next s) choice ≡ true → MakesWith P Q R (acts_or choice s (transition_at passes body shared t others choice next s))
+    pub transition_makes : (choice : Alt) (next : NextStatement) (s : Status) → offers (choices_at body shared t others next s) choice ≡ true → MakesWith P Q R (acts_or choice s (transition_at passes body shared t others choice next s))
     transition_makes choice next s offered = case_makes (case_of passes body shared t others true choice next s (λ known. offered))

@@ -23,7 +23,6 @@ pub record SeenSlot : Type 0 where
 pub record SeenProcess : Type 0 where
   pub pid : ℕ
   pub parent : ℕ
-  pub restricted : Bool
   pub ended : Option ℕ
   pub slots : List SeenSlot
   pub shared : SharedState
@@ -42,7 +41,7 @@ seen_slot slots threads s = record { made = count_by (is_on slots s) threads; he
 
 -- a process
 abbrev pub seen_process : ℕ → Process → SeenProcess
-seen_process slots p = record { pid = p.pid; parent = p.parent; restricted = p.restricted; ended = option_map (λ end. end.status) p.ended; slots = map (seen_slot slots p.threads) (range_with_len 0 slots); shared = p.shared }
+seen_process slots p = record { pid = p.pid; parent = p.parent; ended = option_map (λ end. end.status) p.ended; slots = map (seen_slot slots p.threads) (range_with_len 0 slots); shared = p.shared }
 
 -- a state
 abbrev pub seen : ℕ → World → Seen
@@ -122,7 +121,7 @@ slot_inherited tid s = record s { here = map replica_of (filter (λ t. nat_eq t.
 
 -- the child with an id that a fork by the thread with an id makes
 abbrev pub child_seen : ℕ → ℕ → SeenProcess → SeenProcess
-child_seen tid pid p = record { pid = pid; parent = p.pid; restricted = not (is_last_in tid p.slots); ended = None; slots = map (slot_inherited tid) p.slots; shared = record p.shared { exit_value = None } }
+child_seen tid pid p = record { pid = pid; parent = p.pid; ended = None; slots = map (slot_inherited tid) p.slots; shared = record p.shared { exit_value = None; restricted = not (is_last_in tid p.slots) } }
 
 -- the process that an action makes, if it makes one
 unfoldable pub child_seen_by : ℕ → SeenProcess → Action → List SeenProcess

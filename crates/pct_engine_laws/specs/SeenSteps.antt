@@ -64,7 +64,7 @@ others_in slots family rows tid = record {
 
 -- the choices of a thread of a process, which sees these other processes
 abbrev pub choices_in : Script → ℕ → Family → SeenProcess → Thread → List Alt
-choices_in script slots family p t = choices_at p.shared t (others_in slots family p.slots t.id) (next_of script t.frames) t.status
+choices_in script slots family p t = choices_at (body_at script t.frames) p.shared t (others_in slots family p.slots t.id) (next_of script t.frames) t.status
 
 -- what a thread of a process does by a choice, with this limit on the passes over destructors
 abbrev pub transition_in : Script → ℕ → ℕ → Family → SeenProcess → Thread → Alt → Transition

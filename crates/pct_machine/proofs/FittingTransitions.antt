@@ -19,7 +19,7 @@ use Rattle.pct_model.specs.World.{Thread}
 use Rattle.pct_engine_laws.specs.Fitting.{AllFit}
 use Rattle.pct_engine_laws.specs.SeenSteps.{thread_with, new_ids_from, others_in, choices_in, transition_in}
 use Rattle.pct_transition_cases.proofs.CaseOfTransition.{case_of}
-use Rattle.pct_transition_cases.proofs.TransitionCases.{TransitionCase, thread_made, join_ended, key_made, key_deleted, specific_set, destructor_called, exit_registered}
+use Rattle.pct_transition_cases.proofs.TransitionCases.{TransitionCase, thread_made, join_ended, key_made, key_deleted, specific_set, destructor_called, fork_registered, exit_registered}
 use Rattle.pct_process.specs.ProcessViews.{ProcessData}
 use Rattle.pct_transitions.specs.Numbers.{AreOnPlaces}
 use Rattle.pct_transitions.specs.ProcessSteps.{with_data}
@@ -64,6 +64,7 @@ module _ (script : Script) (passes tid : ℕ) (family : Family) (d : ProcessData
         ),
         (tt, tt),
       )
+  all_fit_in at (fork_registered frame result handlers room) = (room, (tt, tt))
   all_fit_in at (exit_registered frame result f may) = (ltb-true (length d.shared.exit_functions) 32 (and_parts _ _ may).0, (tt, tt))
   all_fit_in at _ = assumption
 

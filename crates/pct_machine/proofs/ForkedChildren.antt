@@ -40,13 +40,13 @@ use Rattle.pct_machine.specs.ListChanges.{taken_among, change_after, list_moved,
 use Rattle.pct_machine.proofs.LegalEntries.{found_at, test_passes}
 use Rattle.pct_machine.proofs.SingleChanges.{at_most_one}
 
--- the transition that makes a child with an id
-abbrev fork_of : ℕ → Transition
-fork_of child = acts (action.EnterFork Parent child ∷ action.MakeChild child ∷ []) (what.Forked child ∷ [])
+-- the transition that makes a child with an id, by a fork with this number of fork handlers
+abbrev fork_of : ℕ → ℕ → Transition
+fork_of count child = acts (action.EnterFork (record { phase = Parent; next = 0; length = count; answer = child }) ∷ action.MakeChild child ∷ []) (what.Forked child ∷ [])
 
 -- a transition that makes a child is that of fork, and the child has the id of a new process
 abbrev MakesBy : Family → Transition → Option Change → Type 0
-MakesBy family o (Some (change.Make child)) = (family.new_pid ≡ Some child) × (o ≡ fork_of child)
+MakesBy family o (Some (change.Make child)) = (count : ℕ) × (family.new_pid ≡ Some child) × (o ≡ fork_of count child)
 MakesBy family o _ = Unit {0}
 
 -- what a transition changes in the list: at most one of its actions changes it
@@ -57,17 +57,17 @@ pub record ChangesList (family : Family) (o : Transition) : Type 0 where
 module _ (passes : ℕ) (body : List Stmt) (shared : SharedState) (t : Thread) (others : Others) where
   by_case : {next : NextStatement} {s : Status} {o : Transition} → TransitionCase passes body shared t others true next s o → ChangesList others.family o
   unfolding change_after
-  by_case (process_forked next index length pid child is) = record { single = refl; child = (is, refl) }
+  by_case (process_forked next index count answer child is) = record { single = refl; child = (count, is, refl) }
   by_case _ = record { single = refl; child = tt }
 
 -- ---- the thread that forks
 
-module _ (tid child : ℕ) where
+module _ (tid count child : ℕ) where
   abbrev moves : Thread → Thread
-  moves t = thread_moved tid (fork_of child) t
+  moves t = thread_moved tid (fork_of count child) t
 
   -- it holds its slot afterwards, as do the others
-  holds_if : (t : Thread) (live : Bool) → is_live_thread tid t ≡ live → holds_slot (cond live (moved (fork_of child) t) t) ≡ holds_slot t
+  holds_if : (t : Thread) (live : Bool) → is_live_thread tid t ≡ live → holds_slot (cond live (moved (fork_of count child) t) t) ≡ holds_slot t
   unfolding thread_after thread_at
   holds_if t true live =
       let holds : holds_slot t ≡ true = (and_parts (nat_eq t.id tid) (holds_slot t) live).1 in
@@ -81,12 +81,12 @@ module _ (tid child : ℕ) where
 
   module _ (slots : List SeenSlot) (has : HasThread tid slots) where
     abbrev after : List SeenSlot
-    after = slots_moved (length slots) tid (fork_of child) slots
+    after = slots_moved (length slots) tid (fork_of count child) slots
 
     thread_after_fork : (s : SeenSlot) → thread_on tid (on_threads moves s) ≡ option_map moves (thread_on tid s)
     thread_after_fork s =
         find-map (λ t. nat_eq t.id tid) moves s.here
-        ∙ ap (option_map moves) (find_agree (λ t. nat_eq (moves t).id tid) (λ t. nat_eq t.id tid) (λ t. ap (λ (id : ℕ). nat_eq id tid) ((transition_keeps tid (fork_of child)).same_id t)) s.here)
+        ∙ ap (option_map moves) (find_agree (λ t. nat_eq (moves t).id tid) (λ t. nat_eq t.id tid) (λ t. ap (λ (id : ℕ). nat_eq id tid) ((transition_keeps tid (fork_of count child)).same_id t)) s.here)
 
     -- the threads on each slot hold it afterwards, and it is among them
     pub has_after : HasThread tid after
@@ -94,10 +94,10 @@ module _ (tid child : ℕ) where
         let rows : map (on_threads moves) slots ≡ after = none_leaves slots has.on_slots moves same_holders in
         let k : ℕ = slot_of (length slots) tid in
         record {
-          on_slots = on_slots_kept slots has.on_slots moves (transition_keeps tid (fork_of child));
+          on_slots = on_slots_kept slots has.on_slots moves (transition_keeps tid (fork_of count child));
           thread = moves has.thread;
           here =
-              ap (λ (n : ℕ). thread_with n tid after) (length-map slots (slot_after tid (fork_of child)))
+              ap (λ (n : ℕ). thread_with n tid after) (length-map slots (slot_after tid (fork_of count child)))
               ∙ ap (thread_with (length slots) tid) (sym rows)
               ∙ ap (option_and_then (thread_on tid)) (slice_get-map (on_threads moves) slots k)
               ∙ then-map (thread_on tid) (on_threads moves) (slice_get slots k)
@@ -149,13 +149,13 @@ module _ (script : Script) (config : Config) (list : ProcessList) (e : Entry) (o
     steps =
         option_and_then_some (slice_get list.processes) (position (is_live_seen e.pid) list.processes) p (sym (found_at (is_live_seen e.pid) list.processes) ∙ found) (λ i is at. can.each i p at)
 
-    child_fits : (child : ℕ) → (families list p.pid).new_pid ≡ Some child → o ≡ fork_of child → ChildFits e.pid e.tid child (list_moved config.slots e.pid e.tid o list)
+    child_fits : (count child : ℕ) → (families list p.pid).new_pid ≡ Some child → o ≡ fork_of count child → ChildFits e.pid e.tid child (list_moved config.slots e.pid e.tid o list)
     unfolding family_among
-    child_fits child new is =
+    child_fits count child new is =
         let has : HasThread e.tid p.slots = record { on_slots = steps.on_slots; thread = taken.thread; here = ap (λ (n : ℕ). thread_with n e.tid p.slots) steps.all ∙ taken.holds } in
         let after : HasThread e.tid (slots_moved config.slots e.tid o p.slots) =
         subst (λ (x : Transition). HasThread e.tid (slots_moved config.slots e.tid x p.slots)) (sym is)
-        (subst (λ (n : ℕ). HasThread e.tid (slots_moved n e.tid (fork_of child) p.slots)) steps.all (has_after e.tid child p.slots has)) in
+        (subst (λ (n : ℕ). HasThread e.tid (slots_moved n e.tid (fork_of count child) p.slots)) steps.all (has_after e.tid count child p.slots has)) in
         let live : is_live_seen e.pid p ≡ true = test_passes (is_live_seen e.pid) p list.processes found in
         let room : length (map relative_in list.processes) < 8 = room_for list.made child (map relative_in list.processes) new in
         record {
@@ -170,7 +170,7 @@ module _ (script : Script) (config : Config) (list : ProcessList) (e : Entry) (o
 
     change_fits : (made : Option Change) → MakesBy (families list p.pid) o made → IfSome made (λ c. ChangeFits e.pid e.tid c (list_moved config.slots e.pid e.tid o list))
     change_fits None makes = tt
-    change_fits (Some (change.Make child)) makes = child_fits child makes.0 makes.1
+    change_fits (Some (change.Make child)) makes = child_fits makes.0 child makes.1 makes.2
     change_fits (Some c) makes = tt
 
   -- the change that a transition of an entry makes can be made

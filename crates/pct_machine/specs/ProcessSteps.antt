@@ -9,7 +9,7 @@ use Rattle.pct_model.specs.World.{Thread}
 use Rattle.pct_engine_laws.specs.Seen.{SeenSlot, SeenProcess}
 use Rattle.pct_engine_laws.specs.SeenSteps.{thread_with, if_offered_in}
 use Rattle.pct_process.specs.ProcessViews.{ProcessData}
-use Rattle.pct_transitions.specs.ProcessSteps.{NewNumbersFit}
+use Rattle.pct_transitions.specs.ProcessSteps.{NewNumbersFit, ForksHaveRoom}
 use Rattle.pct_actions.specs.ProcessChanges.{AreOnSlots}
 
 -- ---- what a process needs
@@ -18,11 +18,13 @@ use Rattle.pct_actions.specs.ProcessChanges.{AreOnSlots}
 abbrev pub data_in : SeenProcess → ProcessData
 data_in p = record { slots = p.slots; shared = p.shared }
 
--- a process has this number of slots, the threads on each hold it, and the numbers that new threads and keys can get fit 32 bits
+-- a process has this number of slots, the threads on each hold it, the numbers that new threads and keys can get fit 32 bits, and a
+-- thread that is in fork has room for the frame of a fork handler
 pub record CanStep (slots : ℕ) (p : SeenProcess) : Type 0 where
   pub all : length p.slots ≡ slots
   pub on_slots : AreOnSlots p.slots
   pub numbers : NewNumbersFit (data_in p)
+  pub forks : ForksHaveRoom p.slots
 
 -- each process can step
 abbrev pub EachCanStep : ℕ → List SeenProcess → Type 0

@@ -11,15 +11,13 @@ use pct_transitions::{Surroundings, choice_by, takes};
 use std::alloc::Global;
 use std::marker::Model;
 
-/// The ids and the end of a process, and whether it is restricted.
+/// The ids and the end of a process.
 #[derive(Clone, Copy)]
 pub struct ProcessEntry {
     /// Its id.
     pub pid: u32,
     /// The id of its parent, 0 if it has none.
     pub parent: u32,
-    /// It is the child of a process with several threads, and may execute async-signal-safe operations only.
-    pub restricted: bool,
     /// The exit status, if it has ended.
     pub ended: Option<u32>,
 }
@@ -36,7 +34,7 @@ impl Model for Place {
 
     ghost Value = { SeenProcess };
 
-    ghost view = { λ p. record { pid = p.entry.pid; parent = p.entry.parent; restricted = p.entry.restricted; ended = p.entry.ended; slots = p.state.slots; shared = p.state.shared } };
+    ghost view = { λ p. record { pid = p.entry.pid; parent = p.entry.parent; ended = p.entry.ended; slots = p.state.slots; shared = p.state.shared } };
 }
 
 impl Place {
@@ -63,7 +61,6 @@ impl Place {
             entry: ProcessEntry {
                 pid: 1,
                 parent: 0,
-                restricted: false,
                 ended: None,
             },
             state: ProcessState::first(alloc, script, slots)?,
@@ -76,7 +73,6 @@ impl Place {
             entry: ProcessEntry {
                 pid: 0,
                 parent: 0,
-                restricted: false,
                 ended: None,
             },
             state: ProcessState::reserve(alloc)?,
@@ -180,7 +176,6 @@ impl Place {
         self.entry = ProcessEntry {
             pid,
             parent: parent.entry.pid,
-            restricted: !parent.state.is_last(tid),
             ended: None,
         };
         self.state.inherit(&parent.state, slot);

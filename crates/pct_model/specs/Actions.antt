@@ -7,6 +7,7 @@ use Rattle.pct_model.specs.declared.state.FrameKind.TheVariants.{Start}
 use Rattle.pct_model.specs.declared.state.Phase.TheVariants.{Child}
 use Rattle.pct_model.specs.declared.state.Reason.TheVariants as reason
 use Rattle.pct_model.specs.declared.state.Cause.TheVariants as cause
+use Rattle.pct_model.specs.declared.state.Status.{Status}
 use Rattle.pct_model.specs.declared.state.Status.TheVariants.{Running, AtPoint, Joining, InSem, InWaitPid, Waiting, Reacquire, Ending, Forking, Exiting, Ended}
 use Rattle.pct_model.specs.declared.statement.Dest.{Dest}
 use Rattle.pct_model.specs.declared.statement.Dest.TheVariants as destination
@@ -18,6 +19,7 @@ use Rattle.pct_model.specs.declared.transition.Transition.{Transition}
 use Rattle.pct_model.specs.Cancelability.{ending_state, ending_mode}
 use Rattle.pct_model.specs.CondCalls.{is_waiting_on, unblocked}
 use Rattle.pct_model.specs.Keys.{key_place, with_key, without_key, with_value, without_value, with_pass, without_pass}
+use Rattle.pct_model.specs.ForkCalls.{in_fork}
 use Rattle.pct_model.specs.OtherThreads.{is_last}
 use Rattle.pct_model.specs.World.{Thread, SharedState, ProcessEnd, Process, World, new_frame, new_thread}
 use Rattle.pct_model.specs.ThreadSlots.{is_live_thread}
@@ -54,7 +56,7 @@ unfoldable pub thread_after : Action → Thread → Thread
 thread_after (action.Write d v) t = record t { frames = frames_written d v t.frames }
 thread_after (action.Call f a kind) t = record t { status = Running; frames = new_frame f a kind ∷ t.frames }
 thread_after (action.CallAlone f a kind) t = record t { status = Running; frames = new_frame f a kind ∷ [] }
-thread_after (action.Leave status) t = record t { status = status; frames = without_first t.frames }
+thread_after (action.Leave status) t = record t { status = status; frames = without_first t.frames; kept = None }
 thread_after (action.PushHandler f a) t = record t { handlers = (f, a) ∷ t.handlers }
 thread_after action.PopHandler t = record t { handlers = without_first t.handlers }
 thread_after (action.SetState state) t = record t { state = state }
@@ -65,14 +67,15 @@ thread_after (action.BeginWait c m) t = record t { status = Waiting c m }
 thread_after (action.LeaveWait c m) t = record t { status = Reacquire c m cause.Canceled }
 thread_after (action.BeginSem s) t = record t { status = InSem s }
 thread_after (action.BeginWaitPid pid) t = record t { status = InWaitPid pid }
-thread_after (action.EnterFork phase pid) t = record t { status = Forking phase 0 0 pid }
+thread_after (action.EnterFork at) t = record t { status = in_fork at }
+thread_after (action.KeepFork at) t = record t { kept = Some at }
 thread_after (action.SetSpecific k v) t = record t { specific = with_value (key_place k) v t.specific }
 thread_after action.BeginPass t = record t { pass = suc t.pass; specific = with_pass t.specific }
 thread_after (action.TakeKey k) t = record t { specific = without_value (key_place k) t.specific }
-thread_after (action.BeginEnd why) t = record t { status = Ending; frames = []; state = ending_state; mode = ending_mode; reason = why }
+thread_after (action.BeginEnd why) t = record t { status = Ending; frames = []; state = ending_state; mode = ending_mode; reason = why; kept = None }
 thread_after (action.EndThread v) t = record t { status = Ended v; ended = true }
 thread_after action.MarkEnded t = record t { ended = true }
-thread_after (action.BeginExit v) t = record t { status = Exiting; frames = []; state = ending_state; mode = ending_mode }
+thread_after (action.BeginExit v) t = record t { status = Exiting; frames = []; state = ending_state; mode = ending_mode; kept = None }
 thread_after _ t = t
 
 -- ---- the threads of its process
@@ -109,6 +112,7 @@ shared_after (action.MakeKey k destructor) s = record s { keys = with_key (key_p
 shared_after (action.DeleteKey k) s = record s { keys = without_key (key_place k) s.keys }
 shared_after (action.OwnMutex m id) s = record s { owners = slice_set s.owners m id }
 shared_after (action.SetCount sem n) s = record s { counts = slice_set s.counts sem n }
+shared_after (action.AddForkHandlers handlers) s = record s { fork_handlers = s.fork_handlers ++ handlers ∷ [] }
 shared_after (action.AddExit f) s = record s { exit_functions = f ∷ s.exit_functions }
 shared_after action.TakeExit s = record s { exit_functions = without_first s.exit_functions }
 shared_after (action.BeginExit v) s = record s { exit_value = Some v }
@@ -145,21 +149,26 @@ other_process_after pid _ p = p
 
 -- ---- the process that fork makes
 
+-- the status of the replica of a thread with this status, which is in fork
+abbrev pub in_child : Status → Status
+in_child (Forking phase next length answer) = Forking Child 0 length 0
+in_child other = other
+
 -- the thread of the child: the replica of the thread that called fork (XSH fork). That it has that thread's id, cancelability, cleanup
 -- handlers and thread-specific data, that it is detached if that thread is, and that no request for it is pending, are choices of this
 -- host. It has neither ended nor begun to end, and nothing waits for it
 abbrev pub replica_of : Thread → Thread
-replica_of t = record { id = t.id; detached = t.detached; joined = false; status = Forking Child 0 0 0; ended = false; frames = t.frames; state = t.state; mode = t.mode; pending = false; handlers = t.handlers; reason = reason.None; pass = 0; specific = without_pass t.specific; kept = None; gone = false }
+replica_of t = record { id = t.id; detached = t.detached; joined = false; status = in_child t.status; ended = false; frames = t.frames; state = t.state; mode = t.mode; pending = false; handlers = t.handlers; reason = reason.None; pass = 0; specific = without_pass t.specific; kept = None; gone = false }
 
 -- a thread of the process, as the child has it: the thread with this id called fork, and the child inherits no other one
 unfoldable pub inherited : ℕ → Thread → Thread
 inherited tid t = if is_live_thread tid t then replica_of t else record t { gone = true }
 
 -- the child, with an id. It inherits what the threads of the process share: the globals, which stand for its memory, the mutexes with
--- their owners, the semaphores, the keys, and the functions that are registered (XSH fork, atexit). Exit has not begun in it. If the
--- process has another thread that has not ended, the child may call async-signal-safe functions only (XSH fork)
+-- their owners, the semaphores, the keys, and the functions that are registered (XSH fork, pthread_atfork, atexit). Exit has not begun
+-- in it. If the process has another thread that has not ended, the child may execute async-signal-safe operations only (XSH fork)
 unfoldable pub child_of : ℕ → ℕ → Process → Process
-child_of tid pid p = record { pid = pid; parent = p.pid; restricted = not (is_last tid p.threads); ended = None; threads = map (inherited tid) p.threads; shared = record p.shared { exit_value = None } }
+child_of tid pid p = record { pid = pid; parent = p.pid; ended = None; threads = map (inherited tid) p.threads; shared = record p.shared { exit_value = None; restricted = not (is_last tid p.threads) } }
 
 -- the process that an action makes, if it makes one: a child of a process whose thread tid forks
 unfoldable pub child_by : ℕ → Process → Action → List Process

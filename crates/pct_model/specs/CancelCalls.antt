@@ -79,7 +79,7 @@ tests_cancel next = goes_on next [] (what.Done testcancel_point ∷ [])
 unfoldable pub point_kind : ℕ → Option PointKind
 point_kind index = option_map (λ point. point.kind) (point_at index)
 
--- the kind of the cancellation point that an implemented statement calls, if it calls one
+-- the kind of the cancellation point that a statement calls, if it calls one
 unfoldable pub called_kind : Stmt → Option PointKind
 called_kind (statement.Join id d) = point_kind join_point
 called_kind (statement.CondWait c m) = point_kind cond_wait_point

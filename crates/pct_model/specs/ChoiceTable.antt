@@ -10,6 +10,7 @@
 -- `pick n`: by pthread_cond_signal it unblocks the thread with this id
 use Rattle.std.specs.Prelude.{ℕ, Bool, true, false, not, ◌&&◌, List, [], ◌∷◌, ◌++◌, if◌then◌else◌, map, nat_eq, nat_lt, slice_index}
 use Rattle.std.specs.List.{list_any}
+use Rattle.pct_model.specs.declared.frame.Frame.{Frame}
 use Rattle.pct_model.specs.declared.script.Script.{Script}
 use Rattle.pct_model.specs.declared.statement.Stmt.{Stmt}
 use Rattle.pct_model.specs.declared.statement.Stmt.TheVariants as statement
@@ -24,11 +25,11 @@ use Rattle.pct_model.specs.Cancelability.{is_deliverable, is_asynchronous}
 use Rattle.pct_model.specs.CancelCalls.{called_kind, is_required, is_optional, may_return}
 use Rattle.pct_model.specs.Keys.{new_keys, left_keys}
 use Rattle.pct_model.specs.World.{Thread, SharedState, Process, World}
-use Rattle.pct_model.specs.NextStatement.{NextStatement, NoStatement, StatementIn, next_of}
+use Rattle.pct_model.specs.NextStatement.{NextStatement, NoStatement, StatementIn, next_of, body_at}
 use Rattle.pct_model.specs.OtherProcesses.{is_running_child}
 use Rattle.pct_model.specs.MutexCalls.{is_free_mutex, is_blocked}
 use Rattle.pct_model.specs.OtherThreads.{Waiter, Others, is_ended_thread, others_of}
-use Rattle.pct_model.specs.StopTable.{is_built}
+use Rattle.pct_model.specs.StopTable.{is_forbidden_in_child}
 
 -- ---- parts of the table
 
@@ -100,13 +101,14 @@ dtor_or_go numbers = map (λ n. alt.Dtor n) numbers
 
 -- ---- the table
 
-module _ (shared : SharedState) (t : Thread) (others : Others) where
+module _ (body : List Stmt) (shared : SharedState) (t : Thread) (others : Others) where
   -- the rows of a running thread at a statement: the first whose test holds decides, else `go`. `go` at a statement that stops is the
   -- stop (StopTable.antt); a row without `go` comes before the stops of the call, which is a choice of this host
-  unfoldable pub running_rows : Stmt → List ChoiceRow
-  running_rows s =
-      -- a statement that is not implemented stops the run, also with an asynchronous request pending: a choice of this host
-      (not (is_built s), alt.Go ∷ [])
+  unfoldable pub running_rows : Frame → Stmt → List ChoiceRow
+  running_rows frame s =
+      -- XSH fork: the child of a process with several threads may execute async-signal-safe operations only. At another statement it has
+      -- `go` alone, which is a stop: a choice of this host
+      (is_forbidden_in_child body shared frame s, alt.Go ∷ [])
       -- XSH 2.9.5.1: with asynchronous cancelability a pending request may be acted upon at any time; `go` is a stop at a call of a
       -- function that is not async-cancel-safe
       ∷ (is_asynchronous t.state t.mode, alt.Go ∷ act_if t.pending)
@@ -128,8 +130,8 @@ module _ (shared : SharedState) (t : Thread) (others : Others) where
       ∷ []
 
   -- the choices of a running thread at a statement
-  unfoldable pub running_choices : Stmt → List Alt
-  running_choices s = first_row (running_rows s) (alt.Go ∷ [])
+  unfoldable pub running_choices : Frame → Stmt → List Alt
+  running_choices frame s = first_row (running_rows frame s) (alt.Go ∷ [])
 
   -- the choices of an ending thread, by its cleanup handlers
   unfoldable pub ending_choices : List (ℕ × ℕ) → List Alt
@@ -141,7 +143,7 @@ module _ (shared : SharedState) (t : Thread) (others : Others) where
 
   -- the choices of a thread, by its status
   unfoldable pub choices_at : NextStatement → Status → List Alt
-  choices_at (StatementIn frame s) status.Running = running_choices s
+  choices_at (StatementIn frame s) status.Running = running_choices frame s
   -- not reached: each body closes with `end`
   choices_at NoStatement status.Running = []
   -- XSH 2.9.5.2: a suspended thread is awakened by a request and acts upon it; if the event that it waits for occurs before it acts, it
@@ -168,7 +170,7 @@ module _ (shared : SharedState) (t : Thread) (others : Others) where
 
 -- the choices of a thread of a process, in a state
 abbrev pub choices_of : Script → Config → World → Process → Thread → List Alt
-choices_of script config w p t = choices_at p.shared t (others_of config.slots w p t.id) (next_of script t.frames) t.status
+choices_of script config w p t = choices_at (body_at script t.frames) p.shared t (others_of config.slots w p t.id) (next_of script t.frames) t.status
 
 -- ---- equality of choices, and membership
 

@@ -1,11 +1,20 @@
--- Processes: fork and waitpid (XSH fork, waitpid). `next` is the pc of the next statement.
-use Rattle.std.specs.Prelude.{ℕ, suc, Bool, true, false, if◌then◌else◌, [], ◌∷◌, Option, Some, None, nat_eq}
+-- Processes: pthread_atfork, fork and waitpid (XSH pthread_atfork, fork, waitpid). `next` is the pc of the next statement.
+use Rattle.std.specs.Prelude.{ℕ, suc, ◌-◌, Bool, true, false, if◌then◌else◌, List, [], ◌∷◌, reverse, flat_map, slice_get, Option, Some, None, option_map, option_and_then, option_to_list, nat_eq, nat_lt}
+use Rattle.std.specs.List.{range_with_len}
 use Rattle.pct_model.specs.declared.event.Caller.TheVariants as caller
+use Rattle.pct_model.specs.declared.event.What.{What}
 use Rattle.pct_model.specs.declared.event.What.TheVariants as what
+use Rattle.pct_model.specs.declared.limits.TheConstants.{MAX_FORK_HANDLERS}
 use Rattle.pct_model.specs.declared.point.TheConstants.{WAITPID_POINT}
 use Rattle.pct_model.specs.declared.process.Child.{Child}
+use Rattle.pct_model.specs.declared.process.ForkHandlers.{ForkHandlers}
+use Rattle.pct_model.specs.declared.process.HandlerCall.{HandlerCall}
+use Rattle.pct_model.specs.declared.state.ForkAt.{ForkAt}
+use Rattle.pct_model.specs.declared.state.FrameKind.TheVariants as kind
 use Rattle.pct_model.specs.declared.state.Phase.{Phase}
 use Rattle.pct_model.specs.declared.state.Phase.TheVariants.{Prepare, Parent, Child as ChildPhase}
+use Rattle.pct_model.specs.declared.state.Status.{Status}
+use Rattle.pct_model.specs.declared.state.Status.TheVariants as status
 use Rattle.pct_model.specs.declared.statement.Dest.{Dest}
 use Rattle.pct_model.specs.declared.statement.Stmt.{Stmt}
 use Rattle.pct_model.specs.declared.statement.Stmt.TheVariants as statement
@@ -14,23 +23,79 @@ use Rattle.pct_model.specs.declared.transition.Transition.{Transition}
 use Rattle.pct_model.specs.NextStatement.{NextStatement, StatementIn}
 use Rattle.pct_model.specs.Transitions.{goes_on, acts, no_change}
 
--- ---- fork
+-- ---- statuses
 
 -- the statement is fork
 abbrev pub is_fork : Stmt → Bool
 is_fork (statement.Fork result child) = true
 is_fork _ = false
 
--- fork is called. Its three phases are those of pthread_atfork: before the fork, and after it in the parent and in the child. No
--- function can be registered with pthread_atfork yet, so that no phase calls one. That a fork is three transitions, its call, the fork
--- and its return, is a choice of this host
-unfoldable pub begins_fork : Transition
-begins_fork = acts (action.EnterFork Prepare 0 ∷ []) []
+-- the status of a thread in fork
+abbrev pub in_fork : ForkAt → Status
+in_fork at = status.Forking at.phase at.next at.length at.answer
 
--- a child process is made, with this id; without an id there is none, and fork fails with EAGAIN
-unfoldable pub forks_by : Option ℕ → Transition
-forks_by (Some pid) = acts (action.EnterFork Parent pid ∷ action.MakeChild pid ∷ []) (what.Forked pid ∷ [])
-forks_by None = acts (action.EnterFork Parent 0 ∷ []) (what.Answer caller.Fork 1 ∷ [])
+-- ---- pthread_atfork
+
+-- the phase is that before the fork
+abbrev pub is_prepare : Phase → Bool
+is_prepare Prepare = true
+is_prepare _ = false
+
+-- the handler of a phase, which may be absent
+abbrev pub handler_for : Phase → ForkHandlers → Option ℕ
+handler_for Prepare handlers = handlers.prepare
+handler_for Parent handlers = handlers.parent
+handler_for ChildPhase handlers = handlers.child
+
+-- the handler of a phase in the registration with an index
+abbrev pub handler_at : Phase → List ForkHandlers → ℕ → Option ℕ
+handler_at phase registered index = option_and_then (handler_for phase) (slice_get registered index)
+
+-- the handlers of a phase in the registrations with these indexes, in this order
+abbrev pub handlers_among : Phase → List ForkHandlers → List ℕ → List HandlerCall
+handlers_among phase registered indexes = flat_map (λ i. option_to_list (option_map (λ f. record { index = i; func = f }) (handler_at phase registered i))) indexes
+
+-- the indexes of the registrations whose handlers a thread in fork has still to call, in the order of the calls: before the fork the
+-- reverse order of registration, and after it this order (XSH pthread_atfork)
+abbrev pub indexes_left : ForkAt → List ℕ
+indexes_left at = if is_prepare at.phase then reverse (range_with_len 0 at.next) else range_with_len at.next (at.length - at.next)
+
+-- the handler that a thread in fork calls next, if one is left
+unfoldable pub next_handler : List ForkHandlers → ForkAt → Option HandlerCall
+next_handler registered at = slice_get (handlers_among at.phase registered (indexes_left at)) 0
+
+-- the values of a fork while the handler of the registration with an index runs
+abbrev pub while_called : ForkAt → ℕ → ForkAt
+while_called at index = record at { next = if is_prepare at.phase then index else suc index }
+
+-- the event of the call of a handler
+abbrev pub handler_event : Phase → ℕ → What
+handler_event Prepare f = what.PrepareRun f
+handler_event Parent f = what.ParentRun f
+handler_event ChildPhase f = what.ChildRun f
+
+-- a thread in fork calls a handler
+unfoldable pub calls_handler : ForkAt → HandlerCall → Transition
+calls_handler at call = acts (action.KeepFork (while_called at call.index) ∷ action.Call call.func 0 kind.ForkFn ∷ []) (handler_event at.phase call.func ∷ [])
+
+-- pthread_atfork, where this many registrations were made: the result is 0, or ENOMEM, which is 2 in this host, past its limit
+unfoldable pub registers_fork : ℕ → ℕ → Dest → ForkHandlers → Transition
+registers_fork count next result handlers =
+    if nat_lt count MAX_FORK_HANDLERS then goes_on next (action.AddForkHandlers handlers ∷ action.Write result 0 ∷ []) []
+    else goes_on next (action.Write result 2 ∷ []) (what.Answer caller.AtFork 2 ∷ [])
+
+-- ---- fork
+
+-- fork is called, in a process with this many registrations. That these are the ones that it uses, and that a fork is at least three
+-- transitions, its call, the fork and its return, are choices of this host
+unfoldable pub begins_fork : ℕ → Transition
+begins_fork count = acts (action.EnterFork (record { phase = Prepare; next = count; length = count; answer = 0 }) ∷ []) []
+
+-- a child process is made, with this id; without an id there is none, and fork fails with EAGAIN. That the parent handlers are called
+-- then, too, is a choice of this host
+unfoldable pub forks_by : ℕ → Option ℕ → Transition
+forks_by length (Some pid) = acts (action.EnterFork (record { phase = Parent; next = 0; length = length; answer = pid }) ∷ action.MakeChild pid ∷ []) (what.Forked pid ∷ [])
+forks_by length None = acts (action.EnterFork (record { phase = Parent; next = 0; length = length; answer = 0 }) ∷ []) (what.Answer caller.Fork 1 ∷ [])
 
 -- fork returns in the process that called it: the result is 0, and the id of the child is written. If no child was made, the result is
 -- EAGAIN, which is 1 in this host, and no id is written
@@ -41,12 +106,22 @@ returns_in_parent pid next result child = if nat_eq pid 0 then goes_on next (act
 unfoldable pub returns_in_child : ℕ → Dest → Dest → Transition
 returns_in_child next result child = goes_on next (action.Write result 0 ∷ action.Write child 0 ∷ []) []
 
--- a thread in fork goes on, by the phase; a new process gets this id
-abbrev pub goes_on_forking : Phase → ℕ → Option ℕ → NextStatement → Transition
-goes_on_forking Prepare pid new_pid next = forks_by new_pid
-goes_on_forking Parent pid new_pid (StatementIn frame (statement.Fork result child)) = returns_in_parent pid (suc frame.pc) result child
-goes_on_forking ChildPhase pid new_pid (StatementIn frame (statement.Fork result child)) = returns_in_child (suc frame.pc) result child
-goes_on_forking phase pid new_pid next = no_change
+-- a thread in fork goes on where no handler of the phase is left, by the phase; a new process gets this id
+abbrev pub goes_on_after_handlers : Phase → ForkAt → Option ℕ → NextStatement → Transition
+goes_on_after_handlers Prepare at new_pid next = forks_by at.length new_pid
+goes_on_after_handlers Parent at new_pid (StatementIn frame (statement.Fork result child)) = returns_in_parent at.answer (suc frame.pc) result child
+goes_on_after_handlers ChildPhase at new_pid (StatementIn frame (statement.Fork result child)) = returns_in_child (suc frame.pc) result child
+goes_on_after_handlers phase at new_pid next = no_change
+
+-- a thread in fork goes on: it calls the next handler, if one is left
+abbrev pub goes_on_forking : Option HandlerCall → ForkAt → Option ℕ → NextStatement → Transition
+goes_on_forking (Some call) at new_pid next = calls_handler at call
+goes_on_forking None at new_pid next = goes_on_after_handlers at.phase at new_pid next
+
+-- a thread returns from a fork handler, with the values of its fork that it kept
+unfoldable pub leaves_handler : Option ForkAt → Transition
+leaves_handler (Some at) = acts (action.Leave (in_fork at) ∷ []) []
+leaves_handler None = no_change
 
 -- ---- waitpid
 

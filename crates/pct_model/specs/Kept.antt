@@ -1,5 +1,5 @@
 -- The invariant of reachable states: what each state that a run reaches keeps, beside the events that led to it.
-use Rattle.std.specs.Prelude.{◌≡◌, ◌≢◌, ℕ, ◌+◌, ◌*◌, ◌<◌, nat_eq, Bool, true, false, not, ◌&&◌, ◌||◌, Option, Some, None, is_some}
+use Rattle.std.specs.Prelude.{◌≡◌, ◌≢◌, ℕ, suc, ◌+◌, ◌*◌, ◌<◌, ◌≤◌, nat_eq, Bool, true, false, not, ◌&&◌, ◌||◌, if◌then◌else◌, Option, Some, None, is_some}
 use Rattle.std.specs.Prelude.{List, [], ◌∷◌, ◌++◌, length, map, slice_get, slice_index, All}
 use Rattle.std.specs.List.{list_any}
 use Rattle.std.specs.Option.{IsSomeAnd, option_map_or}
@@ -7,16 +7,19 @@ use Rattle.pct_model.specs.declared.event.Event.{Event}
 use Rattle.pct_model.specs.declared.event.What.{What}
 use Rattle.pct_model.specs.declared.event.What.TheVariants as what
 use Rattle.pct_model.specs.declared.frame.Frame.{Frame}
-use Rattle.pct_model.specs.declared.limits.TheConstants.{MAX_KEYS}
+use Rattle.pct_model.specs.declared.limits.TheConstants.{MAX_FRAMES, MAX_KEYS}
+use Rattle.pct_model.specs.declared.process.ForkHandlers.{ForkHandlers}
 use Rattle.pct_model.specs.declared.script.Script.{Script}
 use Rattle.pct_model.specs.declared.schedule.Config.{Config}
 use Rattle.pct_model.specs.declared.state.Cause.TheVariants as cause
+use Rattle.pct_model.specs.declared.state.ForkAt.{ForkAt}
 use Rattle.pct_model.specs.declared.state.FrameKind.{FrameKind}
 use Rattle.pct_model.specs.declared.state.FrameKind.TheVariants as kind
 use Rattle.pct_model.specs.declared.state.State.TheVariants.{Disable}
 use Rattle.pct_model.specs.declared.state.Status.{Status}
 use Rattle.pct_model.specs.declared.state.Status.TheVariants as status
 use Rattle.pct_model.specs.declared.statement.Stmt.TheVariants as statement
+use Rattle.pct_model.specs.Actions.{without_first}
 use Rattle.pct_model.specs.CancelCalls.{point_kind, is_required}
 use Rattle.pct_model.specs.CondCalls.{cond_wait_point}
 use Rattle.pct_model.specs.ForkCalls.{is_fork}
@@ -28,7 +31,7 @@ use Rattle.pct_model.specs.NextStatement.{NextStatement, StatementIn, next_of}
 use Rattle.pct_model.specs.Once.{is_pair}
 use Rattle.pct_model.specs.OpenPushes.{open_pushes}
 use Rattle.pct_model.specs.Static.{is_plain_body}
-use Rattle.pct_model.specs.StopTable.{has_begun_to_end}
+use Rattle.pct_model.specs.StopTable.{has_begun_to_end, is_fork_kind}
 use Rattle.pct_model.specs.ThreadCalls.{join_point}
 use Rattle.pct_model.specs.ThreadNumbers.{NumbersThreads}
 use Rattle.pct_model.specs.ThreadSlots.{is_ended_status}
@@ -77,6 +80,11 @@ abbrev pub is_end_kind : FrameKind → Bool
 is_end_kind kind.Handler = true
 is_end_kind kind.Destructor = true
 is_end_kind _ = false
+
+-- a thread with this status and these frames is in a fork handler: it runs, and its top frame is that of one
+abbrev pub is_in_fork_handler : Status → List Frame → Bool
+is_in_fork_handler status.Running (frame ∷ below) = is_fork_kind frame.kind
+is_in_fork_handler _ _ = false
 
 -- a frame of this kind is that of a function registered with atexit
 abbrev pub is_exit_kind : FrameKind → Bool
@@ -189,6 +197,29 @@ IsFunction script func = func < length script.funcs
 abbrev pub IsPlainFunction : Script → ℕ → Type 0
 IsPlainFunction script func = IsSomeAnd (slice_get script.funcs func) (λ f. is_plain_body f ≡ true)
 
+-- the function, if there is one, is a plain function of the script
+abbrev pub IsPlainIfSome : Script → Option ℕ → Type 0
+IsPlainIfSome script None = Unit {0}
+IsPlainIfSome script (Some func) = IsPlainFunction script func
+
+-- the fork handlers of a registration are plain functions of the script
+pub record ArePlainHandlers (script : Script) (handlers : ForkHandlers) : Type 0 where
+  pub prepare : IsPlainIfSome script handlers.prepare
+  pub parent : IsPlainIfSome script handlers.parent
+  pub child : IsPlainIfSome script handlers.child
+
+-- the status, the frames and the kept values of a thread that can be in a fork
+pub record ForkKept (script : Script) (st : Status) (frames : List Frame) (kept : Option ForkAt) : Type 0 where
+  -- a frame is that of a fork handler exactly if the thread is in one, and then it is the top one
+  pub in_handler : list_any (λ (frame : Frame). is_fork_kind frame.kind) frames ≡ is_in_fork_handler st frames
+  pub on_top : list_any (λ (frame : Frame). is_fork_kind frame.kind) (without_first frames) ≡ false
+  -- the function of such a frame is plain
+  pub functions : All (λ (frame : Frame). is_fork_kind frame.kind ≡ true → IsPlainFunction script frame.func) frames
+  -- the thread keeps the values of a fork exactly if it is in a fork handler
+  pub keeps : is_some kept ≡ is_in_fork_handler st frames
+  -- it has at most MAX_FRAMES frames, and one more in a fork handler
+  pub depth : length frames ≤ (if is_in_fork_handler st frames then suc MAX_FRAMES else MAX_FRAMES)
+
 -- a thread of a process with these keys, and what the events so far report of it
 pub record ThreadKept (script : Script) (keys : List KeyPlace) (t : Thread) (s : ThreadSummary) : Type 0 where
   -- the open handlers are its handlers
@@ -231,8 +262,10 @@ pub record ThreadKept (script : Script) (keys : List KeyPlace) (t : Thread) (s :
   pub suspended : IsSuspendedAt (next_of script t.frames) t.status
   -- a thread that acted upon a request in a condition wait has not begun to end before it owns its mutex
   pub leaving : has_left_wait t.status ≡ true → has_begun_to_end t.reason ≡ false
-  -- a thread that is in fork has not begun to end
-  pub forking : is_forking t.status ≡ true → has_begun_to_end t.reason ≡ false
+  -- a thread that is in fork, or in one of its handlers, has not begun to end
+  pub forking : is_forking t.status || is_in_fork_handler t.status t.frames ≡ true → has_begun_to_end t.reason ≡ false
+  -- below the frame of a fork handler the next statement is fork
+  pub fork_below : is_in_fork_handler t.status t.frames ≡ true → is_at_fork (next_of script (without_first t.frames)) ≡ true
   -- before its ending event, no handler is left of those that were open then
   pub none_left : has_begun_to_end t.reason ≡ false → s.left ≡ []
   -- the number of its passes over destructors
@@ -357,6 +390,10 @@ pub record Kept (script : Script) (config : Config) (w : World) (events : List E
   pub keys : EachProcess w (λ pid p. KeysKept script p.shared.keys)
   -- the functions that are registered with atexit are plain functions of the script
   pub exit_functions : EachProcess w (λ pid p. All (IsPlainFunction script) p.shared.exit_functions)
+  -- the fork handlers that are registered are plain functions of the script
+  pub fork_handlers : EachProcess w (λ pid p. All (ArePlainHandlers script) p.shared.fork_handlers)
+  -- the fork of each thread
+  pub forks : EachThread w (λ pid tid t. ForkKept script t.status t.frames t.kept)
   -- each thread of each process
   pub threads : EachProcess w (λ pid p. EachThreadOf p (λ tid t. ThreadKept script p.shared.keys t (summary_of pid tid events)))
   -- a thread is joined or detached exactly if the events report so

@@ -49,6 +49,7 @@ pub mod JoinLaw
 pub mod MutexOwners
 pub mod WaitStages
 pub mod CondLaw
+pub mod SlotLaw
 pub mod Laws
 pub mod Kept
 pub mod Chosen
@@ -56,4 +57,5 @@ pub mod StopTexts
 pub mod EventTexts
 pub mod Report
 pub mod Schedule
+pub mod RunOptions
 pub mod Outcome

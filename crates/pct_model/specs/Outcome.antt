@@ -1,10 +1,11 @@
 -- The outcome of the program: the exit status, given by its code, and the bytes written, for given arguments and input.
-use Rattle.std.specs.Prelude.{◌≡◌, ℕ, ◌<◌, ◌≤◌, Bool, true, false, ◌||◌, if◌then◌else◌, List, [], ◌∷◌, length, take, drop, Some, Ok, Err, bytes_eq, decimal}
+use Rattle.std.specs.Prelude.{◌≡◌, ℕ, ◌<◌, ◌≤◌, Bool, true, false, ◌||◌, if◌then◌else◌, List, [], ◌∷◌, length, take, drop, Some, is_some, Ok, Err, bytes_eq, decimal}
 use Rattle.pct_model.specs.declared.refusal.ParseWhy.{ParseWhy}
 use Rattle.pct_model.specs.declared.refusal.ParseWhy.TheVariants as fault
 use Rattle.pct_model.specs.declared.refusal.ScheduleWhy.{ScheduleWhy}
 use Rattle.pct_model.specs.declared.refusal.ScheduleWhy.TheVariants as schedule_fault
 use Rattle.pct_model.specs.declared.script.Script.{Script}
+use Rattle.pct_model.specs.declared.run_options.RunOptions.{RunOptions}
 use Rattle.pct_model.specs.declared.schedule.Config.{Config}
 use Rattle.pct_model.specs.declared.schedule.Entry.{Entry}
 use Rattle.pct_model.specs.declared.stop.Verdict.{Verdict}
@@ -18,6 +19,7 @@ use Rattle.pct_model.specs.Checks.{FirstFault}
 use Rattle.pct_model.specs.Spells.{Spells}
 use Rattle.pct_model.specs.Schedule.{sched_of, replay_parts}
 use Rattle.pct_model.specs.Run.{Run, run, first_illegal, verdict_of}
+use Rattle.pct_model.specs.RunOptions.{run_options}
 use Rattle.pct_model.specs.Canon.{canon}
 use Rattle.pct_model.specs.Report.{report}
 
@@ -29,9 +31,13 @@ is_asked asked [] = false
 is_asked asked (w ∷ []) = bytes_eq w (keyword_text asked)
 is_asked asked (w ∷ next ∷ words) = false
 
--- the arguments of a command that reads the input: `run`, `replay` or `check` alone
+-- the arguments are `run` and options of it
+abbrev pub asks_run : List (List ℕ) → Bool
+asks_run words = is_some (run_options words)
+
+-- the arguments of a command that reads the input: `run` with its options, or `replay` or `check` alone
 abbrev pub needs_input : List (List ℕ) → Bool
-needs_input words = is_asked keyword.Run words || is_asked keyword.Replay words || is_asked keyword.Check words
+needs_input words = asks_run words || is_asked keyword.Replay words || is_asked keyword.Check words
 
 -- the arguments that are accepted: those, or `points` alone
 abbrev pub is_accepted : List (List ℕ) → Bool
@@ -44,10 +50,6 @@ script_part words input = if is_asked keyword.Replay words then take (replay_par
 -- the schedule in the input of `replay`: the part after the line `%%`, empty without such a line
 unfoldable pub schedule_part : List ℕ → List ℕ
 schedule_part input = drop (replay_parts input).1 input
-
--- the configuration of `run`
-abbrev pub default_config : Config
-default_config = record { budget = 10000; passes = 4; slots = 64 }
 
 -- ---- refusals
 
@@ -170,16 +172,17 @@ pub record Replays (words : List (List ℕ)) (input : List ℕ) (code : ℕ) (te
   pub code_is : code ≡ code_of_verdict (verdict_of script config after.world (length entries))
   pub text_is : report script config entries ≡ Some text
 
--- `run` under this schedule: the code is that of the verdict, the text is the report
+-- `run` with these options, under this schedule: the code is that of the verdict, the text is the report
 pub record Runs (words : List (List ℕ)) (input : List ℕ) (schedule : List Entry) (code : ℕ) (text : List ℕ) : Type 0 where
-  pub accepted : is_asked keyword.Run words ≡ true
+  pub options : RunOptions
+  pub accepted : run_options words ≡ Some options
   pub fits : length input ≤ MAX_INPUT
   pub script : Script
   pub spelled : Spells input script
   pub after : Run
-  pub is_run : run script default_config schedule ≡ Some after
-  pub code_is : code ≡ code_of_verdict (verdict_of script default_config after.world (length schedule))
-  pub text_is : report script default_config schedule ≡ Some text
+  pub is_run : run script options.config schedule ≡ Some after
+  pub code_is : code ≡ code_of_verdict (verdict_of script options.config after.world (length schedule))
+  pub text_is : report script options.config schedule ≡ Some text
 
 -- `check`: the text is the canonical text of the script
 pub record Checks (words : List (List ℕ)) (input : List ℕ) (code : ℕ) (text : List ℕ) : Type 0 where

@@ -3,12 +3,14 @@ use Rattle.std.specs.Prelude.{ℕ, ◌%◌, Bool, true, false, ◌&&◌, List, [
 use Rattle.pct_model.specs.declared.event.Caller.TheVariants as caller
 use Rattle.pct_model.specs.declared.event.What.TheVariants.{Answer, ExitBegun, ExitRun, ProcessEnded}
 use Rattle.pct_model.specs.declared.limits.TheConstants.{MAX_EXIT_FUNCTIONS}
+use Rattle.pct_model.specs.declared.state.ForkAt.{ForkAt}
 use Rattle.pct_model.specs.declared.state.FrameKind.{FrameKind}
 use Rattle.pct_model.specs.declared.state.FrameKind.TheVariants as kind
 use Rattle.pct_model.specs.declared.state.Status.TheVariants.{Running, Ending, Exiting}
 use Rattle.pct_model.specs.declared.statement.Dest.{Dest}
 use Rattle.pct_model.specs.declared.transition.Action.TheVariants as action
 use Rattle.pct_model.specs.declared.transition.Transition.{Transition}
+use Rattle.pct_model.specs.ForkCalls.{leaves_handler}
 use Rattle.pct_model.specs.Transitions.{goes_on, acts, no_change}
 use Rattle.pct_model.specs.ThreadEnds.{ends_by_exit}
 use Rattle.pct_model.specs.World.{SharedState}
@@ -17,18 +19,18 @@ use Rattle.pct_model.specs.World.{SharedState}
 unfoldable pub exits : ℕ → Transition
 exits v = acts (action.BeginExit v ∷ []) (ExitBegun v ∷ [])
 
--- `return` of a value, by the kind of the top frame: a return from `main` in the initial thread acts as exit, one from the
--- start routine of another thread as pthread_exit (XSH pthread_create). A frame of the kind ForkFn comes with pthread_atfork; none is made
--- yet.
-unfoldable pub returns_by : FrameKind → ℕ → Transition
-returns_by kind.Main v = exits v
-returns_by kind.Start v = ends_by_exit v
-returns_by kind.Call v = acts (action.Leave Running ∷ []) []
-returns_by kind.PopHandler v = acts (action.Leave Running ∷ []) []
-returns_by kind.Handler v = acts (action.Leave Ending ∷ []) []
-returns_by kind.Destructor v = acts (action.Leave Ending ∷ []) []
-returns_by kind.ExitFn v = acts (action.Leave Exiting ∷ []) []
-returns_by kind.ForkFn v = no_change
+-- `return` of a value, by the kind of the top frame: a return from `main` in the initial thread acts as exit, one from the start
+-- routine of another thread as pthread_exit (XSH pthread_create). After a fork handler the fork goes on, by the values that the thread
+-- kept
+unfoldable pub returns_by : Option ForkAt → FrameKind → ℕ → Transition
+returns_by kept kind.Main v = exits v
+returns_by kept kind.Start v = ends_by_exit v
+returns_by kept kind.Call v = acts (action.Leave Running ∷ []) []
+returns_by kept kind.PopHandler v = acts (action.Leave Running ∷ []) []
+returns_by kept kind.Handler v = acts (action.Leave Ending ∷ []) []
+returns_by kept kind.Destructor v = acts (action.Leave Ending ∷ []) []
+returns_by kept kind.ExitFn v = acts (action.Leave Exiting ∷ []) []
+returns_by kept kind.ForkFn v = leaves_handler kept
 
 -- the process ends with a status of 8 bits, and its threads do nothing more: no cleanup handler and no destructor runs (XSH _exit)
 unfoldable pub ends_now : ℕ → Transition

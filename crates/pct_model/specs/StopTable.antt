@@ -1,5 +1,5 @@
--- The stops: uses that POSIX leaves undefined, further uses that this host reports as undefined by its choice, its limits, and what is
--- not implemented; StopTexts.antt has the class of each. A stop ends the run. An unpaired push or pop, and a return between them (XSH
+-- The stops: uses that POSIX leaves undefined, further uses that this host reports as undefined by its choice, its limits, and what it
+-- leaves out; StopTexts.antt has the class of each. A stop ends the run. An unpaired push or pop, and a return between them (XSH
 -- pthread_cleanup_pop), are refused before the run (Nesting.antt, Checks.antt).
 use Rattle.std.specs.Prelude.{ℕ, Bool, true, false, not, ◌&&◌, ◌||◌, List, [], ◌∷◌, length, Option, is_none, is_some, nat_eq, nat_lt, option_map, find}
 use Rattle.std.specs.List.{list_any}
@@ -12,13 +12,13 @@ use Rattle.pct_model.specs.declared.state.FrameKind.TheVariants as kind
 use Rattle.pct_model.specs.declared.state.Reason.{Reason}
 use Rattle.pct_model.specs.declared.state.Reason.TheVariants as reason
 use Rattle.pct_model.specs.declared.limits.TheConstants.{MAX_FRAMES, MAX_HANDLERS}
+use Rattle.pct_model.specs.declared.point.TheConstants.{CLOSE_POINT, OPEN_POINT, PAUSE_POINT, READ_POINT, SLEEP_POINT, WRITE_POINT}
 use Rattle.pct_model.specs.declared.stop.Why.{Why}
 use Rattle.pct_model.specs.declared.stop.Why.TheVariants as why
 use Rattle.pct_model.specs.Cancelability.{is_asynchronous}
 use Rattle.pct_model.specs.Jumps.{open_of}
 use Rattle.pct_model.specs.Keys.{key_with}
 use Rattle.pct_model.specs.World.{Thread, SharedState, value_of}
-use Rattle.pct_model.specs.ForkCalls.{is_fork}
 use Rattle.pct_model.specs.MutexCalls.{owns}
 use Rattle.pct_model.specs.OtherThreads.{Others, no_live_thread, is_detached_thread, waits_with_another_mutex}
 
@@ -80,51 +80,44 @@ is_allowed_asynchronously (statement.SetState enable old) = true
 is_allowed_asynchronously (statement.SetMode asynchronous old) = true
 is_allowed_asynchronously _ = false
 
--- the statement is implemented
-abbrev pub is_built : Stmt → Bool
-is_built (statement.Emit v) = true
-is_built (statement.Set d v) = true
-is_built (statement.Add d v) = true
-is_built statement.Nop = true
-is_built (statement.If v) = true
-is_built statement.Else = true
-is_built (statement.While v) = true
-is_built statement.End = true
-is_built (statement.Do f v) = true
-is_built (statement.Return v) = true
-is_built (statement.Create result id f v detached) = true
-is_built (statement.Join id d) = true
-is_built (statement.Detach id) = true
-is_built (statement.CancelThread id) = true
-is_built (statement.SelfId d) = true
-is_built (statement.ThreadExit v) = true
-is_built statement.TestCancel = true
-is_built (statement.SetState enable old) = true
-is_built (statement.SetMode asynchronous old) = true
-is_built (statement.Push f v) = true
-is_built (statement.Pop v) = true
-is_built (statement.KeyCreate result key destructor) = true
-is_built (statement.KeyDelete key) = true
-is_built (statement.SetSpecific key v) = true
-is_built (statement.GetSpecific d key) = true
-is_built (statement.Lock m) = true
-is_built (statement.Unlock m) = true
-is_built (statement.CondWait c m) = true
-is_built (statement.Signal c) = true
-is_built (statement.Broadcast c) = true
-is_built (statement.SemWait s) = true
-is_built (statement.SemPost s) = true
-is_built (statement.Fork result child) = true
-is_built (statement.WaitPid result pid value) = true
-is_built (statement.AtExit result f) = true
-is_built (statement.ProcExit v) = true
-is_built (statement.ProcExitNow v) = true
-is_built (statement.PointCall index) = true
-is_built _ = false
+-- ---- the child of a process with several threads
 
--- the statement is not implemented, or it is fork while another thread of the process has not ended
-abbrev pub is_unbuilt : Others → Stmt → Bool
-is_unbuilt others s = not (is_built s) || (is_fork s && not others.is_last)
+-- the functions with generic points that the child of a process with several threads may call here: these are async-signal-safe (XSH
+-- 2.4.3). That other functions of that section are not among them is a choice of this host
+abbrev pub is_safe_point : ℕ → Bool
+is_safe_point index = list_any (nat_eq index) (CLOSE_POINT ∷ OPEN_POINT ∷ PAUSE_POINT ∷ READ_POINT ∷ SLEEP_POINT ∷ WRITE_POINT ∷ [])
+
+-- a return from a frame of this kind ends neither the thread nor the process
+abbrev pub is_inner_kind : FrameKind → Bool
+is_inner_kind kind.Main = false
+is_inner_kind kind.Start = false
+is_inner_kind _ = true
+
+-- the statement at a frame is allowed in the child of a process with several threads (XSH fork)
+abbrev pub is_allowed_in_child : List Stmt → Frame → Stmt → Bool
+is_allowed_in_child body frame (statement.Emit v) = true
+is_allowed_in_child body frame (statement.Set d v) = true
+is_allowed_in_child body frame (statement.Add d v) = true
+is_allowed_in_child body frame statement.Nop = true
+is_allowed_in_child body frame (statement.If v) = true
+is_allowed_in_child body frame statement.Else = true
+is_allowed_in_child body frame (statement.While v) = true
+is_allowed_in_child body frame statement.End = is_inner_kind frame.kind || not (closes_function body frame.pc)
+is_allowed_in_child body frame (statement.Do f v) = true
+is_allowed_in_child body frame (statement.Return v) = is_inner_kind frame.kind
+is_allowed_in_child body frame (statement.ProcExitNow v) = true
+is_allowed_in_child body frame (statement.PointCall index) = is_safe_point index
+is_allowed_in_child body frame _ = false
+
+-- a frame of this kind is that of a fork handler
+abbrev pub is_fork_kind : FrameKind → Bool
+is_fork_kind kind.ForkFn = true
+is_fork_kind _ = false
+
+-- the process is the child of one with several threads, and may not execute the statement at this frame. That it may execute every
+-- statement of a fork handler is a choice of this host
+abbrev pub is_forbidden_in_child : List Stmt → SharedState → Frame → Stmt → Bool
+is_forbidden_in_child body shared frame s = shared.restricted && (not (is_fork_kind frame.kind) && not (is_allowed_in_child body frame s))
 
 -- ---- the table
 
@@ -134,8 +127,7 @@ module _ (body : List Stmt) (shared : SharedState) (t : Thread) (others : Others
   value frame operand = value_of shared.globals frame operand
 
   -- the own stops of each statement, in the order in which they are tested. `others` is the threads of the process as this thread sees
-  -- them, itself included: its own id names it, so a self-detach and a self-cancel are no stops of their own. No row yet:
-  -- ForkChildCall
+  -- them, itself included: its own id names it, so a self-detach and a self-cancel are no stops of their own
   unfoldable pub stops_of : Frame → Stmt → List StopTest
   -- XSH exit: a second call is undefined. XSH pthread_create: a return from `main` in the initial thread is an implicit call of exit;
   -- the `end` that closes `main` is `return 0`
@@ -185,16 +177,16 @@ module _ (body : List Stmt) (shared : SharedState) (t : Thread) (others : Others
   stops_of frame (statement.Fork result child) = (has_begun_to_end t.reason, why.ForkInEnding) ∷ []
   -- XSH exit: undefined if it is called more than once
   stops_of frame (statement.ProcExit v) = (is_some shared.exit_value, why.ExitTwice) ∷ []
-  -- no other implemented statement has a stop of its own
+  -- no other statement has a stop of its own
   stops_of frame s = []
 
-  -- the stop of a running thread at a statement, if there is one: whether it is implemented is tested first. XSH 2.9.5.4
-  -- has the functions that are async-cancel-safe; that a call of another one with asynchronous cancelability is a stop is a choice of
-  -- this host
+  -- the stop of a running thread at a statement, if there is one. XSH fork: the child of a process with several threads may execute
+  -- async-signal-safe operations only; that another statement is a stop, which is tested first, is a choice of this host. XSH 2.9.5.4 has
+  -- the functions that are async-cancel-safe; that a call of another one with asynchronous cancelability is a stop is a choice of this host
   unfoldable pub stop_at : Frame → Stmt → Option Why
   stop_at frame s =
       first_stop (
-      (is_unbuilt others s, why.Unbuilt)
+      (is_forbidden_in_child body shared frame s, why.ForkChildCall)
       ∷ (is_asynchronous t.state t.mode && not (is_allowed_asynchronously s), why.AsyncCall)
       ∷ stops_of frame s
       )

@@ -8,10 +8,9 @@ use Rattle.pct_model.specs.Keywords.{keyword_text}
 
 -- `undefined`: POSIX leaves the behavior undefined, or this host treats it alike by its choice (each DetachJoined and AsyncCall, an
 -- ExitInEnding in what a cancellation request called, an EnableInHandler in a handler that a pop called, a ThreadId at pthread_cancel
--- and a KeyId at pthread_key_delete of a number that no thread or no key ever had). `profile`: this host leaves the behavior out,
--- limits it, or has not built it yet
+-- and a KeyId at pthread_key_delete of a number that no thread or no key ever had). `profile`: this host leaves the behavior out or
+-- limits it
 abbrev pub class_of_stop : Why → Keyword
-class_of_stop why.Unbuilt = keyword.Profile
 class_of_stop why.ForkChildCall = keyword.Profile
 class_of_stop why.ForkInEnding = keyword.Profile
 class_of_stop why.StackFull = keyword.Profile
@@ -31,7 +30,6 @@ class_of_stop why.ExitTwice = keyword.Undefined
 
 -- the word for each stop
 abbrev pub name_of_stop : Why → Keyword
-name_of_stop why.Unbuilt = keyword.Unbuilt
 name_of_stop why.ForkChildCall = keyword.ForkChildCall
 name_of_stop why.AsyncCall = keyword.AsyncCall
 name_of_stop why.EnableInHandler = keyword.EnableInHandler

@@ -1,5 +1,5 @@
--- The transition that a choice makes. It is defined for each statement and status: statements that are not implemented, and statuses
--- that no run reaches, change nothing; legality (Step.antt) admits only choices of ChoiceTable.antt.
+-- The transition that a choice makes. It is defined for each statement and status: what no run reaches changes nothing; legality
+-- (Step.antt) admits only choices of ChoiceTable.antt.
 use Rattle.std.specs.Prelude.{ℕ, suc, List, length, slice_index, Option, Some, None}
 use Rattle.pct_model.specs.declared.script.Script.{Script}
 use Rattle.pct_model.specs.declared.statement.Operand.{Operand}
@@ -9,6 +9,7 @@ use Rattle.pct_model.specs.declared.schedule.Alt.{Alt}
 use Rattle.pct_model.specs.declared.schedule.Alt.TheVariants as alt
 use Rattle.pct_model.specs.declared.schedule.Config.{Config}
 use Rattle.pct_model.specs.declared.frame.Frame.{Frame}
+use Rattle.pct_model.specs.declared.state.ForkAt.{ForkAt}
 use Rattle.pct_model.specs.declared.state.Status.{Status}
 use Rattle.pct_model.specs.declared.state.Status.TheVariants as status
 use Rattle.pct_model.specs.declared.stop.Why.{Why}
@@ -26,16 +27,16 @@ use Rattle.pct_model.specs.KeyCalls.{creates_key_by, deletes_key, sets_specific,
 use Rattle.pct_model.specs.MutexCalls.{locks, unlocks}
 use Rattle.pct_model.specs.CondCalls.{begins_wait, reacquires, signals_by, broadcasts}
 use Rattle.pct_model.specs.SemCalls.{begins_sem_wait, takes, posts}
-use Rattle.pct_model.specs.ForkCalls.{begins_fork, goes_on_forking, begins_waitpid, waits_at}
+use Rattle.pct_model.specs.ForkCalls.{registers_fork, begins_fork, next_handler, goes_on_forking, begins_waitpid, waits_at}
 use Rattle.pct_model.specs.ThreadCalls.{creates_by, begins_join, joins_at, detaches, gets_self}
 use Rattle.pct_model.specs.ThreadEnds.{ends_by_exit, goes_on_ending}
 use Rattle.pct_model.specs.ProcessExit.{exits, returns_by, ends_now, goes_on_exiting, may_register, registers_if}
 use Rattle.pct_model.specs.StopTable.{stop_at}
 
 -- `end`: that of a block, by the pc where it opens, or that of the function, which returns 0
-abbrev pub ends_block : Option ℕ → List Stmt → Frame → Transition
-ends_block (Some opened) body frame = jumps (after_end body frame.pc opened)
-ends_block None body frame = returns_by frame.kind 0
+abbrev pub ends_block : Option ℕ → Option ForkAt → List Stmt → Frame → Transition
+ends_block (Some opened) kept body frame = jumps (after_end body frame.pc opened)
+ends_block None kept body frame = returns_by kept frame.kind 0
 
 -- the stop, if there is one
 abbrev pub stops_or : Option Why → Transition → Transition
@@ -59,9 +60,9 @@ module _ (passes : ℕ) (body : List Stmt) (shared : SharedState) (t : Thread) (
   runs frame (statement.If v) = jumps (after_test body frame.pc (value frame v))
   runs frame statement.Else = jumps (after_block body frame.pc)
   runs frame (statement.While v) = jumps (after_test body frame.pc (value frame v))
-  runs frame statement.End = ends_block (open_of body frame.pc) body frame
+  runs frame statement.End = ends_block (open_of body frame.pc) t.kept body frame
   runs frame (statement.Do f v) = calls (suc frame.pc) f (value frame v)
-  runs frame (statement.Return v) = returns_by frame.kind (value frame v)
+  runs frame (statement.Return v) = returns_by t.kept frame.kind (value frame v)
   -- XSH pthread_create, pthread_join, pthread_detach. A join is two transitions, its call and its return, also if the target has
   -- ended; it never fails with EDEADLK; the id is stored before the new thread runs: choices of this host
   runs frame (statement.Create result id f v detached) = creates_by choice (suc frame.pc) result id f (value frame v) detached
@@ -91,8 +92,9 @@ module _ (passes : ℕ) (body : List Stmt) (shared : SharedState) (t : Thread) (
   runs frame (statement.Broadcast c) = broadcasts (suc frame.pc) c (length (others.waiters c))
   runs frame (statement.SemWait s) = begins_sem_wait s
   runs frame (statement.SemPost s) = posts (suc frame.pc) s (slice_index shared.counts s)
-  -- XSH fork, waitpid
-  runs frame (statement.Fork result child) = begins_fork
+  -- XSH pthread_atfork, fork, waitpid
+  runs frame (statement.AtFork result prepare parent child) = registers_fork (length shared.fork_handlers) (suc frame.pc) result (record { prepare = prepare; parent = parent; child = child })
+  runs frame (statement.Fork result child) = begins_fork (length shared.fork_handlers)
   runs frame (statement.WaitPid result pid d) = begins_waitpid (others.family.child (value frame pid)) (value frame pid) (suc frame.pc) result
   -- XSH atexit, exit, _exit
   runs frame (statement.AtExit result f) = registers_if (may_register shared) (suc frame.pc) result f
@@ -100,8 +102,6 @@ module _ (passes : ℕ) (body : List Stmt) (shared : SharedState) (t : Thread) (
   runs frame (statement.ProcExitNow v) = ends_now (value frame v)
   -- XSH 2.9.5.2. A thread is suspended at each generic point that is required, and never at an optional one: a choice of this host
   runs frame (statement.PointCall index) = calls_point (suc frame.pc) index (point_kind index)
-  -- a statement that is not implemented is a stop
-  runs frame s = no_change
 
   -- what a thread does as it goes on by the choice, by its status
   unfoldable pub transition_at : NextStatement → Status → Transition
@@ -120,7 +120,9 @@ module _ (passes : ℕ) (body : List Stmt) (shared : SharedState) (t : Thread) (
   -- XSH 2.9.5.3, pthread_exit, pthread_key_create: cleanup handlers, then destructors, then the end
   transition_at next status.Ending = goes_on_ending others.is_last passes shared.keys t choice t.handlers
   -- XSH fork
-  transition_at next (status.Forking phase index length pid) = goes_on_forking phase pid others.family.new_pid next
+  transition_at next (status.Forking phase index length answer) =
+      let at : ForkAt = record { phase = phase; next = index; length = length; answer = answer } in
+      goes_on_forking (next_handler shared.fork_handlers at) at others.family.new_pid next
   -- XSH exit
   transition_at next status.Exiting = goes_on_exiting shared.exit_functions shared.exit_value
   -- no choice by which it goes on is offered to any other thread (ChoiceTable.antt)

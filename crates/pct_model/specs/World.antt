@@ -18,6 +18,7 @@ use Rattle.pct_model.specs.declared.state.Reason.{Reason}
 use Rattle.pct_model.specs.declared.state.Reason.TheVariants as reason
 use Rattle.pct_model.specs.declared.state.Status.{Status}
 use Rattle.pct_model.specs.declared.state.Status.TheVariants.{Running}
+use Rattle.pct_model.specs.declared.process.ForkHandlers.{ForkHandlers}
 use Rattle.pct_model.specs.declared.state.ForkAt.{ForkAt}
 use Rattle.pct_model.specs.declared.stop.Why.{Why}
 use Rattle.pct_model.specs.Keys.{KeyPlace, no_keys, KeyValues, no_values}
@@ -47,12 +48,6 @@ pub record Thread : Type 0 where
   -- the thread was not inherited by a child process
   pub gone : Bool
 
--- the functions of one call of pthread_atfork
-pub record ForkHandlers : Type 0 where
-  pub prepare : Option ℕ
-  pub parent : Option ℕ
-  pub child : Option ℕ
-
 -- the state that the threads of a process share
 pub record SharedState : Type 0 where
   pub globals : List ℕ
@@ -62,10 +57,13 @@ pub record SharedState : Type 0 where
   pub counts : List ℕ
   -- the keys of thread-specific data, by place
   pub keys : List KeyPlace
+  -- the registrations of fork handlers, in their order (XSH pthread_atfork)
   pub fork_handlers : List ForkHandlers
   pub exit_functions : List ℕ
   -- the value with which exit began
   pub exit_value : Option ℕ
+  -- the process is the child of one that had several threads: it may execute async-signal-safe operations only (XSH fork)
+  pub restricted : Bool
 
 -- the end of a process (XSH _exit)
 pub record ProcessEnd : Type 0 where
@@ -78,8 +76,6 @@ pub record Process : Type 0 where
   pub pid : ℕ
   -- 0 if the process has no parent
   pub parent : ℕ
-  -- the child of a multi-threaded process: it may execute async-signal-safe operations only (XSH fork)
-  pub restricted : Bool
   -- its end, if it has ended
   pub ended : Option ProcessEnd
   pub threads : List Thread
@@ -136,11 +132,11 @@ new_thread id detached frame = record { id = id; detached = detached; joined = f
 
 -- the shared state at the start of a script
 abbrev pub new_shared : Script → SharedState
-new_shared script = record { globals = replicate (length script.globals) 0; owners = replicate (length script.mutexes) 0; counts = map (λ d. d.count) script.sems; keys = no_keys; fork_handlers = []; exit_functions = []; exit_value = None }
+new_shared script = record { globals = replicate (length script.globals) 0; owners = replicate (length script.mutexes) 0; counts = map (λ d. d.count) script.sems; keys = no_keys; fork_handlers = []; exit_functions = []; exit_value = None; restricted = false }
 
 -- process 1, with thread 1 in `main`
 abbrev pub first_process : Script → Process
-first_process script = record { pid = 1; parent = 0; restricted = false; ended = None; threads = new_thread 1 false (new_frame (main_of (names_of script.funcs)) 0 kind.Main) ∷ []; shared = new_shared script }
+first_process script = record { pid = 1; parent = 0; ended = None; threads = new_thread 1 false (new_frame (main_of (names_of script.funcs)) 0 kind.Main) ∷ []; shared = new_shared script }
 
 -- the initial state of a script
 unfoldable pub opening : Script → World

@@ -74,7 +74,6 @@ pub enum Keyword {
     // the words of stops
     Undefined,
     Profile,
-    Unbuilt,
     ForkChildCall,
     AsyncCall,
     EnableInHandler,
@@ -190,7 +189,6 @@ impl Keyword {
             Keyword::Dtor => b"dtor",
             Keyword::Undefined => b"undefined",
             Keyword::Profile => b"profile",
-            Keyword::Unbuilt => b"unbuilt",
             Keyword::ForkChildCall => b"fork_child_call",
             Keyword::AsyncCall => b"async_call",
             Keyword::EnableInHandler => b"enable_in_handler",

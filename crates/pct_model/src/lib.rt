@@ -15,6 +15,7 @@ mod point;
 mod process;
 mod refusal;
 mod role;
+mod run_options;
 mod schedule;
 mod script;
 mod sequence;
@@ -29,20 +30,21 @@ pub use event::{Caller, Event, What};
 pub use frame::Frame;
 pub use keyword::Keyword;
 pub use limits::{
-    MAX_BUDGET, MAX_COUNT, MAX_DECLARED, MAX_EXIT_FUNCTIONS, MAX_FRAMES, MAX_FUNCTIONS,
-    MAX_HANDLERS, MAX_INPUT, MAX_KEYS, MAX_LOCALS, MAX_PASSES, MAX_PROCESSES, MAX_SLOTS,
-    MAX_STATEMENTS, MAX_WORKER, MIN_PASSES,
+    MAX_BUDGET, MAX_COUNT, MAX_DECLARED, MAX_EXIT_FUNCTIONS, MAX_FORK_HANDLERS, MAX_FRAMES,
+    MAX_FUNCTIONS, MAX_HANDLERS, MAX_INPUT, MAX_KEYS, MAX_LOCALS, MAX_PASSES, MAX_PROCESSES,
+    MAX_SLOTS, MAX_STATEMENTS, MAX_WORKER, MIN_PASSES,
 };
 pub use line_kind::{ArgumentKind, LINE_KINDS, LineKind, SymbolKind};
 pub use name::{MAX_NAME, Name};
 pub use parsed_line::{Argument, ParsedLine, Token, Tokens};
 pub use point::{
-    COND_WAIT_POINT, JOIN_POINT, Point, PointKind, PointWait, SEM_WAIT_POINT, TESTCANCEL_POINT,
-    WAITPID_POINT,
+    CLOSE_POINT, COND_WAIT_POINT, JOIN_POINT, OPEN_POINT, PAUSE_POINT, Point, PointKind, PointWait,
+    READ_POINT, SEM_WAIT_POINT, SLEEP_POINT, TESTCANCEL_POINT, WAITPID_POINT, WRITE_POINT,
 };
-pub use process::{Child, Relative};
+pub use process::{Child, ForkHandlers, HandlerCall, Relative};
 pub use refusal::{ParseWhy, ScheduleWhy};
 pub use role::{Block, Change, Role};
+pub use run_options::{RunOption, RunOptions};
 pub use schedule::{Alt, Config, Entry};
 pub use script::{Func, Script, SemDecl, main_of};
 pub use sequence::{Funcs, Names, SemDecls, Sequence, Stmts};

@@ -18,6 +18,8 @@ pub const MAX_HANDLERS: usize = 32;
 pub const MAX_EXIT_FUNCTIONS: usize = 32;
 /// Live keys of thread-specific data of a process, each on a place of its own.
 pub const MAX_KEYS: u32 = 128;
+/// Registrations of fork handlers of a process (pthread_atfork).
+pub const MAX_FORK_HANDLERS: usize = 16;
 /// Processes of a run that are not reaped.
 pub const MAX_PROCESSES: usize = 8;
 /// Initial count of a semaphore.

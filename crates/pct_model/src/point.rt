@@ -11,6 +11,18 @@ pub const JOIN_POINT: u32 = 22;
 pub const TESTCANCEL_POINT: u32 = 23;
 /// The index of sem_wait in the table of cancellation points.
 pub const SEM_WAIT_POINT: u32 = 32;
+/// The index of close in the table of cancellation points.
+pub const CLOSE_POINT: u32 = 3;
+/// The index of open in the table of cancellation points.
+pub const OPEN_POINT: u32 = 14;
+/// The index of pause in the table of cancellation points.
+pub const PAUSE_POINT: u32 = 16;
+/// The index of read in the table of cancellation points.
+pub const READ_POINT: u32 = 25;
+/// The index of sleep in the table of cancellation points.
+pub const SLEEP_POINT: u32 = 40;
+/// The index of write in the table of cancellation points.
+pub const WRITE_POINT: u32 = 45;
 /// The index of waitpid in the table of cancellation points.
 pub const WAITPID_POINT: u32 = 44;
 

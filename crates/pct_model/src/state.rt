@@ -55,19 +55,21 @@ pub enum Status {
     /// Suspended in pthread_cond_wait until it owns the mutex again.
     Reacquire(u32, u32, Cause),
     Ending,
-    /// In fork: the phase, the index of the next fork handler, the number of fork handlers, and the id of the child, which is 0 before
-    /// the fork, after one that failed, and in the child itself.
+    /// In fork: the values of `ForkAt`, in its order.
     Forking(Phase, u32, u32, u32),
     Exiting,
     Ended(u32),
 }
 
-/// The values of a fork in progress, while one of its fork handlers runs.
+/// How far a thread is in a fork.
 #[derive(Clone, Copy, Debug)]
 pub struct ForkAt {
     pub phase: Phase,
+    /// Before the fork, the handlers of the registrations below this index are left; after it, those from this index on.
     pub next: u32,
+    /// The number of registrations of fork handlers as fork was called.
     pub length: u32,
+    /// The id of the child. It is 0 before the fork, after one that failed, and in the child itself.
     pub answer: u32,
 }
 

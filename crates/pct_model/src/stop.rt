@@ -5,12 +5,10 @@ ghost use Rattle.pct_model.specs.StopTexts.{class_of_stop, name_of_stop};
 
 use crate::keyword::Keyword;
 
-/// Why a run was stopped: POSIX leaves the behavior undefined, or this host treats it alike, leaves it out, limits it, or has
-/// not built it yet.
+/// Why a run was stopped: POSIX leaves the behavior undefined, or this host treats it alike, leaves it out or limits
+/// it.
 #[derive(Clone, Copy, Debug, PartialEq, Eq)]
 pub enum Why {
-    /// The statement is not implemented yet.
-    Unbuilt,
     ForkChildCall,
     AsyncCall,
     EnableInHandler,
@@ -31,16 +29,13 @@ pub enum Why {
 
 impl Why {
     /// `undefined` if POSIX leaves the behavior undefined, or this host treats it alike by its choice; `profile` if this host
-    /// leaves it out, limits it, or has not built it yet.
+    /// leaves it out or limits it.
     pub fn class(self) -> Keyword
         ensures { result ≡ class_of_stop self }
     {
         match self {
-            Why::Unbuilt
-            | Why::ForkChildCall
-            | Why::ForkInEnding
-            | Why::StackFull
-            | Why::CleanupFull => Keyword::Profile,
+            Why::ForkChildCall | Why::ForkInEnding | Why::StackFull | Why::CleanupFull =>
+                Keyword::Profile,
             _ => Keyword::Undefined,
         }
     }
@@ -50,7 +45,6 @@ impl Why {
         ensures { result ≡ name_of_stop self }
     {
         match self {
-            Why::Unbuilt => Keyword::Unbuilt,
             Why::ForkChildCall => Keyword::ForkChildCall,
             Why::AsyncCall => Keyword::AsyncCall,
             Why::EnableInHandler => Keyword::EnableInHandler,

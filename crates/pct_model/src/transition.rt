@@ -1,7 +1,8 @@
 //! Transitions of the machine: what a thread does in one step.
 
 use crate::event::What;
-use crate::state::{FrameKind, Mode, Phase, Reason, State, Status};
+use crate::process::ForkHandlers;
+use crate::state::{ForkAt, FrameKind, Mode, Reason, State, Status};
 use crate::statement::Dest;
 use crate::stop::Why;
 use crate::up_to_three::UpToThree;
@@ -47,8 +48,12 @@ pub enum Action {
     BeginSem(u32),
     /// The thread is suspended in waitpid, for the process with this id.
     BeginWaitPid(u32),
-    /// The thread is in this phase of fork; in the process that called fork it has the id of the child, 0 if there is none.
-    EnterFork(Phase, u32),
+    /// The thread is in fork, with these values.
+    EnterFork(ForkAt),
+    /// The thread keeps these values of its fork while it is in a fork handler.
+    KeepFork(ForkAt),
+    /// Fork handlers are registered.
+    AddForkHandlers(ForkHandlers),
     /// The thread with this id was joined.
     EndJoin(u32),
     /// A cancellation request for the thread with this id is pending, unless that thread has ended. It may be the thread itself.

@@ -5,6 +5,7 @@ use Rattle.std.specs.Prelude.{slice_set}
 use Rattle.std.proofs.lemmas.List.{map-set, get_or-replicate, length-map, length-replicate}
 use Rattle.pct_model.specs.declared.limits.TheConstants.{MAX_DECLARED}
 use Rattle.pct_model.specs.declared.line_kind.SymbolKind.TheVariants as kind
+use Rattle.pct_model.specs.declared.process.ForkHandlers.{ForkHandlers}
 use Rattle.pct_model.specs.declared.script.Script.{Script}
 use Rattle.pct_model.specs.declared.script.SemDecl.{SemDecl}
 use Rattle.pct_model.specs.declared.state.FrameKind.TheVariants.{Main}
@@ -64,15 +65,15 @@ slots-of_first script n some =
     ∙ ap (λ (rows : List SeenSlot). slice_set rows 0 (first_on_slot (first_thread script))) (map-replicate slot_view n unused)
 
 -- the data of the first process
-pub data-first : (script : Script) (n func : ℕ) (threads : List Slot) (keys : Table) (globals owners counts functions : List ℕ) → 0 < n → func ≡ main_of (names_of script.funcs) → threads ≡ first_table n func → keys ≡ new_table n
-    → globals ≡ replicate (length script.globals) 0 → owners ≡ replicate (length script.mutexes) 0 → counts ≡ map (λ d. d.count) script.sems → functions ≡ []
-    → record { slots = slots_of keys.rows threads; shared = shared_of globals owners counts keys.places functions None } ≡ first_data n script
-data-first script n func threads keys globals owners counts functions some main made none zeros free counted unregistered =
+pub data-first : (script : Script) (n func : ℕ) (threads : List Slot) (keys : Table) (globals owners counts : List ℕ) (handlers : List ForkHandlers) (functions : List ℕ) → 0 < n → func ≡ main_of (names_of script.funcs) → threads ≡ first_table n func → keys ≡ new_table n
+    → globals ≡ replicate (length script.globals) 0 → owners ≡ replicate (length script.mutexes) 0 → counts ≡ map (λ d. d.count) script.sems → handlers ≡ [] → functions ≡ []
+    → record { slots = slots_of keys.rows threads; shared = shared_of globals owners counts keys.places handlers functions None false } ≡ first_data n script
+data-first script n func threads keys globals owners counts handlers functions some main made none zeros free counted unhandled unregistered =
     let table : threads ≡ first_table n (main_of (names_of script.funcs)) = made ∙ ap (first_table n) main in
-    ap (λ (k : Table). record { slots = slots_of k.rows threads; shared = shared_of globals owners counts k.places functions None }) none
-    ∙ ap (λ (ts : List Slot). record { slots = slots_of (replicate n no_values) ts; shared = shared_of globals owners counts no_keys functions None }) table
-    ∙ ap (λ (rows : List SeenSlot). record { slots = rows; shared = shared_of globals owners counts no_keys functions None }) (slots-of_first script n some ∙ sym (one_thread_on_first n (first_thread script) some (zero-mod n) refl))
-    ∙ (λ i. record { slots = (first_data n script).slots; shared = shared_of (zeros i) (free i) (counted i) no_keys (unregistered i) None })
+    ap (λ (k : Table). record { slots = slots_of k.rows threads; shared = shared_of globals owners counts k.places handlers functions None false }) none
+    ∙ ap (λ (ts : List Slot). record { slots = slots_of (replicate n no_values) ts; shared = shared_of globals owners counts no_keys handlers functions None false }) table
+    ∙ ap (λ (rows : List SeenSlot). record { slots = rows; shared = shared_of globals owners counts no_keys handlers functions None false }) (slots-of_first script n some ∙ sym (one_thread_on_first n (first_thread script) some (zero-mod n) refl))
+    ∙ (λ i. record { slots = (first_data n script).slots; shared = shared_of (zeros i) (free i) (counted i) no_keys (unhandled i) (unregistered i) None false })
 
 -- each slot has a row
 pub rows-first : (n func : ℕ) (threads : List Slot) (keys : Table) → threads ≡ first_table n func → keys ≡ new_table n → length keys.rows ≡ length threads

@@ -1,10 +1,11 @@
 -- What the tables of a process represent: its slots, and the state that its threads share, as the definitions have them.
-use Rattle.std.specs.Prelude.{◌≡◌, ℕ, true, List, [], ◌∷◌, map, slice_index_or, Option, Some, None, is_some, option_map}
+use Rattle.std.specs.Prelude.{◌≡◌, ℕ, Bool, true, not, List, [], ◌∷◌, map, slice_index_or, Option, Some, None, is_some, option_map}
+use Rattle.pct_model.specs.declared.process.ForkHandlers.{ForkHandlers}
 use Rattle.pct_model.specs.declared.script.Script.{Script}
 use Rattle.pct_model.specs.Keys.{KeyPlace, KeyValues}
 use Rattle.pct_model.specs.World.{Thread, SharedState, new_shared, first_process}
 use Rattle.pct_threads.specs.Slots.{Slot}
-use Rattle.pct_engine_laws.specs.Seen.{SeenSlot, seen_process, slot_inherited}
+use Rattle.pct_engine_laws.specs.Seen.{SeenSlot, seen_process, slot_inherited, is_last_in}
 use Rattle.pct_process.specs.ThreadViews.{slot_view, with_specific}
 
 -- ---- slots
@@ -53,15 +54,16 @@ pub record ProcessData : Type 0 where
   pub slots : List SeenSlot
   pub shared : SharedState
 
--- the state that the threads share. No function is registered with pthread_atfork yet.
-abbrev pub shared_of : List ℕ → List ℕ → List ℕ → List KeyPlace → List ℕ → Option ℕ → SharedState
-shared_of globals owners counts keys exit_functions exit_value = record { globals = globals; owners = owners; counts = counts; keys = keys; fork_handlers = []; exit_functions = exit_functions; exit_value = exit_value }
+-- the state that the threads share
+abbrev pub shared_of : List ℕ → List ℕ → List ℕ → List KeyPlace → List ForkHandlers → List ℕ → Option ℕ → Bool → SharedState
+shared_of globals owners counts keys fork_handlers exit_functions exit_value restricted =
+    record { globals = globals; owners = owners; counts = counts; keys = keys; fork_handlers = fork_handlers; exit_functions = exit_functions; exit_value = exit_value; restricted = restricted }
 
 -- the data of the first process before the first step, with this number of slots
 abbrev pub first_data : ℕ → Script → ProcessData
 first_data slots script = record { slots = (seen_process slots (first_process script)).slots; shared = new_shared script }
 
 -- the data of the child that a fork by the thread with an id makes: it inherits this thread alone, and the shared state; exit has not
--- begun in it (XSH fork)
+-- begun in it, and it is restricted if another thread has not ended (XSH fork)
 abbrev pub data_inherited : ℕ → ProcessData → ProcessData
-data_inherited tid p = record { slots = map (slot_inherited tid) p.slots; shared = record p.shared { exit_value = None } }
+data_inherited tid p = record { slots = map (slot_inherited tid) p.slots; shared = record p.shared { exit_value = None; restricted = not (is_last_in tid p.slots) } }

@@ -1,9 +1,8 @@
 -- What the slots of a table of threads represent: the part of the machine's state that an engine keeps of the threads.
 use Rattle.std.specs.Prelude.{ℕ, Bool, true, false, ◌||◌, List, [], ◌∷◌, Option, Some, None, nat_eq}
 use Rattle.std.specs.Option.{option_map_or}
-use Rattle.pct_model.specs.declared.state.Phase.TheVariants.{Child}
 use Rattle.pct_model.specs.declared.state.Reason.TheVariants as reason
-use Rattle.pct_model.specs.declared.state.Status.TheVariants.{Forking}
+use Rattle.pct_model.specs.Actions.{in_child}
 use Rattle.pct_model.specs.Keys.{KeyValues, no_values}
 use Rattle.pct_model.specs.World.{Thread}
 use Rattle.pct_threads.specs.declared.record.Thread.{Thread as Record}
@@ -34,4 +33,4 @@ has_no_other tid here = option_map_or (λ h. h.thread.ended || nat_eq h.id tid) 
 
 -- the record of the thread of a child process, where this is the record of the thread that called fork
 abbrev pub record_inherited : Record → Record
-record_inherited t = record t { status = Forking Child 0 0 0; cancel = record t.cancel { pending = false }; reason = reason.None; pass = 0; kept = None; ended = false }
+record_inherited t = record t { status = in_child t.status; cancel = record t.cancel { pending = false }; reason = reason.None; pass = 0; kept = None; ended = false }

@@ -3,12 +3,14 @@
 
 mod exit_functions;
 mod family;
+mod fork_registrations;
 mod numbers;
 mod process_state;
 mod relatives;
 
 pub use exit_functions::ExitFunctions;
 pub use family::Family;
+pub use fork_registrations::ForkRegistrations;
 pub use numbers::Numbers;
 pub use process_state::ProcessState;
 pub use relatives::Relatives;

@@ -2,10 +2,12 @@
 
 ghost use Rattle.std.specs.Prelude.{◌≡◌, ◌<◌, length};
 ghost use Rattle.std.specs.List.{list_all};
+ghost use Rattle.pct_model.specs.Actions.{in_child};
 ghost use Rattle.pct_threads.specs.Tables.{held_at};
 ghost use Rattle.pct_process.specs.ThreadViews.{has_no_other, record_inherited};
 
 use crate::exit_functions::ExitFunctions;
+use crate::fork_registrations::ForkRegistrations;
 use crate::numbers::Numbers;
 use pct_io::NoMemory;
 use pct_keys::Keys;
@@ -29,10 +31,14 @@ pub struct ProcessState {
     pub owners: Numbers,
     /// The count of each semaphore.
     pub counts: Numbers,
+    /// The fork handlers that are registered with pthread_atfork.
+    pub fork_handlers: ForkRegistrations,
     /// The functions that are registered with atexit.
     pub exit_functions: ExitFunctions,
     /// The value with which exit began.
     pub exit_value: Option<u32>,
+    /// The process is the child of one that had several threads, and may execute async-signal-safe operations only.
+    pub restricted: bool,
 }
 
 impl Model for ProcessState {
@@ -41,7 +47,7 @@ impl Model for ProcessState {
 
     ghost Value = { ProcessData };
 
-    ghost view = { λ p. record { slots = slots_of p.keys.rows p.threads; shared = shared_of p.globals p.owners p.counts p.keys.places p.exit_functions p.exit_value } };
+    ghost view = { λ p. record { slots = slots_of p.keys.rows p.threads; shared = shared_of p.globals p.owners p.counts p.keys.places p.fork_handlers p.exit_functions p.exit_value p.restricted } };
 
     ghost invariant = { λ p. length p.keys.rows ≡ length p.threads };
 }
@@ -71,8 +77,10 @@ impl ProcessState {
             globals: Numbers::new(script.globals.as_slice().len()),
             owners: Numbers::new(script.mutexes.as_slice().len()),
             counts: Numbers::counts_of(script.sems.as_slice()),
+            fork_handlers: ForkRegistrations::new(),
             exit_functions: ExitFunctions::new(),
             exit_value: None,
+            restricted: false,
         })
     }
 
@@ -85,8 +93,10 @@ impl ProcessState {
             globals: Numbers::new(0),
             owners: Numbers::new(0),
             counts: Numbers::new(0),
+            fork_handlers: ForkRegistrations::new(),
             exit_functions: ExitFunctions::new(),
             exit_value: None,
+            restricted: false,
         })
     }
 
@@ -102,8 +112,10 @@ impl ProcessState {
         self.globals.copy_from(&parent.globals);
         self.owners.copy_from(&parent.owners);
         self.counts.copy_from(&parent.counts);
+        self.fork_handlers.copy_from(&parent.fork_handlers);
         self.exit_functions.copy_from(&parent.exit_functions);
         self.exit_value = None;
+        self.restricted = !parent.is_last(parent.id_on(slot));
     }
 
     /// The number of slots.
@@ -180,10 +192,20 @@ fn has_no_other(threads: &Threads, slot: u32, tid: u32) -> bool
 fn become_replica(thread: &mut Thread)
     ensures { thread.new ≡ record_inherited thread.old }
 {
-    thread.status = Status::Forking(Phase::Child, 0, 0, 0);
+    thread.status = in_child(thread.status);
     thread.cancel.pending = false;
     thread.reason = Reason::None;
     thread.pass = 0;
     thread.kept = None;
     thread.ended = false;
+}
+
+// The status of the replica of a thread with this status, which is in fork.
+fn in_child(status: Status) -> Status
+    ensures { result ≡ in_child status }
+{
+    match status {
+        Status::Forking(_, _, length, _) => Status::Forking(Phase::Child, 0, length, 0),
+        other => other,
+    }
 }

@@ -1,5 +1,6 @@
 -- The order of the scheduler's candidates, how two numbers choose among them, and the choices of a thread that creates a thread or a key.
 use Rattle.std.proofs.Common.{◌≡◌, ℕ, true, false, List, [], ◌∷◌, ◌++◌, map, replicate, Some, None, refl}
+use Rattle.pct_model.specs.declared.frame.Frame.{Frame}
 use Rattle.pct_model.specs.declared.schedule.Alt.{Alt}
 use Rattle.pct_model.specs.declared.schedule.Alt.TheVariants as alt
 use Rattle.pct_model.specs.declared.schedule.Config.{Config}
@@ -9,10 +10,11 @@ use Rattle.pct_model.specs.declared.state.Status.{Status}
 use Rattle.pct_model.specs.declared.state.Status.TheVariants as status
 use Rattle.pct_model.specs.declared.statement.Dest.TheVariants as destination
 use Rattle.pct_model.specs.declared.statement.Operand.TheVariants as operand
+use Rattle.pct_model.specs.declared.statement.Stmt.{Stmt}
 use Rattle.pct_model.specs.declared.statement.Stmt.TheVariants as statement
 use Rattle.pct_model.specs.declared.stop.Why.TheVariants as why
 use Rattle.pct_model.specs.Keys.{KeyPlace}
-use Rattle.pct_model.specs.World.{Thread, Process, World, first_process, new_frame, new_thread, new_shared}
+use Rattle.pct_model.specs.World.{Thread, SharedState, Process, World, first_process, new_frame, new_thread, new_shared}
 use Rattle.pct_model.specs.ThreadSlots.{slot_of, by_slot}
 use Rattle.pct_model.specs.OtherThreads.{Others, others_of}
 use Rattle.pct_model.specs.ChoiceTable.{running_choices}
@@ -24,9 +26,12 @@ use Rattle.pct_rows.proofs.ExampleScripts.{smallest}
 abbrev pub config : Config
 config = record { budget = 100; passes = 4; slots = 4 }
 
--- a thread at the first statement of `main`
+-- a frame at the first statement of `main`, and a thread with it
+abbrev pub start : Frame
+start = new_frame 0 0 kind.Start
+
 abbrev pub ready : ℕ → Thread
-ready id = new_thread id false (new_frame 0 0 kind.Start)
+ready id = new_thread id false start
 
 -- a thread in a status
 abbrev pub in_status : ℕ → Status → Thread
@@ -88,8 +93,12 @@ state_of processes = record { processes = processes; stop = None }
 abbrev pub nobody : Others
 nobody = others_of 0 (state_of []) (process 1 []) 1
 
+-- the choices of a running thread at a statement of `main`
+abbrev pub choices_before : SharedState → Thread → Others → Stmt → List Alt
+choices_before shared t others s = running_choices [] shared t others start s
+
 -- a new thread gets one of the ids of the free slots, by rising slot; without one the call fails
-new_thread_ids : map (λ ids. running_choices (new_shared smallest) (ready 1) (record nobody { new_ids = ids }) (statement.Create destination.Drop destination.Drop 0 (operand.Num 0) false)) ((5 ∷ 2 ∷ []) ∷ [] ∷ []) ≡ (alt.New 5 ∷ alt.New 2 ∷ []) ∷ (alt.Go ∷ []) ∷ []
+new_thread_ids : map (λ ids. choices_before (new_shared smallest) (ready 1) (record nobody { new_ids = ids }) (statement.Create destination.Drop destination.Drop 0 (operand.Num 0) false)) ((5 ∷ 2 ∷ []) ∷ [] ∷ []) ≡ (alt.New 5 ∷ alt.New 2 ∷ []) ∷ (alt.Go ∷ []) ∷ []
 unfolding runs_on_literals
 new_thread_ids = refl
 
@@ -101,6 +110,6 @@ abbrev all_but_the_last : List KeyPlace
 all_but_the_last = replicate 127 (place_with 1) ++ record { made = 2; key = None } ∷ []
 
 -- a new key is on the last place, with its third number; with no place left the call fails
-creates_the_last_key : map (λ keys. running_choices (record (new_shared smallest) { keys = keys }) (ready 1) nobody (statement.KeyCreate destination.Drop destination.Drop None)) (all_but_the_last ∷ replicate 128 (place_with 1) ∷ []) ≡ (alt.New 384 ∷ []) ∷ (alt.Go ∷ []) ∷ []
+creates_the_last_key : map (λ keys. choices_before (record (new_shared smallest) { keys = keys }) (ready 1) nobody (statement.KeyCreate destination.Drop destination.Drop None)) (all_but_the_last ∷ replicate 128 (place_with 1) ∷ []) ≡ (alt.New 384 ∷ []) ∷ (alt.Go ∷ []) ∷ []
 unfolding runs_on_literals
 creates_the_last_key = refl

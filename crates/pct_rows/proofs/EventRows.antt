@@ -1,4 +1,4 @@
--- The texts of the events and the stops that no run has while processes are not implemented, in a script with two functions.
+-- The texts of the events and the stops of processes, in a script with two functions.
 use Rattle.std.proofs.Common.{◌≡◌, ℕ, List, [], ◌∷◌, refl}
 use Rattle.std.specs.Prelude.{IsTrue, codes, flat_map}
 use Rattle.std.specs.Fmt.{digits}

@@ -12,7 +12,7 @@ use Rattle.pct_model.specs.Static.{is_static}
 use Rattle.pct_model.specs.StopTexts.{stop_words}
 use Rattle.pct_model.specs.EventTexts.{event_words}
 use Rattle.pct_model.specs.Report.{thread_text, event_line, alt_words, entry_line, header_line, end_line, schedule_lines, verdict_words, verdict_line, title_line, report_lines, report}
-use Rattle.pct_model.specs.Outcome.{default_config}
+use Rattle.pct_model.specs.RunOptions.{default_config}
 use Rattle.pct_rows.specs.Examples.{smallest_report, cleanup_report, first_goes}
 use Rattle.pct_rows.proofs.OnLiterals.{checks_on_literals, runs_on_literals}
 

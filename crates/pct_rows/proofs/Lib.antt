@@ -8,5 +8,8 @@ mod ThreadRows
 mod ChoiceRows
 mod WaitRows
 mod ProcessRows
+mod ForkRows
+mod SlotRows
+mod OptionRows
 mod EventRows
 mod StaticRows

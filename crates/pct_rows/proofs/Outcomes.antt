@@ -8,8 +8,8 @@ use Rattle.pct_model.specs.declared.line_kind.SymbolKind.{SymbolKind}
 use Rattle.pct_model.specs.declared.line_kind.SymbolKind.TheVariants as kind
 use Rattle.pct_model.specs.declared.parsed_line.Token.{Token}
 use Rattle.pct_model.specs.declared.parsed_line.Token.TheVariants as token
+use Rattle.pct_model.specs.declared.run_options.RunOptions.{RunOptions}
 use Rattle.pct_model.specs.declared.script.Script.{Script}
-use Rattle.pct_model.specs.Keywords.{keyword_text}
 use Rattle.pct_model.specs.Names.{is_name}
 use Rattle.pct_model.specs.Lines.{lines_of}
 use Rattle.pct_model.specs.Points.{points, point_of, point_name}
@@ -21,9 +21,10 @@ use Rattle.pct_model.specs.Sections.{parsed_lines, split_sections, Line, declari
 use Rattle.pct_model.specs.Spells.{declarations, contents_of, AreContents, SpellsContents}
 use Rattle.pct_model.specs.World.{opening}
 use Rattle.pct_model.specs.Run.{Run, run, verdict_of}
-use Rattle.pct_model.specs.Outcome.{is_asked, code_of_verdict, default_config, Runs}
+use Rattle.pct_model.specs.RunOptions.{default_config}
+use Rattle.pct_model.specs.Outcome.{code_of_verdict, Runs}
 use Rattle.pct_rows.specs.Examples.{smallest_text, smallest_report, cleanup_text, cleanup_report, first_goes}
-use Rattle.pct_rows.proofs.OnLiterals.{runs_on_literals}
+use Rattle.pct_rows.proofs.OnLiterals.{runs_on_literals, options_on_literals}
 use Rattle.pct_rows.proofs.ExampleScripts.{smallest, smallest_reported, cleanup, cleanup_reported}
 
 -- a parsed line with its number
@@ -33,6 +34,10 @@ line n f words = (n, record { line_kind = f; tokens = words })
 -- the arguments of `fn`: a name, and the parameter `x`
 abbrev with_x : List ℕ → List Token
 with_x name = token.Name name ∷ token.Name (codes "x") ∷ []
+
+-- the numbers of a run without options
+abbrev default_options : RunOptions
+default_options = record { config = default_config; seed = 1; workers = 1; turns = 10000 }
 
 -- the state of a run, if there is one
 abbrev end_of : Script → ℕ → Run
@@ -81,8 +86,8 @@ smallest_completes = refl
 
 -- the outcome of `run`
 pub smallest_runs : Runs (codes "run" ∷ []) smallest_text (replicate 2 first_goes) 0 smallest_report
-unfolding is_asked keyword_text
-smallest_runs = record { accepted = refl; fits = omega arith; script = smallest; spelled = smallest_spelled; after = end_of smallest 2; is_run = is_its_end (run smallest default_config (replicate 2 first_goes)) _ smallest_is_legal; code_is = sym smallest_completes; text_is = smallest_reported }
+unfolding options_on_literals
+smallest_runs = record { options = default_options; accepted = refl; fits = omega arith; script = smallest; spelled = smallest_spelled; after = end_of smallest 2; is_run = is_its_end (run smallest default_config (replicate 2 first_goes)) _ smallest_is_legal; code_is = sym smallest_completes; text_is = smallest_reported }
 
 -- ---- the script with a cleanup handler
 
@@ -126,5 +131,5 @@ cleanup_completes = refl
 
 -- the outcome of `run`
 pub cleanup_runs : Runs (codes "run" ∷ []) cleanup_text (replicate 7 first_goes) 0 cleanup_report
-unfolding is_asked keyword_text
-cleanup_runs = record { accepted = refl; fits = omega arith; script = cleanup; spelled = cleanup_spelled; after = end_of cleanup 7; is_run = is_its_end (run cleanup default_config (replicate 7 first_goes)) _ cleanup_is_legal; code_is = sym cleanup_completes; text_is = cleanup_reported }
+unfolding options_on_literals
+cleanup_runs = record { options = default_options; accepted = refl; fits = omega arith; script = cleanup; spelled = cleanup_spelled; after = end_of cleanup 7; is_run = is_its_end (run cleanup default_config (replicate 7 first_goes)) _ cleanup_is_legal; code_is = sym cleanup_completes; text_is = cleanup_reported }

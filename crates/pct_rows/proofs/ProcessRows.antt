@@ -1,5 +1,5 @@
--- Processes that are made, that end and that are reaped, and threads that exit, in states that no run of a script reaches, some of them
--- while a fork of a process with several threads is not implemented (XSH exit, atexit, fork, waitpid).
+-- Processes that are made, that end and that are reaped, and threads that exit, some of them in states that no run of a script reaches (XSH
+-- exit, atexit, fork, waitpid).
 use Rattle.std.proofs.Common.{◌≡◌, ℕ, Bool, true, false, List, [], ◌∷◌, map, Option, Some, None, refl}
 use Rattle.std.specs.Prelude.{drop, option_map, replicate}
 use Rattle.pct_model.specs.declared.event.Caller.TheVariants as caller
@@ -7,7 +7,7 @@ use Rattle.pct_model.specs.declared.event.What.{What}
 use Rattle.pct_model.specs.declared.event.What.TheVariants as what
 use Rattle.pct_model.specs.declared.process.Child.{Child}
 use Rattle.pct_model.specs.declared.state.FrameKind.TheVariants as kind
-use Rattle.pct_model.specs.declared.state.Phase.TheVariants.{Child as ChildPhase}
+use Rattle.pct_model.specs.declared.state.Phase.TheVariants.{Prepare, Child as ChildPhase}
 use Rattle.pct_model.specs.declared.state.State.TheVariants.{Disable}
 use Rattle.pct_model.specs.declared.state.Reason.TheVariants as reason
 use Rattle.pct_model.specs.declared.state.Status.{Status}
@@ -21,7 +21,7 @@ use Rattle.pct_model.specs.ProcessExit.{goes_on_exiting, may_register, registers
 use Rattle.pct_model.specs.Transitions.{goes_on, acts, no_change}
 use Rattle.pct_model.specs.Actions.{shared_after, child_of, after_transition}
 use Rattle.pct_model.specs.Step.{step}
-use Rattle.pct_model.specs.Outcome.{default_config}
+use Rattle.pct_model.specs.RunOptions.{default_config}
 use Rattle.pct_rows.proofs.OnLiterals.{runs_on_literals}
 use Rattle.pct_rows.proofs.ExampleScripts.{smallest}
 use Rattle.pct_rows.specs.Examples.{first_goes}
@@ -67,9 +67,10 @@ forking : map pid_and_parent (after_transition 2 1 (acts (action.MakeChild 6 ∷
 unfolding runs_on_literals
 forking = refl
 
--- thread 2 calls fork in a process whose thread 1 has not ended: it has a handler, disabled cancelability and a request, and is detached
+-- thread 2 is in a fork that uses 3 registrations, in a process whose thread 1 has not ended: it has a handler, disabled cancelability and a
+-- request, and is detached
 abbrev forks : Thread
-forks = record (new_thread 2 true (new_frame 3 7 kind.Start)) { state = Disable; pending = true; handlers = (4, 5) ∷ [] }
+forks = record (new_thread 2 true (new_frame 3 7 kind.Start)) { status = status.Forking Prepare 0 3 0; state = Disable; pending = true; handlers = (4, 5) ∷ [] }
 
 abbrev made : Process
 made = child_of 2 6 (record (first_process smallest) { threads = new_thread 1 false (new_frame 0 0 kind.Main) ∷ forks ∷ []; shared = record (new_shared smallest) { owners = 1 ∷ 2 ∷ []; exit_functions = 8 ∷ []; exit_value = Some 3 } })
@@ -79,12 +80,12 @@ threads_of_the_child : map (λ (t : Thread). t.gone) made.threads ≡ true ∷ f
 unfolding runs_on_literals
 threads_of_the_child = refl
 
-replica : drop 1 made.threads ≡ record forks { status = status.Forking ChildPhase 0 0 0; pending = false } ∷ []
+replica : drop 1 made.threads ≡ record forks { status = status.Forking ChildPhase 0 3 0; pending = false } ∷ []
 unfolding runs_on_literals
 replica = refl
 
 -- it has what the threads share; exit has not begun in it; and it is the child of a process with several threads
-rest_of_the_child : (made.shared.owners ≡ 1 ∷ 2 ∷ []) × (made.shared.exit_functions ≡ 8 ∷ []) × (made.shared.exit_value ≡ None) × (made.restricted ≡ true)
+rest_of_the_child : (made.shared.owners ≡ 1 ∷ 2 ∷ []) × (made.shared.exit_functions ≡ 8 ∷ []) × (made.shared.exit_value ≡ None) × (made.shared.restricted ≡ true)
 unfolding runs_on_literals
 rest_of_the_child = (refl, refl, refl, refl)
 

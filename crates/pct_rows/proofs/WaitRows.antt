@@ -20,11 +20,11 @@ use Rattle.pct_model.specs.CancelCalls.{acts_on_request}
 use Rattle.pct_model.specs.CondCalls.{broadcasts}
 use Rattle.pct_model.specs.SemCalls.{posts}
 use Rattle.pct_model.specs.OtherThreads.{others_of}
-use Rattle.pct_model.specs.ChoiceTable.{running_choices, choices_of}
+use Rattle.pct_model.specs.ChoiceTable.{choices_of}
 use Rattle.pct_model.specs.Actions.{after_transition}
 use Rattle.pct_rows.proofs.OnLiterals.{runs_on_literals}
 use Rattle.pct_rows.proofs.ExampleScripts.{smallest}
-use Rattle.pct_rows.proofs.ChoiceRows.{config, ready, in_status, process, state_of, nobody}
+use Rattle.pct_rows.proofs.ChoiceRows.{config, ready, in_status, process, state_of, nobody, choices_before}
 
 -- mutex 0 has this owner; semaphore 0 has the count 0, semaphore 1 the count 1
 abbrev shared : ℕ → SharedState
@@ -75,7 +75,7 @@ suspended = refl
 
 -- the choices of a thread at pthread_mutex_lock of mutex 0: without an owner, owned by the thread itself, and by another one
 abbrev lock_choices : Thread → List (List Alt)
-lock_choices t = map (λ owner. running_choices (shared owner) t nobody (statement.Lock 0)) (0 ∷ 1 ∷ 2 ∷ [])
+lock_choices t = map (λ owner. choices_before (shared owner) t nobody (statement.Lock 0)) (0 ∷ 1 ∷ 2 ∷ [])
 
 -- the call is no cancellation point: with a request, and with none
 at_a_lock : map lock_choices (ready 1 ∷ record (ready 1) { pending = true } ∷ []) ≡ ((alt.Go ∷ []) ∷ [] ∷ [] ∷ []) ∷ ((alt.Go ∷ []) ∷ [] ∷ [] ∷ []) ∷ []
@@ -88,7 +88,7 @@ unfolding runs_on_literals
 asynchronous_at_a_lock = refl
 
 -- a signal unblocks one of the threads that wait on its condition variable
-at_a_signal : map (λ c. running_choices (shared 0) (ready 1) (others_of 4 (state_of []) (process 1 waiters) 1) (statement.Signal c)) (1 ∷ 2 ∷ 3 ∷ []) ≡ (alt.Pick 6 ∷ alt.Pick 3 ∷ []) ∷ (alt.Pick 4 ∷ []) ∷ (alt.Go ∷ []) ∷ []
+at_a_signal : map (λ c. choices_before (shared 0) (ready 1) (others_of 4 (state_of []) (process 1 waiters) 1) (statement.Signal c)) (1 ∷ 2 ∷ 3 ∷ []) ≡ (alt.Pick 6 ∷ alt.Pick 3 ∷ []) ∷ (alt.Pick 4 ∷ []) ∷ (alt.Go ∷ []) ∷ []
 unfolding runs_on_literals
 at_a_signal = refl
 

@@ -1,5 +1,5 @@
 //! Rows of the definitions that no run of the program can show: lists of events that the laws of runs refuse, contents that no
-//! text spells, states and events that no run has yet. And two worked examples, from the text of a script to the report of its
+//! text spells, states that no run reaches. And two worked examples, from the text of a script to the report of its
 //! run. Each file in `proofs/` has a group of rows, which the prover computes: a wrong expected value is a compile error. No other
 //! crate depends on these, so that a reader can check the definitions without checking the host.
 #![tactic(auto)]

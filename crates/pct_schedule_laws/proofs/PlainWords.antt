@@ -144,7 +144,6 @@ keyword_plain keyword.Pick = refl
 keyword_plain keyword.Dtor = refl
 keyword_plain keyword.Undefined = refl
 keyword_plain keyword.Profile = refl
-keyword_plain keyword.Unbuilt = refl
 keyword_plain keyword.ForkChildCall = refl
 keyword_plain keyword.AsyncCall = refl
 keyword_plain keyword.EnableInHandler = refl

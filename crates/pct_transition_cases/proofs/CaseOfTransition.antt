@@ -4,16 +4,19 @@ use Rattle.std.specs.List.{list_any}
 use Rattle.std.specs.Option.{option_map_or}
 use Rattle.std.proofs.lemmas.Bool.{true≢false, or_parts, not-false, ltb-true, ltb-false, eqb-false}
 use Rattle.std.proofs.lemmas.Option.{none-some}
+use Rattle.pct_model.specs.declared.event.Caller.TheVariants as caller
 use Rattle.pct_model.specs.declared.event.What.TheVariants as what
 use Rattle.pct_model.specs.declared.frame.Frame.{Frame}
-use Rattle.pct_model.specs.declared.limits.TheConstants.{MAX_FRAMES, MAX_HANDLERS}
+use Rattle.pct_model.specs.declared.limits.TheConstants.{MAX_FORK_HANDLERS, MAX_FRAMES, MAX_HANDLERS}
 use Rattle.pct_model.specs.declared.point.PointKind.{PointKind}
 use Rattle.pct_model.specs.declared.point.PointKind.TheVariants.{Required, Optional}
 use Rattle.pct_model.specs.declared.process.Child.{Child}
+use Rattle.pct_model.specs.declared.process.HandlerCall.{HandlerCall}
 use Rattle.pct_model.specs.declared.schedule.Alt.{Alt}
 use Rattle.pct_model.specs.declared.schedule.Alt.TheVariants as alt
 use Rattle.pct_model.specs.declared.state.Cause.{Cause}
 use Rattle.pct_model.specs.declared.state.Cause.TheVariants as cause
+use Rattle.pct_model.specs.declared.state.ForkAt.{ForkAt}
 use Rattle.pct_model.specs.declared.state.FrameKind.{FrameKind}
 use Rattle.pct_model.specs.declared.state.FrameKind.TheVariants as kind
 use Rattle.pct_model.specs.declared.state.Phase.{Phase}
@@ -25,7 +28,7 @@ use Rattle.pct_model.specs.declared.statement.Operand.{Operand}
 use Rattle.pct_model.specs.declared.statement.Stmt.{Stmt}
 use Rattle.pct_model.specs.declared.statement.Stmt.TheVariants as statement
 use Rattle.pct_model.specs.declared.stop.Why.{Why}
-use Rattle.pct_model.specs.declared.stop.Why.TheVariants.{Unbuilt, AsyncCall}
+use Rattle.pct_model.specs.declared.stop.Why.TheVariants.{ForkChildCall, AsyncCall}
 use Rattle.pct_model.specs.declared.transition.Action.TheVariants as action
 use Rattle.pct_model.specs.declared.transition.Transition.{Transition}
 use Rattle.pct_model.specs.Cancelability.{is_asynchronous}
@@ -33,7 +36,7 @@ use Rattle.pct_model.specs.CancelCalls.{requests, sets_state, sets_mode, tests_c
 use Rattle.pct_model.specs.ChoiceTable.{choices_at, offers}
 use Rattle.pct_model.specs.CleanupHandlers.{pushes, pops}
 use Rattle.pct_model.specs.CondCalls.{begins_wait, reacquires, leaves_wait, hands_on, signals_by, broadcasts}
-use Rattle.pct_model.specs.ForkCalls.{begins_fork, forks_by, returns_in_parent, returns_in_child, goes_on_forking, finds_no_child, begins_waitpid, reaps, reaps_if, waits_at}
+use Rattle.pct_model.specs.ForkCalls.{in_fork, next_handler, calls_handler, registers_fork, begins_fork, forks_by, returns_in_parent, returns_in_child, goes_on_after_handlers, goes_on_forking, leaves_handler, finds_no_child, begins_waitpid, reaps, reaps_if, waits_at}
 use Rattle.pct_model.specs.Jumps.{open_of}
 use Rattle.pct_model.specs.KeyCalls.{creates_key, fails_to_create_key, creates_key_by, deletes_key, sets_specific, gets_specific}
 use Rattle.pct_model.specs.Keys.{Key, key_place, key_with, left_keys, value_at}
@@ -43,14 +46,14 @@ use Rattle.pct_model.specs.OtherThreads.{Others, waits_with_another_mutex, exit_
 use Rattle.pct_model.specs.ProcessExit.{exits, returns_by, ends_now, goes_on_exiting, may_register, registers_if}
 use Rattle.pct_model.specs.ScriptStatements.{jumps, emits, sets, adds, calls, after_block, after_test, after_end}
 use Rattle.pct_model.specs.SemCalls.{begins_sem_wait, takes, posts}
-use Rattle.pct_model.specs.StopTable.{StopTest, first_stop, is_stack_full, has_begun_to_end, is_in_handler, is_allowed_asynchronously, is_unbuilt, stops_of, stop_at}
+use Rattle.pct_model.specs.StopTable.{StopTest, first_stop, is_stack_full, has_begun_to_end, is_in_handler, is_allowed_asynchronously, is_forbidden_in_child, stops_of, stop_at}
 use Rattle.pct_model.specs.ThreadCalls.{creates, fails_to_create, creates_by, begins_join, ends_join, joins_at, detaches, gets_self}
 use Rattle.pct_model.specs.ThreadEnds.{end_value, ends_by_exit, ends_thread, calls_destructor, due_keys, goes_on_ending}
 use Rattle.pct_model.specs.Transitions.{goes_on, acts}
 use Rattle.pct_model.specs.TransitionTable.{ends_block, stops_or, runs, transition_at, acts_or}
 use Rattle.pct_model.specs.World.{Thread, SharedState, value_of}
 use Rattle.pct_transition_cases.proofs.OfferedChoices.{is_acting, goes_at, Offered, offered_alive, may_go_on, act_enabled, heir_among, picked_among, id_among, key_among, left_among, offered_of, free_to_lock}
-use Rattle.pct_transition_cases.proofs.TransitionCases.{past_nop, past_if, past_while, past_else, past_end, Returns, by_return, by_end, TransitionCase, rests, stopped, jumped, emitted, variable_set, variable_added, function_called, main_returned, start_returned, call_left, handler_left, exit_function_left, thread_made, thread_not_made, join_begun, join_ended, thread_detached, self_got, request_sent, state_set, mode_set, cancel_tested, point_begun, point_done, point_passed, canceled, canceled_at_point, canceled_in_join, canceled_in_sem_wait, canceled_in_waitpid, mutex_locked, mutex_unlocked, wait_begun, wait_ended, canceled_in_wait, canceled_after_wait, signal_handed_on, ended_in_wait, signal_sent, signal_lost, broadcast_sent, sem_wait_begun, sem_taken, sem_posted, fork_begun, process_forked, process_not_forked, fork_failed, fork_returned, waitpid_begun, child_reaped, no_child_found, child_lost, key_made, key_not_made, key_deleted, specific_set, specific_got, handler_pushed, handler_popped, handler_called, exit_called, handler_run, destructor_called, pass_begun, thread_ended, thread_ended_with_keys, last_ended, last_ended_with_keys, exit_registered, exit_not_registered, process_exited, process_ended_now, exit_function_called, process_ended}
+use Rattle.pct_transition_cases.proofs.TransitionCases.{past_nop, past_if, past_while, past_else, past_end, Returns, by_return, by_end, TransitionCase, rests, stopped, jumped, emitted, variable_set, variable_added, function_called, main_returned, start_returned, call_left, handler_left, exit_function_left, thread_made, thread_not_made, join_begun, join_ended, thread_detached, self_got, request_sent, state_set, mode_set, cancel_tested, point_begun, point_done, point_passed, canceled, canceled_at_point, canceled_in_join, canceled_in_sem_wait, canceled_in_waitpid, mutex_locked, mutex_unlocked, wait_begun, wait_ended, canceled_in_wait, canceled_after_wait, signal_handed_on, ended_in_wait, signal_sent, signal_lost, broadcast_sent, sem_wait_begun, sem_taken, sem_posted, fork_registered, fork_not_registered, fork_begun, fork_handler_called, fork_handler_left, process_forked, process_not_forked, fork_failed, fork_returned, waitpid_begun, child_reaped, no_child_found, child_lost, key_made, key_not_made, key_deleted, specific_set, specific_got, handler_pushed, handler_popped, handler_called, exit_called, handler_run, destructor_called, pass_begun, thread_ended, thread_ended_with_keys, last_ended, last_ended_with_keys, exit_registered, exit_not_registered, process_exited, process_ended_now, exit_function_called, process_ended}
 
 -- ---- stops
 
@@ -64,15 +67,15 @@ no_stop (test ∷ tests) none = by_test test.0 refl none (no_stop tests)
     by_test true is some later = absurd (none-some test.1 (sym some))
     by_test false is none later = ap (λ (b : Bool). b || list_any (λ (s : StopTest). s.0) tests) is ∙ later none
 
--- where a statement does not stop, it is implemented, it may be called with the cancelability of the thread, and none of its own stops applies
+-- where a statement does not stop, it is not forbidden in the process of the thread, it may be called with the cancelability of the thread, and none of its own stops applies
 no_stops : (body : List Stmt) (shared : SharedState) (t : Thread) (others : Others) (frame : Frame) (s : Stmt) → stop_at body shared t others frame s ≡ None
-    → (is_unbuilt others s ≡ false) × ((is_asynchronous t.state t.mode && not (is_allowed_asynchronously s) ≡ false) × (list_any (λ (test : StopTest). test.0) (stops_of body shared t others frame s) ≡ false))
+    → (is_forbidden_in_child body shared frame s ≡ false) × ((is_asynchronous t.state t.mode && not (is_allowed_asynchronously s) ≡ false) × (list_any (λ (test : StopTest). test.0) (stops_of body shared t others frame s) ≡ false))
 unfolding stop_at
 no_stops body shared t others frame s none =
     let own : Bool = list_any (λ (test : StopTest). test.0) (stops_of body shared t others frame s) in
     let called : Bool = is_asynchronous t.state t.mode && not (is_allowed_asynchronously s) in
-    let all : (is_unbuilt others s || (called || own)) ≡ false = no_stop ((is_unbuilt others s, Unbuilt) ∷ (called, AsyncCall) ∷ stops_of body shared t others frame s) none in
-    let parts : (is_unbuilt others s ≡ false) × ((called || own) ≡ false) = or_parts (is_unbuilt others s) (called || own) all in
+    let all : (is_forbidden_in_child body shared frame s || (called || own)) ≡ false = no_stop ((is_forbidden_in_child body shared frame s, ForkChildCall) ∷ (called, AsyncCall) ∷ stops_of body shared t others frame s) none in
+    let parts : (is_forbidden_in_child body shared frame s ≡ false) × ((called || own) ≡ false) = or_parts (is_forbidden_in_child body shared frame s) (called || own) all in
     (parts.0, or_parts called own parts.1)
 
 -- a test that stands alone
@@ -92,21 +95,28 @@ module _ (passes : ℕ) (body : List Stmt) (shared : SharedState) (t : Thread) (
 
   -- the choice is among those of the table, where it is known to be offered
   abbrev Legal : Alt → NextStatement → Status → Type 0
-  Legal choice next s = offered ≡ true → offers (choices_at shared t others next s) choice ≡ true
+  Legal choice next s = offered ≡ true → offers (choices_at body shared t others next s) choice ≡ true
 
   may_be : {choice : Alt} {next : NextStatement} {s : Status} → Legal choice next s → offered ≡ true → Offered shared t others next s choice
-  may_be {choice} {next} {s} legal known = offered_of shared t others choice next s (legal known)
+  may_be {choice} {next} {s} legal known = offered_of body shared t others choice next s (legal known)
 
   -- and it is not to act upon a request
   abbrev Goes : Alt → NextStatement → Status → Type 0
-  Goes choice next s = offered ≡ true → (offers (choices_at shared t others next s) choice ≡ true) × (is_acting choice ≡ false)
+  Goes choice next s = offered ≡ true → (offers (choices_at body shared t others next s) choice ≡ true) × (is_acting choice ≡ false)
 
   goes : (choice : Alt) (next : NextStatement) (s : Status) → Goes choice next s → offered ≡ true → goes_at shared others s ≡ true
-  goes choice next s may known = may_go_on (offered_of shared t others choice next s (may known).0) (may known).1
+  goes choice next s may known = may_go_on (offered_of body shared t others choice next s (may known).0) (may known).1
 
   -- ---- statements
 
-  return_case : (frame : Frame) (s : Stmt) (v : ℕ) → Returns body shared.globals frame s v → (k : FrameKind) → frame.kind ≡ k → Case (StatementIn frame s) status.Running (returns_by k v)
+  -- a return from a fork handler, by the values that the thread kept
+  leave_case : (frame : Frame) (s : Stmt) (v : ℕ) → Returns body shared.globals frame s v → frame.kind ≡ kind.ForkFn → (kept : Option ForkAt) → t.kept ≡ kept → Case (StatementIn frame s) status.Running (leaves_handler kept)
+  unfolding leaves_handler
+  leave_case frame s v returns is (Some at) keeps = fork_handler_left frame s v at returns is keeps
+  leave_case frame s v returns is None keeps = rests (StatementIn frame s) status.Running (λ known. refl)
+
+  -- a return, by the kind of the frame
+  return_case : (frame : Frame) (s : Stmt) (v : ℕ) → Returns body shared.globals frame s v → (k : FrameKind) → frame.kind ≡ k → Case (StatementIn frame s) status.Running (returns_by t.kept k v)
   unfolding returns_by exits ends_by_exit
   return_case frame s v returns kind.Main is = main_returned frame s v returns is
   return_case frame s v returns kind.Start is = start_returned frame s v returns is
@@ -115,9 +125,9 @@ module _ (passes : ℕ) (body : List Stmt) (shared : SharedState) (t : Thread) (
   return_case frame s v returns kind.Handler is = handler_left frame s v returns (inl is)
   return_case frame s v returns kind.Destructor is = handler_left frame s v returns (inr is)
   return_case frame s v returns kind.ExitFn is = exit_function_left frame s v returns is
-  return_case frame s v returns kind.ForkFn is = rests (StatementIn frame s) status.Running (λ known. refl)
+  return_case frame s v returns kind.ForkFn is = leave_case frame s v returns is t.kept refl
 
-  end_case : (frame : Frame) (opened : Option ℕ) → open_of body frame.pc ≡ opened → Case (StatementIn frame statement.End) status.Running (ends_block opened body frame)
+  end_case : (frame : Frame) (opened : Option ℕ) → open_of body frame.pc ≡ opened → Case (StatementIn frame statement.End) status.Running (ends_block opened t.kept body frame)
   unfolding jumps
   end_case frame (Some opened) is = jumped frame statement.End (after_end body frame.pc opened) (past_end opened is)
   end_case frame None is = return_case frame statement.End 0 (by_end is) frame.kind refl
@@ -178,6 +188,13 @@ module _ (passes : ℕ) (body : List Stmt) (shared : SharedState) (t : Thread) (
   register_case frame result f true is = exit_registered frame result f is
   register_case frame result f false is = exit_not_registered frame result f
 
+  -- pthread_atfork, by whether there is room for one more registration
+  register_fork_case : (frame : Frame) (result : Dest) (prepare parent child : Option ℕ) (room : Bool) → nat_lt (length shared.fork_handlers) MAX_FORK_HANDLERS ≡ room
+      → Case (StatementIn frame (statement.AtFork result prepare parent child)) status.Running
+      (cond room (goes_on (suc frame.pc) (action.AddForkHandlers (record { prepare = prepare; parent = parent; child = child }) ∷ action.Write result 0 ∷ []) []) (goes_on (suc frame.pc) (action.Write result 2 ∷ []) (what.Answer caller.AtFork 2 ∷ [])))
+  register_fork_case frame result prepare parent child true is = fork_registered frame result (record { prepare = prepare; parent = parent; child = child }) (ltb-true (length shared.fork_handlers) MAX_FORK_HANDLERS is)
+  register_fork_case frame result prepare parent child false is = fork_not_registered frame result prepare parent child
+
   waitpid_case : (frame : Frame) (result d : Dest) (pid : Operand) (found : Option Child) → Case (StatementIn frame (statement.WaitPid result pid d)) status.Running (begins_waitpid found (value frame pid) (suc frame.pc) result)
   unfolding finds_no_child
   waitpid_case frame result d pid (Some child) = waitpid_begun frame result d pid
@@ -196,7 +213,7 @@ module _ (passes : ℕ) (body : List Stmt) (shared : SharedState) (t : Thread) (
 
   running_case : (choice : Alt) (frame : Frame) (s : Stmt) → Legal choice (StatementIn frame s) status.Running → stop_at body shared t others frame s ≡ None
       → Case (StatementIn frame s) status.Running (runs passes body shared t others choice frame s)
-  unfolding runs emits sets adds jumps calls gets_self ends_by_exit pushes sets_state sets_mode tests_cancel deletes_key sets_specific gets_specific locks unlocks begins_wait broadcasts begins_sem_wait posts begins_fork exits ends_now stops_of
+  unfolding runs emits sets adds jumps calls gets_self ends_by_exit pushes sets_state sets_mode tests_cancel deletes_key sets_specific gets_specific locks unlocks begins_wait broadcasts begins_sem_wait posts registers_fork begins_fork exits ends_now stops_of
   running_case choice frame (statement.Emit v) may none = emitted frame v
   running_case choice frame (statement.Set d v) may none = variable_set frame d v
   running_case choice frame (statement.Add d v) may none = variable_added frame d v
@@ -223,7 +240,7 @@ module _ (passes : ℕ) (body : List Stmt) (shared : SharedState) (t : Thread) (
   running_case choice frame (statement.ThreadExit v) may none = exit_called frame v (alone (has_begun_to_end t.reason) (no_stops body shared t others frame (statement.ThreadExit v) none).1.1)
   running_case choice frame (statement.Push f v) may none = handler_pushed frame f v (below_limit (length t.handlers) MAX_HANDLERS (alone (not (nat_lt (length t.handlers) MAX_HANDLERS)) (no_stops body shared t others frame (statement.Push f v) none).1.1))
   running_case choice frame (statement.Pop v) may none = pop_case frame v t.handlers refl (alone (not (nat_eq (value frame v) 0) && is_stack_full t.frames) (no_stops body shared t others frame (statement.Pop v) none).1.1)
-  running_case choice frame (statement.Lock m) may none = mutex_locked frame m (λ known. free_to_lock shared t others choice frame m (no_stops body shared t others frame (statement.Lock m) none).1.0 (may known))
+  running_case choice frame (statement.Lock m) may none = mutex_locked frame m (λ known. free_to_lock body shared t others choice frame m (no_stops body shared t others frame (statement.Lock m) none).0 (no_stops body shared t others frame (statement.Lock m) none).1.0 (may known))
   running_case choice frame (statement.Unlock m) may none = mutex_unlocked frame m (not-false (owns t.id m shared) (alone (not (owns t.id m shared)) (no_stops body shared t others frame (statement.Unlock m) none).1.1))
   running_case choice frame (statement.CondWait c m) may none =
       let other : Bool = waits_with_another_mutex c m others in
@@ -233,13 +250,12 @@ module _ (passes : ℕ) (body : List Stmt) (shared : SharedState) (t : Thread) (
   running_case choice frame (statement.Broadcast c) may none = broadcast_sent frame c
   running_case choice frame (statement.SemWait sem) may none = sem_wait_begun frame sem
   running_case choice frame (statement.SemPost sem) may none = sem_posted frame sem
-  running_case choice frame (statement.Fork result child) may none =
-      fork_begun frame result child (alone (has_begun_to_end t.reason) (no_stops body shared t others frame (statement.Fork result child) none).1.1) (not-false others.is_last (no_stops body shared t others frame (statement.Fork result child) none).0)
+  running_case choice frame (statement.AtFork result prepare parent child) may none = register_fork_case frame result prepare parent child (nat_lt (length shared.fork_handlers) MAX_FORK_HANDLERS) refl
+  running_case choice frame (statement.Fork result child) may none = fork_begun frame result child (alone (has_begun_to_end t.reason) (no_stops body shared t others frame (statement.Fork result child) none).1.1)
   running_case choice frame (statement.WaitPid result pid d) may none = waitpid_case frame result d pid (others.family.child (value frame pid))
   running_case choice frame (statement.AtExit result f) may none = register_case frame result f (may_register shared) refl
   running_case choice frame (statement.ProcExit v) may none = process_exited frame v (alone (is_some shared.exit_value) (no_stops body shared t others frame (statement.ProcExit v) none).1.1)
   running_case choice frame (statement.ProcExitNow v) may none = process_ended_now frame v
-  running_case choice frame s may none = rests (StatementIn frame s) status.Running (λ known. refl)
 
   stop_case : (frame : Frame) (s : Stmt) (stop : Option Why) (other : Transition) → (stop ≡ None → Case (StatementIn frame s) status.Running other) → Case (StatementIn frame s) status.Running (stops_or stop other)
   stop_case frame s (Some why) other goes = stopped frame s why
@@ -286,22 +302,29 @@ module _ (passes : ℕ) (body : List Stmt) (shared : SharedState) (t : Thread) (
 
   -- ---- threads in fork
 
-  forked_case : (index length pid : ℕ) (next : NextStatement) (new_pid : Option ℕ) → others.family.new_pid ≡ new_pid → Case next (status.Forking Prepare index length pid) (forks_by new_pid)
+  forked_case : (index length answer : ℕ) (next : NextStatement) (new_pid : Option ℕ) → others.family.new_pid ≡ new_pid → Case next (status.Forking Prepare index length answer) (forks_by length new_pid)
   unfolding forks_by
-  forked_case index length pid next (Some new) is = process_forked next index length pid new is
-  forked_case index length pid next None is = process_not_forked next index length pid
+  forked_case index length answer next (Some new) is = process_forked next index length answer new is
+  forked_case index length answer next None is = process_not_forked next index length answer
 
   parent_case : (frame : Frame) (result child : Dest) (index length pid : ℕ) (none : Bool)
       → Case (StatementIn frame (statement.Fork result child)) (status.Forking Parent index length pid) (cond none (goes_on (suc frame.pc) (action.Write result 1 ∷ []) []) (goes_on (suc frame.pc) (action.Write result 0 ∷ action.Write child pid ∷ []) []))
   parent_case frame result child index length pid true = fork_failed frame result child index length pid
   parent_case frame result child index length pid false = fork_returned frame result child Parent index length pid pid
 
-  forking_case : (phase : Phase) (index length pid : ℕ) (next : NextStatement) → Case next (status.Forking phase index length pid) (goes_on_forking phase pid others.family.new_pid next)
+  -- a thread in fork goes on where no handler of the phase is left
+  phase_case : (phase : Phase) (at : ForkAt) (next : NextStatement) → Case next (status.Forking phase at.next at.length at.answer) (goes_on_after_handlers phase at others.family.new_pid next)
   unfolding returns_in_parent returns_in_child
-  forking_case Prepare index length pid next = forked_case index length pid next others.family.new_pid refl
-  forking_case Parent index length pid (StatementIn frame (statement.Fork result child)) = parent_case frame result child index length pid (nat_eq pid 0)
-  forking_case ChildPhase index length pid (StatementIn frame (statement.Fork result child)) = fork_returned frame result child ChildPhase index length pid 0
-  forking_case phase index length pid next = rests next (status.Forking phase index length pid) (λ known. refl)
+  phase_case Prepare at next = forked_case at.next at.length at.answer next others.family.new_pid refl
+  phase_case Parent at (StatementIn frame (statement.Fork result child)) = parent_case frame result child at.next at.length at.answer (nat_eq at.answer 0)
+  phase_case ChildPhase at (StatementIn frame (statement.Fork result child)) = fork_returned frame result child ChildPhase at.next at.length at.answer 0
+  phase_case phase at next = rests next (status.Forking phase at.next at.length at.answer) (λ known. refl)
+
+  -- a thread in fork goes on: it calls the handler that is left, if one is
+  forking_case : (at : ForkAt) (next : NextStatement) (left : Option HandlerCall) → next_handler shared.fork_handlers at ≡ left → Case next (in_fork at) (goes_on_forking left at others.family.new_pid next)
+  unfolding calls_handler
+  forking_case at next (Some call) is = fork_handler_called next at call is
+  forking_case at next None is = phase_case at.phase at next
 
   -- ---- threads that end
 
@@ -366,9 +389,11 @@ module _ (passes : ℕ) (body : List Stmt) (shared : SharedState) (t : Thread) (
   going_case choice next (status.InWaitPid pid) may = waited_case pid (others.family.child pid) refl next
   going_case choice next (status.Reacquire c m why) may = reacquired_case c m why next (goes choice next (status.Reacquire c m why) may)
   going_case choice next status.Ending may = ending_case choice next (λ known. (may known).0) t.handlers refl
-  going_case choice next (status.Forking phase index length pid) may = forking_case phase index length pid next
+  going_case choice next (status.Forking phase index length answer) may =
+      let at : ForkAt = record { phase = phase; next = index; length = length; answer = answer } in
+      forking_case at next (next_handler shared.fork_handlers at) refl
   going_case choice next status.Exiting may = exit_case next shared.exit_functions refl shared.exit_value
-  going_case choice next s may = rests next s (λ known. offered_alive (offered_of shared t others choice next s (may known).0))
+  going_case choice next s may = rests next s (λ known. offered_alive (offered_of body shared t others choice next s (may known).0))
 
   handing_case : (u : ℕ) (next : NextStatement) (c m : ℕ) → (offered ≡ true → Offered shared t others next (status.Reacquire c m cause.Signalled) (alt.Act u)) → (none : Bool) → nat_eq u 0 ≡ none
       → Case next (status.Reacquire c m cause.Signalled) (cond none (leaves_wait c m) (acts (action.LeaveWait c m ∷ action.Wake u ∷ []) (what.WaitCanceled c ∷ what.HandedOn c u ∷ [])))

@@ -24,6 +24,7 @@ use Rattle.pct_model.specs.OtherProcesses.{is_running_child}
 use Rattle.pct_model.specs.MutexCalls.{is_free_mutex}
 use Rattle.pct_model.specs.NextStatement.{NextStatement, StatementIn}
 use Rattle.pct_model.specs.OtherThreads.{Others, is_ended_thread}
+use Rattle.pct_model.specs.StopTable.{is_forbidden_in_child}
 use Rattle.pct_model.specs.ThreadSlots.{is_ended_status}
 use Rattle.pct_model.specs.World.{Thread, SharedState}
 
@@ -166,7 +167,7 @@ asynchronous_enabled Disable mode is = absurd (false≢true is)
 
 -- ---- the table
 
-module _ (shared : SharedState) (t : Thread) (others : Others) (choice : Alt) where
+module _ (body : List Stmt) (shared : SharedState) (t : Thread) (others : Others) (choice : Alt) where
   -- a running thread
   id_offered : (frame : Frame) (s : Stmt) → is_create s ≡ true → (n : ℕ) → list_any (nat_eq n) others.new_ids ≡ true → Offered shared t others (StatementIn frame s) status.Running (alt.New n)
   id_offered frame (statement.Create result id f v detached) is n among = may_create frame result id f v detached n among
@@ -180,7 +181,7 @@ module _ (shared : SharedState) (t : Thread) (others : Others) (choice : Alt) wh
   pick_offered frame (statement.Signal c) is u among = may_pick frame c u among
   pick_offered frame _ is u among = absurd (false≢true is)
 
-  running_offered : (frame : Frame) (s : Stmt) → offers (running_choices shared t others s) choice ≡ true → Offered shared t others (StatementIn frame s) status.Running choice
+  running_offered : (frame : Frame) (s : Stmt) → offers (running_choices body shared t others frame s) choice ≡ true → Offered shared t others (StatementIn frame s) status.Running choice
   unfolding running_choices running_rows
   running_offered frame s =
       let P : Alt → Type 0 = Offered shared t others (StatementIn frame s) status.Running in
@@ -189,8 +190,8 @@ module _ (shared : SharedState) (t : Thread) (others : Others) (choice : Alt) wh
       let delivered : (kind : Bool) → is_deliverable t.state t.pending && kind ≡ true → P (alt.Act 0) = λ kind both. act (deliverable_enabled t.state t.pending (and_parts (is_deliverable t.state t.pending) kind both).0) in
       let new_has : (numbers : List ℕ) → ((n : ℕ) → list_any (nat_eq n) numbers ≡ true → P (alt.New n)) → offers (new_or_go numbers) choice ≡ true → P choice =
       number_or_has P choice new_or_go (λ n. alt.New n) (λ n. n) alt.Go refl (λ n numbers. refl) go in
-      first_row_has (λ choices. offers choices choice ≡ true → P choice) (running_rows shared t others s) (alt.Go ∷ []) (
-        λ unbuilt. each_has P choice (alt.Go ∷ []) (go, tt),
+      first_row_has (λ choices. offers choices choice ≡ true → P choice) (running_rows body shared t others frame s) (alt.Go ∷ []) (
+        λ forbidden. each_has P choice (alt.Go ∷ []) (go, tt),
         (
           λ asynchronous. go_or_has P choice true (act_if t.pending) (λ passes. go) (act_has P choice t.pending (λ pending. act (asynchronous_enabled t.state t.mode asynchronous))),
           (
@@ -229,14 +230,14 @@ module _ (shared : SharedState) (t : Thread) (others : Others) (choice : Alt) wh
   unblocked_offered next c m why false enabled offered = absurd (false≢true offered)
 
   -- a thread that is ending
-  ending_offered : (next : NextStatement) (handlers : List (ℕ × ℕ)) → t.handlers ≡ handlers → offers (ending_choices shared t others handlers) choice ≡ true → Offered shared t others next status.Ending choice
+  ending_offered : (next : NextStatement) (handlers : List (ℕ × ℕ)) → t.handlers ≡ handlers → offers (ending_choices body shared t others handlers) choice ≡ true → Offered shared t others next status.Ending choice
   unfolding ending_choices
   ending_offered next (handler ∷ handlers) is offered = each_has (Offered shared t others next status.Ending) choice (alt.Go ∷ []) (may_go next status.Ending refl, tt) offered
   ending_offered next [] none offered =
       number_or_has (Offered shared t others next status.Ending) choice dtor_or_go (λ k. alt.Dtor k) (λ k. k) alt.Go refl (λ k keys. refl) (may_go next status.Ending refl) (left_keys shared.keys t.specific) (λ k among. may_destroy next k none among) offered
 
   -- the case of a choice that is offered
-  pub offered_of : (next : NextStatement) (s : Status) → offers (choices_at shared t others next s) choice ≡ true → Offered shared t others next s choice
+  pub offered_of : (next : NextStatement) (s : Status) → offers (choices_at body shared t others next s) choice ≡ true → Offered shared t others next s choice
   unfolding choices_at
   offered_of (StatementIn frame s) status.Running offered = running_offered frame s offered
   offered_of next (status.AtPoint index) offered = suspended_offered next (status.AtPoint index) refl offered
@@ -255,13 +256,14 @@ module _ (shared : SharedState) (t : Thread) (others : Others) (choice : Alt) wh
   offered_of next _ offered = absurd (false≢true offered)
 
   -- a mutex that the thread may lock is free, unless the call is a stop
-  pub free_to_lock : (frame : Frame) (m : ℕ) → is_asynchronous t.state t.mode && true ≡ false → offers (choices_at shared t others (StatementIn frame (statement.Lock m)) status.Running) choice ≡ true → is_free_mutex m shared ≡ true
+  pub free_to_lock : (frame : Frame) (m : ℕ) → is_forbidden_in_child body shared frame (statement.Lock m) ≡ false → is_asynchronous t.state t.mode && true ≡ false → offers (choices_at body shared t others (StatementIn frame (statement.Lock m)) status.Running) choice ≡ true → is_free_mutex m shared ≡ true
   unfolding choices_at running_choices running_rows called_kind
-  free_to_lock frame m = by (is_asynchronous t.state t.mode) (is_deliverable t.state t.pending) (is_free_mutex m shared)
+  free_to_lock frame m = by (is_forbidden_in_child body shared frame (statement.Lock m)) (is_asynchronous t.state t.mode) (is_deliverable t.state t.pending) (is_free_mutex m shared)
     where
-      by : (asynchronous deliverable free : Bool) → asynchronous && true ≡ false
-          → offers (first_row ((asynchronous, alt.Go ∷ act_if t.pending) ∷ (deliverable && false, alt.Act 0 ∷ []) ∷ (deliverable && false, alt.Go ∷ alt.Act 0 ∷ []) ∷ (not free, []) ∷ []) (alt.Go ∷ [])) choice ≡ true → free ≡ true
-      by true _ _ deferred offered = absurd (true≢false deferred)
-      by false _ true deferred offered = refl
-      by false true false deferred offered = absurd (false≢true offered)
-      by false false false deferred offered = absurd (false≢true offered)
+      by : (forbidden asynchronous deliverable free : Bool) → forbidden ≡ false → asynchronous && true ≡ false
+          → offers (first_row ((forbidden, alt.Go ∷ []) ∷ (asynchronous, alt.Go ∷ act_if t.pending) ∷ (deliverable && false, alt.Act 0 ∷ []) ∷ (deliverable && false, alt.Go ∷ alt.Act 0 ∷ []) ∷ (not free, []) ∷ []) (alt.Go ∷ [])) choice ≡ true → free ≡ true
+      by true _ _ _ allowed deferred offered = absurd (true≢false allowed)
+      by false true _ _ allowed deferred offered = absurd (true≢false deferred)
+      by false false _ true allowed deferred offered = refl
+      by false false true false allowed deferred offered = absurd (false≢true offered)
+      by false false false false allowed deferred offered = absurd (false≢true offered)

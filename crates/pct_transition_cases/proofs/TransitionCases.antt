@@ -7,11 +7,14 @@ use Rattle.std.specs.List.{list_any}
 use Rattle.pct_model.specs.declared.event.Caller.TheVariants as caller
 use Rattle.pct_model.specs.declared.event.What.TheVariants as what
 use Rattle.pct_model.specs.declared.frame.Frame.{Frame}
-use Rattle.pct_model.specs.declared.limits.TheConstants.{MAX_FRAMES, MAX_HANDLERS}
+use Rattle.pct_model.specs.declared.limits.TheConstants.{MAX_FORK_HANDLERS, MAX_FRAMES, MAX_HANDLERS}
 use Rattle.pct_model.specs.declared.point.PointKind.TheVariants.{Required}
 use Rattle.pct_model.specs.declared.process.Child.{Child}
+use Rattle.pct_model.specs.declared.process.ForkHandlers.{ForkHandlers}
+use Rattle.pct_model.specs.declared.process.HandlerCall.{HandlerCall}
 use Rattle.pct_model.specs.declared.state.Cause.{Cause}
 use Rattle.pct_model.specs.declared.state.Cause.TheVariants as cause
+use Rattle.pct_model.specs.declared.state.ForkAt.{ForkAt}
 use Rattle.pct_model.specs.declared.state.FrameKind.TheVariants as kind
 use Rattle.pct_model.specs.declared.state.Phase.{Phase}
 use Rattle.pct_model.specs.declared.state.Phase.TheVariants.{Prepare, Parent}
@@ -28,7 +31,7 @@ use Rattle.pct_model.specs.declared.transition.Action.TheVariants as action
 use Rattle.pct_model.specs.declared.transition.Transition.{Transition}
 use Rattle.pct_model.specs.CancelCalls.{state_number, mode_number, state_if, mode_if, testcancel_point, point_kind}
 use Rattle.pct_model.specs.CondCalls.{cond_wait_point}
-use Rattle.pct_model.specs.ForkCalls.{waitpid_point}
+use Rattle.pct_model.specs.ForkCalls.{in_fork, next_handler, while_called, handler_event, waitpid_point}
 use Rattle.pct_model.specs.Jumps.{open_of}
 use Rattle.pct_model.specs.Kept.{has_left_wait}
 use Rattle.pct_model.specs.Keys.{Key, key_place, key_with, new_keys, left_keys, value_at}
@@ -157,13 +160,21 @@ module _ (passes : ℕ) (body : List Stmt) (shared : SharedState) (t : Thread) (
         → TransitionCase (StatementIn frame (statement.SemWait s)) (status.InSem sem) (goes_on (suc frame.pc) (action.SetCount sem (slice_index shared.counts sem - 1) ∷ []) (what.Taken sem ∷ []))
     sem_posted : (frame : Frame) (sem : ℕ)
         → TransitionCase (StatementIn frame (statement.SemPost sem)) status.Running (goes_on (suc frame.pc) (action.SetCount sem (suc (slice_index shared.counts sem) % 4294967296) ∷ []) (what.Posted sem ∷ []))
-    -- processes: the three steps of fork, and waitpid
-    fork_begun : (frame : Frame) (result child : Dest) → has_begun_to_end t.reason ≡ false → others.is_last ≡ true
-        → TransitionCase (StatementIn frame (statement.Fork result child)) status.Running (acts (action.EnterFork Prepare 0 ∷ []) [])
-    process_forked : (next : NextStatement) (index length pid new : ℕ) → others.family.new_pid ≡ Some new
-        → TransitionCase next (status.Forking Prepare index length pid) (acts (action.EnterFork Parent new ∷ action.MakeChild new ∷ []) (what.Forked new ∷ []))
-    process_not_forked : (next : NextStatement) (index length pid : ℕ)
-        → TransitionCase next (status.Forking Prepare index length pid) (acts (action.EnterFork Parent 0 ∷ []) (what.Answer caller.Fork 1 ∷ []))
+    -- processes: pthread_atfork, the steps of fork with the calls of its handlers, and waitpid
+    fork_registered : (frame : Frame) (result : Dest) (handlers : ForkHandlers) → length shared.fork_handlers < MAX_FORK_HANDLERS
+        → TransitionCase (StatementIn frame (statement.AtFork result handlers.prepare handlers.parent handlers.child)) status.Running (goes_on (suc frame.pc) (action.AddForkHandlers handlers ∷ action.Write result 0 ∷ []) [])
+    fork_not_registered : (frame : Frame) (result : Dest) (prepare parent child : Option ℕ)
+        → TransitionCase (StatementIn frame (statement.AtFork result prepare parent child)) status.Running (goes_on (suc frame.pc) (action.Write result 2 ∷ []) (what.Answer caller.AtFork 2 ∷ []))
+    fork_begun : (frame : Frame) (result child : Dest) → has_begun_to_end t.reason ≡ false
+        → TransitionCase (StatementIn frame (statement.Fork result child)) status.Running (acts (action.EnterFork (record { phase = Prepare; next = length shared.fork_handlers; length = length shared.fork_handlers; answer = 0 }) ∷ []) [])
+    fork_handler_called : (next : NextStatement) (at : ForkAt) (call : HandlerCall) → next_handler shared.fork_handlers at ≡ Some call
+        → TransitionCase next (in_fork at) (acts (action.KeepFork (while_called at call.index) ∷ action.Call call.func 0 kind.ForkFn ∷ []) (handler_event at.phase call.func ∷ []))
+    fork_handler_left : (frame : Frame) (s : Stmt) (v : ℕ) (at : ForkAt) → Returns body shared.globals frame s v → frame.kind ≡ kind.ForkFn → t.kept ≡ Some at
+        → TransitionCase (StatementIn frame s) status.Running (acts (action.Leave (in_fork at) ∷ []) [])
+    process_forked : (next : NextStatement) (index length answer new : ℕ) → others.family.new_pid ≡ Some new
+        → TransitionCase next (status.Forking Prepare index length answer) (acts (action.EnterFork (record { phase = Parent; next = 0; length = length; answer = new }) ∷ action.MakeChild new ∷ []) (what.Forked new ∷ []))
+    process_not_forked : (next : NextStatement) (index length answer : ℕ)
+        → TransitionCase next (status.Forking Prepare index length answer) (acts (action.EnterFork (record { phase = Parent; next = 0; length = length; answer = 0 }) ∷ []) (what.Answer caller.Fork 1 ∷ []))
     fork_failed : (frame : Frame) (result child : Dest) (index length pid : ℕ)
         → TransitionCase (StatementIn frame (statement.Fork result child)) (status.Forking Parent index length pid) (goes_on (suc frame.pc) (action.Write result 1 ∷ []) [])
     fork_returned : (frame : Frame) (result child : Dest) (phase : Phase) (index length pid value : ℕ)

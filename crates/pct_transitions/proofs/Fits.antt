@@ -3,7 +3,7 @@ use Rattle.std.proofs.Common.{◌≡◌, ℕ, suc, ◌<◌, ◌≤◌, Bool, tru
 use Rattle.std.specs.Prelude.{unwrap_or}
 use Rattle.std.proofs.lemmas.Bool.{false≢true}
 use Rattle.pct_model.specs.declared.frame.Frame.{Frame}
-use Rattle.pct_model.specs.declared.limits.TheConstants.{MAX_PASSES}
+use Rattle.pct_model.specs.declared.limits.TheConstants.{MAX_FRAMES, MAX_PASSES}
 use Rattle.pct_model.specs.declared.schedule.Alt.{Alt}
 use Rattle.pct_model.specs.declared.schedule.Alt.TheVariants as alt
 use Rattle.pct_model.specs.declared.script.Script.{Script}
@@ -12,6 +12,7 @@ use Rattle.pct_model.specs.declared.statement.Stmt.{Stmt}
 use Rattle.pct_model.specs.declared.transition.Transition.{Transition}
 use Rattle.pct_model.specs.CancelCalls.{acts_on_request}
 use Rattle.pct_model.specs.Jumps.{holds, is_while, close_of}
+use Rattle.pct_model.specs.Kept.{is_forking}
 use Rattle.pct_model.specs.NextStatement.{NextStatement, NoStatement, StatementIn, next_of, body_at}
 use Rattle.pct_model.specs.OtherThreads.{Others}
 use Rattle.pct_model.specs.ScriptStatements.{after_block, after_test}
@@ -19,7 +20,7 @@ use Rattle.pct_model.specs.TransitionTable.{transition_at}
 use Rattle.pct_model.specs.World.{Thread, SharedState, body_of}
 use Rattle.pct_transition_cases.proofs.CaseOfTransition.{going_case, case_of}
 use Rattle.pct_transition_cases.proofs.PlacedStatements.{IsPlaced, nowhere, on_top, is_placed, body_placed}
-use Rattle.pct_transition_cases.proofs.TransitionCases.{Leads, past_nop, past_if, past_while, past_else, past_end, TransitionCase, jumped, function_called, handler_pushed, handler_called, pass_begun}
+use Rattle.pct_transition_cases.proofs.TransitionCases.{Leads, past_nop, past_if, past_while, past_else, past_end, TransitionCase, jumped, function_called, fork_handler_called, handler_pushed, handler_called, pass_begun}
 use Rattle.pct_jumps.proofs.JumpTableFacts.{closes_inside, opens_earlier}
 use Rattle.pct_engine_laws.specs.Fitting.{TransitionFits}
 use Rattle.pct_transitions.proofs.Bodies.{few_statements, pc_within}
@@ -68,21 +69,27 @@ module _ (script : Script) (passes : ℕ) (few : passes ≤ MAX_PASSES) (shared 
   is_low (nowhere frames body) = tt
   is_low (on_top frame below s at) = pc_within script frame s at
 
-  case_fits : {frames : List Frame} {body : List Stmt} {next : NextStatement} {s : Status} {o : Transition} → IsPlaced script frames body next → IsLow next → TransitionCase passes body shared t others false next s o → FitsThread o
-  case_fits placed low (jumped frame s pc leads) = record { next = leads_within script shared.globals frame low (subst (λ (b : List Stmt). Leads b shared.globals frame s pc) (body_placed placed) leads); actions = tt }
-  case_fits placed low (function_called frame f v room) = record { next = low; actions = (omega (arith, room), tt) }
-  case_fits placed low (handler_pushed frame f v room) = record { next = low; actions = (room, tt) }
-  case_fits placed low (handler_called frame v f a handlers is room) = record { next = low; actions = (tt, (omega (arith, room), tt)) }
-  case_fits placed low (pass_begun next none more) = record { next = tt; actions = (omega (arith, more, few), tt) }
-  case_fits placed low _ = assumption
+  -- with this status a thread in fork has room for the frame of a fork handler
+  abbrev pub HasForkRoom : Status → Type 0
+  HasForkRoom s = is_forking s ≡ true → length t.frames ≤ MAX_FRAMES
+
+  case_fits : {frames : List Frame} {body : List Stmt} {next : NextStatement} {s : Status} {o : Transition} → IsPlaced script frames body next → IsLow next → HasForkRoom s
+      → TransitionCase passes body shared t others false next s o → FitsThread o
+  case_fits placed low forks (jumped frame s pc leads) = record { next = leads_within script shared.globals frame low (subst (λ (b : List Stmt). Leads b shared.globals frame s pc) (body_placed placed) leads); actions = tt }
+  case_fits placed low forks (function_called frame f v room) = record { next = low; actions = (omega (arith, room), tt) }
+  case_fits placed low forks (fork_handler_called next at call is) = record { next = tt; actions = (tt, (forks refl, tt)) }
+  case_fits placed low forks (handler_pushed frame f v room) = record { next = low; actions = (room, tt) }
+  case_fits placed low forks (handler_called frame v f a handlers is room) = record { next = low; actions = (tt, (omega (arith, room), tt)) }
+  case_fits placed low forks (pass_begun next none more) = record { next = tt; actions = (omega (arith, more, few), tt) }
+  case_fits placed low forks _ = assumption
 
   -- the transition of a thread that acts upon a request fits it
-  pub acting_fits : (n : ℕ) → FitsThread (acts_on_request n t.status)
-  acting_fits n = case_fits (nowhere [] []) tt (case_of passes [] shared t others false (alt.Act n) NoStatement t.status (λ known. absurd (false≢true known)))
+  pub acting_fits : HasForkRoom t.status → (n : ℕ) → FitsThread (acts_on_request n t.status)
+  acting_fits forks n = case_fits (nowhere [] []) tt forks (case_of passes [] shared t others false (alt.Act n) NoStatement t.status (λ known. absurd (false≢true known)))
 
   -- each transition of a thread that goes on fits it
-  pub transition_fits : (choice : Alt) → FitsThread (transition_at passes (body_at script t.frames) shared t others choice (next_of script t.frames) t.status)
-  transition_fits choice =
+  pub transition_fits : HasForkRoom t.status → (choice : Alt) → FitsThread (transition_at passes (body_at script t.frames) shared t others choice (next_of script t.frames) t.status)
+  transition_fits forks choice =
       let placed : IsPlaced script t.frames (body_at script t.frames) (next_of script t.frames) = is_placed script t.frames in
-      case_fits placed (is_low placed)
+      case_fits placed (is_low placed) forks
       (going_case passes (body_at script t.frames) shared t others false choice (next_of script t.frames) t.status (λ known. absurd (false≢true known)))

@@ -1,8 +1,11 @@
 -- The choices of a thread, as a list.
-use Rattle.std.specs.Prelude.{◌≡◌, ◌<◌, true, List, [], ◌∷◌, All, length, map}
+use Rattle.std.specs.Prelude.{◌≡◌, ◌<◌, true, List, [], ◌∷◌, All, length, map, Option, Some, None}
+use Rattle.pct_model.specs.declared.point.PointKind.{PointKind}
+use Rattle.pct_model.specs.declared.point.PointKind.TheVariants as kinds
 use Rattle.pct_model.specs.declared.schedule.Alt.{Alt}
 use Rattle.pct_model.specs.declared.schedule.Alt.TheVariants as alt
 use Rattle.pct_model.specs.declared.statement.Stmt.{Stmt}
+use Rattle.pct_model.specs.CancelCalls.{called_kind}
 use Rattle.pct_model.specs.Keys.{new_keys, left_keys}
 use Rattle.pct_model.specs.MutexCalls.{is_blocked}
 use Rattle.pct_model.specs.OtherThreads.{Others}
@@ -53,3 +56,14 @@ statement_choices shared others s =
     ∷ (is_signal s, pick_or_go (waiters_to_signal others s))
     ∷ []
     ) (alt.Go ∷ [])
+
+-- the choices at a statement that calls a cancellation point of this kind, or none, where a pending request is acted upon at such points;
+-- the others are those of a thread that acts upon no request
+abbrev pub choices_at_point : Option PointKind → List Alt → List Alt
+choices_at_point (Some kinds.Required) others = alt.Act 0 ∷ []
+choices_at_point (Some kinds.Optional) others = alt.Go ∷ alt.Act 0 ∷ []
+choices_at_point None others = others
+
+-- the choices of a running thread at a statement, where it acts upon a pending request at cancellation points
+abbrev pub requested_choices : SharedState → Others → Stmt → List Alt
+requested_choices shared others s = choices_at_point (called_kind s) (statement_choices shared others s)

@@ -4,10 +4,10 @@ ghost use Rattle.std.specs.Prelude.{◌≡◌, ◌<◌, ◌++◌, ℕ, true, fal
 ghost use Rattle.std.specs.List.{list_any};
 ghost use Rattle.pct_model.specs.declared.schedule.Alt.TheVariants as alt;
 ghost use Rattle.pct_model.specs.declared.state.Status.TheVariants as status;
-ghost use Rattle.pct_model.specs.World.{Thread, SharedState};
-ghost use Rattle.pct_model.specs.NextStatement.{next_of};
+ghost use Rattle.pct_model.specs.declared.statement.Stmt.{Stmt as Statement};
+ghost use Rattle.pct_model.specs.World.{Thread, SharedState, body_of};
+ghost use Rattle.pct_model.specs.NextStatement.{next_of, body_at};
 ghost use Rattle.pct_model.specs.OtherThreads.{Waiter, Others};
-ghost use Rattle.pct_model.specs.Cancelability.{is_deliverable, is_asynchronous};
 ghost use Rattle.pct_model.specs.Keys.{new_keys, left_keys};
 ghost use Rattle.pct_model.specs.ChoiceTable.{choices_at, running_choices, ending_choices, new_or_go, dtor_or_go, pick_or_go, hand_on_or_act, go_if, act_if, offers};
 ghost use Rattle.pct_keys.specs.Tables.{Table, row_at};
@@ -15,16 +15,17 @@ ghost use Rattle.pct_threads.specs.Slots.{Slot};
 ghost use Rattle.pct_threads.specs.Tables.{is_occupied_at, next_id_at};
 ghost use Rattle.pct_transitions.specs.Numbers.{IdsFit, NextKeysFit, NumbersFit};
 ghost use Rattle.pct_transitions.specs.Contexts.{IsContext, IsWhole};
-ghost use Rattle.pct_transitions.specs.Listed.{listed, statement_choices, AreWithin, HasRowFor};
+ghost use Rattle.pct_transitions.specs.Listed.{listed, statement_choices, requested_choices, AreWithin, HasRowFor};
 ghost use Rattle.pct_transitions.specs.OtherThreads.{ids_on};
 ghost use Rattle.pct_transitions.specs.declared.choice_table.Choices.TheVariants as choices;
 ghost use Rattle.pct_transitions.specs.Positions.{next_at};
 
 use crate::cancel_calls::{called_kind, may_return};
 use crate::context::Context;
+use crate::current::At;
 use crate::mutex_calls::is_free_mutex;
 use crate::sem_calls::count_of;
-use crate::stop_table::is_built;
+use crate::stop_table::is_forbidden_in_child;
 use pct_keys::{Keys, key_place};
 use pct_model::{Alt, Cause, MAX_KEYS, PointKind, Status, Stmt};
 use pct_set::SlotSet;
@@ -258,10 +259,10 @@ fn nth_id(threads: &Threads, held: &SlotSet, n: usize) -> Option<u32>
     }
 }
 
-/// The choices of a thread in this context. A running thread with a next statement has `go`, or
-/// at pthread_create an id for a new thread, where a slot is free, at pthread_key_create a number for a new key, where a place
-/// is free, and at pthread_cond_signal the id of a thread that waits, where one does; at pthread_mutex_lock it has none while the mutex
-/// has an owner; where it may act upon a pending request it has `go` and
+/// The choices of a thread in this context. A running thread with a next statement that its process may not execute has `go`. With
+/// another one it has `go`, or at pthread_create an id for a new thread, where a slot is free, at pthread_key_create a number for a
+/// new key, where a place is free, and at pthread_cond_signal the id of a thread that waits, where one does; at pthread_mutex_lock it
+/// has none while the mutex has an owner; where it may act upon a pending request it has `go` and
 /// `act`, and where it must, `act` alone. One that is suspended at a cancellation point has `go`, if what it waits for may occur
 /// at any time, one that joins another, once that has ended, and one in sem_wait, while the count is above 0; one that waits on a
 /// condition variable has none, and once it was unblocked it has `go` while its mutex has no owner. Each of them has `act`, if a request
@@ -273,7 +274,8 @@ fn nth_id(threads: &Threads, held: &SlotSet, n: usize) -> Option<u32>
 pub(crate) fn choices_at(context: &Context) -> Choices
     requires { IsWhole context.now }
     ensures value { (shared : SharedState) (t : Thread) (others : Others) → IsContext shared t others context.now
-        → listed context.now.threads.now context.now.position.keys.now result ≡ choices_at shared t others (next_of context.now.program.now.script t.frames) t.status }
+        → let script = context.now.program.now.script in
+        listed context.now.threads.now context.now.position.keys.now result ≡ choices_at (body_at script t.frames) shared t others (next_of script t.frames) t.status }
     ensures within { AreWithin context.now.threads.now result }
 {
     let cancel = &context.position.thread.cancel;
@@ -301,12 +303,13 @@ pub(crate) fn choices_at(context: &Context) -> Choices
 fn at_next(context: &Context) -> Choices
     requires { IsWhole context.now }
     ensures value { (shared : SharedState) (t : Thread) (others : Others) → IsContext shared t others context.now
-        → listed context.now.threads.now context.now.position.keys.now result ≡ choices_at shared t others (next_at context.now.position.next) status.Running }
+        → let script = context.now.program.now.script in
+        listed context.now.threads.now context.now.position.keys.now result ≡ choices_at (body_at script t.frames) shared t others (next_of script t.frames) status.Running }
     ensures within { AreWithin context.now.threads.now result }
 {
     match &context.position.next {
         None => Choices::None,
-        Some(at) => running_choices(context, at.statement),
+        Some(at) => running_choices(context, at),
     }
 }
 
@@ -316,8 +319,8 @@ fn at_next(context: &Context) -> Choices
 #[inline(always)]
 fn unblocked_choices(context: &Context, cond: u32, mutex: u32, cause: Cause) -> Choices
     requires { IsWhole context.now }
-    ensures value { (shared : SharedState) (t : Thread) (others : Others) → IsContext shared t others context.now
-        → listed context.now.threads.now context.now.position.keys.now result ≡ choices_at shared t others (next_at context.now.position.next) (status.Reacquire cond mutex cause) }
+    ensures value { (body : List Statement) (shared : SharedState) (t : Thread) (others : Others) → IsContext shared t others context.now
+        → listed context.now.threads.now context.now.position.keys.now result ≡ choices_at body shared t others (next_at context.now.position.next) (status.Reacquire cond mutex cause) }
     ensures within { AreWithin context.now.threads.now result }
 {
     let free = is_free_mutex(context.owners, mutex);
@@ -335,8 +338,8 @@ fn unblocked_choices(context: &Context, cond: u32, mutex: u32, cause: Cause) -> 
 #[tactic(auto, unfolding(pct_model::specs::ChoiceTable::ending_choices))]
 fn ending_choices(context: &Context) -> Choices
     requires { IsWhole context.now }
-    ensures value { (shared : SharedState) (t : Thread) (others : Others) → IsContext shared t others context.now
-        → listed context.now.threads.now context.now.position.keys.now result ≡ ending_choices shared t others t.handlers }
+    ensures value { (body : List Statement) (shared : SharedState) (t : Thread) (others : Others) → IsContext shared t others context.now
+        → listed context.now.threads.now context.now.position.keys.now result ≡ ending_choices body shared t others t.handlers }
     ensures within { AreWithin context.now.threads.now result }
 {
     let position = &context.position;
@@ -347,22 +350,24 @@ fn ending_choices(context: &Context) -> Choices
     }
 }
 
-// The choices of a running thread at a statement: what its cancelability decides comes first.
+// The choices of a running thread at a statement of its top frame: a statement that its process may not execute is a stop, and then
+// what its cancelability decides comes first.
 #[inline(always)]
-fn running_choices(context: &Context, statement: &Stmt) -> Choices
+fn running_choices(context: &Context, at: &At) -> Choices
     requires { IsWhole context.now }
     ensures value { (shared : SharedState) (t : Thread) (others : Others) → IsContext shared t others context.now
-        → listed context.now.threads.now context.now.position.keys.now result ≡ running_choices shared t others statement.now }
+        → listed context.now.threads.now context.now.position.keys.now result ≡ running_choices (body_of context.now.program.now.script at.now.frame.now.func) shared t others at.now.frame.now at.now.statement.now }
     ensures within { AreWithin context.now.threads.now result }
 {
     let cancel = &context.position.thread.cancel;
-    if cancel.async_on() {
-        // A statement that is not implemented is a stop.
-        go_or_act(true, cancel.pending && is_built(statement))
+    if is_forbidden_in_child(context, at) {
+        Choices::Go
+    } else if cancel.async_on() {
+        go_or_act(true, cancel.pending)
     } else if cancel.deliverable() {
-        requested_choices(context, statement)
+        requested_choices(context, at.statement)
     } else {
-        statement_choices(context, statement)
+        statement_choices(context, at.statement)
     }
 }
 
@@ -371,8 +376,8 @@ fn running_choices(context: &Context, statement: &Stmt) -> Choices
 #[inline(always)]
 fn requested_choices(context: &Context, statement: &Stmt) -> Choices
     requires { IsWhole context.now }
-    ensures value { (shared : SharedState) (t : Thread) (others : Others) → is_asynchronous t.state t.mode ≡ false → is_deliverable t.state t.pending ≡ true → IsContext shared t others context.now
-        → listed context.now.threads.now context.now.position.keys.now result ≡ running_choices shared t others statement.now }
+    ensures value { (shared : SharedState) (t : Thread) (others : Others) → IsContext shared t others context.now
+        → listed context.now.threads.now context.now.position.keys.now result ≡ requested_choices shared others statement.now }
     ensures within { AreWithin context.now.threads.now result }
 {
     match called_kind(statement) {

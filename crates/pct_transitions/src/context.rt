@@ -11,7 +11,7 @@ ghost use Rattle.pct_transitions.specs.ProcessSteps.{NewNumbersFit};
 
 use crate::position::{Position, position_of};
 use crate::program::Program;
-use pct_process::{ExitFunctions, Family, ProcessState};
+use pct_process::{ExitFunctions, Family, ForkRegistrations, ProcessState};
 use pct_threads::Threads;
 
 /// What the steps of the threads of a process depend on beside the process: the script that is run, and the other processes.
@@ -38,10 +38,14 @@ pub(crate) struct Context<'a> {
     pub owners: &'a [u32],
     /// The count of each semaphore of the process.
     pub counts: &'a [u32],
+    /// The fork handlers that are registered with pthread_atfork.
+    pub fork_handlers: &'a ForkRegistrations,
     /// The functions that are registered with atexit.
     pub exit_functions: &'a ExitFunctions,
     /// The value with which exit began.
     pub exit_value: Option<u32>,
+    /// The process may execute async-signal-safe operations only.
+    pub restricted: bool,
     /// The thread, and the keys of the process.
     pub position: Position<'a>,
 }
@@ -63,8 +67,10 @@ impl<'a> Context<'a> {
             globals: process.globals.as_slice(),
             owners: process.owners.as_slice(),
             counts: process.counts.as_slice(),
+            fork_handlers: &process.fork_handlers,
             exit_functions: &process.exit_functions,
             exit_value: process.exit_value,
+            restricted: process.restricted,
             position: position_of(around.program, &process.threads, &process.keys, slot),
         }
     }

@@ -1,8 +1,11 @@
-//! The transitions of fork and waitpid. `next` is the program counter of the next statement.
+//! The transitions of pthread_atfork, fork and waitpid. `next` is the program counter of the next statement.
 
-ghost use Rattle.std.specs.Prelude.{◌≡◌, ℕ, Option};
+ghost use Rattle.std.specs.Prelude.{◌≡◌, ◌-◌, ◌<◌, ℕ, Option, IfSome, length, reverse, slice_get};
+ghost use Rattle.std.specs.List.{range_with_len};
+ghost use Rattle.pct_model.specs.declared.limits.TheConstants.{MAX_FORK_HANDLERS};
+ghost use Rattle.pct_model.specs.declared.state.ForkAt.{ForkAt as ForkValues};
 ghost use Rattle.pct_model.specs.declared.state.Phase.TheVariants as phases;
-ghost use Rattle.pct_model.specs.ForkCalls.{begins_fork, forks_by, goes_on_forking, finds_no_child, begins_waitpid, reaps, waits_at};
+ghost use Rattle.pct_model.specs.ForkCalls.{in_fork, handler_for, handler_at, handlers_among, next_handler, while_called, handler_event, calls_handler, registers_fork, begins_fork, forks_by, goes_on_after_handlers, goes_on_forking, leaves_handler, finds_no_child, begins_waitpid, reaps, waits_at};
 ghost use Rattle.pct_model.specs.NextStatement.{StatementIn};
 ghost use Rattle.pct_model.specs.OtherThreads.{Others};
 ghost use Rattle.pct_transitions.specs.Contexts.{IsWhole, SeesOthers};
@@ -10,62 +13,249 @@ ghost use Rattle.pct_transitions.specs.Positions.{next_at, IsAt};
 
 use crate::context::Context;
 use crate::current::{At, next_pc};
-use crate::transitions::{acts, goes_on, no_change, no_next};
-use pct_model::{Action, Caller, Dest, Phase, Stmt, Transition, UpToThree, WAITPID_POINT, What};
+use crate::transitions::{acts, goes_on, leaves, no_change, no_next};
+use pct_model::{
+    Action, Caller, Dest, ForkAt, ForkHandlers, FrameKind, HandlerCall, MAX_FORK_HANDLERS, Phase,
+    Status, Stmt, Transition, UpToThree, WAITPID_POINT, What,
+};
+use pct_process::ForkRegistrations;
 
-// ---- fork
+// ---- pthread_atfork
 
-/// fork: the thread is in its phase before the fork. No function can be registered with pthread_atfork yet, so that no phase calls one.
-#[tactic(auto, unfolding(pct_model::specs::ForkCalls::begins_fork))]
-pub(crate) fn begins_fork() -> Transition
-    ensures { result ≡ begins_fork }
-{
-    no_next(
-        UpToThree::one(Action::EnterFork(Phase::Prepare, 0)),
-        UpToThree::none(),
-    )
+/// A call of pthread_atfork: the variable that gets the result, and the fork handlers.
+#[derive(Clone, Copy)]
+pub(crate) struct AtForkCall {
+    pub answer: Dest,
+    pub handlers: ForkHandlers,
 }
 
-/// A thread in fork goes on, by the phase: before the fork, a child is made; after it, the thread returns, in the parent with the id of
-/// the child, which is 0 if none was made.
-#[inline(always)]
-pub(crate) fn goes_on_forking(
-    context: &Context,
-    phase: Phase,
-    pid: u32,
+/// pthread_atfork, in a process with these registrations: the result is 0, or ENOMEM, which is 2 in this host, past its limit.
+#[tactic(auto, unfolding(pct_model::specs::ForkCalls::registers_fork))]
+#[inline(never)]
+pub(crate) fn registers_fork(
+    call: &AtForkCall,
+    next: u32,
+    registered: &ForkRegistrations,
     transition: &mut Transition,
 )
-    requires { IsWhole context.now }
-    ensures { (others : Others) → SeesOthers context.now others → transition.new ≡ goes_on_forking phase pid others.family.new_pid (next_at context.now.position.next) }
+    ensures { transition.new ≡ registers_fork (length registered.now) next call.now.answer call.now.handlers }
 {
-    match (phase, &context.position.next) {
-        (Phase::Prepare, _) => *transition = forks_by(context.new_pid()),
-        (_, None) => *transition = no_change(),
-        (Phase::Parent, Some(at)) => *transition = returns_in_parent(context, at, pid),
-        (Phase::Child, Some(at)) => *transition = returns_in_child(context, at),
+    if registered.as_slice().len() < MAX_FORK_HANDLERS {
+        *transition = goes_on(
+            next,
+            UpToThree::two(
+                Action::AddForkHandlers(call.handlers),
+                Action::Write(call.answer, 0),
+            ),
+            UpToThree::none(),
+        );
+    } else {
+        let failed = What::Answer {
+            call: Caller::AtFork,
+            number: 2,
+        };
+        *transition = goes_on(
+            next,
+            UpToThree::one(Action::Write(call.answer, 2)),
+            UpToThree::one(failed),
+        );
     }
 }
 
-// A child is made with an id. Without an id there is none, and fork fails with EAGAIN.
+// ---- fork handlers
+
+// The handler that a thread in fork calls next, in a process with these registrations. `None` exactly if none is left. Before the fork
+// the newest registration comes first, and after it the oldest (XSH pthread_atfork).
+#[tactic(auto, unfolding(pct_model::specs::ForkCalls::next_handler))]
+fn next_handler(registered: &[ForkHandlers], at: &ForkAt) -> Option<HandlerCall>
+    ensures value { result ≡ next_handler registered.now at.now }
+    ensures within { IfSome result (λ call. call.index < length registered.now) }
+{
+    match at.phase {
+        Phase::Prepare => newest_below(registered, at.next),
+        Phase::Parent | Phase::Child => oldest_from(registered, at),
+    }
+}
+
+// The handler before the fork of the newest registration that has one, of those with an index below `end`.
+fn newest_below(registered: &[ForkHandlers], end: u32) -> Option<HandlerCall>
+    ensures value { result ≡ slice_get (handlers_among phases.Prepare registered.now (reverse (range_with_len 0 end))) 0 }
+    ensures within { IfSome result (λ call. call.index < length registered.now) }
+{
+    for index in (0..end).rev() {
+        if let Some(func) = handler_at(registered, Phase::Prepare, index) {
+            return Some(HandlerCall { index, func });
+        }
+    }
+    None
+}
+
+// The handler of the phase of the oldest registration that has one, of those that are left.
+fn oldest_from(registered: &[ForkHandlers], at: &ForkAt) -> Option<HandlerCall>
+    ensures value { result ≡ slice_get (handlers_among at.now.phase registered.now (range_with_len at.now.next (at.now.length - at.now.next))) 0 }
+    ensures within { IfSome result (λ call. call.index < length registered.now) }
+{
+    for index in at.next..at.length {
+        if let Some(func) = handler_at(registered, at.phase, index) {
+            return Some(HandlerCall { index, func });
+        }
+    }
+    None
+}
+
+// The handler of a phase in the registration with an index, if it has one.
+fn handler_at(registered: &[ForkHandlers], phase: Phase, index: u32) -> Option<u32>
+    ensures value { result ≡ handler_at phase registered.now index }
+    ensures within { IfSome result (λ _. index < length registered.now) }
+{
+    handler_for(phase, registered.get(index as usize)?)
+}
+
+// The handler of a phase, which may be absent.
+fn handler_for(phase: Phase, handlers: &ForkHandlers) -> Option<u32>
+    ensures { result ≡ handler_for phase handlers.now }
+{
+    match phase {
+        Phase::Prepare => handlers.prepare,
+        Phase::Parent => handlers.parent,
+        Phase::Child => handlers.child,
+    }
+}
+
+// A thread in fork calls a handler.
+#[tactic(auto, unfolding(pct_model::specs::ForkCalls::calls_handler))]
+fn calls_handler(at: &ForkAt, handler: HandlerCall) -> Transition
+    requires { handler.index < MAX_FORK_HANDLERS }
+    ensures { result ≡ calls_handler at.now handler }
+{
+    let call = Action::Call {
+        func: handler.func,
+        arg: 0,
+        kind: FrameKind::ForkFn,
+    };
+    no_next(
+        UpToThree::two(Action::KeepFork(while_called(at, handler.index)), call),
+        UpToThree::one(handler_event(at.phase, handler.func)),
+    )
+}
+
+// The values of a fork while the handler of the registration with an index runs.
+fn while_called(at: &ForkAt, index: u32) -> ForkAt
+    requires { index < MAX_FORK_HANDLERS }
+    ensures { result ≡ while_called at.now index }
+{
+    let next = match at.phase {
+        Phase::Prepare => index,
+        Phase::Parent | Phase::Child => index + 1,
+    };
+    ForkAt { next, ..*at }
+}
+
+// The event of the call of a handler.
+fn handler_event(phase: Phase, func: u32) -> What
+    ensures { result ≡ handler_event phase func }
+{
+    match phase {
+        Phase::Prepare => What::PrepareRun(func),
+        Phase::Parent => What::ParentRun(func),
+        Phase::Child => What::ChildRun(func),
+    }
+}
+
+/// A thread returns from a fork handler: it goes on with its fork, by the values that it kept.
+#[tactic(auto, unfolding(pct_model::specs::ForkCalls::leaves_handler))]
+pub(crate) fn leaves_handler(kept: Option<ForkAt>) -> Transition
+    ensures { result ≡ leaves_handler kept }
+{
+    match kept {
+        None => no_change(),
+        Some(at) => leaves(in_fork(at)),
+    }
+}
+
+// The status of a thread in fork, with these values.
+fn in_fork(at: ForkAt) -> Status
+    ensures { result ≡ in_fork at }
+{
+    Status::Forking(at.phase, at.next, at.length, at.answer)
+}
+
+// ---- fork
+
+/// fork, in a process with these registrations of fork handlers: the thread is in its phase before the fork, and uses these ones.
+#[tactic(auto, unfolding(pct_model::specs::ForkCalls::begins_fork))]
+#[inline(never)]
+pub(crate) fn begins_fork(registered: &ForkRegistrations, transition: &mut Transition)
+    ensures { transition.new ≡ begins_fork (length registered.now) }
+{
+    let length = registered.as_slice().len() as u32;
+    let at = ForkAt {
+        phase: Phase::Prepare,
+        next: length,
+        length,
+        answer: 0,
+    };
+    *transition = no_next(UpToThree::one(Action::EnterFork(at)), UpToThree::none());
+}
+
+/// A thread in fork goes on: it calls the next fork handler of its phase, if one is left. Then, before the fork, a child is made; after
+/// it, the thread returns, in the parent with the id of the child, which is 0 if none was made.
+#[inline(never)]
+pub(crate) fn goes_on_forking(context: &Context, at: &ForkAt, transition: &mut Transition)
+    requires { IsWhole context.now }
+    ensures { (others : Others) → SeesOthers context.now others → transition.new ≡ goes_on_forking (next_handler context.now.fork_handlers.now at.now) at.now others.family.new_pid (next_at context.now.position.next) }
+{
+    match next_handler(context.fork_handlers.as_slice(), at) {
+        Some(handler) => *transition = calls_handler(at, handler),
+        None => goes_on_after_handlers(context, at, transition),
+    }
+}
+
+// The same where no handler of the phase is left.
+fn goes_on_after_handlers(context: &Context, at: &ForkAt, transition: &mut Transition)
+    requires { IsWhole context.now }
+    ensures { (others : Others) → SeesOthers context.now others → transition.new ≡ goes_on_after_handlers at.now.phase at.now others.family.new_pid (next_at context.now.position.next) }
+{
+    match (at.phase, &context.position.next) {
+        (Phase::Prepare, _) => *transition = forks_by(at.length, context.new_pid()),
+        (_, None) => *transition = no_change(),
+        (Phase::Parent, Some(next)) => *transition = returns_in_parent(context, next, at.answer),
+        (Phase::Child, Some(next)) => *transition = returns_in_child(context, next),
+    }
+}
+
+// A child is made with an id, in a fork that uses this many registrations. Without an id there is none, and fork fails with EAGAIN.
 #[tactic(auto, unfolding(pct_model::specs::ForkCalls::forks_by))]
-fn forks_by(new_pid: Option<u32>) -> Transition
-    ensures { result ≡ forks_by new_pid }
+fn forks_by(length: u32, new_pid: Option<u32>) -> Transition
+    ensures { result ≡ forks_by length new_pid }
 {
     match new_pid {
         Some(pid) => no_next(
             UpToThree::two(
-                Action::EnterFork(Phase::Parent, pid),
+                Action::EnterFork(after_fork(length, pid)),
                 Action::MakeChild(pid),
             ),
             UpToThree::one(What::Forked(pid)),
         ),
         None => acts(
-            Action::EnterFork(Phase::Parent, 0),
+            Action::EnterFork(after_fork(length, 0)),
             What::Answer {
                 call: Caller::Fork,
                 number: 1,
             },
         ),
+    }
+}
+
+// The values of a fork right after it, in the process that called it: its handlers are called from the first registration on.
+fn after_fork(length: u32, answer: u32) -> ForkAt
+    ensures { result ≡ record { phase = phases.Parent; next = 0; length = length; answer = answer } }
+{
+    ForkAt {
+        phase: Phase::Parent,
+        next: 0,
+        length,
+        answer,
     }
 }
 
@@ -75,7 +265,7 @@ fn forks_by(new_pid: Option<u32>) -> Transition
 #[inline(always)]
 fn returns_in_parent(context: &Context, at: &At, pid: u32) -> Transition
     requires { IsAt context.now.program.now.script at.now }
-    ensures { (new_pid : Option ℕ) → result ≡ goes_on_forking phases.Parent pid new_pid (StatementIn at.now.frame.now at.now.statement.now) }
+    ensures { (forking : ForkValues) (new_pid : Option ℕ) → forking.answer ≡ pid → result ≡ goes_on_after_handlers phases.Parent forking new_pid (StatementIn at.now.frame.now at.now.statement.now) }
 {
     match at.statement {
         Stmt::Fork {
@@ -106,7 +296,7 @@ fn returns_in_parent(context: &Context, at: &At, pid: u32) -> Transition
 #[inline(always)]
 fn returns_in_child(context: &Context, at: &At) -> Transition
     requires { IsAt context.now.program.now.script at.now }
-    ensures { (pid : ℕ) (new_pid : Option ℕ) → result ≡ goes_on_forking phases.Child pid new_pid (StatementIn at.now.frame.now at.now.statement.now) }
+    ensures { (forking : ForkValues) (new_pid : Option ℕ) → result ≡ goes_on_after_handlers phases.Child forking new_pid (StatementIn at.now.frame.now at.now.statement.now) }
 {
     match at.statement {
         Stmt::Fork {

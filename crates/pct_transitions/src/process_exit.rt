@@ -2,15 +2,15 @@
 //! program counter of the next statement.
 
 ghost use Rattle.std.specs.Prelude.{◌≡◌, [], ◌∷◌, ℕ, List, Option};
-ghost use Rattle.pct_model.specs.declared.transition.Action.TheVariants as action;
-ghost use Rattle.pct_model.specs.Transitions.{acts};
 ghost use Rattle.pct_model.specs.ProcessExit.{exits, returns_by, ends_now, goes_on_exiting, may_register, registers_if};
 ghost use Rattle.pct_model.specs.World.{SharedState};
 
+use crate::fork_calls::leaves_handler;
 use crate::thread_ends::ends_by_exit;
-use crate::transitions::{acts, goes_on, no_change, no_next};
+use crate::transitions::{acts, goes_on, leaves, no_change, no_next};
 use pct_model::{Action, Caller, Dest, FrameKind, Status, Transition, UpToThree, What};
 use pct_process::ExitFunctions;
+use pct_threads::Thread;
 
 /// A thread begins to exit its process with a value, as if it called exit (XSH exit).
 #[tactic(auto, unfolding(pct_model::specs::ProcessExit::exits))]
@@ -20,12 +20,13 @@ pub(crate) fn exits(value: u32) -> Transition
     acts(Action::BeginExit(value), What::ExitBegun(value))
 }
 
-/// `return` of a value, by the kind of the top frame. A return from `main` in the initial thread acts as exit, one from the
-/// start routine of another thread as pthread_exit (XSH pthread_create).
+/// `return` of a value, by the kind of the top frame of the thread with this record. A return from `main` in the initial thread acts as
+/// exit, one from the start routine of another thread as pthread_exit (XSH pthread_create). A return from a fork handler goes on with
+/// the fork, by the values that the thread kept.
 #[tactic(auto, unfolding(pct_model::specs::ProcessExit::returns_by))]
 #[inline(never)]
-pub(crate) fn returns_by(kind: FrameKind, value: u32, transition: &mut Transition)
-    ensures { transition.new ≡ returns_by kind value }
+pub(crate) fn returns_by(thread: &Thread, kind: FrameKind, value: u32, transition: &mut Transition)
+    ensures { transition.new ≡ returns_by thread.now.kept kind value }
 {
     match kind {
         FrameKind::Main => *transition = exits(value),
@@ -35,7 +36,7 @@ pub(crate) fn returns_by(kind: FrameKind, value: u32, transition: &mut Transitio
         FrameKind::Handler => *transition = leaves(Status::Ending),
         FrameKind::Destructor => *transition = leaves(Status::Ending),
         FrameKind::ExitFn => *transition = leaves(Status::Exiting),
-        FrameKind::ForkFn => *transition = no_change(),
+        FrameKind::ForkFn => *transition = leaves_handler(thread.kept),
     }
 }
 
@@ -132,11 +133,4 @@ pub(crate) fn registers_if(
             UpToThree::one(failed),
         );
     }
-}
-
-// The thread leaves its top frame, and gets a status.
-fn leaves(status: Status) -> Transition
-    ensures { result ≡ acts (action.Leave status ∷ []) [] }
-{
-    no_next(UpToThree::one(Action::Leave(status)), UpToThree::none())
 }

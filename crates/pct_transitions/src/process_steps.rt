@@ -8,7 +8,7 @@ ghost use Rattle.pct_engine_laws.specs.SeenSteps.{choices_in, is_ready_in};
 ghost use Rattle.pct_process.specs.FamilyViews.{other_processes};
 ghost use Rattle.pct_process.specs.ProcessViews.{thread_on_slot};
 ghost use Rattle.pct_transitions.specs.Numbers.{AreOnPlaces};
-ghost use Rattle.pct_transitions.specs.ProcessSteps.{with_data, NewNumbersFit, Takes};
+ghost use Rattle.pct_transitions.specs.ProcessSteps.{with_data, NewNumbersFit, ForksHaveRoom, Takes};
 
 use crate::choice_table::choices_at;
 use crate::context::{Context, Surroundings};
@@ -63,6 +63,7 @@ pub fn takes(
 ) -> bool
     requires held { is_some (thread_on_slot process.now.slots slot) ≡ true }
     requires numbers { NewNumbersFit process.now }
+    requires room { ForksHaveRoom process.now.slots }
     ensures taken { (t : Thread) → thread_on_slot process.now.slots slot ≡ Some t → Takes around.entry.program.now.script around.entry.program.now.config (other_processes around.entry.family) process.now t choice result transition.new }
     ensures fits { (t : Thread) → thread_on_slot process.now.slots slot ≡ Some t → result ≡ true → AllFit (length t.frames) (length t.handlers) t.pass transition.new.actions }
     // This holds of every process.

@@ -15,6 +15,7 @@ use crate::process_exit::returns_by;
 use crate::program::Program;
 use crate::transitions::goes_on;
 use pct_model::{Action, Dest, Frame, FrameKind, Script, Stmt, Transition, UpToThree, What};
+use pct_threads::Thread;
 
 /// `nop`, and each statement that only goes to a program counter.
 #[tactic(auto, unfolding(pct_model::specs::ScriptStatements::jumps))]
@@ -62,14 +63,19 @@ pub(crate) fn calls(next: u32, func: u32, arg: u32) -> Transition
     goes_on(next, UpToThree::one(call), UpToThree::none())
 }
 
-/// `end`: of a block, or of the function, which returns 0.
-pub(crate) fn ends_block(program: &Program, frame: &Frame, transition: &mut Transition)
+/// `end`: of a block, or of the function, which returns 0, in the thread with this record.
+pub(crate) fn ends_block(
+    program: &Program,
+    thread: &Thread,
+    frame: &Frame,
+    transition: &mut Transition,
+)
     requires { frame.now.pc < MAX_STATEMENTS }
-    ensures { let body = body_of program.now.script frame.now.func in transition.new ≡ ends_block (open_of body frame.now.pc) body frame.now }
+    ensures { let body = body_of program.now.script frame.now.func in transition.new ≡ ends_block (open_of body frame.now.pc) thread.now.kept body frame.now }
 {
     match program.jumps.open_of(frame.func, frame.pc) {
         Some(opened) => *transition = jumps(after_end(&program.script, frame, opened)),
-        None => returns_by(frame.kind, 0, transition),
+        None => returns_by(thread, frame.kind, 0, transition),
     }
 }
 

@@ -1,7 +1,7 @@
 //! The stops: uses that POSIX leaves undefined, further uses that this host reports as undefined by its choice, its limits, and
-//! what is not implemented.
+//! what it leaves out.
 
-ghost use Rattle.std.specs.Prelude.{◌≡◌, ◌∷◌, [], List, length, not, reverse, nat_eq, nat_lt, is_none};
+ghost use Rattle.std.specs.Prelude.{◌≡◌, ◌&&◌, ◌∷◌, [], List, length, not, reverse, nat_eq, nat_lt, is_none};
 ghost use Rattle.pct_model.specs.declared.stop.Why.TheVariants as why;
 ghost use Rattle.pct_model.specs.declared.frame.Frame.{Frame as FrameRecord};
 ghost use Rattle.pct_model.specs.declared.limits.TheConstants.{MAX_HANDLERS};
@@ -9,7 +9,7 @@ ghost use Rattle.pct_model.specs.World.{Thread, SharedState, body_of};
 ghost use Rattle.pct_model.specs.OtherThreads.{Others, no_live_thread, is_detached_thread, waits_with_another_mutex};
 ghost use Rattle.pct_model.specs.MutexCalls.{owns};
 ghost use Rattle.pct_model.specs.Keys.{key_with};
-ghost use Rattle.pct_model.specs.StopTable.{stop_at, stops_of, first_stop, is_stack_full, has_begun_to_end, exits_twice, closes_function, is_handler_kind, is_in_handler, is_allowed_asynchronously, is_built, is_unbuilt};
+ghost use Rattle.pct_model.specs.StopTable.{stop_at, stops_of, first_stop, is_stack_full, has_begun_to_end, exits_twice, closes_function, is_handler_kind, is_in_handler, is_allowed_asynchronously, is_safe_point, is_inner_kind, is_fork_kind, is_allowed_in_child, is_forbidden_in_child};
 ghost use Rattle.pct_transitions.specs.Contexts.{IsContext, IsWhole, SeesOthers};
 
 use crate::context::Context;
@@ -17,18 +17,22 @@ use crate::current::{At, value_of};
 use crate::mutex_calls::owns;
 use crate::program::Program;
 use pct_keys::Keys;
-use pct_model::{Frame, FrameKind, MAX_FRAMES, MAX_HANDLERS, Reason, Stmt, Why};
+use pct_model::{
+    CLOSE_POINT, Frame, FrameKind, MAX_FRAMES, MAX_HANDLERS, OPEN_POINT, PAUSE_POINT, READ_POINT,
+    Reason, SLEEP_POINT, Stmt, WRITE_POINT, Why,
+};
 
-/// The stop of a running thread at this statement of its top frame: whether the statement is implemented is tested first, then
-/// whether it may be executed with asynchronous cancelability, and then the statement's own stops in their order. `None` if the statement does not stop.
+/// The stop of a running thread at this statement of its top frame: whether its process may execute the statement is tested first, then
+/// whether it may be executed with asynchronous cancelability, and then the statement's own stops in their order. `None` if the
+/// statement does not stop.
 #[tactic(auto, unfolding(pct_model::specs::StopTable::stop_at))]
 pub(crate) fn stop_at(context: &Context, at: &At) -> Option<Why>
     requires { IsWhole context.now }
     ensures { (shared : SharedState) (t : Thread) (others : Others) → IsContext shared t others context.now
         → result ≡ stop_at (body_of context.now.program.now.script at.now.frame.now.func) shared t others at.now.frame.now at.now.statement.now }
 {
-    if is_unbuilt(context, at.statement) {
-        Some(Why::Unbuilt)
+    if is_forbidden_in_child(context, at) {
+        Some(Why::ForkChildCall)
     } else if context.position.thread.cancel.async_on()
         && !is_allowed_asynchronously(at.statement)
     {
@@ -248,61 +252,67 @@ fn closes_function(program: &Program, frame: &Frame) -> bool
     program.jumps.open_of(frame.func, frame.pc).is_none()
 }
 
-// Whether the statement is not implemented. A fork is not while another thread of the process has not ended.
+// ---- the child of a process with several threads
+
+/// Whether the process is the child of one that had several threads, and may not execute this statement of the top frame (XSH fork).
+#[tactic(auto, unfolding(pct_model::specs::StopTable::is_forbidden_in_child))]
 #[inline(always)]
-fn is_unbuilt(context: &Context, statement: &Stmt) -> bool
-    requires { IsWhole context.now }
-    ensures { (others : Others) → SeesOthers context.now others → result ≡ is_unbuilt others statement.now }
+pub(crate) fn is_forbidden_in_child(context: &Context, at: &At) -> bool
+    ensures { (shared : SharedState) → context.now.restricted ≡ shared.restricted
+        → result ≡ is_forbidden_in_child (body_of context.now.program.now.script at.now.frame.now.func) shared at.now.frame.now at.now.statement.now }
 {
-    match statement {
-        Stmt::Fork { .. } => !context.is_last(),
-        _ => !is_built(statement),
+    context.restricted && is_forbidden_if_restricted(context.program, at)
+}
+
+// The same for a process that is such a child. What a fork handler executes is allowed.
+#[inline(never)]
+fn is_forbidden_if_restricted(program: &Program, at: &At) -> bool
+    ensures { let frame = at.now.frame.now in result ≡ (not (is_fork_kind frame.kind) && not (is_allowed_in_child (body_of program.now.script frame.func) frame at.now.statement.now)) }
+{
+    !is_fork_kind(at.frame.kind) && !is_allowed_in_child(program, at)
+}
+
+// Whether a frame's statement is allowed in the child of a process with several threads.
+fn is_allowed_in_child(program: &Program, at: &At) -> bool
+    ensures { result ≡ is_allowed_in_child (body_of program.now.script at.now.frame.now.func) at.now.frame.now at.now.statement.now }
+{
+    match at.statement {
+        Stmt::Emit(_)
+        | Stmt::Set(_, _)
+        | Stmt::Add(_, _)
+        | Stmt::Nop
+        | Stmt::If(_)
+        | Stmt::Else
+        | Stmt::While(_)
+        | Stmt::Do(_, _)
+        | Stmt::ProcExitNow(_) => true,
+        Stmt::End => is_inner_kind(at.frame.kind) || !closes_function(program, at.frame),
+        Stmt::Return(_) => is_inner_kind(at.frame.kind),
+        Stmt::PointCall(index) => is_safe_point(*index),
+        _ => false,
     }
 }
 
-/// Whether the statement is implemented.
-pub(crate) fn is_built(statement: &Stmt) -> bool
-    ensures { result ≡ is_built statement.now }
+// Whether the cancellation point with this index is a function that such a child may call: it is async-signal-safe (XSH 2.4.3).
+fn is_safe_point(index: u32) -> bool
+    ensures { result ≡ is_safe_point index }
 {
     matches!(
-        statement,
-        Stmt::Emit(_)
-            | Stmt::Set(_, _)
-            | Stmt::Add(_, _)
-            | Stmt::Nop
-            | Stmt::If(_)
-            | Stmt::Else
-            | Stmt::While(_)
-            | Stmt::End
-            | Stmt::Do(_, _)
-            | Stmt::Return(_)
-            | Stmt::Create { .. }
-            | Stmt::Join { .. }
-            | Stmt::Detach(_)
-            | Stmt::CancelThread(_)
-            | Stmt::SelfId(_)
-            | Stmt::ThreadExit(_)
-            | Stmt::TestCancel
-            | Stmt::SetState { .. }
-            | Stmt::SetMode { .. }
-            | Stmt::Push(_, _)
-            | Stmt::Pop(_)
-            | Stmt::KeyCreate { .. }
-            | Stmt::KeyDelete(_)
-            | Stmt::SetSpecific(_, _)
-            | Stmt::GetSpecific(_, _)
-            | Stmt::Lock(_)
-            | Stmt::Unlock(_)
-            | Stmt::CondWait { .. }
-            | Stmt::Signal(_)
-            | Stmt::Broadcast(_)
-            | Stmt::SemWait(_)
-            | Stmt::SemPost(_)
-            | Stmt::Fork { .. }
-            | Stmt::WaitPid { .. }
-            | Stmt::AtExit { .. }
-            | Stmt::ProcExit(_)
-            | Stmt::ProcExitNow(_)
-            | Stmt::PointCall(_)
+        index,
+        CLOSE_POINT | OPEN_POINT | PAUSE_POINT | READ_POINT | SLEEP_POINT | WRITE_POINT
     )
+}
+
+// Whether a return from a frame of this kind ends neither the thread nor the process.
+fn is_inner_kind(kind: FrameKind) -> bool
+    ensures { result ≡ is_inner_kind kind }
+{
+    !matches!(kind, FrameKind::Main | FrameKind::Start)
+}
+
+// Whether a frame of this kind is that of a fork handler.
+fn is_fork_kind(kind: FrameKind) -> bool
+    ensures { result ≡ is_fork_kind kind }
+{
+    matches!(kind, FrameKind::ForkFn)
 }

@@ -1,9 +1,10 @@
 //! The transition that a choice makes.
 
-ghost use Rattle.std.specs.Prelude.{◌≡◌, ◌≤◌, length};
-ghost use Rattle.pct_model.specs.declared.limits.TheConstants.{MAX_PASSES};
+ghost use Rattle.std.specs.Prelude.{◌≡◌, ◌≤◌, true, length};
+ghost use Rattle.pct_model.specs.declared.limits.TheConstants.{MAX_FRAMES, MAX_PASSES};
 ghost use Rattle.pct_model.specs.declared.state.Status.TheVariants as status;
 ghost use Rattle.pct_model.specs.World.{Thread, SharedState, body_of};
+ghost use Rattle.pct_model.specs.Kept.{is_forking};
 ghost use Rattle.pct_model.specs.OtherThreads.{Others};
 ghost use Rattle.pct_model.specs.StopTable.{stop_at};
 ghost use Rattle.pct_model.specs.NextStatement.{next_of, body_at};
@@ -19,7 +20,9 @@ use crate::cleanup_handlers::{pops, pushes};
 use crate::cond_calls::{begins_wait, broadcasts, reacquires, signals_by};
 use crate::context::Context;
 use crate::current::{At, next_pc, value_of, variable_value};
-use crate::fork_calls::{begins_fork, begins_waitpid, goes_on_forking, waits_at};
+use crate::fork_calls::{
+    AtForkCall, begins_fork, begins_waitpid, goes_on_forking, registers_fork, waits_at,
+};
 use crate::key_calls::{KeyCreateCall, creates_key_by, deletes_key, gets_specific, sets_specific};
 use crate::mutex_calls::{locks, unlocks};
 use crate::process_exit::{
@@ -34,20 +37,21 @@ use crate::thread_calls::{CreateCall, begins_join, creates_by, detaches, gets_se
 use crate::thread_ends::{ends_by_exit, goes_on_ending};
 use crate::transitions::{no_change, stops};
 use pct_keys::key_place;
-use pct_model::{Alt, Status, Stmt, Transition};
+use pct_model::{Alt, ForkAt, ForkHandlers, Status, Stmt, Transition};
 
 /// Writes to `transition` what a thread in this context does by a choice. By `act` it acts upon a request. By every other choice it
 /// goes on: a running thread stops the run, or makes the transition of its next statement; one that is suspended at a cancellation
 /// point goes on; one that joins another returns, once that has ended; one in sem_wait takes the semaphore; one in waitpid reaps the
 /// child; one that was unblocked on a condition variable owns its mutex again; one that is ending runs its handlers and destructors
-/// and ends; one in fork makes the child, or returns; one that exits its process runs the functions registered with atexit and ends
-/// it; every other thread changes nothing. The program counter and the actions, one after another, keep the limits.
+/// and ends; one in fork calls its fork handlers, makes the child, or returns; one that exits its process runs the functions
+/// registered with atexit and ends it; every other thread changes nothing. The program counter and the actions, one after another,
+/// keep the limits, where a thread in fork has room for the frame of a fork handler.
 pub(crate) fn transition_by(context: &Context, choice: Alt, transition: &mut Transition)
     requires { IsWhole context.now }
     ensures value { (shared : SharedState) (t : Thread) (others : Others) → IsContext shared t others context.now
         → let script = context.now.program.now.script in
         transition.new ≡ acts_or choice t.status (transition_at context.now.program.now.config.passes (body_at script t.frames) shared t others choice (next_of script t.frames) t.status) }
-    ensures fits { (shared : SharedState) (t : Thread) (others : Others) → IsContext shared t others context.now → TransitionFits (length t.frames) (length t.handlers) t.pass transition.new }
+    ensures fits { (shared : SharedState) (t : Thread) (others : Others) → IsContext shared t others context.now → (is_forking t.status ≡ true → length t.frames ≤ MAX_FRAMES) → TransitionFits (length t.frames) (length t.handlers) t.pass transition.new }
 {
     match choice {
         Alt::Act(id) => acts_on_request(id, context.position.thread.status, transition),
@@ -76,7 +80,15 @@ fn transition_at(context: &Context, choice: Alt, transition: &mut Transition)
             reacquires(context, cond, mutex, cause, transition);
         }
         Status::Ending => goes_on_ending(context, passes, choice, transition),
-        Status::Forking(phase, _, _, pid) => goes_on_forking(context, phase, pid, transition),
+        Status::Forking(phase, next, length, answer) => {
+            let at = ForkAt {
+                phase,
+                next,
+                length,
+                answer,
+            };
+            goes_on_forking(context, &at, transition);
+        }
         Status::Exiting => {
             goes_on_exiting(context.exit_functions, context.exit_value, transition);
         }
@@ -146,11 +158,12 @@ fn runs(context: &Context, at: &At, choice: Alt, transition: &mut Transition)
             let value = value_of(globals, frame, *operand);
             *transition = jumps(after_test(program, at, value));
         }
-        Stmt::End => ends_block(program, frame, transition),
+        Stmt::End => ends_block(program, position.thread, frame, transition),
         Stmt::Do(func, operand) => {
             *transition = calls(next_pc(frame), *func, value_of(globals, frame, *operand));
         }
         Stmt::Return(operand) => returns_by(
+            position.thread,
             frame.kind,
             value_of(globals, frame, *operand),
             transition,
@@ -224,7 +237,23 @@ fn runs(context: &Context, at: &At, choice: Alt, transition: &mut Transition)
         Stmt::SemPost(sem) => {
             *transition = posts(next_pc(frame), *sem, count_of(context.counts, *sem));
         }
-        Stmt::Fork { .. } => *transition = begins_fork(),
+        Stmt::AtFork {
+            result: answer,
+            prepare,
+            parent,
+            child,
+        } => {
+            let call = AtForkCall {
+                answer: *answer,
+                handlers: ForkHandlers {
+                    prepare: *prepare,
+                    parent: *parent,
+                    child: *child,
+                },
+            };
+            registers_fork(&call, next_pc(frame), context.fork_handlers, transition);
+        }
+        Stmt::Fork { .. } => begins_fork(context.fork_handlers, transition),
         Stmt::WaitPid {
             result: answer,
             pid,
@@ -254,6 +283,5 @@ fn runs(context: &Context, at: &At, choice: Alt, transition: &mut Transition)
             position.thread.handlers.newest(),
             transition,
         ),
-        _ => *transition = no_change(),
     }
 }

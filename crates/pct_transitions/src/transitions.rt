@@ -1,9 +1,10 @@
 //! Parts of transitions.
 
 ghost use Rattle.std.specs.Prelude.{◌≡◌, [], ◌∷◌};
+ghost use Rattle.pct_model.specs.declared.transition.Action.TheVariants as action;
 ghost use Rattle.pct_model.specs.Transitions.{goes_on, acts, no_change, stops};
 
-use pct_model::{Action, Transition, UpToThree, What, Why};
+use pct_model::{Action, Status, Transition, UpToThree, What, Why};
 
 /// The thread goes on at a program counter, with these actions and events.
 pub(crate) fn goes_on(next: u32, actions: UpToThree<Action>, events: UpToThree<What>) -> Transition
@@ -39,6 +40,13 @@ pub(crate) fn acts(action: Action, event: What) -> Transition
         actions: UpToThree::one(action),
         events: UpToThree::one(event),
     }
+}
+
+/// The thread leaves its top frame, and gets a status.
+pub(crate) fn leaves(status: Status) -> Transition
+    ensures { result ≡ acts (action.Leave status ∷ []) [] }
+{
+    no_next(UpToThree::one(Action::Leave(status)), UpToThree::none())
 }
 
 /// A transition that changes nothing, for states that no run reaches.

@@ -24,7 +24,7 @@ use Rattle.pct_model.specs.ThreadSummary.{ThreadSummary}
 use Rattle.pct_model.specs.Transitions.{acts}
 use Rattle.pct_model.specs.World.{Thread, SharedState, body_of}
 use Rattle.pct_transition_cases.proofs.PlacedStatements.{IsPlaced, on_top}
-use Rattle.pct_transition_cases.proofs.TransitionCases.{TransitionCase, rests, stopped, jumped, emitted, variable_set, variable_added, main_returned, start_returned, call_left, handler_left, exit_function_left, mutex_locked, mutex_unlocked, canceled}
+use Rattle.pct_transition_cases.proofs.TransitionCases.{TransitionCase, rests, stopped, jumped, emitted, variable_set, variable_added, main_returned, start_returned, call_left, handler_left, exit_function_left, fork_handler_left, mutex_locked, mutex_unlocked, canceled}
 use Rattle.pct_ending_laws.proofs.StaticPushes.{PushesMatch}
 use Rattle.pct_ending_laws.proofs.exits.PlainFunctions.{is_plain_next, plain_below}
 use Rattle.pct_ending_laws.proofs.thread.Ends.{not_both}
@@ -80,5 +80,6 @@ module _ (script : Script) (passes : ℕ) (matches : PushesMatch script) (t : Th
     exit_step_keeps (on_top _ _ s at) (call_left _ _ v returns (inr is)) plain = absurd (other_kind kind.PopHandler refl is)
     exit_step_keeps (on_top _ _ s at) (handler_left _ _ v returns (inl is)) plain = absurd (other_kind kind.Handler refl is)
     exit_step_keeps (on_top _ _ s at) (handler_left _ _ v returns (inr is)) plain = absurd (other_kind kind.Destructor refl is)
+    exit_step_keeps (on_top _ _ s at) (fork_handler_left _ _ v values returns is keeps) plain = absurd (other_kind kind.ForkFn refl is)
     exit_step_keeps place (canceled next enabled) plain = absurd (not_both t.state (fits.agrees.disabled (or_right (has_begun_to_end t.reason) reported.exiting exits.2)) (enabled refl))
     exit_step_keeps place _ plain = absurd (false≢true plain)

@@ -1,4 +1,4 @@
--- The functions that atexit names are plain functions of the script, and what the statements of plain functions are.
+-- The functions that atexit and pthread_atfork name are plain functions of the script, and what the statements of plain functions are.
 use Rattle.std.proofs.Common.{◌≡◌, ℕ, ◌<◌, Bool, true, false, List, ◌∷◌, length, Option, Some, None, refl, slice_get}
 use Rattle.std.specs.Prelude.{option_and_then}
 use Rattle.std.specs.List.{list_all}
@@ -6,17 +6,18 @@ use Rattle.std.specs.Option.{IsSomeAnd, option_map_or}
 use Rattle.std.proofs.lemmas.Bool.{false≢true, and_parts}
 use Rattle.std.proofs.lemmas.Option.{none-some, slice_get_within}
 use Rattle.pct_model.specs.declared.frame.Frame.{Frame}
+use Rattle.pct_model.specs.declared.process.ForkHandlers.{ForkHandlers}
 use Rattle.pct_model.specs.declared.script.Func.{Func}
 use Rattle.pct_model.specs.declared.script.Script.{Script}
 use Rattle.pct_model.specs.declared.statement.Dest.{Dest}
 use Rattle.pct_model.specs.declared.statement.Stmt.{Stmt}
 use Rattle.pct_model.specs.declared.statement.Stmt.TheVariants as statement
 use Rattle.pct_model.specs.Checks.{is_plain}
-use Rattle.pct_model.specs.Kept.{IsPlainFunction}
+use Rattle.pct_model.specs.Kept.{IsPlainFunction, IsPlainIfSome, ArePlainHandlers}
 use Rattle.pct_model.specs.LineKinds.{syntax_of}
 use Rattle.pct_model.specs.NextStatement.{NextStatement, NoStatement, StatementIn}
-use Rattle.pct_model.specs.Statements.{encode, role_of}
-use Rattle.pct_model.specs.Static.{is_plain_body, names_plain, names_plain_functions}
+use Rattle.pct_model.specs.Statements.{encode, optional, role_of}
+use Rattle.pct_model.specs.Static.{is_plain_body, is_plain_at, names_plain, names_plain_functions}
 use Rattle.pct_model.specs.World.{statement_at}
 use Rattle.pct_model.proofs.StaticFacts.{passes_all}
 use Rattle.pct_transition_cases.proofs.PlacedStatements.{IsPlaced, nowhere, on_top}
@@ -47,6 +48,21 @@ module _ (script : Script) where
       let named : names_plain_functions (contents script) (statement.AtExit result f) ≡ true =
       statement_passes (names_plain_functions (contents script)) (passes_all (contents script) script.passes_checks).plain frame (statement.AtExit result f) (slice_get script.funcs frame.func) refl at in
       some_and (slice_get script.funcs f) is_plain_body (and_parts _ _ named).0
+
+  -- an optional argument that is plain, if it is a function
+  if_some_plain : (f : Option ℕ) → is_plain_at (contents script) (optional f) ≡ true → IsPlainIfSome script f
+  if_some_plain None is = tt
+  if_some_plain (Some f) is = some_and (slice_get script.funcs f) is_plain_body is
+
+  -- the handlers that pthread_atfork names
+  pub handlers_plain : (frame : Frame) (result : Dest) (handlers : ForkHandlers) → statement_at script frame ≡ Some (statement.AtFork result handlers.prepare handlers.parent handlers.child) → ArePlainHandlers script handlers
+  unfolding statement_at names_plain encode syntax_of
+  handlers_plain frame result handlers at =
+      let named : names_plain_functions (contents script) (statement.AtFork result handlers.prepare handlers.parent handlers.child) ≡ true =
+      statement_passes (names_plain_functions (contents script)) (passes_all (contents script) script.passes_checks).plain frame (statement.AtFork result handlers.prepare handlers.parent handlers.child) (slice_get script.funcs frame.func) refl at in
+      let first = and_parts _ _ named in
+      let second = and_parts _ _ first.1 in
+      record { prepare = if_some_plain handlers.prepare first.0; parent = if_some_plain handlers.parent second.0; child = if_some_plain handlers.child (and_parts _ _ second.1).0 }
 
   -- a plain function is one of the script
   pub plain_below : (f : ℕ) → IsPlainFunction script f → f < length script.funcs

@@ -1,22 +1,31 @@
--- After every run, the functions that are registered with atexit in a process are plain functions of the script.
-use Rattle.std.proofs.Common.{ℕ, true, List, [], ◌∷◌, sym, subst}
+-- After every run, the functions that are registered with atexit and with pthread_atfork in a process are plain functions of the script.
+use Rattle.std.proofs.Common.{◌≡◌, ℕ, true, List, [], ◌∷◌, ◌++◌, All, slice_get, Option, Some, None, option_map, refl, sym, ap, subst}
+use Rattle.std.specs.Prelude.{option_to_list}
 use Rattle.std.specs.List.{AllByRecursion}
+use Rattle.std.proofs.lemmas.List.Elements.{All-nil, All-push}
+use Rattle.std.proofs.lemmas.Option.{none-some, same_Some, option_and_then_some, get_or_from_slice_get, slice_get_within}
+use Rattle.pct_model.specs.declared.process.ForkHandlers.{ForkHandlers}
+use Rattle.pct_model.specs.declared.process.HandlerCall.{HandlerCall}
 use Rattle.pct_model.specs.declared.schedule.Config.{Config}
 use Rattle.pct_model.specs.declared.schedule.Entry.{Entry}
 use Rattle.pct_model.specs.declared.script.Script.{Script}
+use Rattle.pct_model.specs.declared.state.ForkAt.{ForkAt}
+use Rattle.pct_model.specs.declared.state.Phase.{Phase}
+use Rattle.pct_model.specs.declared.state.Phase.TheVariants.{Prepare, Parent, Child}
 use Rattle.pct_model.specs.declared.state.Status.{Status}
 use Rattle.pct_model.specs.declared.statement.Stmt.{Stmt}
 use Rattle.pct_model.specs.declared.transition.Transition.{Transition}
 use Rattle.pct_model.specs.Actions.{without_first, shared_after, for_each, child_of, changed}
-use Rattle.pct_model.specs.Kept.{IsPlainFunction}
+use Rattle.pct_model.specs.ForkCalls.{handler_for, handler_at, handlers_among, indexes_left, next_handler}
+use Rattle.pct_model.specs.Kept.{IsPlainFunction, IsPlainIfSome, ArePlainHandlers}
 use Rattle.pct_model.specs.NextStatement.{NextStatement, next_of, body_at}
 use Rattle.pct_model.specs.OtherThreads.{Others, others_of}
 use Rattle.pct_model.specs.TransitionTable.{transition_by}
 use Rattle.pct_model.specs.World.{Thread, SharedState, Process, World}
 use Rattle.pct_transition_cases.proofs.CaseOfTransition.{case_of}
 use Rattle.pct_transition_cases.proofs.PlacedStatements.{IsPlaced, is_placed, statement_placed}
-use Rattle.pct_transition_cases.proofs.TransitionCases.{TransitionCase, exit_registered, exit_function_called}
-use Rattle.pct_ending_laws.proofs.exits.PlainFunctions.{registered_plain}
+use Rattle.pct_transition_cases.proofs.TransitionCases.{TransitionCase, fork_registered, exit_registered, exit_function_called}
+use Rattle.pct_ending_laws.proofs.exits.PlainFunctions.{registered_plain, handlers_plain}
 use Rattle.pct_ending_laws.proofs.lift.ChangedThreads.{changed_shared, other_shared}
 use Rattle.pct_ending_laws.proofs.lift.EveryProcess.{OfEveryProcess, IsProcessRule, unread, every_process_keeps, moves_of_run}
 use Rattle.pct_ending_laws.proofs.lift.TakenSteps.{AfterEveryRun}
@@ -31,34 +40,71 @@ module _ (script : Script) where
   rest_plain [] plain = tt
   rest_plain (f ∷ functions) plain = plain.1
 
+  -- the functions that are registered in a process with this state
+  abbrev pub RegistersPlain : SharedState → Type 0
+  RegistersPlain shared = record {
+    exit_functions : ArePlain shared.exit_functions;
+    fork_handlers : All (ArePlainHandlers script) shared.fork_handlers;
+  }
+
   -- the registered functions after a transition
   case_plain : (passes : ℕ) (shared : SharedState) (t : Thread) (others : Others) {body : List Stmt} {next : NextStatement} {s : Status} {o : Transition} → IsPlaced script t.frames body next → TransitionCase passes body shared t others true next s o
-      → ArePlain shared.exit_functions → ArePlain (for_each shared_after o.actions shared).exit_functions
+      → RegistersPlain shared → RegistersPlain (for_each shared_after o.actions shared)
   unfolding shared_after
-  case_plain passes shared t others placed (exit_registered frame result f may) plain = (registered_plain script frame result f (statement_placed placed), plain)
-  case_plain passes shared t others placed (exit_function_called next f functions is) plain = rest_plain shared.exit_functions plain
+  case_plain passes shared t others placed (exit_registered frame result f may) plain = record { exit_functions = (registered_plain script frame result f (statement_placed placed), plain.exit_functions); fork_handlers = plain.fork_handlers }
+  case_plain passes shared t others placed (exit_function_called next f functions is) plain = record { exit_functions = rest_plain shared.exit_functions plain.exit_functions; fork_handlers = plain.fork_handlers }
+  case_plain passes shared t others placed (fork_registered frame result handlers room) plain =
+      record { exit_functions = plain.exit_functions; fork_handlers = All-push (ArePlainHandlers script) shared.fork_handlers handlers plain.fork_handlers (handlers_plain script frame result handlers (statement_placed placed)) }
   case_plain passes shared t others placed _ plain = plain
 
-  -- the functions that are registered in a process
-  abbrev pub RegistersPlain : Process → Type 0
-  RegistersPlain p = ArePlain p.shared.exit_functions
+  -- ---- the handlers of a fork
+
+  -- that of a phase, in a registration
+  plain_for : (phase : Phase) (handlers : ForkHandlers) (f : ℕ) → ArePlainHandlers script handlers → handler_for phase handlers ≡ Some f → IsPlainFunction script f
+  plain_for Prepare handlers f plain is = subst (IsPlainIfSome script) is plain.prepare
+  plain_for Parent handlers f plain is = subst (IsPlainIfSome script) is plain.parent
+  plain_for Child handlers f plain is = subst (IsPlainIfSome script) is plain.child
+
+  module _ (phase : Phase) (registered : List ForkHandlers) (plain : All (ArePlainHandlers script) registered) where
+    -- in the registration with an index
+    plain_at : (index f : ℕ) → handler_at phase registered index ≡ Some f → IsPlainFunction script f
+    plain_at index f is =
+        option_and_then_some (handler_for phase) (slice_get registered index) f is
+        (λ handlers at is_handler. plain_for phase handlers f (subst (ArePlainHandlers script) (get_or_from_slice_get registered index handlers handlers at) (plain index handlers (slice_get_within registered index handlers at))) is_handler)
+
+    -- the first one in the registrations with some indexes
+    first_among : (indexes : List ℕ) (call : HandlerCall) → slice_get (handlers_among phase registered indexes) 0 ≡ Some call → IsPlainFunction script call.func
+    first_among [] call is = absurd (none-some call is)
+    first_among (index ∷ indexes) call is = by_handler (handler_at phase registered index) refl (first_among indexes call) is
+      where
+        by_handler : (handler : Option ℕ) → handler_at phase registered index ≡ handler → (slice_get (handlers_among phase registered indexes) 0 ≡ Some call → IsPlainFunction script call.func)
+            → slice_get (option_to_list (option_map (λ (f : ℕ). record { index = index; func = f }) handler) ++ handlers_among phase registered indexes) 0 ≡ Some call → IsPlainFunction script call.func
+        by_handler None none later is = later is
+        by_handler (Some f) at later first = subst (IsPlainFunction script) (ap (λ (c : HandlerCall). c.func) (same_Some (record { index = index; func = f }) call first)) (plain_at index f at)
+
+  -- the handler that a fork calls next
+  pub next_plain : (registered : List ForkHandlers) → All (ArePlainHandlers script) registered → (at : ForkAt) (call : HandlerCall) → next_handler registered at ≡ Some call → IsPlainFunction script call.func
+  unfolding next_handler
+  next_plain registered plain at call is = first_among at.phase registered plain (indexes_left at) call is
+
+  -- ---- every run
 
   module _ (config : Config) where
-    plain_after : (w : World) (p : Process) (e : Entry) (t : Thread) → Moves script config w p e t → RegistersPlain p → RegistersPlain (changed e.tid (transition_by script config w p t e.alt) p)
+    plain_after : (w : World) (p : Process) (e : Entry) (t : Thread) → Moves script config w p e t → RegistersPlain p.shared → RegistersPlain (changed e.tid (transition_by script config w p t e.alt) p).shared
     plain_after w p e t moves plain =
         let others : Others = others_of config.slots w p t.id in
-        subst (λ (s : SharedState). ArePlain s.exit_functions) (sym (changed_shared e.tid (transition_by script config w p t e.alt) p))
+        subst RegistersPlain (sym (changed_shared e.tid (transition_by script config w p t e.alt) p))
         (case_plain config.passes p.shared t others (is_placed script t.frames) (case_of config.passes (body_at script t.frames) p.shared t others true e.alt (next_of script t.frames) t.status (λ known. moves.offered)) plain)
 
-    plain_rule : IsProcessRule unread (λ p k. RegistersPlain p) script config (Moves script config)
+    plain_rule : IsProcessRule unread (λ p k. RegistersPlain p.shared) script config (Moves script config)
     unfolding child_of
     plain_rule = record {
-      initial = tt;
+      initial = record { exit_functions = tt; fork_handlers = All-nil (ArePlainHandlers script) };
       own = λ w p e t k moves plain. plain_after w p e t moves plain;
       born = λ w p e t k new moves fork plain. plain;
-      other = λ pid o p k plain. subst (λ (s : SharedState). ArePlain s.exit_functions) (sym (other_shared pid o p)) plain;
+      other = λ pid o p k plain. subst RegistersPlain (sym (other_shared pid o p)) plain;
     }
 
     -- after every run
-    pub registered_of_run : AfterEveryRun script config (OfEveryProcess RegistersPlain)
-    registered_of_run = every_process_keeps script config (Moves script config) RegistersPlain plain_rule (moves_of_run script config)
+    pub registered_of_run : AfterEveryRun script config (OfEveryProcess (λ p. RegistersPlain p.shared))
+    registered_of_run = every_process_keeps script config (Moves script config) (λ p. RegistersPlain p.shared) plain_rule (moves_of_run script config)

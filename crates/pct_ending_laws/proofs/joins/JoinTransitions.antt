@@ -1,6 +1,6 @@
 -- What each transition does with the threads that it names, by the tables: at most one action names a thread, which holds its slot,
 -- and an event reports it.
-use Rattle.std.proofs.Common.{◌≡◌, ℕ, suc, Bool, true, false, not, List, [], reverse, nat_eq, Some, None, refl}
+use Rattle.std.proofs.Common.{◌≡◌, ℕ, suc, Bool, true, false, not, List, [], ◌∷◌, reverse, nat_eq, Some, None, refl}
 use Rattle.std.specs.List.{list_all}
 use Rattle.std.proofs.lemmas.Bool.{false≢true}
 use Rattle.pct_model.specs.declared.event.What.{What}
@@ -25,7 +25,8 @@ use Rattle.pct_model.specs.TransitionTable.{transition_by}
 use Rattle.pct_model.specs.World.{Thread, SharedState, Process, World, value_of}
 use Rattle.pct_transition_cases.proofs.CaseOfTransition.{case_of}
 use Rattle.pct_transition_cases.proofs.OfferedChoices.{offered_alive, offered_of}
-use Rattle.pct_transition_cases.proofs.TransitionCases.{TransitionCase, rests, thread_made, join_begun, join_ended, thread_detached, request_sent, canceled_in_join}
+use Rattle.pct_transition_cases.proofs.TransitionCases.{TransitionCase, rests, thread_made, join_begun, join_ended, thread_detached, request_sent, canceled_in_join, fork_handler_called}
+use Rattle.pct_ending_laws.proofs.lift.HandlerEvents.{of_each_phase}
 
 -- ---- actions and events that name no thread
 
@@ -95,6 +96,8 @@ module _ (slots : ℕ) (w : World) (p : Process) (passes : ℕ) (body : List Stm
   case_kind (thread_detached frame id target is joinable alone) = detaches_one (suc frame.pc) (value_of shared.globals frame id) target refl is alone
   case_kind (request_sent frame id target is) = requests_one (suc frame.pc) (value_of shared.globals frame id) target refl is
   case_kind (canceled_in_join next id enabled) = cancels id refl
+  case_kind (fork_handler_called next at call is) =
+      quiet (record { actions = refl; events = of_each_phase (λ (w : What). list_all names_none (w ∷ []) ≡ true) call.func refl refl refl at.phase; none = refl }) (λ joins. absurd (false≢true joins))
   case_kind _ = quiet (record { actions = refl; events = refl; none = refl }) (λ joins. absurd (false≢true joins))
 
 -- the kind of each transition of a thread of a process
@@ -108,4 +111,4 @@ kind_of script config w p t choice =
 
 -- a thread that has a choice does not have the status of its end
 pub moves_alive : (script : Script) (config : Config) (w : World) (p : Process) (t : Thread) (choice : Alt) → offers (choices_of script config w p t) choice ≡ true → is_ended_status t.status ≡ false
-moves_alive script config w p t choice offered = offered_alive (offered_of p.shared t (others_of config.slots w p t.id) choice (next_of script t.frames) t.status offered)
+moves_alive script config w p t choice offered = offered_alive (offered_of (body_at script t.frames) p.shared t (others_of config.slots w p t.id) choice (next_of script t.frames) t.status offered)

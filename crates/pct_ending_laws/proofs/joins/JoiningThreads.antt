@@ -13,7 +13,7 @@ use Rattle.pct_model.specs.declared.schedule.Entry.{Entry}
 use Rattle.pct_model.specs.declared.state.Status.{Status}
 use Rattle.pct_model.specs.declared.state.Status.TheVariants as status
 use Rattle.pct_model.specs.declared.transition.Transition.{Transition}
-use Rattle.pct_model.specs.Actions.{named_after, moved, thread_moved, thread_created, changed, child_of}
+use Rattle.pct_model.specs.Actions.{named_after, in_child, moved, thread_moved, thread_created, changed, child_of}
 use Rattle.pct_model.specs.OtherThreads.{is_joining, is_joined_by_one}
 use Rattle.pct_model.specs.ThreadSlots.{is_ended_status, holds_slot, is_live_thread}
 use Rattle.pct_model.specs.TransitionTable.{transition_by}
@@ -237,7 +237,7 @@ joins_rule script config = record {
   born = λ w p e t k new moves fork rule. record {
     ended = each_heir e.tid new p t (mover script config w p e t moves) (λ id x. x.joined ≡ true → is_ended_status x.status ≡ true) (λ joined. absurd (false≢true joined)) rule.ended;
     joins = each_heir e.tid new p t (mover script config w p e t moves) (λ tid x. x.gone ≡ false → (id : ℕ) → x.status ≡ status.Joining id → JoinsOne (child_of e.tid new p).threads tid id)
-        (λ here id joins. absurd (false≢true (ap is_in_join joins))) (λ tid u is here. absurd (true≢false here));
+        (λ here id joins. absurd (false≢true (sym (ap (λ (s : Status). is_in_join (in_child s)) fork.in_fork) ∙ ap is_in_join joins))) (λ tid u is here. absurd (true≢false here));
   };
   other = λ pid o p k rule. subst HaveJoins (sym (other_threads pid o p)) rule;
 }

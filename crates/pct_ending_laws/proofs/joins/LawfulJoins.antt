@@ -54,7 +54,7 @@ reported_after : (w : What) (s : ThreadSummary) (earlier : Bool) → is_some s.e
 reported_after (what.EndedWith v) s earlier same = refl
 reported_after w s earlier same = same
 
-end_reported : (pid tid : ℕ) (events : List Event) → is_some (summary_of pid tid events).ended ≡ has_own reports_end pid tid events
+pub end_reported : (pid tid : ℕ) (events : List Event) → is_some (summary_of pid tid events).ended ≡ has_own reports_end pid tid events
 end_reported = end_after reports_end (λ value k. is_some value ≡ k) refl reported_after
 
 -- it has an event of its end with this value

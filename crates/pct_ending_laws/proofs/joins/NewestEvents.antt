@@ -13,7 +13,7 @@ use Rattle.pct_model.specs.declared.state.Status.TheVariants as status
 use Rattle.pct_model.specs.declared.transition.Action.{Action}
 use Rattle.pct_model.specs.declared.transition.Action.TheVariants as action
 use Rattle.pct_model.specs.declared.transition.Transition.{Transition}
-use Rattle.pct_model.specs.Actions.{thread_at, thread_after, for_each, moved}
+use Rattle.pct_model.specs.Actions.{thread_at, thread_after, for_each, in_child, moved}
 use Rattle.pct_model.specs.CancelCalls.{requests, acts_on_request}
 use Rattle.pct_model.specs.KnownThreads.{newest_event}
 use Rattle.pct_model.specs.Run.{Run, run}
@@ -39,7 +39,7 @@ quiet_stays (action.BeginWait c m) is t in_join = absurd (false≢true in_join)
 quiet_stays (action.LeaveWait c m) is t in_join = absurd (false≢true in_join)
 quiet_stays (action.BeginSem s) is t in_join = absurd (false≢true in_join)
 quiet_stays (action.BeginWaitPid pid) is t in_join = absurd (false≢true in_join)
-quiet_stays (action.EnterFork phase pid) is t in_join = absurd (false≢true in_join)
+quiet_stays (action.EnterFork at) is t in_join = absurd (false≢true in_join)
 quiet_stays (action.BeginEnd why) is t in_join = absurd (false≢true in_join)
 quiet_stays (action.EndThread v) is t in_join = absurd (false≢true in_join)
 quiet_stays (action.BeginExit v) is t in_join = absurd (false≢true in_join)
@@ -105,7 +105,7 @@ newest_rule script config = record {
   kept = λ w p t before choice nothing offered newest_is in_join.
       let k : Kind t.id p.threads t.status (transition_by script config w p t choice) = kind_of script config w p t choice in
       newest_kept t k before newest_is (in_join_after t k in_join) in_join;
-  replica = λ w p t before index handlers pid nothing forks newest_is in_join. absurd (false≢true in_join);
+  replica = λ w p t before index count answer nothing forks newest_is in_join. absurd (false≢true (sym (ap (λ (s : Status). is_in_join (in_child s)) forks) ∙ in_join));
 }
 
 -- after every run, the newest event of a thread that is suspended in pthread_join is that of the call

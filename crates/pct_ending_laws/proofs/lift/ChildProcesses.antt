@@ -1,36 +1,66 @@
 -- The process that a fork makes: it inherits its parent as that was before the step.
-use Rattle.std.proofs.Common.{◌≡◌, ℕ, Bool, true, false, not, ◌&&◌, ◌||◌, cond, List, [], ◌∷◌, ◌++◌, map, nat_eq, Some, None, refl, sym, ap, ap₂, ◌∙◌}
-use Rattle.std.proofs.lemmas.Bool.{and_parts, and_from}
+use Rattle.std.proofs.Common.{◌≡◌, ℕ, Bool, true, false, not, ◌&&◌, ◌||◌, cond, List, [], ◌∷◌, ◌++◌, map, nat_eq, Some, None, refl, sym, ap, ap₂, ◌∙◌, subst, eqb-true}
+use Rattle.std.specs.List.{list_any, AllByRecursion}
+use Rattle.std.proofs.lemmas.Bool.{false≢true, and_parts, and_from, or_parts}
+use Rattle.std.proofs.lemmas.Option.{none-some, same_Some}
+use Rattle.pct_model.specs.declared.state.Phase.TheVariants.{Child}
 use Rattle.pct_model.specs.declared.state.Status.{Status}
+use Rattle.pct_model.specs.declared.state.Status.TheVariants.{Forking}
 use Rattle.pct_model.specs.declared.transition.Transition.{Transition}
-use Rattle.pct_model.specs.Actions.{thread_at, thread_after, named_after, shared_after, process_after, replica_of, inherited, child_of, moved, thread_moved, changed}
+use Rattle.pct_model.specs.Actions.{thread_at, thread_after, named_after, shared_after, process_after, in_child, replica_of, inherited, child_of, moved, thread_moved, changed}
 use Rattle.pct_model.specs.ForkCalls.{forks_by}
 use Rattle.pct_model.specs.OtherThreads.{is_last}
-use Rattle.pct_model.specs.ThreadSlots.{was_reclaimed, holds_slot, is_live_thread}
+use Rattle.pct_model.specs.ThreadSlots.{was_reclaimed, holds_slot, is_live_thread, with_id}
 use Rattle.pct_model.specs.World.{Thread, Process, World}
 use Rattle.pct_ending_laws.proofs.lift.CreatedThreads.{Forks}
+use Rattle.pct_ending_laws.proofs.lift.KeyedLists.{AreDistinct}
+use Rattle.pct_ending_laws.proofs.lift.ThreadIds.{ids_of}
 
-module _ (tid new : ℕ) where
+-- if a thread is the one with an id, its replica begins in the child phase of a fork with this many registrations
+abbrev ForksIfIt : ℕ → ℕ → Thread → Type 0
+ForksIfIt tid count u = is_live_thread tid u ≡ true → in_child u.status ≡ Forking Child 0 count 0
+
+module _ (tid count new : ℕ) where
   abbrev o : Transition
-  o = forks_by (Some new)
+  o = forks_by count (Some new)
 
   -- ---- the threads
 
   -- the replica of a thread is the same after the step
-  inherited_by : (u : Thread) (live : Bool) → is_live_thread tid u ≡ live → inherited tid (thread_moved tid o u) ≡ inherited tid u
+  inherited_by : (u : Thread) (live : Bool) → is_live_thread tid u ≡ live → ForksIfIt tid count u → inherited tid (thread_moved tid o u) ≡ inherited tid u
   unfolding forks_by inherited thread_at thread_after named_after
-  inherited_by u true live =
+  inherited_by u true live forks =
       let after : Thread = moved o u in
       let parts = and_parts (nat_eq u.id tid) (holds_slot u) live in
       let here = and_parts (not u.gone) (not (was_reclaimed u)) parts.1 in
       ap (λ (b : Bool). inherited tid (cond b after u)) live
-      ∙ ap (λ (b : Bool). cond b (replica_of u) (record after { gone = true })) (and_from (nat_eq u.id tid) (holds_slot after) parts.0 (and_from (not u.gone) true here.0 refl))
+      ∙ ap (λ (b : Bool). cond b (replica_of after) (record after { gone = true })) (and_from (nat_eq u.id tid) (holds_slot after) parts.0 (and_from (not u.gone) true here.0 refl))
+      ∙ ap (λ (s : Status). record (replica_of u) { status = s }) (sym (forks live))
       ∙ ap (λ (b : Bool). cond b (replica_of u) (record u { gone = true })) (sym live)
-  inherited_by u false live = ap (λ (b : Bool). inherited tid (cond b (moved o u) u)) live
+  inherited_by u false live forks = ap (λ (b : Bool). inherited tid (cond b (moved o u) u)) live
 
-  same_threads : (threads : List Thread) → map (inherited tid) (map (thread_moved tid o) threads ++ []) ≡ map (inherited tid) threads
-  same_threads [] = refl
-  same_threads (u ∷ threads) = ap₂ (λ (x : Thread) (xs : List Thread). x ∷ xs) (inherited_by u (is_live_thread tid u) refl) (same_threads threads)
+  -- and so are the threads of the child
+  same_threads : (threads : List Thread) → AllByRecursion (ForksIfIt tid count) threads → map (inherited tid) (map (thread_moved tid o) threads ++ []) ≡ map (inherited tid) threads
+  same_threads [] fork = refl
+  same_threads (u ∷ threads) fork = ap₂ (λ (x : Thread) (xs : List Thread). x ∷ xs) (inherited_by u (is_live_thread tid u) refl fork.0) (same_threads threads fork.1)
+
+  -- where no thread has the id
+  none_forks : (threads : List Thread) → list_any (λ id. nat_eq id tid) (ids_of threads) ≡ false → AllByRecursion (ForksIfIt tid count) threads
+  none_forks [] absent = tt
+  none_forks (u ∷ threads) absent =
+      let parts = or_parts (nat_eq u.id tid) (list_any (λ id. nat_eq id tid) (ids_of threads)) absent in
+      (λ live. absurd (false≢true (sym parts.0 ∙ (and_parts (nat_eq u.id tid) (holds_slot u) live).0)), none_forks threads parts.1)
+
+  -- where no two threads have one id, and the one that has the id is in fork
+  one_forks : (t : Thread) → in_child t.status ≡ Forking Child 0 count 0 → (threads : List Thread) → AreDistinct (ids_of threads) → with_id tid threads ≡ Some t → AllByRecursion (ForksIfIt tid count) threads
+  one_forks t forks [] distinct is = absurd (none-some t is)
+  one_forks t forks (u ∷ threads) distinct is = by_live (is_live_thread tid u) refl (one_forks t forks threads distinct.1) is
+    where
+      by_live : (live : Bool) → is_live_thread tid u ≡ live → (with_id tid threads ≡ Some t → AllByRecursion (ForksIfIt tid count) threads) → cond live (Some u) (with_id tid threads) ≡ Some t → AllByRecursion (ForksIfIt tid count) (u ∷ threads)
+      by_live true live rest first =
+          let id : u.id ≡ tid = eqb-true u.id tid (and_parts (nat_eq u.id tid) (holds_slot u) live).0 in
+          (λ known. ap (λ (x : Thread). in_child x.status) (same_Some u t first) ∙ forks, none_forks threads (subst (λ (n : ℕ). list_any (λ id. nat_eq id n) (ids_of threads) ≡ false) id distinct.0))
+      by_live false other rest later = (λ live. absurd (false≢true (sym other ∙ live)), rest later)
 
   -- ---- whether the thread is the last one
 
@@ -59,12 +89,13 @@ module _ (tid new : ℕ) where
 
   -- ---- the process
 
-  child_by_fork : (p : Process) → child_of tid new (changed tid o p) ≡ child_of tid new p
+  child_by_fork : (p : Process) → AllByRecursion (ForksIfIt tid count) p.threads → child_of tid new (changed tid o p) ≡ child_of tid new p
   unfolding forks_by child_of process_after shared_after
-  child_by_fork p =
-      ap₂ (λ (last : Bool) (threads : List Thread). record { pid = new; parent = p.pid; restricted = not last; ended = None; threads = threads; shared = record p.shared { exit_value = None } })
-      (same_last p.threads) (same_threads p.threads)
+  child_by_fork p fork =
+      ap₂ (λ (last : Bool) (threads : List Thread). record { pid = new; parent = p.pid; ended = None; threads = threads; shared = record p.shared { exit_value = None; restricted = not last } })
+      (same_last p.threads) (same_threads p.threads fork)
 
--- the process that a fork makes
-pub same_child : (w : World) (s : Status) (new : ℕ) (o : Transition) → Forks w s new o → (tid : ℕ) (p : Process) → child_of tid new (changed tid o p) ≡ child_of tid new p
-same_child w s new o fork tid p = ap (λ (x : Transition). child_of tid new (changed tid x p)) fork.is ∙ child_by_fork tid new p
+-- the process that a fork of thread t makes, where no two threads of its process have one id
+pub same_child : (w : World) (t : Thread) (new : ℕ) (o : Transition) → Forks w t.status new o → (tid : ℕ) (p : Process) → AreDistinct (ids_of p.threads) → with_id tid p.threads ≡ Some t → child_of tid new (changed tid o p) ≡ child_of tid new p
+same_child w t new o fork tid p distinct is =
+    ap (λ (x : Transition). child_of tid new (changed tid x p)) fork.is ∙ child_by_fork tid fork.count new p (one_forks tid fork.count new t (ap in_child fork.in_fork) p.threads distinct is)

@@ -1,11 +1,12 @@
 -- What each transition creates, by the tables: a process only as a thread forks, and a thread only with an id that is offered.
 use mathlib.Core.Bool.{and-true, or-false}
-use Rattle.std.proofs.Common.{◌≡◌, ℕ, suc, ◌+◌, ◌≤◌, Bool, true, false, ◌&&◌, ◌||◌, List, [], length, flat_map, map, filter, reverse, nat_eq, nat_lt, Option, Some, None, refl, sym, ◌∙◌, subst, ne_eqb, arith}
+use Rattle.std.proofs.Common.{◌≡◌, ℕ, suc, ◌+◌, ◌≤◌, Bool, true, false, ◌&&◌, ◌||◌, List, [], ◌∷◌, length, flat_map, map, filter, reverse, nat_eq, nat_lt, Option, Some, None, refl, sym, ◌∙◌, subst, ne_eqb, arith}
 use Rattle.std.specs.Prelude.{IfSome}
 use Rattle.std.specs.List.{list_any}
 use Rattle.std.specs.Option.{option_map_or}
 use Rattle.std.proofs.lemmas.Bool.{and_left}
 use Rattle.std.proofs.lemmas.Option.{cond_some}
+use Rattle.pct_model.specs.declared.event.What.{What}
 use Rattle.pct_model.specs.declared.limits.TheConstants.{MAX_PROCESSES}
 use Rattle.pct_model.specs.declared.process.Relative.{Relative}
 use Rattle.pct_model.specs.declared.script.Script.{Script}
@@ -28,17 +29,18 @@ use Rattle.pct_model.specs.ThreadSlots.{free_ids}
 use Rattle.pct_model.specs.TransitionTable.{transition_by}
 use Rattle.pct_model.specs.World.{Thread, SharedState, Process, World}
 use Rattle.pct_transition_cases.proofs.CaseOfTransition.{case_of}
-use Rattle.pct_transition_cases.proofs.TransitionCases.{TransitionCase, thread_made, process_forked}
+use Rattle.pct_transition_cases.proofs.TransitionCases.{TransitionCase, thread_made, fork_handler_called, process_forked}
+use Rattle.pct_ending_laws.proofs.lift.HandlerEvents.{of_each_phase}
 
 -- ---- the transitions
 
 -- a thread with this status is in fork, before the process is made, and the transition makes the next process, with this id
 pub record Forks (w : World) (s : Status) (new : ℕ) (o : Transition) : Type 0 where
   pub index : ℕ
-  pub handlers : ℕ
-  pub pid : ℕ
-  pub in_fork : s ≡ Forking Prepare index handlers pid
-  pub is : o ≡ forks_by (Some new)
+  pub count : ℕ
+  pub answer : ℕ
+  pub in_fork : s ≡ Forking Prepare index count answer
+  pub is : o ≡ forks_by count (Some new)
   pub is_next : new ≡ 1 + length w.processes
 
 -- the id of the process that a transition of a thread with a status makes, if it makes one
@@ -58,16 +60,18 @@ GivesNext w others = (new : ℕ) → others.family.new_pid ≡ Some new → new 
 module _ (w : World) (passes : ℕ) (body : List Stmt) (shared : SharedState) (t : Thread) (others : Others) (gives_next : GivesNext w others) where
   case_makes : {next : NextStatement} {s : Status} {o : Transition} → TransitionCase passes body shared t others true next s o → (made : Option ℕ) × Makes w s o made
   unfolding child_by forks_by
-  case_makes (process_forked next index handlers pid new is) = (Some new, forks new (record { index = index; handlers = handlers; pid = pid; in_fork = refl; is = refl; is_next = gives_next new is }))
+  case_makes (process_forked next index count answer new is) = (Some new, forks new (record { index = index; count = count; answer = answer; in_fork = refl; is = refl; is_next = gives_next new is }))
+  case_makes (fork_handler_called next at call is) = (None, makes_none (λ tid p. refl) (λ pid. of_each_phase (λ (w : What). list_any (makes_process pid) (w ∷ []) ≡ false) call.func refl refl refl at.phase))
   case_makes _ = (None, makes_none (λ tid p. refl) (λ pid. refl))
 
   -- no transition of a process that was made makes that process
   case_creates : (pid : ℕ) → pid ≤ length w.processes → {next : NextStatement} {s : Status} {o : Transition} → TransitionCase passes body shared t others true next s o → CreatesOnly pid others.new_ids o
   case_creates pid made (thread_made frame result id f v detached n among) = record { new_id = among refl; reports = λ tid same. or-false (nat_eq n tid || false) ∙ or-false (nat_eq n tid) ∙ sym (and-true (nat_eq n tid)) }
-  case_creates pid made (process_forked next index handlers parent new is) =
+  case_creates pid made (process_forked next index count answer new is) =
       let number : new ≡ 1 + length w.processes = gives_next new is in
       let differs : nat_eq new pid ≡ false = ne_eqb new pid (λ same. absurd (omega (arith, number, made, same))) in
       record { new_id = tt; reports = λ tid same. or-false (nat_eq new pid && same) ∙ and_left (nat_eq new pid) same differs }
+  case_creates pid made (fork_handler_called next at call is) = record { new_id = tt; reports = λ tid same. of_each_phase (λ (w : What). list_any (λ (x : What). creates_id tid x || (makes_process pid x && same)) (w ∷ []) ≡ false) call.func refl refl refl at.phase }
   case_creates pid made _ = record { new_id = tt; reports = λ tid same. refl }
 
 -- ---- the results

@@ -1,7 +1,7 @@
 -- The lift from steps to runs: a relation between a process and what the events report of it, which each step keeps, and which a fork
 -- passes on to the process that it makes, holds of every process after every run.
 use mathlib.Core.Path.{fun_ext}
-use Rattle.std.proofs.Common.{◌≡◌, ℕ, ◌<◌, Bool, true, false, cond, List, [], ◌∷◌, ◌++◌, map, reverse, find, nat_eq, Option, Some, None, option_map, refl, sym, ap, ◌∙◌, subst, subst₂, eqb-true, ne_eqb, mul-zero, arith}
+use Rattle.std.proofs.Common.{◌≡◌, ℕ, Bool, true, false, cond, List, [], ◌∷◌, ◌++◌, map, reverse, find, nat_eq, Option, Some, None, option_map, refl, sym, ap, ◌∙◌, subst, subst₂, eqb-true, ne_eqb}
 use Rattle.std.specs.List.{list_any}
 use Rattle.std.specs.Option.{option_or}
 use Rattle.std.proofs.lemmas.Bool.{or_from}
@@ -15,22 +15,18 @@ use Rattle.pct_model.specs.declared.schedule.Config.{Config}
 use Rattle.pct_model.specs.declared.schedule.Entry.{Entry}
 use Rattle.pct_model.specs.declared.transition.Transition.{Transition}
 use Rattle.pct_model.specs.World.{Thread, Process, World, first_process, opening, made_process}
-use Rattle.pct_model.specs.ThreadSlots.{with_id}
-use Rattle.pct_model.specs.ChoiceTable.{choices_of, offers}
 use Rattle.pct_model.specs.TransitionTable.{transition_by}
-use Rattle.pct_model.specs.Actions.{other_process_after, for_each, child_of, thread_moved, changed, process_moved, after_transition}
+use Rattle.pct_model.specs.Actions.{other_process_after, for_each, child_of, changed, process_moved, after_transition}
 use Rattle.pct_model.specs.ForkCalls.{forks_by}
 use Rattle.pct_model.specs.Run.{Run, event_of}
 use Rattle.pct_ending_laws.proofs.lift.KeyedLists.{found_passes, not_found}
 use Rattle.pct_ending_laws.proofs.lift.TakenSteps.{IsTaken, first_run, AfterEveryRun, every_run}
-use Rattle.pct_ending_laws.proofs.lift.CreatedThreads.{Forks, Makes, makes_none, forks, creates_with_next_id}
-use Rattle.pct_ending_laws.proofs.lift.ChangedThreads.{thread_moved_keeps, changed_threads, other_threads}
-use Rattle.pct_ending_laws.proofs.lift.ThreadIds.{HaveIds, ids_pushed, ids_after}
+use Rattle.pct_ending_laws.proofs.lift.CreatedThreads.{Forks, Makes, makes_none, forks}
+use Rattle.pct_ending_laws.proofs.lift.ThreadIds.{HaveIds}
 use Rattle.pct_ending_laws.proofs.lift.MadeThreads.{child_made, IsStep, is_step, process_after_step, other_process_is, process_is_made, own_process_is}
-use Rattle.pct_ending_laws.proofs.lift.ProcessIds.{HavePids, next_is_new, was_made, have_pids}
+use Rattle.pct_ending_laws.proofs.lift.ProcessIds.{HavePids, next_is_new, was_made, ids_of_made, have_pids}
 use Rattle.pct_ending_laws.proofs.lift.ReportedBy.{Reading, reported_by, after_own, own_after, other_after, at_birth, born_after}
-use Rattle.pct_ending_laws.proofs.lift.ThreadsAfter.{initial_thread, Moves}
-use Rattle.pct_ending_laws.proofs.lift.InheritedThreads.{ids_born}
+use Rattle.pct_ending_laws.proofs.lift.ThreadsAfter.{Moves}
 
 -- the rule holds of every process that was made
 abbrev pub OfEveryProcess : (Process → Type 0) → Run → Type 0
@@ -167,7 +163,8 @@ module _ {T : Type 0} (f : ℕ → Reading T) (R : Process → (ℕ → T) → T
           every_run script config AllFit (λ before r is e p t taken fit.
           let o : Transition = transition_by script config r.world p t e.alt in
           let pids : HavePids config.slots r.world = have_pids script config before r is in
-          fit_after r e p t taken pids (known before r is e p t taken) fit (after_transition e.pid e.tid o r.world) (is_step script config r.world e p t pids.distinct taken)) (λ some. first_fit)
+          let ids : HaveIds config.slots p.threads = ids_of_made config.slots r.world pids e.pid p (process_is_made e.pid e.tid r.world p pids.distinct taken.is_process) in
+          fit_after r e p t taken pids (known before r is e p t taken) fit (after_transition e.pid e.tid o r.world) (is_step script config r.world e p t pids.distinct ids.distinct taken)) (λ some. first_fit)
 
 -- ---- rules of processes alone
 
@@ -182,27 +179,8 @@ module _ (script : Script) (config : Config) where
 
   -- ---- the ids of threads
 
-  -- the entry takes a choice of the thread
-  abbrev Takes : World → Process → Entry → Thread → Type 0
-  Takes w p e t = (0 < config.slots) × (with_id e.tid p.threads ≡ Some t) × (offers (choices_of script config w p t) e.alt ≡ true)
-
-  -- the threads of a process have ids, if there are slots
-  abbrev IfSlots : Process → Type 0
-  IfSlots p = 0 < config.slots → HaveIds config.slots p.threads
-
-  ids_rule : IsProcessRule unread (λ p k. IfSlots p) script config Takes
-  ids_rule = record {
-    -- thread 1 is the first one on slot 0
-    initial = λ some. ids_pushed config.slots [] (record { numbers = λ s k t low at. absurd (none-some t at); distinct = tt }) (initial_thread script) (0, some, omega (arith, mul-zero config.slots)) some;
-    own = λ w p e t k takes ids some. subst (HaveIds config.slots) (sym (changed_threads e.tid (transition_by script config w p t e.alt) p))
-        (ids_after config.slots (thread_moved e.tid (transition_by script config w p t e.alt)) (λ u. ap (λ (i : ℕ × Bool). i.0) (thread_moved_keeps e.tid (transition_by script config w p t e.alt) u)) p.threads (transition_by script config w p t e.alt).created some (creates_with_next_id script config w p t e.alt takes.2) (ids some));
-    born = λ w p e t k new takes fork ids some. ids_born config.slots e.tid new p (ids some);
-    other = λ pid o p k ids some. subst (HaveIds config.slots) (sym (other_threads pid o p)) (ids some);
-  }
-
   pub ids_of_run : AfterEveryRun script config (OfEveryProcess (λ p. HaveIds config.slots p.threads))
-  ids_of_run entries r is pid p made =
-      every_process_keeps Takes IfSlots ids_rule (λ entries r is e p t taken. ((have_pids script config entries r is).some, taken.is_thread, taken.offered)) entries r is pid p made (have_pids script config entries r is).some
+  ids_of_run entries r is pid p made = ids_of_made config.slots r.world (have_pids script config entries r is) pid p made
 
   -- a legal entry moves a thread whose process has ids
   pub moves_of_run : AfterEveryRun script config (Known script config (Moves script config))

@@ -85,7 +85,7 @@ module _ {T : Type 0} (g : ThreadReading T) (L : Thread → T → Type 0) where
       -- a transition of the thread
       pub kept : (w : World) (p : Process) (t : Thread) (k : T) (choice : Alt) → K p → offers (choices_of script config w p t) choice ≡ true → L t k → L (moved (transition_by script config w p t choice) t) (after_all g (reverse (transition_by script config w p t choice).events) k)
       -- the replica of the thread, in the process that its fork makes
-      pub replica : (w : World) (p : Process) (t : Thread) (k : T) (index handlers pid : ℕ) → K p → t.status ≡ Forking Prepare index handlers pid → L t k → L (replica_of t) (cond g.inherits (g.replica k g.start) g.start)
+      pub replica : (w : World) (p : Process) (t : Thread) (k : T) (index count answer : ℕ) → K p → t.status ≡ Forking Prepare index count answer → L t k → L (replica_of t) (cond g.inherits (g.replica k g.start) g.start)
 
     module _ (rule : IsThreadRule) where
       initial_by : (initial : Bool) → OfThread (cond initial (Some (initial_thread script)) None) g.start
@@ -151,7 +151,7 @@ module _ {T : Type 0} (g : ThreadReading T) (L : Thread → T → Type 0) where
           born_fit : (new : ℕ) → Forks w t.status new o → (tid : ℕ) → OfThread (thread_with tid (child_of e.tid new p)) (at_birth (of_thread g tid) e new (k tid) g.start)
           born_fit new fork tid =
               let it : L t (k e.tid) = (of_found e.tid (Some t) it_is_made).here (mover script config w p e t moves).here in
-              born_by p e.tid t k (rule.replica w p t (k e.tid) fork.index fork.handlers fork.pid in_process fork.in_fork it) tid (nat_eq e.tid tid) refl (heir e.tid new p t (mover script config w p e t moves) tid)
+              born_by p e.tid t k (rule.replica w p t (k e.tid) fork.index fork.count fork.answer in_process fork.in_fork it) tid (nat_eq e.tid tid) refl (heir e.tid new p t (mover script config w p e t moves) tid)
 
       -- ---- processes
 

@@ -6,7 +6,6 @@ use Rattle.std.proofs.lemmas.List.Folds.{find-append}
 use Rattle.pct_model.specs.declared.schedule.Config.{Config}
 use Rattle.pct_model.specs.declared.schedule.Entry.{Entry}
 use Rattle.pct_model.specs.declared.script.Script.{Script}
-use Rattle.pct_model.specs.declared.state.Status.{Status}
 use Rattle.pct_model.specs.declared.transition.Transition.{Transition}
 use Rattle.pct_model.specs.World.{Thread, Process, World, made_process, thread_with}
 use Rattle.pct_model.specs.ThreadSlots.{holds_slot, is_ended_status, is_live_thread, with_id}
@@ -27,10 +26,10 @@ abbrev pub child_made : ℕ → Process → Option ℕ → List Process
 child_made tid p None = []
 child_made tid p (Some new) = child_of tid new p ∷ []
 
-child_is : (tid : ℕ) (p : Process) (w : World) (s : Status) (o : Transition) {made : Option ℕ} → Makes w s o made → flat_map (child_by tid (changed tid o p)) o.actions ≡ child_made tid p made
+child_is : (tid : ℕ) (p : Process) (w : World) (t : Thread) (o : Transition) → AreDistinct (ids_of p.threads) → with_id tid p.threads ≡ Some t → {made : Option ℕ} → Makes w t.status o made → flat_map (child_by tid (changed tid o p)) o.actions ≡ child_made tid p made
 unfolding forks_by child_by
-child_is tid p w s o (makes_none nothing quiet) = nothing tid (changed tid o p)
-child_is tid p w s o (forks new fork) = ap (λ (x : Transition). flat_map (child_by tid (changed tid o p)) x.actions) fork.is ∙ ap (λ (child : Process). child ∷ []) (same_child w s new o fork tid p)
+child_is tid p w t o distinct is (makes_none nothing quiet) = nothing tid (changed tid o p)
+child_is tid p w t o distinct is (forks new fork) = ap (λ (x : Transition). flat_map (child_by tid (changed tid o p)) x.actions) fork.is ∙ ap (λ (child : Process). child ∷ []) (same_child w t new o fork tid p distinct is)
 
 -- a step of an entry, by a transition of thread t of process p, leads to a state
 pub record IsStep (e : Entry) (p : Process) (t : Thread) (o : Transition) (w after : World) : Type 0 where
@@ -38,17 +37,17 @@ pub record IsStep (e : Entry) (p : Process) (t : Thread) (o : Transition) (w aft
   pub makes : Makes w t.status o made
   pub processes : after.processes ≡ map (process_moved e.pid e.tid o) w.processes ++ child_made e.tid p made
 
--- no two processes have one pid, so that only the process of the thread makes one
-pub is_step : (script : Script) (config : Config) (w : World) (e : Entry) (p : Process) (t : Thread) → AreDistinct (pids_of w.processes) → IsTaken script config w e p t
+-- no two processes have one pid, so that only the process of the thread makes one, and no two threads of it have one id
+pub is_step : (script : Script) (config : Config) (w : World) (e : Entry) (p : Process) (t : Thread) → AreDistinct (pids_of w.processes) → AreDistinct (ids_of p.threads) → IsTaken script config w e p t
     → IsStep e p t (transition_by script config w p t e.alt) w (after_transition e.pid e.tid (transition_by script config w p t e.alt) w)
 unfolding after_transition
-is_step script config w e p t distinct taken =
+is_step script config w e p t distinct distinct_ids taken =
     let o : Transition = transition_by script config w p t e.alt in
     let its = its_process script config w p t e.alt taken.offered in
     let children : flat_map (process_made e.pid e.tid o) w.processes ≡ flat_map (child_by e.tid (changed e.tid o p)) o.actions =
     only_one_gives (λ (q : Process). q.pid) (process_made e.pid e.tid o) (λ q. not (has_ended q)) e.pid (λ q other. ap (λ b. cond b (flat_map (child_by e.tid (changed e.tid o q)) o.actions) []) other) w.processes p distinct taken.is_process
     ∙ ap (λ b. cond b (flat_map (child_by e.tid (changed e.tid o p)) o.actions) []) (found_passes (is_live_process e.pid) w.processes p taken.is_process) in
-    record { made = its.0; makes = its.1; processes = ap (λ (made : List Process). map (process_moved e.pid e.tid o) w.processes ++ made) (children ∙ child_is e.tid p w t.status o its.1) }
+    record { made = its.0; makes = its.1; processes = ap (λ (made : List Process). map (process_moved e.pid e.tid o) w.processes ++ made) (children ∙ child_is e.tid p w t o distinct_ids taken.is_thread its.1) }
 
 -- a process that was made
 pub process_after_step : (e : Entry) (p : Process) (t : Thread) (o : Transition) (w after : World) (step : IsStep e p t o w after) (pid : ℕ)

@@ -38,7 +38,7 @@ unfolding free_ids
 is_next_id slots threads id among = let of = from_range (next_id slots threads) (is_free slots threads) slots id 0 slots (omega arith) among in (of.item, of.low, of.is)
 
 -- the next id of a slot is on that slot
-slot_of_next : (slots s n : ℕ) → s < slots → slot_of slots (1 + s + slots * n) ≡ s
+pub slot_of_next : (slots s n : ℕ) → s < slots → slot_of slots (1 + s + slots * n) ≡ s
 slot_of_next slots s n low =
     let product : slots * n ≡ n * slots = mul_comm slots n in
     let before : 1 + s + slots * n - 1 ≡ n * slots + s = omega (arith, product) in

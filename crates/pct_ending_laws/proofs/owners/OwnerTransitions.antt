@@ -24,7 +24,8 @@ use Rattle.pct_model.specs.OtherThreads.{Others}
 use Rattle.pct_model.specs.Run.{event_of}
 use Rattle.pct_model.specs.World.{Thread, SharedState}
 use Rattle.pct_transition_cases.proofs.PlacedStatements.{IsPlaced, statement_placed}
-use Rattle.pct_transition_cases.proofs.TransitionCases.{TransitionCase, mutex_locked, mutex_unlocked, wait_begun, wait_ended, ended_in_wait}
+use Rattle.pct_transition_cases.proofs.TransitionCases.{TransitionCase, mutex_locked, mutex_unlocked, wait_begun, wait_ended, ended_in_wait, fork_handler_called}
+use Rattle.pct_ending_laws.proofs.lift.HandlerEvents.{of_each_phase}
 use Rattle.pct_ending_laws.proofs.lift.ReportedBy.{Reading, reported_by, is_reading, after_own, own_after}
 use Rattle.pct_ending_laws.proofs.owners.NamedMutexes.{IsMutex, locked_mutex, unlocked_mutex, waited_mutex, reacquired_mutex}
 
@@ -72,6 +73,7 @@ module _ (script : Script) (passes : ℕ) (shared : SharedState) (t : Thread) (o
     case_fits placed at (wait_begun frame c m is one) = set_fits m (waited_mutex script frame c m (statement_placed placed)) 0 0 refl
     case_fits {next = next} placed at (wait_ended frame _ _ c m why stays free) = set_fits m (reacquired_mutex script c m next placed at) t.id e.tid is_own
     case_fits placed at (ended_in_wait next c m free) = set_fits m (reacquired_mutex script c m next placed at) t.id e.tid is_own
+    case_fits placed at (fork_handler_called next values call is) = of_each_phase (λ (w : What). OwnersFit script shared.owners (λ m. owner_after m e.tid w (reported m))) call.func fits fits fits values.phase
     case_fits placed at _ = fits
 
   module _ (earlier : List Event) (fits : OwnersFit script shared.owners (λ m. reported_by (owner m) e.pid earlier)) where
@@ -89,4 +91,5 @@ module _ (script : Script) (passes : ℕ) (shared : SharedState) (t : Thread) (o
     case_lawful (wait_begun frame c m is one) law = (owned m t.id (what.Called cond_wait_point ∷ []) refl is ∙ is_own, (tt, law))
     case_lawful (wait_ended frame _ _ c m why stays free) law = (tt, (owned m 0 [] refl (free refl), law))
     case_lawful (ended_in_wait next c m free) law = (tt, (owned m 0 [] refl (free refl), law))
+    case_lawful (fork_handler_called next at call is) law = of_each_phase (λ (w : What). OwnersLaw (event_of e w ∷ earlier)) call.func (tt, law) (tt, law) (tt, law) at.phase
     case_lawful _ law = assumption

@@ -135,7 +135,7 @@ module _ (script : Script) (passes : ℕ) where
     below_open = subst (λ (fs : List ℕ). AreOpen (fs ++ open_functions script below) t.handlers reported.left) none_open fits.by_status.pushes
 
     -- a return from a function that the thread called
-    pub leaves : FramesFit t.reason below → Fits script passes (running t below) reported
+    pub leaves : FramesFit script t.reason below → Fits script passes (running t below) reported
     leaves fit = record {
       agrees = fits.agrees;
       placed = fits.placed.1;

@@ -26,7 +26,7 @@ use Rattle.pct_ending_laws.proofs.thread.ThreadRule.{summary, AllMayCome, Fits, 
 -- ---- actions that write
 
 -- the action writes a variable, sets a cancelability type, changes a thread, a key, a mutex or a semaphore that it names, unblocks
--- threads, makes a key, sets a value of one, registers a function, or reaps a process
+-- threads, makes a key, sets a value of one, registers functions, or reaps a process
 abbrev pub writes : Action → Bool
 writes (action.Write d v) = true
 writes (action.SetMode mode) = true
@@ -40,6 +40,7 @@ writes (action.SetCount sem n) = true
 writes (action.MakeKey k destructor) = true
 writes (action.DeleteKey k) = true
 writes (action.SetSpecific k v) = true
+writes (action.AddForkHandlers handlers) = true
 writes (action.AddExit f) = true
 writes (action.Reap pid) = true
 writes _ = false
@@ -73,6 +74,7 @@ module _ (script : Script) (passes : ℕ) where
   writes_fit (action.MakeKey k destructor ∷ actions) all t frames s fits = writes_fit actions all t frames s fits
   writes_fit (action.DeleteKey k ∷ actions) all t frames s fits = writes_fit actions all t frames s fits
   writes_fit (action.SetSpecific k v ∷ actions) all t frames s fits = writes_fit actions all (record t { specific = with_value (key_place k) v t.specific }) frames s fits
+  writes_fit (action.AddForkHandlers handlers ∷ actions) all t frames s fits = writes_fit actions all t frames s fits
   writes_fit (action.AddExit f ∷ actions) all t frames s fits = writes_fit actions all t frames s fits
   writes_fit (action.Reap pid ∷ actions) all t frames s fits = writes_fit actions all t frames s fits
   writes_fit (_ ∷ actions) all t frames s fits = absurd (false≢true all)

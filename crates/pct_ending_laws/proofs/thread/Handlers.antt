@@ -39,7 +39,7 @@ module _ (script : Script) (passes : ℕ) (matches : PushesMatch script) where
   -- ---- calls
 
   -- a running thread that calls a function
-  pub call_fits : (f a : ℕ) (k : FrameKind) (t : Thread) (frames : List Frame) (s : ThreadSummary) → f < length script.funcs → FramesFit t.reason (new_frame f a k ∷ frames) → Fits script passes (running t frames) s → Fits script passes (running t (new_frame f a k ∷ frames)) s
+  pub call_fits : (f a : ℕ) (k : FrameKind) (t : Thread) (frames : List Frame) (s : ThreadSummary) → f < length script.funcs → FramesFit script t.reason (new_frame f a k ∷ frames) → Fits script passes (running t frames) s → Fits script passes (running t (new_frame f a k ∷ frames)) s
   call_fits f a k t frames s in_script fit fits = record {
     agrees = fits.agrees;
     placed = (matches.first_within f in_script, fits.placed);

@@ -3,7 +3,7 @@ use Rattle.std.proofs.Common.{◌≡◌, ℕ, Bool, true, false, ◌||◌, List,
 use Rattle.std.specs.Prelude.{is_some}
 use Rattle.std.specs.List.{list_any, AllByRecursion}
 use Rattle.std.specs.Option.{option_map_or}
-use Rattle.std.proofs.lemmas.Bool.{false≢true, or_parts}
+use Rattle.std.proofs.lemmas.Bool.{false≢true, or_parts, or_cases}
 use Rattle.std.proofs.lemmas.List.Elements.{All-from_recursion}
 use Rattle.std.proofs.lemmas.Option.{get_or_from_slice_get}
 use Rattle.pct_model.specs.declared.frame.Frame.{Frame}
@@ -13,11 +13,12 @@ use Rattle.pct_model.specs.declared.state.FrameKind.TheVariants as kind
 use Rattle.pct_model.specs.declared.state.Reason.{Reason}
 use Rattle.pct_model.specs.declared.state.Status.{Status}
 use Rattle.pct_model.specs.declared.state.Status.TheVariants as status
+use Rattle.pct_model.specs.Actions.{without_first}
 use Rattle.pct_model.specs.Keys.{KeyPlace}
-use Rattle.pct_model.specs.Kept.{KeysKept, AreOpen, open_functions, HasOneBottom, bottom_kind, is_bottom_kind, is_end_kind, is_exit_kind, has_no_frame, is_ending_status, is_exiting, IsSuspendedAt, is_forking, has_left_wait, IsPlainFunction, ThreadKept}
+use Rattle.pct_model.specs.Kept.{KeysKept, AreOpen, open_functions, HasOneBottom, bottom_kind, is_bottom_kind, is_end_kind, is_exit_kind, has_no_frame, is_ending_status, is_exiting, is_in_fork_handler, is_at_fork, IsSuspendedAt, is_forking, has_left_wait, IsPlainFunction, ThreadKept}
 use Rattle.pct_model.specs.LineParsing.{is_empty}
 use Rattle.pct_model.specs.NextStatement.{next_of}
-use Rattle.pct_model.specs.StopTable.{has_begun_to_end}
+use Rattle.pct_model.specs.StopTable.{has_begun_to_end, is_fork_kind}
 use Rattle.pct_model.specs.ThreadSlots.{is_ended_status}
 use Rattle.pct_model.specs.ThreadSummary.{ThreadSummary}
 use Rattle.pct_model.specs.World.{Thread}
@@ -28,6 +29,13 @@ use Rattle.pct_ending_laws.proofs.thread.ThreadRule.{Below, FramesFit, IsHandler
 
 -- ---- frames
 
+-- where no frame is of some kinds, a fact about the function of each frame of these kinds is true
+pub none_of : (is : FrameKind → Bool) (P : ℕ → Type 0) (frames : List Frame) → list_any (λ (frame : Frame). is frame.kind) frames ≡ false → AllByRecursion (λ (frame : Frame). is frame.kind ≡ true → P frame.func) frames
+none_of is P [] none = tt
+none_of is P (frame ∷ below) none =
+    let parts : (is frame.kind ≡ false) × (list_any (λ (f : Frame). is f.kind) below ≡ false) = or_parts (is frame.kind) (list_any (λ (f : Frame). is f.kind) below) none in
+    (λ of. absurd (false≢true (sym parts.0 ∙ of)), none_of is P below parts.1)
+
 -- what fits a thread with a reason to end, of its frames
 pub record FrameFacts (why : Reason) (frames : List Frame) : Type 0 where
   pub some : is_empty frames ≡ false
@@ -36,7 +44,7 @@ pub record FrameFacts (why : Reason) (frames : List Frame) : Type 0 where
   pub no_exit : list_any (λ (frame : Frame). is_exit_kind frame.kind) frames ≡ false
   pub not_exiting : is_exiting status.Running frames ≡ false
 
-module _ (why : Reason) (frame : Frame) where
+module _ (script : Script) (why : Reason) (frame : Frame) where
   -- the frame, with a kind
   abbrev of_kind : FrameKind → Frame
   of_kind k = record frame { kind = k }
@@ -56,19 +64,20 @@ module _ (why : Reason) (frame : Frame) where
     not_exiting = refl;
   }
 
-  facts_by : (k : FrameKind) (below : List Frame) → (FramesFit why below → FrameFacts why below) → Below k why below (FramesFit why below) → FrameFacts why (of_kind k ∷ below)
+  facts_by : (k : FrameKind) (below : List Frame) → (FramesFit script why below → FrameFacts why below) → Below script k why below (FramesFit script why below) → FrameFacts why (of_kind k ∷ below)
   facts_by kind.Main below rest fit = alone kind.Main below fit.1 (record { some = refl; bottom = (refl, tt); has_reason = ap has_begun_to_end fit.0; no_exit = refl; not_exiting = refl })
   facts_by kind.Start below rest fit = alone kind.Start below fit.1 (record { some = refl; bottom = (refl, tt); has_reason = ap has_begun_to_end fit.0; no_exit = refl; not_exiting = refl })
   facts_by kind.Handler below rest fit = alone kind.Handler below fit.1 (record { some = refl; bottom = (refl, tt); has_reason = fit.0; no_exit = refl; not_exiting = refl })
   facts_by kind.Call below rest fit = above kind.Call below refl refl (rest fit)
   facts_by kind.PopHandler below rest fit = above kind.PopHandler below refl refl (rest fit)
   facts_by kind.Destructor below rest fit = alone kind.Destructor below fit.1 (record { some = refl; bottom = (refl, tt); has_reason = fit.0; no_exit = refl; not_exiting = refl })
-  facts_by _ below rest fit = absurd fit
+  facts_by kind.ForkFn below rest fit = above kind.ForkFn below refl refl (rest fit.0)
+  facts_by kind.ExitFn below rest fit = absurd fit
 
 -- the frames of a thread that has not begun to exit its process
-pub frame_facts : (why : Reason) (frames : List Frame) → FramesFit why frames → FrameFacts why frames
-frame_facts why [] fit = absurd fit
-frame_facts why (frame ∷ below) fit = facts_by why frame frame.kind below (λ rest. frame_facts why below rest) fit
+pub frame_facts : (script : Script) (why : Reason) (frames : List Frame) → FramesFit script why frames → FrameFacts why frames
+frame_facts script why [] fit = absurd fit
+frame_facts script why (frame ∷ below) fit = facts_by script why frame frame.kind below (λ rest. frame_facts script why below rest) fit
 
 -- ---- statuses
 
@@ -76,12 +85,6 @@ module _ (script : Script) where
   -- the function of a frame is plain, if it is registered with atexit
   abbrev IsExitFrame : Frame → Type 0
   IsExitFrame frame = is_exit_kind frame.kind ≡ true → IsPlainFunction script frame.func
-
-  none_exit : (frames : List Frame) → list_any (λ (frame : Frame). is_exit_kind frame.kind) frames ≡ false → AllByRecursion IsExitFrame frames
-  none_exit [] none = tt
-  none_exit (frame ∷ below) none =
-      let parts : (is_exit_kind frame.kind ≡ false) × (list_any (λ (f : Frame). is_exit_kind f.kind) below ≡ false) = or_parts (is_exit_kind frame.kind) (list_any (λ (f : Frame). is_exit_kind f.kind) below) none in
-      (λ is. absurd (false≢true (sym parts.0 ∙ is)), none_exit below parts.1)
 
   -- the facts of ThreadKept that depend on the status
   record StatusFacts (st : Status) (why : Reason) (frames : List Frame) (handlers : List (ℕ × ℕ)) (s : ThreadSummary) : Type 0 where
@@ -108,7 +111,7 @@ module _ (script : Script) where
     -- a thread that has frames, does not exit its process, and has not the status of one that is ending
     of_framed : (st : Status) (frames : List Frame) → has_no_frame st ≡ false → is_ending_status st ≡ false → HasFrames script why frames handlers s → StatusFacts st why frames handlers s
     of_framed st frames framed alive_status has =
-        let facts : FrameFacts why frames = frame_facts why frames has.fit in
+        let facts : FrameFacts why frames = frame_facts script why frames has.fit in
         record {
           ended_status = λ some alive. absurd (no_end has.not_ended some);
           pushes = λ alive. has.pushes;
@@ -117,7 +120,7 @@ module _ (script : Script) where
           has_reason = λ alive. facts.has_reason ∙ ap (λ (b : Bool). b || option_map_or is_end_kind (bottom_kind frames) false) (sym alive_status);
           exiting = has.not_exiting ∙ sym (never_exits st frames framed facts.not_exiting);
           exit_functions = λ alive. facts.no_exit;
-          exit_frames = none_exit frames facts.no_exit;
+          exit_frames = none_of is_exit_kind (IsPlainFunction script) frames facts.no_exit;
         }
 
     of_ending : GoesToHandlers script why [] handlers s → StatusFacts status.Ending why [] handlers s
@@ -191,9 +194,33 @@ module _ (script : Script) where
     leaving_by (status.Reacquire c m cause) frames by leaves = (outside_exit script why handlers s (status.Reacquire c m cause) frames refl by).2 leaves
     leaving_by _ frames by leaves = absurd (false≢true leaves)
 
-    forking_by : (st : Status) (frames : List Frame) → ByAnyStatus script st why frames handlers s → is_forking st ≡ true → has_begun_to_end why ≡ false
-    forking_by (status.Forking phase index length pid) frames by forks = (outside_exit script why handlers s (status.Forking phase index length pid) frames refl by).2
-    forking_by _ frames by forks = absurd (false≢true forks)
+    -- a thread in fork has not begun to end
+    in_fork_by : (st : Status) (frames : List Frame) → ByAnyStatus script st why frames handlers s → is_forking st ≡ true → has_begun_to_end why ≡ false
+    in_fork_by (status.Forking phase index length pid) frames by forks = (outside_exit script why handlers s (status.Forking phase index length pid) frames refl by).2
+    in_fork_by _ frames by forks = absurd (false≢true forks)
+
+    -- below a fork handler the thread is in fork
+    abbrev BelowHandler : List Frame → Type 0
+    BelowHandler below = (is_at_fork (next_of script below) ≡ true) × (has_begun_to_end why ≡ false)
+
+    -- if the top frame is of one
+    below_handler : (k : FrameKind) (below : List Frame) → is_fork_kind k ≡ true → Below script k why below (FramesFit script why below) → BelowHandler below
+    below_handler kind.ForkFn below is fit = (fit.1, fit.2)
+    below_handler _ below is fit = absurd (false≢true is)
+
+    -- a thread in a fork handler
+    in_handler_by : (st : Status) (frames : List Frame) → ByAnyStatus script st why frames handlers s → is_in_fork_handler st frames ≡ true → BelowHandler (without_first frames)
+    in_handler_by status.Running (frame ∷ below) (inl by) is = below_handler frame.kind below is by.fit
+    in_handler_by status.Running (frame ∷ []) (inr exits) is = absurd (false≢true (sym (ap is_fork_kind exits.0) ∙ is))
+    in_handler_by status.Running (frame ∷ next ∷ below) (inr exits) is = absurd exits
+    in_handler_by _ _ by is = absurd (false≢true is)
+
+    -- neither of them has begun to end
+    forking_by : (st : Status) (frames : List Frame) → ByAnyStatus script st why frames handlers s → is_forking st || is_in_fork_handler st frames ≡ true → has_begun_to_end why ≡ false
+    forking_by st frames by forks = elim (or_cases (is_forking st) (is_in_fork_handler st frames) forks) [
+      | inl in_fork ↦ in_fork_by st frames by in_fork
+      | inr in_handler ↦ (in_handler_by st frames by in_handler).1
+    ]
 
   -- ---- threads
 
@@ -224,6 +251,7 @@ module _ (script : Script) where
         suspended = suspended_by t.reason t.handlers s t.status t.frames fits.by_status;
         leaving = leaving_by t.reason t.handlers s t.status t.frames fits.by_status;
         forking = forking_by t.reason t.handlers s t.status t.frames fits.by_status;
+        fork_below = λ is. (in_handler_by t.reason t.handlers s t.status t.frames fits.by_status is).0;
         none_left = fits.agrees.none_left;
         passes = fits.in_passes.current;
         not_destroyed = λ place key in_pass at. not_taken passes t.pass t.specific.in_pass s.passes s.destroyed fits.in_passes key.number

@@ -3,25 +3,25 @@ use Rattle.std.proofs.Common.{◌≡◌, ℕ, true, false, List, refl, subst}
 use Rattle.std.proofs.lemmas.Bool.{false≢true}
 use Rattle.pct_model.specs.declared.frame.Frame.{Frame}
 use Rattle.pct_model.specs.declared.script.Script.{Script}
-use Rattle.pct_model.specs.declared.state.Phase.TheVariants.{Child}
 use Rattle.pct_model.specs.declared.state.Reason.{Reason}
+use Rattle.pct_model.specs.declared.state.Reason.TheVariants as reason
 use Rattle.pct_model.specs.declared.state.Status.{Status}
 use Rattle.pct_model.specs.declared.state.Status.TheVariants as status
-use Rattle.pct_model.specs.Actions.{replica_of}
-use Rattle.pct_model.specs.Kept.{AreOpen, open_functions, IsSuspendedAt, is_forking}
+use Rattle.pct_model.specs.Actions.{in_child, replica_of}
+use Rattle.pct_model.specs.Kept.{AreOpen, open_functions, is_at_fork, is_forking}
 use Rattle.pct_model.specs.NextStatement.{next_of}
 use Rattle.pct_model.specs.StopTable.{has_begun_to_end}
 use Rattle.pct_model.specs.ThreadSummary.{ThreadSummary, no_events}
 use Rattle.pct_model.specs.World.{Thread}
 use Rattle.pct_ending_laws.proofs.thread.Ends.{not_begun}
 use Rattle.pct_ending_laws.proofs.thread.Passes.{first_pass}
-use Rattle.pct_ending_laws.proofs.thread.ThreadRule.{FramesFit, HasFrames, ByAnyStatus, outside_exit, FitsAny, in_any}
+use Rattle.pct_ending_laws.proofs.thread.ThreadRule.{FramesFit, HasFrames, ByStatus, ByAnyStatus, outside_exit, FitsAny, in_any}
 
 module _ (script : Script) where
   -- a thread in fork has frames and has not begun to end
   record InFork (why : Reason) (frames : List Frame) (handlers : List (ℕ × ℕ)) (s : ThreadSummary) : Type 0 where
     has : HasFrames script why frames handlers s
-    at : IsSuspendedAt (next_of script frames) (status.Forking Child 0 0 0)
+    at : is_at_fork (next_of script frames) ≡ true
     alive : has_begun_to_end why ≡ false
 
   in_fork : (st : Status) (why : Reason) (frames : List Frame) (handlers : List (ℕ × ℕ)) (s : ThreadSummary) → is_forking st ≡ true → ByAnyStatus script st why frames handlers s → InFork why frames handlers s
@@ -29,6 +29,11 @@ module _ (script : Script) where
       let is = outside_exit script why handlers s (status.Forking phase index length pid) frames refl by in
       record { has = is.0; at = is.1; alive = is.2 }
   in_fork _ why frames handlers s forks by = absurd (false≢true forks)
+
+  -- and so does its replica
+  child_by : (st : Status) (why : Reason) (frames : List Frame) (handlers : List (ℕ × ℕ)) (s : ThreadSummary) → is_forking st ≡ true → InFork why frames handlers s → ByStatus script (in_child st) why frames handlers s
+  child_by (status.Forking phase index length pid) why frames handlers s forks is = (is.has, is.at, is.alive)
+  child_by _ why frames handlers s forks is = absurd (false≢true forks)
 
   -- the replica of a thread in fork
   pub replica_fits : (passes : ℕ) (t : Thread) (s : ThreadSummary) → is_forking t.status ≡ true → FitsAny script passes t s → FitsAny script passes (replica_of t) (record no_events { handlers = s.handlers })
@@ -45,15 +50,16 @@ module _ (script : Script) where
           none_left = λ alive. refl;
         };
         placed = fits.placed;
-        by_status = (
-          record {
-            not_ended = refl;
-            not_exiting = refl;
-            fit = subst (λ (why : Reason). FramesFit why t.frames) (not_begun t.reason is.alive) is.has.fit;
-            pushes = subst (AreOpen (open_functions script t.frames) t.handlers) (fits.agrees.none_left is.alive) is.has.pushes;
-          },
-          is.at,
-          refl,
-        );
+        by_status = child_by t.status reason.None t.frames t.handlers (record no_events { handlers = s.handlers }) forks
+            (record {
+              has = record {
+                not_ended = refl;
+                not_exiting = refl;
+                fit = subst (λ (why : Reason). FramesFit script why t.frames) (not_begun t.reason is.alive) is.has.fit;
+                pushes = subst (AreOpen (open_functions script t.frames) t.handlers) (fits.agrees.none_left is.alive) is.has.pushes;
+              };
+              at = is.at;
+              alive = refl;
+            });
         in_passes = first_pass passes;
       })

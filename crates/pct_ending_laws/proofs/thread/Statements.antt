@@ -37,28 +37,30 @@ use Rattle.pct_ending_laws.proofs.thread.Ends.{leaves, leaves_handler}
 
 -- ---- handlers
 
-handler_by : (why : Reason) (k : FrameKind) (below : List Frame) → has_begun_to_end why ≡ true → (FramesFit why below → is_in_handler below ≡ true) → Below k why below (FramesFit why below) → (is_handler_kind k || is_in_handler below) ≡ true
-handler_by why kind.Main below begun rest fit = absurd (false≢true (sym (ap has_begun_to_end fit.0) ∙ begun))
-handler_by why kind.Start below begun rest fit = absurd (false≢true (sym (ap has_begun_to_end fit.0) ∙ begun))
-handler_by why kind.Handler below begun rest fit = refl
-handler_by why kind.Call below begun rest fit = rest fit
-handler_by why kind.PopHandler below begun rest fit = refl
-handler_by why kind.Destructor below begun rest fit = refl
-handler_by why _ below begun rest fit = absurd fit
+module _ (script : Script) where
+  handler_by : (why : Reason) (k : FrameKind) (below : List Frame) → has_begun_to_end why ≡ true → (FramesFit script why below → is_in_handler below ≡ true) → Below script k why below (FramesFit script why below) → (is_handler_kind k || is_in_handler below) ≡ true
+  handler_by why kind.Main below begun rest fit = absurd (false≢true (sym (ap has_begun_to_end fit.0) ∙ begun))
+  handler_by why kind.Start below begun rest fit = absurd (false≢true (sym (ap has_begun_to_end fit.0) ∙ begun))
+  handler_by why kind.Handler below begun rest fit = refl
+  handler_by why kind.Call below begun rest fit = rest fit
+  handler_by why kind.PopHandler below begun rest fit = refl
+  handler_by why kind.Destructor below begun rest fit = refl
+  handler_by why kind.ForkFn below begun rest fit = absurd (false≢true (sym fit.2 ∙ begun))
+  handler_by why kind.ExitFn below begun rest fit = absurd fit
 
--- a thread with frames that has begun to end is in a handler
-in_handler : (why : Reason) (frames : List Frame) → has_begun_to_end why ≡ true → FramesFit why frames → is_in_handler frames ≡ true
-in_handler why [] begun fit = absurd fit
-in_handler why (frame ∷ below) begun fit = handler_by why frame.kind below begun (in_handler why below begun) fit
+  -- a thread with frames that has begun to end is in a handler
+  in_handler : (why : Reason) (frames : List Frame) → has_begun_to_end why ≡ true → FramesFit script why frames → is_in_handler frames ≡ true
+  in_handler why [] begun fit = absurd fit
+  in_handler why (frame ∷ below) begun fit = handler_by why frame.kind below begun (in_handler why below begun) fit
 
--- one that is in none may enable its cancelability
-may_enable : (why : Reason) (frames : List Frame) (exiting begun : Bool) → has_begun_to_end why ≡ begun → exiting ≡ false → FramesFit why frames → is_in_handler frames ≡ false → (begun || exiting) ≡ true → Enable ≡ Disable
-may_enable why frames exiting true is alive fit outside any = absurd (false≢true (sym outside ∙ in_handler why frames is fit))
-may_enable why frames exiting false is alive fit outside any = absurd (false≢true (sym alive ∙ any))
+  -- one that is in none may enable its cancelability
+  may_enable : (why : Reason) (frames : List Frame) (exiting begun : Bool) → has_begun_to_end why ≡ begun → exiting ≡ false → FramesFit script why frames → is_in_handler frames ≡ false → (begun || exiting) ≡ true → Enable ≡ Disable
+  may_enable why frames exiting true is alive fit outside any = absurd (false≢true (sym outside ∙ in_handler why frames is fit))
+  may_enable why frames exiting false is alive fit outside any = absurd (false≢true (sym alive ∙ any))
 
 module _ (script : Script) (passes : ℕ) (matches : PushesMatch script) where
   -- a new thread, in a frame of a kind that may be its only one
-  pub new_fits : (id f a : ℕ) (detached : Bool) (k : FrameKind) → f < length script.funcs → Below k reason.None [] ⊥ → Fits script passes (new_thread id detached (new_frame f a k)) no_events
+  pub new_fits : (id f a : ℕ) (detached : Bool) (k : FrameKind) → f < length script.funcs → Below script k reason.None [] ⊥ → Fits script passes (new_thread id detached (new_frame f a k)) no_events
   new_fits id f a detached k in_script alone = record {
     agrees = record { handlers_agree = refl; reason = refl; end = refl; functions = tt; disabled = λ any. absurd (false≢true any); none_left = λ alive. refl };
     placed = (matches.first_within f in_script, tt);
@@ -116,13 +118,13 @@ module _ (script : Script) (passes : ℕ) (matches : PushesMatch script) where
 
     -- ---- it returns
 
-    none_open : (globals : List ℕ) {s : Stmt} {v : ℕ} → statement_at script frame ≡ Some s → Returns body globals frame s v → open_pushes body frame.pc ≡ []
+    pub none_open : (globals : List ℕ) {s : Stmt} {v : ℕ} → statement_at script frame ≡ Some s → Returns body globals frame s v → open_pushes body frame.pc ≡ []
     none_open globals at (by_return v) = matches.returns frame v at
     none_open globals at (by_end is) = matches.closes frame at is
 
     -- the frames below fit one of a kind
-    pub kind_fits : (k : FrameKind) → frame.kind ≡ k → Below k t.reason below (FramesFit t.reason below)
-    kind_fits k is = subst (λ (x : FrameKind). Below x t.reason below (FramesFit t.reason below)) is fits.by_status.fit
+    pub kind_fits : (k : FrameKind) → frame.kind ≡ k → Below script k t.reason below (FramesFit script t.reason below)
+    kind_fits k is = subst (λ (x : FrameKind). Below script x t.reason below (FramesFit script t.reason below)) is fits.by_status.fit
 
     pub call_left_keeps : (globals : List ℕ) {s : Stmt} {v : ℕ} → statement_at script frame ≡ Some s → Returns body globals frame s v → (frame.kind ≡ kind.Call) ⊎ (frame.kind ≡ kind.PopHandler) → Keeps script passes own reported (acts (action.Leave status.Running ∷ []) [])
     unfolding thread_at thread_after
@@ -141,7 +143,7 @@ module _ (script : Script) (passes : ℕ) (matches : PushesMatch script) where
     MayHave state = (has_begun_to_end t.reason || reported.exiting) ≡ true → state ≡ Disable
 
     state_allowed : (enable : Bool) → enable && is_in_handler (frame ∷ below) ≡ false → MayHave (state_if enable)
-    state_allowed true outside = may_enable t.reason (frame ∷ below) reported.exiting (has_begun_to_end t.reason) refl fits.by_status.not_exiting fits.by_status.fit outside
+    state_allowed true outside = may_enable script t.reason (frame ∷ below) reported.exiting (has_begun_to_end t.reason) refl fits.by_status.not_exiting fits.by_status.fit outside
     state_allowed false outside = λ any. refl
 
     pub state_keeps : (enable : Bool) (old : Dest) → statement_at script frame ≡ Some (statement.SetState enable old) → enable && is_in_handler (frame ∷ below) ≡ false

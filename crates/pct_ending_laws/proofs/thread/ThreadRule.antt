@@ -18,7 +18,7 @@ use Rattle.pct_model.specs.declared.event.Event.{Event}
 use Rattle.pct_model.specs.declared.event.What.{What}
 use Rattle.pct_model.specs.declared.event.What.TheVariants as what
 use Rattle.pct_model.specs.Actions.{moved}
-use Rattle.pct_model.specs.Kept.{AreOpen, open_functions, is_join, is_call_of, IsSuspendedAt, has_left_wait, IsPlainFunction}
+use Rattle.pct_model.specs.Kept.{AreOpen, open_functions, is_join, is_call_of, is_at_fork, IsSuspendedAt, has_left_wait, IsPlainFunction}
 use Rattle.pct_model.specs.NextStatement.{next_of}
 use Rattle.pct_model.specs.StopTable.{has_begun_to_end}
 use Rattle.pct_model.specs.ThreadSummary.{ThreadSummary, no_events, with_event, summary_of}
@@ -53,22 +53,24 @@ abbrev pub is_running : Status → Bool
 is_running status.Running = true
 is_running _ = false
 
--- what is below a frame of a kind, in a thread with a reason to end; `below_fits` is that the frames below fit it
-abbrev pub Below : FrameKind → Reason → List Frame → Type 0 → Type 0
-Below kind.Main why below below_fits = (why ≡ reason.None) × (below ≡ [])
-Below kind.Start why below below_fits = (why ≡ reason.None) × (below ≡ [])
-Below kind.Handler why below below_fits = (has_begun_to_end why ≡ true) × (below ≡ [])
-Below kind.Destructor why below below_fits = (has_begun_to_end why ≡ true) × (below ≡ [])
-Below kind.Call why below below_fits = below_fits
-Below kind.PopHandler why below below_fits = below_fits
-Below _ why below below_fits = ⊥
-
--- the frames of a thread with a reason to end fit it
-abbrev pub FramesFit : Reason → List Frame → Type 0
-FramesFit why [] = ⊥
-FramesFit why (frame ∷ below) = Below frame.kind why below (FramesFit why below)
-
 module _ (script : Script) where
+  -- what is below a frame of a kind, in a thread with a reason to end; `below_fits` is that the frames below fit it. The thread of a fork
+  -- handler is in fork there, and has not begun to end
+  abbrev pub Below : FrameKind → Reason → List Frame → Type 0 → Type 0
+  Below kind.Main why below below_fits = (why ≡ reason.None) × (below ≡ [])
+  Below kind.Start why below below_fits = (why ≡ reason.None) × (below ≡ [])
+  Below kind.Handler why below below_fits = (has_begun_to_end why ≡ true) × (below ≡ [])
+  Below kind.Destructor why below below_fits = (has_begun_to_end why ≡ true) × (below ≡ [])
+  Below kind.Call why below below_fits = below_fits
+  Below kind.PopHandler why below below_fits = below_fits
+  Below kind.ForkFn why below below_fits = below_fits × (is_at_fork (next_of script below) ≡ true) × (has_begun_to_end why ≡ false)
+  Below kind.ExitFn why below below_fits = ⊥
+
+  -- the frames of a thread with a reason to end fit it
+  abbrev pub FramesFit : Reason → List Frame → Type 0
+  FramesFit why [] = ⊥
+  FramesFit why (frame ∷ below) = Below frame.kind why below (FramesFit why below)
+
   -- the function of a handler is one of the script
   abbrev pub IsHandler : ℕ × ℕ → Type 0
   IsHandler handler = handler.0 < length script.funcs

@@ -1,8 +1,9 @@
 -- Each transition of a thread keeps the rule of the thread.
-use Rattle.std.proofs.Common.{◌≡◌, ℕ, Bool, true, false, List, [], ◌∷◌, nat_eq, eq-eqb, Option, Some, inl, inr, refl, ap, ◌∙◌, subst}
+use Rattle.std.proofs.Common.{◌≡◌, ℕ, Bool, true, false, List, [], ◌∷◌, length, nat_eq, eq-eqb, Option, Some, inl, inr, refl, sym, ap, ◌∙◌, subst}
 use Rattle.std.proofs.lemmas.Bool.{and_from}
 use Rattle.std.proofs.lemmas.Option.{none-some, same_Some}
 use Rattle.pct_model.specs.declared.event.Caller.TheVariants as caller
+use Rattle.pct_model.specs.declared.event.What.{What}
 use Rattle.pct_model.specs.declared.event.What.TheVariants as what
 use Rattle.pct_model.specs.declared.frame.Frame.{Frame}
 use Rattle.pct_model.specs.declared.schedule.Alt.{Alt}
@@ -23,6 +24,7 @@ use Rattle.pct_model.specs.Actions.{thread_at, thread_after}
 use Rattle.pct_model.specs.CancelCalls.{mode_number, mode_if, testcancel_point, point_kind, is_required}
 use Rattle.pct_model.specs.ChoiceTable.{choices_of, offers}
 use Rattle.pct_model.specs.CondCalls.{cond_wait_point}
+use Rattle.pct_model.specs.ForkCalls.{in_fork}
 use Rattle.pct_model.specs.Kept.{is_join, is_call_of, is_sem_wait_of, is_at_fork, is_at_waitpid, is_cond_wait_of, KeysKept, IsPlainFunction}
 use Rattle.pct_model.specs.NextStatement.{NextStatement, next_in, next_of, body_at}
 use Rattle.pct_model.specs.OtherThreads.{Others, others_of}
@@ -32,22 +34,24 @@ use Rattle.pct_model.specs.TransitionTable.{transition_by}
 use Rattle.pct_model.specs.World.{Thread, SharedState, Process, World, value_of, new_frame, new_thread}
 use Rattle.pct_transition_cases.proofs.CaseOfTransition.{case_of}
 use Rattle.pct_transition_cases.proofs.PlacedStatements.{IsPlaced, on_top, is_placed, statement_placed}
-use Rattle.pct_transition_cases.proofs.TransitionCases.{TransitionCase, rests, stopped, jumped, emitted, variable_set, variable_added, function_called, main_returned, start_returned, call_left, handler_left, exit_function_left, thread_made, thread_not_made, join_begun, join_ended, thread_detached, self_got, request_sent, state_set, mode_set, cancel_tested, point_begun, point_done, point_passed, canceled, canceled_at_point, canceled_in_join, canceled_in_sem_wait, canceled_in_waitpid, mutex_locked, mutex_unlocked, wait_begun, wait_ended, canceled_in_wait, canceled_after_wait, signal_handed_on, ended_in_wait, signal_sent, signal_lost, broadcast_sent, sem_wait_begun, sem_taken, sem_posted, fork_begun, process_forked, process_not_forked, fork_failed, fork_returned, waitpid_begun, child_reaped, no_child_found, child_lost, key_made, key_not_made, key_deleted, specific_set, specific_got, handler_pushed, handler_popped, handler_called, exit_called, handler_run, destructor_called, pass_begun, thread_ended, thread_ended_with_keys, last_ended, last_ended_with_keys, exit_registered, exit_not_registered, process_exited, process_ended_now, exit_function_called, process_ended}
+use Rattle.pct_transition_cases.proofs.TransitionCases.{TransitionCase, rests, stopped, jumped, emitted, variable_set, variable_added, function_called, main_returned, start_returned, call_left, handler_left, exit_function_left, thread_made, thread_not_made, join_begun, join_ended, thread_detached, self_got, request_sent, state_set, mode_set, cancel_tested, point_begun, point_done, point_passed, canceled, canceled_at_point, canceled_in_join, canceled_in_sem_wait, canceled_in_waitpid, mutex_locked, mutex_unlocked, wait_begun, wait_ended, canceled_in_wait, canceled_after_wait, signal_handed_on, ended_in_wait, signal_sent, signal_lost, broadcast_sent, sem_wait_begun, sem_taken, sem_posted, fork_registered, fork_not_registered, fork_begun, fork_handler_called, fork_handler_left, process_forked, process_not_forked, fork_failed, fork_returned, waitpid_begun, child_reaped, no_child_found, child_lost, key_made, key_not_made, key_deleted, specific_set, specific_got, handler_pushed, handler_popped, handler_called, exit_called, handler_run, destructor_called, pass_begun, thread_ended, thread_ended_with_keys, last_ended, last_ended_with_keys, exit_registered, exit_not_registered, process_exited, process_ended_now, exit_function_called, process_ended}
 use Rattle.pct_ending_laws.proofs.StaticPushes.{PushesMatch}
+use Rattle.pct_ending_laws.proofs.lift.HandlerEvents.{of_each_phase}
 use Rattle.pct_ending_laws.proofs.lift.ThreadsAfter.{created_thread}
 use Rattle.pct_ending_laws.proofs.lift.OfferedNumbers.{left_key_of}
 use Rattle.pct_ending_laws.proofs.keys.LeftKeys.{left_in_pass, destructor_in_script}
-use Rattle.pct_ending_laws.proofs.exits.PlainFunctions.{plain_next}
-use Rattle.pct_ending_laws.proofs.exits.RegisteredFunctions.{ArePlain, RegistersPlain}
+use Rattle.pct_ending_laws.proofs.exits.PlainFunctions.{plain_below, plain_next}
+use Rattle.pct_ending_laws.proofs.exits.RegisteredFunctions.{ArePlain, RegistersPlain, next_plain}
 use Rattle.pct_ending_laws.proofs.exits.ExitSteps.{exit_function_keeps, exit_step_keeps}
-use Rattle.pct_ending_laws.proofs.thread.ThreadRule.{ByAnyStatus, Fits, FitsAny, FitsIf, in_any, KeepsBy, KeepsAny, calls_exit_function}
+use Rattle.pct_ending_laws.proofs.thread.ThreadRule.{ByAnyStatus, Fits, FitsAny, FitsIf, in_any, KeepsBy, Keeps, KeepsAny, calls_exit_function}
 use Rattle.pct_ending_laws.proofs.thread.NamedFunctions.{NamesFunctions}
 use Rattle.pct_ending_laws.proofs.thread.GoingOn.{by_handlers}
 use Rattle.pct_ending_laws.proofs.thread.Handlers.{call_keeps, push_keeps, drop_keeps, run_keeps}
 use Rattle.pct_ending_laws.proofs.thread.Ends.{not_begun, awake, suspends, cancel_keeps, leave_fits, end_in_wait_keeps, exit_keeps, begin_keeps, handler_keeps, destructor_keeps, pass_keeps, end_lawful, leftover_lawful, ended_fits, exits_fit}
 use Rattle.pct_ending_laws.proofs.thread.Statements.{new_fits, next_keeps, leads_keeps, kind_fits, call_left_keeps, handler_left_keeps, state_keeps}
+use Rattle.pct_ending_laws.proofs.thread.ForkHandlers.{fork_handler_keeps, fork_handler_left_keeps}
 
-module _ (script : Script) (passes : ℕ) (matches : PushesMatch script) (names : NamesFunctions script) (shared : SharedState) (kept : KeysKept script shared.keys) (registered : ArePlain script shared.exit_functions) (t : Thread) (others : Others) (reported : ThreadSummary) where
+module _ (script : Script) (passes : ℕ) (matches : PushesMatch script) (names : NamesFunctions script) (shared : SharedState) (kept : KeysKept script shared.keys) (registered : RegistersPlain script shared) (t : Thread) (others : Others) (reported : ThreadSummary) where
   -- the thread, with a status and frames
   abbrev own : Status → List Frame → Thread
   own s frames = record t { status = s; frames = frames }
@@ -58,7 +62,7 @@ module _ (script : Script) (passes : ℕ) (matches : PushesMatch script) (names 
 
   -- the next registered function
   first_plain : (f : ℕ) (functions : List ℕ) → shared.exit_functions ≡ f ∷ functions → IsPlainFunction script f
-  first_plain f functions is = (subst (ArePlain script) is registered).0
+  first_plain f functions is = (subst (ArePlain script) is registered.exit_functions).0
 
   case_keeps : {frames : List Frame} {body : List Stmt} {next : NextStatement} {s : Status} {o : Transition} → IsPlaced script frames body next → TransitionCase passes body shared (own s frames) others true next s o → Fits script passes (own s frames) reported → KeepsBy script passes (FitsIf script passes (calls_exit_function o.events)) (own s frames) reported o
   unfolding thread_at thread_after
@@ -121,13 +125,23 @@ module _ (script : Script) (passes : ℕ) (matches : PushesMatch script) (names 
   case_keeps (on_top frame below s at) (sem_taken _ n sem some) rule =
       next_keeps script passes matches t frame below reported (awake script passes t (status.InSem sem) (frame ∷ below) reported rule rule.by_status.0) (status.InSem sem) (statement.SemWait n) at refl refl (action.SetCount sem _ ∷ []) (what.Taken sem ∷ []) refl refl (tt, tt)
   case_keeps (on_top frame below s at) (sem_posted _ sem) rule = next_keeps script passes matches t frame below reported rule status.Running (statement.SemPost sem) at refl refl (action.SetCount sem _ ∷ []) (what.Posted sem ∷ []) refl refl (tt, tt)
-  -- processes
-  case_keeps (on_top frame below s at) (fork_begun _ result child alive last) rule =
-      record { own = suspends script passes t status.Running (frame ∷ below) reported rule rule.by_status (status.Forking Prepare 0 0 0) (rule.by_status, ap (λ (x : Option Stmt). is_at_fork (next_in frame x)) at, alive); lawful = tt }
-  case_keeps {frames} place (process_forked next index length pid new is) rule =
-      record { own = suspends script passes t (status.Forking Prepare index length pid) frames reported rule rule.by_status.0 (status.Forking Parent 0 0 new) rule.by_status; lawful = (tt, tt) }
-  case_keeps {frames} place (process_not_forked next index length pid) rule =
-      record { own = suspends script passes t (status.Forking Prepare index length pid) frames reported rule rule.by_status.0 (status.Forking Parent 0 0 0) rule.by_status; lawful = (tt, tt) }
+  -- fork and its handlers, and waitpid
+  case_keeps (on_top frame below s at) (fork_registered _ result handlers room) rule =
+      next_keeps script passes matches t frame below reported rule status.Running (statement.AtFork result handlers.prepare handlers.parent handlers.child) at refl refl (action.AddForkHandlers handlers ∷ action.Write result 0 ∷ []) [] refl refl tt
+  case_keeps (on_top frame below s at) (fork_not_registered _ result prepare parent child) rule =
+      next_keeps script passes matches t frame below reported rule status.Running (statement.AtFork result prepare parent child) at refl refl (action.Write result 2 ∷ []) (what.Answer caller.AtFork 2 ∷ []) refl refl (tt, tt)
+  case_keeps (on_top frame below s at) (fork_begun _ result child alive) rule =
+      let count : ℕ = length shared.fork_handlers in
+      record { own = suspends script passes t status.Running (frame ∷ below) reported rule rule.by_status (status.Forking Prepare count count 0) (rule.by_status, ap (λ (x : Option Stmt). is_at_fork (next_in frame x)) at, alive); lawful = tt }
+  case_keeps {frames} {o = o} place (fork_handler_called next at call is) rule =
+      let keeps : Keeps script passes (own (in_fork at) frames) reported o = fork_handler_keeps script passes matches t frames reported at call (plain_below script call.func (next_plain script shared.fork_handlers registered.fork_handlers at call is)) rule in
+      let no_exit : calls_exit_function o.events ≡ false = of_each_phase (λ (w : What). calls_exit_function (w ∷ []) ≡ false) call.func refl refl refl at.phase in
+      subst (λ (exits : Bool). KeepsBy script passes (FitsIf script passes exits) (own (in_fork at) frames) reported o) (sym no_exit) keeps
+  case_keeps (on_top frame below s at) (fork_handler_left _ _ v values returns is keeps) rule = fork_handler_left_keeps script passes matches t frame below reported rule shared.globals at returns is values
+  case_keeps {frames} place (process_forked next index count answer new is) rule =
+      record { own = suspends script passes t (status.Forking Prepare index count answer) frames reported rule rule.by_status.0 (status.Forking Parent 0 count new) rule.by_status; lawful = (tt, tt) }
+  case_keeps {frames} place (process_not_forked next index count answer) rule =
+      record { own = suspends script passes t (status.Forking Prepare index count answer) frames reported rule rule.by_status.0 (status.Forking Parent 0 count 0) rule.by_status; lawful = (tt, tt) }
   case_keeps (on_top frame below s at) (fork_failed _ result child index length pid) rule =
       next_keeps script passes matches t frame below reported (awake script passes t (status.Forking Parent index length pid) (frame ∷ below) reported rule rule.by_status.0) (status.Forking Parent index length pid) (statement.Fork result child) at refl refl (action.Write result 1 ∷ []) [] refl refl tt
   case_keeps (on_top frame below s at) (fork_returned _ result child phase index length pid n) rule =
@@ -189,14 +203,14 @@ module _ (script : Script) (passes : ℕ) (matches : PushesMatch script) (names 
   case_created place _ new is = absurd (none-some new is)
 
 -- a transition of a thread, by any choice
-pub transition_keeps : (script : Script) → PushesMatch script → NamesFunctions script → (config : Config) (w : World) (p : Process) (t : Thread) (reported : ThreadSummary) (choice : Alt) → KeysKept script p.shared.keys → RegistersPlain script p → offers (choices_of script config w p t) choice ≡ true
+pub transition_keeps : (script : Script) → PushesMatch script → NamesFunctions script → (config : Config) (w : World) (p : Process) (t : Thread) (reported : ThreadSummary) (choice : Alt) → KeysKept script p.shared.keys → RegistersPlain script p.shared → offers (choices_of script config w p t) choice ≡ true
     → FitsAny script config.passes t reported → KeepsAny script config.passes t reported (transition_by script config w p t choice)
 transition_keeps script matches names config w p t reported choice kept registered offered rule =
     let others : Others = others_of config.slots w p t.id in
     rule_keeps script config.passes matches names p.shared kept registered t others reported t.status t.frames (is_placed script t.frames) (case_of config.passes (body_at script t.frames) p.shared t others true choice (next_of script t.frames) t.status (λ known. offered)) rule rule.by_status
 
 -- the thread that it creates
-pub created_fits : (script : Script) → PushesMatch script → NamesFunctions script → (config : Config) (w : World) (p : Process) (t : Thread) (choice : Alt) → KeysKept script p.shared.keys → RegistersPlain script p → offers (choices_of script config w p t) choice ≡ true
+pub created_fits : (script : Script) → PushesMatch script → NamesFunctions script → (config : Config) (w : World) (p : Process) (t : Thread) (choice : Alt) → KeysKept script p.shared.keys → RegistersPlain script p.shared → offers (choices_of script config w p t) choice ≡ true
     → (new : NewThread) → (transition_by script config w p t choice).created ≡ Some new → FitsAny script config.passes (created_thread new) no_events
 created_fits script matches names config w p t choice kept registered offered =
     let others : Others = others_of config.slots w p t.id in

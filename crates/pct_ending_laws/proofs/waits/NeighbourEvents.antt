@@ -23,7 +23,8 @@ use Rattle.pct_model.specs.TransitionTable.{transition_by}
 use Rattle.pct_model.specs.World.{Thread, SharedState, Process, World}
 use Rattle.pct_transition_cases.proofs.CaseOfTransition.{case_of}
 use Rattle.pct_transition_cases.proofs.PlacedStatements.{IsPlaced, is_placed, statement_placed}
-use Rattle.pct_transition_cases.proofs.TransitionCases.{TransitionCase, point_begun, signal_handed_on}
+use Rattle.pct_transition_cases.proofs.TransitionCases.{TransitionCase, point_begun, signal_handed_on, fork_handler_called}
+use Rattle.pct_ending_laws.proofs.lift.HandlerEvents.{of_each_phase}
 use Rattle.pct_ending_laws.proofs.waits.GenericPoints.{is_other_point}
 
 -- ---- the events of a step, newest first
@@ -58,6 +59,8 @@ module _ (script : Script) (passes : ℕ) (shared : SharedState) (t : Thread) (o
   case_neighbours place (point_begun frame index required) =
       record { calls = ap (λ (same : Bool). (not same || false) && true) (is_other_point script frame index (statement_placed place)); hand_ons = refl }
   case_neighbours place (signal_handed_on next c m u enabled among) = record { calls = refl; hand_ons = ap (λ (same : Bool). same && true) (eq-eqb c c refl) }
+  case_neighbours place (fork_handler_called next at call is) =
+      of_each_phase (λ (w : What). AreNeighbours (w ∷ [])) call.func (record { calls = refl; hand_ons = refl }) (record { calls = refl; hand_ons = refl }) (record { calls = refl; hand_ons = refl }) at.phase
   case_neighbours {o = o} place _ = record { calls = refl; hand_ons = refl }
 
 -- the events of a transition

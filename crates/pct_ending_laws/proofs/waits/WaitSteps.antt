@@ -10,6 +10,7 @@ use Rattle.pct_model.specs.declared.schedule.Config.{Config}
 use Rattle.pct_model.specs.declared.script.Script.{Script}
 use Rattle.pct_model.specs.declared.state.Cause.{Cause}
 use Rattle.pct_model.specs.declared.state.Cause.TheVariants as cause
+use Rattle.pct_model.specs.declared.state.FrameKind.TheVariants as kind
 use Rattle.pct_model.specs.declared.state.Status.{Status}
 use Rattle.pct_model.specs.declared.state.Status.TheVariants as status
 use Rattle.pct_model.specs.declared.statement.Stmt.{Stmt}
@@ -18,16 +19,19 @@ use Rattle.pct_model.specs.declared.transition.Action.TheVariants as action
 use Rattle.pct_model.specs.declared.transition.Transition.{Transition}
 use Rattle.pct_model.specs.Actions.{thread_at, thread_after, named_after, moved}
 use Rattle.pct_model.specs.CondCalls.{is_waiting_on, unblocked}
+use Rattle.pct_model.specs.ForkCalls.{in_fork, while_called}
 use Rattle.pct_model.specs.Kept.{WaitKept, is_leaving, has_left_wait}
 use Rattle.pct_model.specs.NextStatement.{NextStatement, next_of, body_at}
 use Rattle.pct_model.specs.OtherThreads.{Others, others_of}
 use Rattle.pct_model.specs.ThreadSlots.{is_live_thread}
+use Rattle.pct_model.specs.Transitions.{acts}
 use Rattle.pct_model.specs.TransitionTable.{transition_by}
 use Rattle.pct_model.specs.WaitStages.{WaitStage, NoWait, AtCall, InWait, Leaving, LeavingSignal, stage_after, wait_stage, may_follow}
 use Rattle.pct_model.specs.World.{Thread, SharedState, Process, World}
 use Rattle.pct_transition_cases.proofs.CaseOfTransition.{case_of}
 use Rattle.pct_transition_cases.proofs.PlacedStatements.{IsPlaced, is_placed, statement_placed}
-use Rattle.pct_transition_cases.proofs.TransitionCases.{TransitionCase, rests, point_begun, wait_ended, canceled_in_wait, canceled_after_wait, signal_handed_on, ended_in_wait}
+use Rattle.pct_transition_cases.proofs.TransitionCases.{TransitionCase, rests, point_begun, wait_ended, canceled_in_wait, canceled_after_wait, signal_handed_on, ended_in_wait, fork_handler_called}
+use Rattle.pct_ending_laws.proofs.lift.HandlerEvents.{of_each_phase}
 use Rattle.pct_ending_laws.proofs.lift.ReportedBy.{ThreadReading, after_all, reported_by, of_thread, is_thread_reading}
 use Rattle.pct_ending_laws.proofs.waits.GenericPoints.{is_other_point}
 
@@ -108,6 +112,9 @@ module _ (script : Script) (passes : ℕ) (shared : SharedState) (t : Thread) (o
   case_keeps {frames} k place (signal_handed_on next c m u enabled among) is =
       at_stage (own (status.Reacquire c m cause.Signalled) frames) _ (InWait m) is (record { own = ap (λ (same : Bool). is_leaving c m (cond same (LeavingSignal c m) NoWait)) (eq-eqb c c refl) ∙ same_pair c m; lawful = ap (λ (same : Bool). same && true) (eq-eqb c c refl) })
   case_keeps k place (ended_in_wait next c m free) is = record { own = wait_is_over c m k is; lawful = ends_wait c m k is }
+  case_keeps {frames} k place (fork_handler_called next at call handler) is =
+      let keeps : (w : What) → Type 0 = λ w. KeepsWait (own (in_fork at) frames) NoWait (acts (action.KeepFork (while_called at call.index) ∷ action.Call call.func 0 kind.ForkFn ∷ []) (w ∷ [])) in
+      at_stage (own (in_fork at) frames) _ NoWait is (of_each_phase keeps call.func (record { own = refl; lawful = refl }) (record { own = refl; lawful = refl }) (record { own = refl; lawful = refl }) at.phase)
   case_keeps {frames} {s = s} {o = o} k place _ is = at_stage (own s frames) o NoWait is (record { own = refl; lawful = refl })
 
 -- a transition of a thread, by any choice

@@ -8,10 +8,12 @@ use Rattle.pct_model.specs.declared.schedule.Config.{Config}
 use Rattle.pct_model.specs.declared.schedule.Entry.{Entry}
 use Rattle.pct_model.specs.declared.script.Script.{Script}
 use Rattle.pct_model.specs.CondLaw.{WaitsLaw, HandOnLaw}
+use Rattle.pct_model.specs.declared.state.Status.{Status}
+use Rattle.pct_model.specs.Actions.{in_child}
 use Rattle.pct_model.specs.Kept.{WaitKept, CallsRelease}
 use Rattle.pct_model.specs.Run.{Run, event_of, run}
 use Rattle.pct_model.specs.TransitionTable.{transition_by}
-use Rattle.pct_model.specs.WaitStages.{WaitStage, wait_stage, may_follow}
+use Rattle.pct_model.specs.WaitStages.{WaitStage, NoWait, wait_stage, may_follow}
 use Rattle.pct_model.specs.World.{Thread, Process, made_thread, thread_with}
 use Rattle.pct_ending_laws.proofs.lift.TakenSteps.{IsTaken, with_step, AfterEveryRun, every_run}
 use Rattle.pct_ending_laws.proofs.lift.ThreadsAfter.{Moves, mover}
@@ -49,7 +51,7 @@ module _ (script : Script) (config : Config) where
     created = λ w p t k choice new nothing offered is makes. refl;
     named = named_keeps_wait;
     kept = λ w p t k choice nothing offered is. (transition_keeps script config w p t k choice is).own;
-    replica = λ w p t k index handlers pid nothing forks is. refl;
+    replica = λ w p t k index count answer nothing forks is. subst (λ (s : Status). WaitKept (in_child s) NoWait) (sym forks) refl;
   }
 
   -- ---- runs

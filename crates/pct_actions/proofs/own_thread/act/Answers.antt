@@ -30,5 +30,5 @@ pub returns : goal.returns
 returns c =
     let s = c.process.inside in
     let rows = c.act_on_data.new.keys.rows in
-    (λ i. record { slots = slots_of rows c.act.new.threads; shared = shared_of s.globals s.owners s.counts (ap (λ keys. keys.places) c.act_on_data.ensures.table i) s.exit_functions s.exit_value })
+    (λ i. record { slots = slots_of rows c.act.new.threads; shared = shared_of s.globals s.owners s.counts (ap (λ keys. keys.places) c.act_on_data.ensures.table i) s.fork_handlers s.exit_functions s.exit_value s.restricted })
     ∙ after_action s.keys s.threads c.process.invariant _ c.args.process.now c.process.view_is c.args.slot (c.args.action ∷ []) c.requires c.args.action rows c.act.new.threads (ap (λ keys. keys.rows) c.act_on_data.ensures.table) c.act.ensures.table

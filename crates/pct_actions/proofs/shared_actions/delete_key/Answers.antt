@@ -10,6 +10,6 @@ pub returns : goal.returns
 returns c =
     let s = c.process.inside in
     let place = key_place c.args.key in
-    ap (λ (keys : Table). record { slots = slots_of keys.rows s.threads; shared = shared_of s.globals s.owners s.counts keys.places s.exit_functions s.exit_value }) (c.delete.ensures ∙ ap (λ k. with_deleted k s.keys) c.key_place.ensures.value)
-    ∙ (λ i. record { slots = key_forgotten place s.keys.rows s.threads c.process.invariant i; shared = shared_of s.globals s.owners s.counts (without_key place s.keys.places) s.exit_functions s.exit_value })
+    ap (λ (keys : Table). record { slots = slots_of keys.rows s.threads; shared = shared_of s.globals s.owners s.counts keys.places s.fork_handlers s.exit_functions s.exit_value s.restricted }) (c.delete.ensures ∙ ap (λ k. with_deleted k s.keys) c.key_place.ensures.value)
+    ∙ (λ i. record { slots = key_forgotten place s.keys.rows s.threads c.process.invariant i; shared = shared_of s.globals s.owners s.counts (without_key place s.keys.places) s.fork_handlers s.exit_functions s.exit_value s.restricted })
     ∙ ap (λ (p : ProcessData). record { slots = map (on_threads (λ t. record t { specific = without_value place t.specific })) p.slots; shared = record p.shared { keys = without_key place p.shared.keys } }) c.process.view_is

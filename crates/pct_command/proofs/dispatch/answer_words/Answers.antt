@@ -4,8 +4,7 @@ use Rattle.std.proofs.lemmas.Bool.{false≢true, true≢false, or_parts}
 use Rattle.std.proofs.KnownBytes.{Consumes-nil}
 use Rattle.pct_model.specs.declared.keyword.Keyword.TheVariants as keyword
 use Rattle.pct_model.specs.Outcome.{is_asked, is_accepted, needs_input}
-use Rattle.pct_command.specs.Words.{HasInput}
-use Rattle.pct_command.proofs.AskedWords.{job_needs_input, points_need_none}
+use Rattle.pct_command.proofs.AskedWords.{NeedsInput, has_input, job_needs_input, points_need_none}
 use Rattle.pct_command.proofs.Outcomes.{words-answer, points-answer}
 use Rattle.pct_command.proofs.dispatch.answer_words.Goals as goal
 
@@ -37,6 +36,12 @@ returns-in-Ok-Points-clause-answer g c =
       of_all = λ left _. points-answer words left asked;
     }
 
+-- the other jobs read an input
+pub answer_input-requires : goal.answer_input-requires
+answer_input-requires g c =
+    let needs : NeedsInput c.in-Ok.job = search rules in
+    has_input (map string_bytes c.args.words.now) c.in-Ok.job c.in-Ok.ensures.job needs
+
 -- an answer to an input comes only with words that need one
 if_err : {T E P : Type 0} (r : Result T E) → P → IfErr r (λ _. P)
 if_err (Ok x) p = tt
@@ -44,11 +49,12 @@ if_err (Err e) p = p
 
 pub returns-in-Ok-clause-input : goal.returns-in-Ok-clause-input
 returns-in-Ok-clause-input g c =
-    let has : HasInput c.in-Ok.job = search rules in
-    if_err c.answer_input.result (job_needs_input (map string_bytes c.args.words.now) c.in-Ok.job c.in-Ok.ensures.job has)
+    let words = map string_bytes c.args.words.now in
+    let needs : NeedsInput c.in-Ok.job = search rules in
+    if_err c.answer_input.result (job_needs_input words c.in-Ok.job c.in-Ok.ensures.job (has_input words c.in-Ok.job c.in-Ok.ensures.job needs))
 
 pub returns-in-Ok-clause-points : goal.returns-in-Ok-clause-points
 returns-in-Ok-clause-points g c = λ asked.
     let words = map string_bytes c.args.words.now in
-    let has : HasInput c.in-Ok.job = search rules in
-    absurd (true≢false (sym (job_needs_input words c.in-Ok.job c.in-Ok.ensures.job has) ∙ points_need_none words asked))
+    let needs : NeedsInput c.in-Ok.job = search rules in
+    absurd (true≢false (sym (job_needs_input words c.in-Ok.job c.in-Ok.ensures.job (has_input words c.in-Ok.job c.in-Ok.ensures.job needs)) ∙ points_need_none words asked))

@@ -1,4 +1,4 @@
-use Rattle.std.proofs.Common.{◌≡◌, ℕ, List, map, refl}
+use Rattle.std.proofs.Common.{ℕ, List, map, refl}
 use Rattle.std.specs.Prelude.{string_bytes}
 use Rattle.pct_io.proofs.Unchanged.{KeepsInners-refl}
 use Rattle.pct_command.specs.declared.status.Status.{Status}

@@ -1,11 +1,13 @@
 use Rattle.std.proofs.Common.{sym, ◌∙◌}
 use Rattle.pct_model.specs.ChoiceTable.{choices_at}
+use Rattle.pct_model.specs.NextStatement.{body_at}
 use Rattle.pct_transitions.proofs.choice_table.choices_at.Goals as goal
 
-pub returns-in-Running-clause-value : goal.returns-in-Running-clause-value
-returns-in-Running-clause-value c = λ shared t others is.
+pub returns-in-Reacquire-clause-value : goal.returns-in-Reacquire-clause-value
+returns-in-Reacquire-clause-value c = λ shared t others is.
     let position = is.position_is in
-    c.at_next.ensures.value shared t others is ∙ (λ i. choices_at shared t others (position.next_is i) ((sym c.in-Running.is ∙ position.status_is) i))
+    let body = body_at c.args.context.now.program.now.script t.frames in
+    c.unblocked_choices.ensures.value body shared t others is ∙ (λ i. choices_at body shared t others (position.next_is i) ((sym c.in-Reacquire.is ∙ position.status_is) i))
 
 pub returns-in-AtPoint-clause-within : goal.returns-in-AtPoint-clause-within
 returns-in-AtPoint-clause-within c = c.go_or_act.ensures.within _

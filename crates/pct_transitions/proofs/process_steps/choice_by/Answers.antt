@@ -4,7 +4,7 @@ use Rattle.std.proofs.lemmas.Option.{slice_get_past}
 use Rattle.pct_model.specs.declared.schedule.Alt.{Alt}
 use Rattle.pct_model.specs.Chosen.{item_at}
 use Rattle.pct_model.specs.ChoiceTable.{choices_at}
-use Rattle.pct_model.specs.NextStatement.{next_of}
+use Rattle.pct_model.specs.NextStatement.{next_of, body_at}
 use Rattle.pct_engine_laws.specs.SeenSteps.{others_in}
 use Rattle.pct_process.specs.FamilyViews.{other_processes}
 use Rattle.pct_transitions.specs.Listed.{listed}
@@ -21,7 +21,7 @@ returns-then-count-eq0 c = λ t at.
     let is = c.new-context.ensures.context t at in
     let others = others_in (length p.slots) (other_processes c.args.around.family) p.slots t.id in
     let these = listed context.threads.now context.position.keys.now c.choices_at-choices.result in
-    let choices = c.choices_at-choices.ensures.value p.shared t others is ∙ (λ i. choices_at p.shared t others (next_of (c.new-context.ensures.program i).script t.frames) t.status) in
+    let choices = c.choices_at-choices.ensures.value p.shared t others is ∙ (λ i. choices_at (body_at (c.new-context.ensures.program i).script t.frames) p.shared t others (next_of (c.new-context.ensures.program i).script t.frames) t.status) in
     let none : length these ≡ 0 = sym (c.count-count.ensures context.threads.now) ∙ c.if-count-eq0.true in
     sym (slice_get_past these _ (omega (arith, none))) ∙ ap (λ (xs : List Alt). item_at xs c.args.number) choices
 
@@ -32,5 +32,5 @@ returns c = λ t at.
     let is = c.new-context.ensures.context t at in
     let others = others_in (length p.slots) (other_processes c.args.around.family) p.slots t.id in
     let these = listed context.threads.now context.position.keys.now c.choices_at-choices.result in
-    let choices = c.choices_at-choices.ensures.value p.shared t others is ∙ (λ i. choices_at p.shared t others (next_of (c.new-context.ensures.program i).script t.frames) t.status) in
+    let choices = c.choices_at-choices.ensures.value p.shared t others is ∙ (λ i. choices_at (body_at (c.new-context.ensures.program i).script t.frames) p.shared t others (next_of (c.new-context.ensures.program i).script t.frames) t.status) in
     c.nth.ensures ∙ ap (λ (n : ℕ). slice_get these (c.args.number % n)) (c.count-count.ensures context.threads.now) ∙ ap (λ (xs : List Alt). item_at xs c.args.number) choices

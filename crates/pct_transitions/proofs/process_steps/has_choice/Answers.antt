@@ -1,7 +1,7 @@
 use Rattle.std.proofs.Common.{ℕ, List, length, nat_lt, ap, ◌∙◌}
 use Rattle.pct_model.specs.declared.schedule.Alt.{Alt}
 use Rattle.pct_model.specs.ChoiceTable.{choices_at, is_enabled}
-use Rattle.pct_model.specs.NextStatement.{next_of}
+use Rattle.pct_model.specs.NextStatement.{next_of, body_at}
 use Rattle.pct_engine_laws.specs.SeenSteps.{others_in}
 use Rattle.pct_process.specs.FamilyViews.{other_processes}
 use Rattle.pct_transitions.specs.Listed.{listed}
@@ -16,7 +16,7 @@ returns c = λ t at.
     let p = c.args.process.now in
     let is = c.new-context.ensures.context t at in
     let others = others_in (length p.slots) (other_processes c.args.around.family) p.slots t.id in
-    let choices = c.choices_at.ensures.value p.shared t others is ∙ (λ i. choices_at p.shared t others (next_of (c.new-context.ensures.program i).script t.frames) t.status) in
+    let choices = c.choices_at.ensures.value p.shared t others is ∙ (λ i. choices_at (body_at (c.new-context.ensures.program i).script t.frames) p.shared t others (next_of (c.new-context.ensures.program i).script t.frames) t.status) in
     let context = c.new-context.result in
     let these = listed context.threads.now context.position.keys.now c.choices_at.result in
     ap (λ (n : ℕ). nat_lt 0 n) (c.count.ensures context.threads.now) ∙ enabled_by_count these ∙ ap (λ (xs : List Alt). is_enabled xs) choices

@@ -17,7 +17,7 @@ returns-then-not-offers-clause-taken c = λ t at.
     let p = c.args.process.now in
     let is = c.new-context.ensures.context t at in
     let others = others_in (length p.slots) (other_processes c.args.around.family) p.slots t.id in
-    let choices = c.choices_at.ensures.value p.shared t others is ∙ (λ i. choices_at p.shared t others (next_of (c.new-context.ensures.program i).script t.frames) t.status) in
+    let choices = c.choices_at.ensures.value p.shared t others is ∙ (λ i. choices_at (body_at (c.new-context.ensures.program i).script t.frames) p.shared t others (next_of (c.new-context.ensures.program i).script t.frames) t.status) in
     record {
       offered_is = sym (c.offers.ensures ∙ ap (λ (these : List Alt). offers these c.args.choice) choices) ∙ c.if-not-offers.true;
       taken = λ offered. absurd (false≢true offered);
@@ -28,14 +28,14 @@ returns-clause-taken c = λ t at.
     let p = c.args.process.now in
     let is = c.new-context.ensures.context t at in
     let others = others_in (length p.slots) (other_processes c.args.around.family) p.slots t.id in
-    let choices = c.choices_at.ensures.value p.shared t others is ∙ (λ i. choices_at p.shared t others (next_of (c.new-context.ensures.program i).script t.frames) t.status) in
+    let choices = c.choices_at.ensures.value p.shared t others is ∙ (λ i. choices_at (body_at (c.new-context.ensures.program i).script t.frames) p.shared t others (next_of (c.new-context.ensures.program i).script t.frames) t.status) in
     record {
       offered_is = sym (c.offers.ensures ∙ ap (λ (these : List Alt). offers these c.args.choice) choices) ∙ c.if-not-offers.false;
       taken = λ offered. c.transition_by.ensures.value p.shared t others is ∙ ap (λ (v : ProgramValue). acts_or c.args.choice t.status (transition_at v.config.passes (body_at v.script t.frames) p.shared t others c.args.choice (next_of v.script t.frames) t.status)) c.new-context.ensures.program;
     }
 
 pub returns-clause-fits : goal.returns-clause-fits
-returns-clause-fits c = λ t at taken. (c.transition_by.ensures.fits _ t _ (c.new-context.ensures.context t at)).actions
+returns-clause-fits c = λ t at taken. (c.transition_by.ensures.fits _ t _ (c.new-context.ensures.context t at) (c.requires.room c.args.slot t at)).actions
 
 pub returns-then-not-offers-clause-places : goal.returns-then-not-offers-clause-places
 returns-then-not-offers-clause-places c = subst (λ (d : ProcessData). AreOnPlaces d.shared.keys) c.process.view_is (on_places c.process.inside.keys c.sound.ensures)

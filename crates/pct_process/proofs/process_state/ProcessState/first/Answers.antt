@@ -27,7 +27,7 @@ counts_of-requires c = omega (arith, (few_declared c.args.script.now).2, ap leng
 
 pub returns : goal.returns
 returns c =
-    data-first c.args.script.now c.args.slots c.main_of-main.result c.call_alone.new.self c.in_ok-new.field-0 c.new-3.result c.new-4.result c.counts_of.result c.new-5.result
+    data-first c.args.script.now c.args.slots c.main_of-main.result c.call_alone.new.self c.in_ok-new.field-0 c.new-3.result c.new-4.result c.counts_of.result c.new-5.result c.new-6.result
     (omega (arith, c.requires.some))
     (c.main_of-main.ensures.value ∙ ap (λ (funcs : List Func). main_of (names_of funcs)) c.as_slice.ensures)
     (c.call_alone.ensures ∙ ap (on_held 0 (with_call_alone c.main_of-main.result 0 Main)) (c.create.ensures.table ∙ ap (with_created 0 c.main_of-main.result 0 false) c.in_ok-threads.ensures))
@@ -36,6 +36,7 @@ returns c =
     (c.new-4.ensures ∙ ap (λ (names : List Name). replicate (length names) 0) c.as_slice-3.ensures)
     (c.counts_of.ensures ∙ ap (λ (sems : List SemDecl). map (λ d. d.count) sems) c.as_slice-4.ensures)
     c.new-5.ensures
+    c.new-6.ensures
 
 pub invariant_of-result : goal.invariant_of-result
 invariant_of-result c =

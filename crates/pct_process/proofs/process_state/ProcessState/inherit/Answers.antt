@@ -1,8 +1,9 @@
-use Rattle.std.proofs.Common.{◌≡◌, List, Some, None, sym, ap, ◌∙◌, subst}
+use Rattle.std.proofs.Common.{◌≡◌, ℕ, Bool, not, List, Some, None, sym, ap, ◌∙◌, subst}
+use Rattle.std.proofs.lemmas.Option.{same_Some}
 use Rattle.pct_threads.specs.Slots.{Slot}
 use Rattle.pct_threads.specs.Tables.{thread_at}
-use Rattle.pct_engine_laws.specs.Seen.{SeenSlot}
-use Rattle.pct_process.specs.ProcessViews.{HoldsOneSlot, ProcessData, shared_of, data_inherited}
+use Rattle.pct_engine_laws.specs.Seen.{SeenSlot, is_last_in}
+use Rattle.pct_process.specs.ProcessViews.{HoldsOneSlot, ProcessData, slots_of, shared_of, data_inherited}
 use Rattle.pct_process.proofs.InheritedData.{is_occupied-copied, slots-inherited}
 use Rattle.pct_process.proofs.ViewedSlots.{occupied_on}
 use Rattle.pct_process.proofs.process_state.ProcessState.inherit.Goals as goal
@@ -24,8 +25,11 @@ returns c = λ tid own.
     let slot = c.args.slot in
     let thread = c.write.result.now in
     let occupied = occupied_on p.keys p.threads c.parent.invariant slot c.args.parent.now.slots (ap (λ (d : ProcessData). d.slots) c.parent.view_is) c.requires in
-    let with_slots : List SeenSlot → ProcessData = λ slots. record { slots = slots; shared = shared_of p.globals p.owners p.counts p.keys.places p.exit_functions None } in
+    let id : c.id_on.result ≡ tid = same_Some c.id_on.result tid (sym c.id_on.ensures ∙ own.here) in
+    let last : c.is_last.result ≡ is_last_in tid (slots_of p.keys.rows p.threads) =
+    c.is_last.ensures ∙ ap (λ (n : ℕ). is_last_in n c.args.parent.now.slots) id ∙ sym (ap (λ (d : ProcessData). is_last_in tid d.slots) c.parent.view_is) in
     let was = subst (λ (t : List Slot). thread_at t slot ≡ Some thread) c.clone_one_from.ensures c.write.ensures.value in
-    rw (c.clone_one_from.ensures, c.copy_from.ensures, c.copy_from-2.ensures, c.copy_from-3.ensures, c.copy_from-4.ensures, c.copy_from-5.ensures)
-    (ap with_slots (slots-inherited p.keys p.threads c.parent.invariant slot occupied tid (subst (λ (d : ProcessData). HoldsOneSlot tid slot d.slots) (sym c.parent.view_is) own) thread c.become_replica.new.thread was c.become_replica.ensures)
-    ∙ ap (data_inherited tid) c.parent.view_is)
+    let slots = slots-inherited p.keys p.threads c.parent.invariant slot occupied tid (subst (λ (d : ProcessData). HoldsOneSlot tid slot d.slots) (sym c.parent.view_is) own) thread c.become_replica.new.thread was c.become_replica.ensures in
+    let with_parts : List SeenSlot → Bool → ProcessData = λ slots last. record { slots = slots; shared = shared_of p.globals p.owners p.counts p.keys.places p.fork_handlers p.exit_functions None (not last) } in
+    rw (c.clone_one_from.ensures, c.copy_from.ensures, c.copy_from-2.ensures, c.copy_from-3.ensures, c.copy_from-4.ensures, c.copy_from-5.ensures, c.copy_from-6.ensures)
+    ((λ i. with_parts (slots i) (last i)) ∙ ap (data_inherited tid) c.parent.view_is)

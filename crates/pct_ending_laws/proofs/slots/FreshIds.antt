@@ -1,0 +1,26 @@
+-- The id of a new thread is that of no known thread of its process.
+use Rattle.std.proofs.Common.{◌≡◌, ℕ, false, not, List, Option, Some, None, option_and_then, ap, ◌∙◌}
+use Rattle.std.specs.Option.{option_map_or}
+use Rattle.pct_model.specs.declared.script.Script.{Script}
+use Rattle.pct_model.specs.declared.schedule.Config.{Config}
+use Rattle.pct_model.specs.declared.schedule.Entry.{Entry}
+use Rattle.pct_model.specs.declared.transition.NewThread.{NewThread}
+use Rattle.pct_model.specs.KnownThreads.{is_known}
+use Rattle.pct_model.specs.Run.{Run, run}
+use Rattle.pct_model.specs.World.{Thread, Process, made_process, thread_with}
+use Rattle.pct_ending_laws.proofs.lift.KeyedLists.{not_found}
+use Rattle.pct_ending_laws.proofs.lift.ThreadIds.{is_fresh}
+use Rattle.pct_ending_laws.proofs.lift.ThreadsAfter.{created_thread}
+use Rattle.pct_ending_laws.proofs.lift.ProcessIds.{have_pids}
+use Rattle.pct_ending_laws.proofs.lift.EveryProcess.{ids_of_run}
+use Rattle.pct_ending_laws.proofs.joins.ReportedFlags.{known_of_run}
+use Rattle.pct_ending_laws.proofs.slots.FreeSlots.{IsOnFreeSlot}
+
+module _ (script : Script) (config : Config) (entries : List Entry) (r : Run) (is : run script config entries ≡ Some r) (pid : ℕ) (p : Process) (made : made_process pid r.world ≡ Some p) (new : NewThread) (free : IsOnFreeSlot config.slots p.threads new.id) where
+  -- no thread of the process has the id, not even one that the process did not inherit
+  absent : thread_with new.id p ≡ None
+  absent = not_found (λ (t : Thread). t.id) new.id p.threads (is_fresh config.slots p.threads (ids_of_run script config entries r is pid p made) (created_thread new) (free.item, free.low, free.is) (have_pids script config entries r is).some)
+
+  -- no known thread has it
+  pub is_fresh_id : is_known pid new.id r.events ≡ false
+  is_fresh_id = known_of_run script config entries r is pid new.id ∙ ap (λ (found : Option Thread). option_map_or (λ t. not t.gone) found false) (ap (option_and_then (thread_with new.id)) made ∙ absent)

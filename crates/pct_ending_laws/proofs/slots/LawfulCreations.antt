@@ -1,0 +1,77 @@
+-- The law of thread ids and slots holds of the events of every run.
+use Rattle.std.proofs.Common.{◌≡◌, ℕ, true, List, [], ◌∷◌, ◌++◌, map, reverse, nat_eq, Some, refl}
+use Rattle.std.specs.List.{list_all, list_any}
+use Rattle.std.proofs.lemmas.Bool.{false≢true, and_parts}
+use Rattle.pct_model.specs.declared.event.Event.{Event}
+use Rattle.pct_model.specs.declared.event.What.{What}
+use Rattle.pct_model.specs.declared.event.What.TheVariants as what
+use Rattle.pct_model.specs.declared.schedule.Config.{Config}
+use Rattle.pct_model.specs.declared.schedule.Entry.{Entry}
+use Rattle.pct_model.specs.declared.script.Script.{Script}
+use Rattle.pct_model.specs.declared.transition.NewThread.{NewThread}
+use Rattle.pct_model.specs.declared.transition.Transition.{Transition}
+use Rattle.pct_model.specs.CancelCalls.{requests, acts_on_request}
+use Rattle.pct_model.specs.Run.{Run, event_of, run}
+use Rattle.pct_model.specs.SlotLaw.{TakesFreeSlot, MayCreate, SlotLaw}
+use Rattle.pct_model.specs.ThreadCalls.{creates, begins_join, ends_join, detaches}
+use Rattle.pct_model.specs.ThreadSlots.{free_ids}
+use Rattle.pct_model.specs.TransitionTable.{transition_by}
+use Rattle.pct_model.specs.World.{Thread, Process, made_process, thread_with}
+use Rattle.pct_ending_laws.proofs.lift.TakenSteps.{IsTaken, with_step, AfterEveryRun, every_run}
+use Rattle.pct_ending_laws.proofs.lift.CreatedThreads.{creates_with_next_id}
+use Rattle.pct_ending_laws.proofs.lift.EveryProcess.{process_taken}
+use Rattle.pct_ending_laws.proofs.joins.JoinTransitions.{names_none, Kind, quiet, creates_one, kind_of}
+use Rattle.pct_ending_laws.proofs.slots.FreeSlots.{IsOnFreeSlot, is_on_free_slot, is_reclaimed_thread}
+use Rattle.pct_ending_laws.proofs.slots.FreshIds.{is_fresh_id}
+use Rattle.pct_ending_laws.proofs.slots.ReclaimedThreads.{IsPresent, known_present, reclaimed_of_run}
+
+-- ---- events that create no thread
+
+-- an event that names no thread may come at any time
+silent_may : (slots : ℕ) (w : What) → names_none w ≡ true → (pid : ℕ) (earlier : List Event) → MayCreate slots w pid earlier
+silent_may slots (what.Created id detached) none pid earlier = absurd (false≢true none)
+silent_may slots w none pid earlier = tt
+
+-- and so may such events
+silent_lawful : (slots : ℕ) (e : Entry) (added : List What) → list_all names_none added ≡ true → (earlier : List Event) → SlotLaw slots earlier → SlotLaw slots (map (event_of e) added ++ earlier)
+silent_lawful slots e [] all earlier law = law
+silent_lawful slots e (w ∷ added) all earlier law =
+    let parts = and_parts (names_none w) (list_all names_none added) all in
+    (silent_may slots w parts.0 e.pid (map (event_of e) added ++ earlier), silent_lawful slots e added parts.1 earlier law)
+
+-- ---- a step
+
+module _ (script : Script) (config : Config) (before : List Entry) (r : Run) (is : run script config before ≡ Some r) (e : Entry) (p : Process) (t : Thread) (taken : IsTaken script config r.world e p t) where
+  -- its process was made
+  process_is : made_process e.pid r.world ≡ Some p
+  process_is = process_taken script config before r is e p t taken
+
+  -- a thread that is created with the next id of a free slot
+  takes_free_slot : (new : NewThread) → IsOnFreeSlot config.slots p.threads new.id → TakesFreeSlot config.slots e.pid new.id r.events
+  takes_free_slot new free = record {
+    fresh = is_fresh_id script config before r is e.pid p process_is new free;
+    free = λ tid known same.
+        let it : IsPresent (thread_with tid p) = known_present script config before r is e.pid p process_is tid known in
+        let over = is_reclaimed_thread config.slots p.threads new.id free tid it.thread it.is same it.here in
+        reclaimed_of_run script config before r is e.pid p process_is tid it.thread it.is it.here over.0 over.1;
+  }
+
+  -- the events of the step, of a transition that creates a thread only with an id that is free
+  lawful_by : (o : Transition) → Kind t.id p.threads t.status o → ((new : NewThread) → o.created ≡ Some new → list_any (nat_eq new.id) (free_ids config.slots p.threads) ≡ true) → SlotLaw config.slots r.events
+      → SlotLaw config.slots (map (event_of e) (reverse o.events) ++ r.events)
+  unfolding creates begins_join ends_join detaches requests acts_on_request
+  lawful_by o (quiet silent nothing) offered law = silent_lawful config.slots e (reverse o.events) silent.events r.events law
+  lawful_by o (creates_one next result id new f v detached s) offered law =
+      let created : NewThread = record { id = new; detached = detached; func = f; arg = v } in
+      (takes_free_slot created (is_on_free_slot config.slots p.threads new (offered created refl)), law)
+  lawful_by o _ offered law = (tt, law)
+
+  -- the law is kept
+  slots_kept : SlotLaw config.slots r.events → SlotLaw config.slots (with_step e (transition_by script config r.world p t e.alt) r).events
+  slots_kept = lawful_by (transition_by script config r.world p t e.alt) (kind_of script config r.world p t e.alt) (creates_with_next_id script config r.world p t e.alt taken.offered)
+
+-- ---- every run
+
+-- the law of thread ids and slots
+pub slots_of_run : (script : Script) (config : Config) → AfterEveryRun script config (λ r. SlotLaw config.slots r.events)
+slots_of_run script config = every_run script config (λ r. SlotLaw config.slots r.events) (slots_kept script config) (λ some. tt)

@@ -1,0 +1,5 @@
+mod OptionTexts
+mod FirstOptions
+mod GivenOptions
+mod WordsLeft
+pub mod Configs

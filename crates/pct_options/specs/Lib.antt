@@ -1,0 +1,3 @@
+pub mod OptionTexts
+pub mod GivenValues
+pub mod FirstOption
