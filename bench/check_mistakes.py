@@ -8,7 +8,7 @@ PROGRAM is the built program, crates/pct_run/out/pct_run where none is named (./
 A case is a command of a shell, the files that it reads, the standard output and the status that it has to have, and
 what standard error has to say: all by the rules of docs/SCRIPT.md and docs/FORMATS.md, and the words of
 docs/reasons.txt. Each command is run in a temporary folder of its own that has the real ./pct, docs/reasons.txt and
-examples/. In the cases of SCRIPTS, SCHEDULES and CALLS the program is where ./pct build leaves it.
+examples/. In the cases of SCRIPTS, SCHEDULES, CALLS and CONTINUED the program is where ./pct build leaves it.
 
 In those of UNPROVED it is not, and in the PATH there is a stand-in for the kit's rt. `rt try` of it runs the program,
 and says what rt says then; `rt run` of it leaves the program where ./pct looks for it. As rt takes an input that pauses
@@ -28,21 +28,22 @@ import sys
 import tempfile
 
 import checkout
-from checkout import BUILT, ROOT
+from checkout import BUILT, INSPECT, ROOT
 
 SECONDS = 120
 # What ./pct calls; the PATH of the cases has these commands, without the kit's rt.
-TOOLS = "sh awk cat chmod cp cut date dirname find head mkdir mktemp od printf readlink rm sed sleep test touch".split()
+TOOLS = "sh awk cat chmod cp cut date dirname find head mkdir mktemp od printf readlink rm sed sleep tail test touch".split()
 RT = """#!/bin/sh
 echo "$*" >> "$TOP/rt.words"
+[ "${PWD##*/}" = pct_run ] || PROGRAM=$INSPECT
 if [ -e "$TOP/rt.fails" ]; then echo half; echo 'run=none proved=no' >&2; exit 2; fi
 case $1 in
-    run) mkdir -p out; cp "$PROGRAM" out/pct_run ;;
+    run) mkdir -p out; cp "$PROGRAM" "out/${PWD##*/}" ;;
     try)
         while [ "$1" != -- ]; do shift; done
         shift
         case $1 in
-            run | replay | check) [ -f /dev/stdin ] || { echo 'run=none proved=no' >&2; exit 2; } ;;
+            run | replay | check | continue) [ -f /dev/stdin ] || { echo 'run=none proved=no' >&2; exit 2; } ;;
         esac
         "$PROGRAM" "$@"
         status=$?
@@ -67,6 +68,7 @@ end 2
 """
 WORKER = "fn w x\nend\nfn main x\npthread_create - - w 1\nend\n"
 HEADER = "%%\nschedule 1 100 4 64\n"
+BEGUN = "schedule 1 10000 4 64\n1 1 1 go\n"
 FROM_UNPROVED = ["the answer comes from an unproved build", "'./pct build' proves and builds it"]
 
 
@@ -347,8 +349,42 @@ CALLS = [
     Case("a command in upper case", "./pct RUN a.pct", 5, "refused words\n", [USAGE], {"a.pct": SMALLEST}),
     Case("build with a word more", "./pct build now", 5, "refused words\n", [USAGE]),
     Case(
-        "build of a program that is up to date", "./pct build", 0, "",
-        ["pct: the program is up to date:", "crates/pct_run/out/pct_run\n"],
+        "build of programs that are up to date", "./pct build", 0, "",
+        ["crates/pct_run/out/pct_run\n", "crates/pct_inspect/out/pct_inspect\n"],
+    ),
+]
+
+CONTINUED = [
+    Case("continue without a prefix", "./pct continue 7 a.pct", 0, REPORT, [], {"a.pct": SMALLEST}),
+    Case("continue of standard input", "./pct continue 7 < a.pct", 0, REPORT, [], {"a.pct": SMALLEST}),
+    Case("a prefix without an end", "./pct continue 7 a.pct begun", 0, REPORT, [], {"a.pct": SMALLEST, "begun": BEGUN}),
+    Case("a script without a last line end", "./pct continue 7 a.pct begun", 0, REPORT, [], {"a.pct": SMALLEST[:-1], "begun": BEGUN}),
+    Case(
+        "a file with a line %% before a prefix", "./pct continue 7 a.replay begun", 0, REPORT, [],
+        {"a.replay": SMALLEST + "%%\nschedule 1 1 4 64\n", "begun": BEGUN},
+    ),
+    Case(
+        "an entry of a prefix that is not legal", "./pct continue 7 a.pct begun", 7, REPORT + "entry 2 is not legal here\n", [],
+        {"a.pct": SMALLEST, "begun": BEGUN + "1 1 2 go\n"},
+    ),
+    Case(
+        "a header of a prefix with a fault", "./pct continue 7 a.pct begun", 7, "refused schedule 1 bad_header\n",
+        ["begun:1: bad_header\n", "    schedule 1 0 4 64\n", "Usual cause:", "Mend:"],
+        {"a.pct": SMALLEST, "begun": "schedule 1 0 4 64\n"},
+    ),
+    Case(
+        "a script with a fault before a prefix", "./pct continue 7 a.pct begun", 6, "refused script 2 word_count\n",
+        ["a.pct:2: word_count\n", "    emit\n", "Usual cause:", "Mend:"], {"a.pct": FAULTY, "begun": BEGUN},
+    ),
+    Case(
+        "a prefix that is not there", "./pct continue 7 a.pct nowhere", 66, "",
+        ["pct: nowhere is no file that can be read\n"], {"a.pct": SMALLEST},
+    ),
+    Case("continue without a seed", "./pct continue", 5, "refused words\n", [USAGE]),
+    Case("continue with a file in the place of the seed", "./pct continue a.pct", 5, "refused words\n", [USAGE], {"a.pct": SMALLEST}),
+    Case(
+        "continue with a word too many", "./pct continue 7 a.pct begun more", 5, "refused words\n", [USAGE],
+        {"a.pct": SMALLEST, "begun": BEGUN},
     ),
 ]
 
@@ -439,14 +475,15 @@ UNPROVED = [
         "a program that is older than crates.txt", OLD + "touch crates.txt; ./pct run a.pct", 0, REPORT,
         ["pct: the built program is older than its sources, so", *FROM_UNPROVED], {"a.pct": SMALLEST},
     ),
+    Case("continue without a program", "./pct continue 7 a.pct", 0, REPORT, FROM_UNPROVED, {"a.pct": SMALLEST}),
     Case("a program that is not outdated", OLD + "./pct run a.pct", 0, "old\n", [], {"a.pct": SMALLEST}),
     Case(
         "an outdated program and no rt", OUTDATED + "rm rt/rt; ./pct run a.pct", 126, "",
         ["pct: the built program is older than its sources, and there is no rt in the PATH"], {"a.pct": SMALLEST},
     ),
     Case(
-        "build, and then a run", "./pct build && ./pct run a.pct && cat rt.words", 0, REPORT + "run\n",
-        ["pct: proving and building", "pct: proved and built in", "crates/pct_run/out/pct_run\n"],
+        "build, and then a run", "./pct build && ./pct run a.pct && cat rt.words", 0, REPORT + "run\nrun\n",
+        ["pct: proving and building", "pct: proved and built in", "crates/pct_run/out/pct_run\n", "crates/pct_inspect/out/pct_inspect\n"],
         {"a.pct": SMALLEST},
     ),
     Case(
@@ -482,7 +519,7 @@ def wrongs(case, folder, path, program):
     ran = subprocess.run(
         ["sh", "-c", case.command],
         cwd=folder,
-        env={"PATH": path, "TMPDIR": str(folder / "tmp"), "PROGRAM": str(program), "TOP": str(folder)},
+        env={"PATH": path, "TMPDIR": str(folder / "tmp"), "PROGRAM": str(program), "INSPECT": str(ROOT / INSPECT), "TOP": str(folder)},
         stdin=subprocess.DEVNULL,
         capture_output=True,
         timeout=SECONDS,
@@ -514,12 +551,13 @@ def cases(program):
     with tempfile.TemporaryDirectory() as name:
         top = pathlib.Path(name)
         path = tools(top / "tools")
-        for number, case in enumerate([*SCRIPTS, *SCHEDULES, *CALLS, *UNPROVED]):
+        for number, case in enumerate([*SCRIPTS, *SCHEDULES, *CALLS, *CONTINUED, *UNPROVED]):
             folder = top / str(number)
             folder.mkdir()
             checkout.make(folder, program)
             if case in UNPROVED:
                 (folder / BUILT).unlink()
+                (folder / INSPECT).unlink()
                 (folder / "rt").mkdir()
                 (folder / "rt/rt").write_text(RT)
                 (folder / "rt/rt").chmod(0o755)

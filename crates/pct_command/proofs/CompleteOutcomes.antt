@@ -1,5 +1,5 @@
--- The outcome of an input that is not refused, and the answer to all that a source had left.
-use Rattle.std.proofs.Common.{◌≡◌, inr, ℕ, ◌<◌, ◌≤◌, true, List, length, Option, Some, None, Ok, Err, sym, ap, ◌∙◌, arith}
+-- The outcome of an input that is not refused, the answer to all that a source had left, and what a status promises.
+use Rattle.std.proofs.Common.{◌≡◌, inr, ℕ, ◌<◌, ◌≤◌, Bool, true, List, length, Option, Some, None, Ok, Err, refl, sym, ap, ◌∙◌, arith}
 use Rattle.std.specs.Prelude.{IfSome}
 use Rattle.std.specs.Io.KnownBytes.{Appends, Consumes}
 use Rattle.std.proofs.lemmas.Bool.{true≢false}
@@ -17,7 +17,10 @@ use Rattle.pct_model.specs.Outcome.{is_accepted, schedule_part, code_of_verdict,
 use Rattle.pct_model.specs.Outcome as outcome
 use Rattle.pct_grammar.proofs.Scripts.{spells_one_script}
 use Rattle.pct_command.specs.declared.answer.Answer.{Answer}
-use Rattle.pct_command.specs.Command.{Outside, HasLegalSchedule, IsValid, IsComplete}
+use Rattle.pct_command.specs.declared.status.Status.{Status}
+use Rattle.pct_command.specs.declared.status.Status.TheVariants as status
+use Rattle.pct_command.specs.Status.{code_of, IsAnswered}
+use Rattle.pct_command.specs.Command.{Outside, Decides, Answers, HasLegalSchedule, IsValid, IsComplete}
 use Rattle.pct_command.specs.Answer.{AnswersRead, status_of_answer, text_of_answer}
 use Rattle.pct_command.proofs.Scripts.{spelled_or_fault}
 
@@ -89,3 +92,12 @@ pub complete : (words : List (List ℕ)) (before after : Outside) (a : Answer) �
 complete words before after a read wrote = λ input has no_read_fault no_write_fault.
     let answer = read.of_all input has in
     inr (record { text = text_of_answer a; answer = answer; wrote = wrote }, λ accepted valid. not_refused words input answer.schedule _ _ accepted valid answer.is_outcome)
+
+-- ---- what is promised of a status
+
+-- what holds of an answer that was written whole is what its status promises
+pub decides : (needs : Bool) (is_answer : List ℕ → ℕ → List ℕ → Type 0) (before after : Outside) (s : Status) → IsAnswered s → Decides needs is_answer before after (code_of s) → Answers needs is_answer before after s
+decides needs is_answer before after status.ReadFault answered whole = absurd (answered.no_read_fault refl)
+decides needs is_answer before after status.WriteFault answered whole = absurd (answered.no_write_fault refl)
+decides needs is_answer before after status.NoMemory answered whole = absurd (answered.some_memory refl)
+decides needs is_answer before after _ answered whole = whole

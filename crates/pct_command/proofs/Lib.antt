@@ -4,5 +4,5 @@ pub mod SeededRuns
 pub mod Outcomes
 pub mod CompleteOutcomes
 pub mod OneOutcome
-mod NonEmptyTexts
+pub mod NonEmptyTexts
 pub mod OneAnswer

@@ -1,6 +1,7 @@
 -- A seed has one schedule at the most, and so words and an input have one answer at the most.
-use Rattle.std.proofs.Common.{◌≡◌, inl, inr, ℕ, zero, suc, ◌<◌, ◌≤◌, List, [], ◌∷◌, ◌++◌, Option, Some, None, refl, sym, ap, ◌∙◌, subst, arith, length, get_or, take, drop, take-suc, length-take-le}
-use Rattle.std.specs.Prelude.{is_some, option_and_then}
+use Rattle.std.proofs.Common.{◌≡◌, inl, inr, ℕ, zero, suc, ◌+◌, ◌*◌, ◌<◌, ◌≤◌, List, [], ◌∷◌, ◌++◌, Option, Some, None, refl, sym, ap, ◌∙◌, subst, arith, length, get_or, take, drop, take-suc, length-take-le}
+use Rattle.std.specs.Prelude.{is_some, option_and_then, slice_get}
+use Rattle.std.proofs.Math.Nat.{zero-add}
 use Rattle.std.proofs.Math.Seq.{take-length}
 use Rattle.std.proofs.lemmas.Bool.{cases_order}
 use Rattle.std.proofs.lemmas.List.{take-append-drop}
@@ -14,6 +15,7 @@ use Rattle.pct_model.specs.declared.schedule.Entry.{Entry}
 use Rattle.pct_model.specs.declared.stop.Verdict.{Verdict}
 use Rattle.pct_model.specs.declared.stop.Verdict.TheVariants as verdict
 use Rattle.pct_model.specs.World.{opening}
+use Rattle.pct_model.specs.Chosen.{chosen}
 use Rattle.pct_model.specs.Run.{Run, run_step, run_from, run, verdict_of}
 use Rattle.pct_model.specs.Report.{report}
 use Rattle.pct_model.specs.Spells.{Spells}
@@ -23,7 +25,7 @@ use Rattle.pct_engine_laws.proofs.LongerRuns.{run_parts, run_within}
 use Rattle.pct_engine_laws.proofs.OpenRuns.{goes_on_while_open}
 use Rattle.pct_command.specs.declared.words.Job.{Job}
 use Rattle.pct_command.specs.declared.words.Job.TheVariants as job
-use Rattle.pct_command.specs.SeedSchedule.{stream_of, IsRunBy, SeedSchedule}
+use Rattle.pct_command.specs.SeedSchedule.{word_at, stream_of, IsContinuedBy, SeedSchedule}
 use Rattle.pct_command.specs.Command.{IsReportOf, AnswersAreOne}
 use Rattle.pct_command.specs.Words.{job_asked}
 use Rattle.pct_command.proofs.OneOutcome.{by_run, run_of, by_job, Found, Decided, Spelled, found}
@@ -55,15 +57,22 @@ first_run script config entries end k ran within =
 abbrev any_entry : Entry
 any_entry = record { worker = 0; pid = 0; tid = 0; alt = Go }
 
-module _ (words : Lcg) (script : Script) (config : Config) (one other : List Entry) (chosen_one : IsRunBy words script config one) (chosen_other : IsRunBy words script config other) where
+-- the choice of the entry at an index of a run whose entries are all chosen
+choice_of : (words : Lcg) (script : Script) (config : Config) (entries : List Entry) → IsContinuedBy words script config [] entries → (k : ℕ) (before : Run) → k < length entries → run script config (take k entries) ≡ Some before
+    → slice_get entries k ≡ chosen script config before.world 1 (word_at words (2 * k)) (word_at words (2 * k + 1))
+choice_of words script config entries by k before within is =
+    ap (slice_get entries) (sym (zero-add k))
+    ∙ by.choices k before (omega (arith, within)) (ap (λ (m : ℕ). run script config (take m entries)) (zero-add k) ∙ is)
+
+module _ (words : Lcg) (script : Script) (config : Config) (one other : List Entry) (chosen_one : IsContinuedBy words script config [] one) (chosen_other : IsContinuedBy words script config [] other) where
   -- the entries at an index, after the same entries
   same_next : (k : ℕ) → k < length one → k < length other → take k one ≡ take k other → get_or one k any_entry ≡ get_or other k any_entry
   same_next k in_one in_other same =
       let before = first_run script config one chosen_one.after k chosen_one.is_run (omega (arith, in_one)) in
       same_Some _ _
       (sym (slice_get-get_or one k any_entry in_one)
-      ∙ chosen_one.choices k before.0 in_one before.1
-      ∙ sym (chosen_other.choices k before.0 in_other (ap (run script config) (sym same) ∙ before.1))
+      ∙ choice_of words script config one chosen_one k before.0 in_one before.1
+      ∙ sym (choice_of words script config other chosen_other k before.0 in_other (ap (run script config) (sym same) ∙ before.1))
       ∙ slice_get-get_or other k any_entry in_other)
 
   same_first : (k : ℕ) → k ≤ length one → k ≤ length other → take k one ≡ take k other
@@ -86,7 +95,7 @@ module _ (words : Lcg) (script : Script) (config : Config) (one other : List Ent
       chosen_one.is_closed ((goes_on_while_open script config one chosen_one.after e chosen_one.is_run).0 (ap is_some ran)).0
 
 -- a generator has one schedule at the most
-schedule_is_one : (words : Lcg) (script : Script) (config : Config) (one other : List Entry) → IsRunBy words script config one → IsRunBy words script config other → one ≡ other
+schedule_is_one : (words : Lcg) (script : Script) (config : Config) (one other : List Entry) → IsContinuedBy words script config [] one → IsContinuedBy words script config [] other → one ≡ other
 schedule_is_one words script config one other a b =
     elim (cases_order (length one) (length other)) [
       | inl same ↦

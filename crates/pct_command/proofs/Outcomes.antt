@@ -45,7 +45,7 @@ run-verdict engine after is_run = ap (λ (o : Option Run). option_map_or (λ r. 
 pub run-text : (engine : EngineValue) (after : Run) → IsRunOf engine after → text_of_run engine ≡ report_of engine.script engine.config engine.history after
 run-text engine after is_run = ap (λ (o : Option Run). option_map_or (report_of engine.script engine.config engine.history) o []) is_run
 
-run-report : (engine : EngineValue) (after : Run) → IsRunOf engine after → report engine.script engine.config engine.history ≡ Some (text_of_run engine)
+pub run-report : (engine : EngineValue) (after : Run) → IsRunOf engine after → report engine.script engine.config engine.history ≡ Some (text_of_run engine)
 unfolding report
 run-report engine after is_run =
     ap (option_map (report_of engine.script engine.config engine.history)) is_run
@@ -63,7 +63,7 @@ code-is verdict.Budget = refl
 code-is (verdict.Undefined why) = refl
 code-is verdict.Open = refl
 
-run-code : (engine : EngineValue) (after : Run) → IsRunOf engine after → code_of_answer (answer.Ran engine) ≡ code_of_verdict (verdict_of engine.script engine.config after.world (length engine.history))
+pub run-code : (engine : EngineValue) (after : Run) → IsRunOf engine after → code_of_answer (answer.Ran engine) ≡ code_of_verdict (verdict_of engine.script engine.config after.world (length engine.history))
 run-code engine after is_run = code-is (verdict_of_run engine) ∙ ap code_of_verdict (run-verdict engine after is_run)
 
 -- the run of a schedule that is read from an input is the outcome of `replay`
@@ -128,7 +128,7 @@ is-lawful words input engine after has is_run = record {
 }
 
 -- the schedule of a report is read back
-read-back : (engine : EngineValue) (after : Run) → IsRunOf engine after → sched_of (text_of_run engine) ≡ Ok (engine.config, engine.history)
+pub read-back : (engine : EngineValue) (after : Run) → IsRunOf engine after → sched_of (text_of_run engine) ≡ Ok (engine.config, engine.history)
 read-back engine after is_run = report_is_read_back engine.script engine.config engine.history (text_of_run engine) (run-report engine after is_run)
 
 -- ---- answers

@@ -13,7 +13,7 @@ use Rattle.pct_model.specs.Canon.{canon}
 use Rattle.pct_model.specs.Spells.{Spells}
 use Rattle.pct_model.specs.Run.{run, verdict_of}
 use Rattle.pct_model.specs.Report.{report_of}
-use Rattle.pct_model.specs.Outcome.{script_part, refused_words, refused_input, refused_script, refused_schedule, refused_entry}
+use Rattle.pct_model.specs.Outcome.{needs_input, script_part, refused_words, refused_input, refused_script, refused_schedule, refused_entry}
 use Rattle.pct_engine.specs.EngineStates.{EngineValue}
 use Rattle.pct_command.specs.declared.answer.Refusal.{Refusal}
 use Rattle.pct_command.specs.declared.answer.Refusal.TheVariants as refusal
@@ -101,7 +101,7 @@ Answered words input result = IfOk result (λ a. IsAnswer words input (code_of_a
 -- an answer to the words and to the input that was read; if the source reports its bytes, the answer to all that it had left
 pub record AnswersRead (words : List (List ℕ)) (before after : Option (List ℕ)) (a : Answer) : Type 0 where
   pub input : List ℕ
-  pub read : Reads words before after input (code_of_answer a)
+  pub read : Reads (needs_input words) before after input (code_of_answer a)
   pub is_answer : IsAnswer words input (code_of_answer a) (text_of_answer a)
   pub of_all : (left : List ℕ) → before ≡ Some left → IsAnswer words left (code_of_answer a) (text_of_answer a)
 

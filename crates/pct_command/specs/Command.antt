@@ -1,5 +1,5 @@
 -- What `command` promises, by its answer.
-use Rattle.std.specs.Prelude.{◌≡◌, ◌≢◌, ◌⊎◌, ℕ, ◌<◌, ◌≤◌, true, List, [], ◌∷◌, length, Option, Some, None, Ok}
+use Rattle.std.specs.Prelude.{◌≡◌, ◌≢◌, ◌⊎◌, ℕ, ◌<◌, ◌≤◌, Bool, true, List, [], ◌∷◌, length, Option, Some, None, Ok}
 use Rattle.std.specs.Io.KnownBytes.{Appends, Consumes, IsAtEnd, Keeps}
 use Rattle.pct_io.specs.ErrorCounts.{Rose}
 use Rattle.pct_io.specs.Sinks.{AppendsPrefix}
@@ -16,7 +16,7 @@ use Rattle.pct_model.specs.Kept.{Kept}
 use Rattle.pct_model.specs.Laws.{Laws}
 use Rattle.pct_model.specs.Report.{report}
 use Rattle.pct_model.specs.Run.{Run, first_illegal, run}
-use Rattle.pct_model.specs.Outcome.{is_asked, is_accepted, needs_input, script_part, schedule_part, Outcome}
+use Rattle.pct_model.specs.Outcome.{is_asked, is_accepted, script_part, schedule_part, Outcome}
 use Rattle.pct_command.specs.declared.status.Status.{Status}
 use Rattle.pct_command.specs.declared.status.Status.TheVariants as status
 use Rattle.pct_command.specs.declared.words.Job.{Job}
@@ -58,8 +58,9 @@ IsReplayed words input code text =
     → Outcome (keyword_text keyword.Replay ∷ []) again [] code text
 
 -- the text is the report of a run of the script of the input. Its events keep the laws of how threads end: that of cleanup handlers
--- and destructors (XSH 2.9.5.3, pthread_exit, pthread_key_create), and that of joins, requests and detaches (XSH 2.9.2, pthread_join,
--- pthread_cancel, pthread_detach). The state after it keeps the invariant.
+-- and destructors (XSH 2.9.5.3, pthread_exit, pthread_key_create), that of joins, requests and detaches (XSH 2.9.2, pthread_join,
+-- pthread_cancel, pthread_detach), that of mutexes and condition waits (XSH pthread_mutex_lock, pthread_cond_wait), and that of the ids of
+-- threads (XSH pthread_create). The state after it keeps the invariant.
 pub record IsLawful (words : List (List ℕ)) (input : List ℕ) (text : List ℕ) : Type 0 where
   pub script : Script
   pub spelled : Spells (script_part words input) script
@@ -86,57 +87,57 @@ pub record IsAnswer (words : List (List ℕ)) (input : List ℕ) (code : ℕ) (t
   pub is_outcome : Outcome words input schedule code text
   pub is_report : code < 5 → IsReportOf (job_asked words) words input schedule code text
 
--- the whole text was written
-pub record WroteAll (words : List (List ℕ)) (input : List ℕ) (before after : Option (List ℕ)) (code : ℕ) : Type 0 where
+-- the whole text of the answer to the input was written, where the second argument says which code and text are an answer
+pub record WroteAll (is_answer : List ℕ → ℕ → List ℕ → Type 0) (input : List ℕ) (before after : Option (List ℕ)) (code : ℕ) : Type 0 where
   pub text : List ℕ
-  pub answer : IsAnswer words input code text
+  pub answer : is_answer input code text
   pub wrote : Appends before after text
 
 -- a write failed: the sink recorded the error, and a prefix of the text was written
-pub record WrotePrefix (words : List (List ℕ)) (input : List ℕ) (before after : Option (List ℕ)) (errors_before errors_after : ℕ) : Type 0 where
+pub record WrotePrefix (is_answer : List ℕ → ℕ → List ℕ → Type 0) (input : List ℕ) (before after : Option (List ℕ)) (errors_before errors_after : ℕ) : Type 0 where
   pub code : ℕ
   pub text : List ℕ
-  pub answer : IsAnswer words input code text
+  pub answer : is_answer input code text
   pub wrote : AppendsPrefix before after text
   pub cause : Rose errors_before errors_after
 
--- ---- the answers
+-- ---- the answers of a call whose words need an input or do not
 
 -- what was read is a prefix of what the source had left, and all of it if the words need an input, unless it is too long
-pub record Reads (words : List (List ℕ)) (before after : Option (List ℕ)) (input : List ℕ) (code : ℕ) : Type 0 where
+pub record Reads (needs : Bool) (before after : Option (List ℕ)) (input : List ℕ) (code : ℕ) : Type 0 where
   pub prefix : Consumes before after input
-  pub to_end : needs_input words ≡ true → code ≢ 8 → IsAtEnd after
+  pub to_end : needs ≡ true → code ≢ 8 → IsAtEnd after
 
 -- the input that was read, and the whole answer to it was written
-pub record Decides (words : List (List ℕ)) (before after : Outside) (code : ℕ) : Type 0 where
+pub record Decides (needs : Bool) (is_answer : List ℕ → ℕ → List ℕ → Type 0) (before after : Outside) (code : ℕ) : Type 0 where
   pub input : List ℕ
-  pub read : Reads words before.left after.left input code
-  pub output : WroteAll words input before.written after.written code
+  pub read : Reads needs before.left after.left input code
+  pub output : WroteAll is_answer input before.written after.written code
 
 -- the input that was read, and a prefix of the answer to it was written
-pub record FailsToWrite (words : List (List ℕ)) (before after : Outside) : Type 0 where
+pub record FailsToWrite (needs : Bool) (is_answer : List ℕ → ℕ → List ℕ → Type 0) (before after : Outside) : Type 0 where
   pub input : List ℕ
-  pub output : WrotePrefix words input before.written after.written before.write_errors after.write_errors
-  pub read : Reads words before.left after.left input output.code
+  pub output : WrotePrefix is_answer input before.written after.written before.write_errors after.write_errors
+  pub read : Reads needs before.left after.left input output.code
 
 -- the words need an input, nothing was written, and what was taken is a prefix of what the source had left
-pub record Takes (words : List (List ℕ)) (before after : Outside) : Type 0 where
-  pub accepted : needs_input words ≡ true
+pub record Takes (needs : Bool) (before after : Outside) : Type 0 where
+  pub accepted : needs ≡ true
   pub nothing : Keeps before.written after.written
   pub taken : List ℕ
   pub prefix : Consumes before.left after.left taken
 
 -- a read failed: the source recorded the error
-pub record FailsToRead (words : List (List ℕ)) (before after : Outside) : Type 0 where
-  pub takes : Takes words before after
+pub record FailsToRead (needs : Bool) (before after : Outside) : Type 0 where
+  pub takes : Takes needs before after
   pub cause : Rose before.read_errors after.read_errors
 
--- what `command` promises of each answer; memory runs out before the first byte is written
-abbrev pub Answers : List (List ℕ) → Outside → Outside → Status → Type 0
-Answers words before after status.ReadFault = FailsToRead words before after
-Answers words before after status.WriteFault = FailsToWrite words before after
-Answers words before after status.NoMemory = Takes words before after
-Answers words before after s = Decides words before after (code_of s)
+-- what a call promises of each status; memory runs out before the first byte is written
+abbrev pub Answers : Bool → (List ℕ → ℕ → List ℕ → Type 0) → Outside → Outside → Status → Type 0
+Answers needs is_answer before after status.ReadFault = FailsToRead needs before after
+Answers needs is_answer before after status.WriteFault = FailsToWrite needs is_answer before after
+Answers needs is_answer before after status.NoMemory = Takes needs before after
+Answers needs is_answer before after s = Decides needs is_answer before after (code_of s)
 
 -- at least one byte was read
 pub record HasRead (before after : Option (List ℕ)) : Type 0 where
@@ -166,7 +167,7 @@ abbrev pub IsComplete : List (List ℕ) → Outside → Outside → Status → T
 IsComplete words before after s =
     (input : List ℕ) → before.left ≡ Some input
     → s ≢ status.ReadFault → s ≢ status.WriteFault
-    → (s ≡ status.NoMemory) ⊎ (WroteAll words input before.written after.written (code_of s) × (is_accepted words ≡ true → IsValid words input → code_of s < 5))
+    → (s ≡ status.NoMemory) ⊎ (WroteAll (IsAnswer words) input before.written after.written (code_of s) × (is_accepted words ≡ true → IsValid words input → code_of s < 5))
 
 -- words, an input and a schedule have at most one outcome
 abbrev pub OutcomesAreOne : Type 0

@@ -1,16 +1,16 @@
 //! The answers: a refusal, a run, a script, or the table of cancellation points.
 
 ghost use Rattle.std.specs.Prelude.{◌≡◌};
-ghost use Rattle.pct_command.specs.Answer.{status_of_answer, status_of_refusal, status_of_verdict};
+ghost use Rattle.pct_command.specs.Answer.{status_of_answer, status_of_refusal};
 ghost use Rattle.pct_command.specs.Status.{IsAnswered};
 
 use crate::status::Status;
 use pct_engine::Engine;
-use pct_model::{ParseWhy, ScheduleWhy, Script, Verdict};
+use pct_model::{ParseWhy, ScheduleWhy, Script};
 
 /// Why an input is refused.
-#[derive(Clone, Copy)]
-pub(crate) enum Refusal {
+#[derive(Clone, Copy, Debug, PartialEq, Eq)]
+pub enum Refusal {
     /// The words are not accepted.
     Words,
     /// The input has more than 16,777,216 bytes.
@@ -46,8 +46,8 @@ pub(crate) enum Unanswered {
 }
 
 impl Refusal {
-    // The status of the refusal.
-    fn status(&self) -> Status
+    /// The status of the refusal.
+    pub fn status(&self) -> Status
         ensures status { result ≡ status_of_refusal self.now }
         ensures answered { IsAnswered result }
     {
@@ -68,22 +68,8 @@ impl Answer {
     {
         match self {
             Answer::Refused(refusal) => refusal.status(),
-            Answer::Ran(engine) => status_of(engine.verdict()),
+            Answer::Ran(engine) => Status::of_verdict(engine.verdict()),
             Answer::Checked(_) | Answer::Points => Status::Complete,
         }
-    }
-}
-
-// The status of a verdict.
-fn status_of(verdict: Verdict) -> Status
-    ensures status { result ≡ status_of_verdict verdict }
-    ensures answered { IsAnswered result }
-{
-    match verdict {
-        Verdict::Complete => Status::Complete,
-        Verdict::Deadlock => Status::Deadlock,
-        Verdict::Budget => Status::Budget,
-        Verdict::Undefined(_) => Status::Undefined,
-        Verdict::Open => Status::Open,
     }
 }

@@ -27,9 +27,9 @@ pub(crate) fn write_answer<K: Sink>(answer: &Answer, sink: &mut K) -> Result<(),
     }
 }
 
-// Writes the line of a refusal.
+/// Writes the line of a refusal.
 #[tactic(auto, unfolding(pct_model::specs::Outcome::refused_words, pct_model::specs::Outcome::refused_input, pct_model::specs::Outcome::refused_script, pct_model::specs::Outcome::refused_schedule, pct_model::specs::Outcome::refused_entry))]
-fn write_refusal<K: Sink>(refusal: Refusal, sink: &mut K) -> Result<(), Failed>
+pub fn write_refusal<K: Sink>(refusal: Refusal, sink: &mut K) -> Result<(), Failed>
     ensures { Writes K.written K.errors K.inners sink.old sink.new (line_text (line_of_refusal refusal)) result }
 {
     let title = Field::Text(Keyword::Refused.text());

@@ -5,7 +5,7 @@ ghost use Rattle.pct_model.specs.declared.keyword.Keyword.TheVariants as keyword
 ghost use Rattle.pct_model.specs.Outcome.{is_asked, is_accepted, needs_input};
 ghost use Rattle.pct_io.specs.Inners.{KeepsInners};
 ghost use Rattle.pct_command.specs.Answer.{AnswersRead, ReadsInput};
-ghost use Rattle.pct_command.specs.Command.{Answers, HasRead, IsComplete, Records};
+ghost use Rattle.pct_command.specs.Command.{Answers, HasRead, IsAnswer, IsComplete, Records};
 ghost use Rattle.pct_command.specs.Words.{Asks, HasInput};
 
 use crate::answer::{Answer, Refusal, Unanswered};
@@ -52,7 +52,7 @@ pub fn command<R: Threads + Sync, S: Source, K: Sink, G: Gate>(
     sink: &mut K,
     gate: &G,
 ) -> Status
-    ensures answers { Answers (map string_bytes words.now)
+    ensures answers { Answers (needs_input (map string_bytes words.now)) (IsAnswer (map string_bytes words.now))
         (record { left = S.left source.old; read_errors = S.errors source.old; written = K.written sink.old; write_errors = K.errors sink.old })
         (record { left = S.left source.new; read_errors = S.errors source.new; written = K.written sink.new; write_errors = K.errors sink.new })
         result }

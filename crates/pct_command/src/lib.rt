@@ -5,6 +5,7 @@
 mod answer;
 mod answer_writer;
 mod answering;
+mod arguments;
 mod dispatch;
 mod law;
 mod replay_command;
@@ -13,8 +14,12 @@ mod seeded_run;
 mod status;
 mod words;
 
+pub use answer::Refusal;
+pub use answer_writer::write_refusal;
+pub use arguments::words_of;
 pub use dispatch::command;
 pub use law::{answers_are_one, outcomes_are_one};
 pub use pct_model::RunOptions;
+pub use seeded_run::continue_seeded;
 pub use status::Status;
 pub use words::{Job, Usage, read_words};

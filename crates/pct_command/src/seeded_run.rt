@@ -1,10 +1,10 @@
 //! The run whose choices are made by the words of a random generator.
 
-ghost use Rattle.std.specs.Prelude.{◌≡◌, [], IfOk, IsTrue};
+ghost use Rattle.std.specs.Prelude.{◌≡◌, IfOk, IsTrue};
 ghost use Rattle.rand_pcg.specs.Pcg.{pcg32};
 ghost use Rattle.pct_model.specs.Run.{Run, is_config};
 ghost use Rattle.pct_engine.specs.EngineStates.{IsRunOf, IsChoice};
-ghost use Rattle.pct_command.specs.SeedSchedule.{IsRunBy, IsSeededRun, stream_of};
+ghost use Rattle.pct_command.specs.SeedSchedule.{IsContinuedBy, IsSeededRun, SeedContinuation, stream_of};
 
 use pct_engine::Engine;
 use pct_io::NoMemory;
@@ -16,8 +16,7 @@ use std::alloc::Global;
 // The worker that makes every step of a seeded run. Its number is that of its stream of words.
 const WORKER: u32 = 1;
 
-/// Runs a script until the verdict is not `Open`. Worker 1 makes each step: two words of its stream choose the entry, and
-/// two new ones are drawn for the next.
+/// Runs a script until the verdict is not `Open`, as `continue_seeded` goes on with a run.
 ///
 /// `NoMemory` is returned if the run does not fit into memory; all memory is taken before the first step.
 pub(crate) fn run_seeded(
@@ -30,9 +29,18 @@ pub(crate) fn run_seeded(
     ensures { IfOk result (λ engine. IsSeededRun script config seed engine) }
 {
     let mut engine = Engine::open(alloc, script, config)?;
-    let mut words = stream_of(seed, WORKER);
-    make_steps(&mut engine, &mut words);
+    continue_seeded(&mut engine, seed);
     Ok(engine)
+}
+
+/// Goes on with a run until the verdict is not `Open`. Worker 1 makes each step: two words of its stream choose the entry, and
+/// two new ones are drawn for the next. The stream begins anew, however many entries the run has.
+pub fn continue_seeded(engine: &mut Engine, seed: u64)
+    ensures same { engine.new ≡ record engine.old { history = engine.new.history } }
+    ensures run { SeedContinuation engine.old.script engine.old.config seed engine.old.history engine.new.history }
+{
+    let mut words = stream_of(seed, WORKER);
+    make_steps(engine, &mut words);
 }
 
 // The generator of a worker's words.
@@ -45,11 +53,10 @@ fn stream_of(seed: u64, worker: u32) -> Lcg64Xsh32
 
 // Makes the steps that the words choose, while the verdict is `Open`.
 fn make_steps(engine: &mut Engine, words: &mut Lcg64Xsh32)
-    requires opened { engine.old.history ≡ [] }
-    requires config { IsTrue (is_config engine.old.config) }
     ensures same { engine.new ≡ record engine.old { history = engine.new.history } }
-    ensures run { IsRunBy words.old engine.old.script engine.old.config engine.new.history }
+    ensures run { IsContinuedBy words.old engine.old.script engine.old.config engine.old.history engine.new.history }
 {
+    let _verdict = engine.verdict();
     while let Some(entry) = next_entry(engine, words) {
         engine.step(entry).unwrap();
     }

@@ -1,7 +1,10 @@
 //! How the program ends.
 
 ghost use Rattle.std.specs.Prelude.{◌≡◌};
-ghost use Rattle.pct_command.specs.Status.{code_of};
+ghost use Rattle.pct_command.specs.Answer.{status_of_verdict};
+ghost use Rattle.pct_command.specs.Status.{IsAnswered, code_of};
+
+use pct_model::Verdict;
 
 /// How the program ends. Its exit status is the code.
 #[derive(Clone, Copy, Debug, PartialEq, Eq)]
@@ -33,6 +36,20 @@ pub enum Status {
 }
 
 impl Status {
+    /// The status of a run with this verdict.
+    pub fn of_verdict(verdict: Verdict) -> Status
+        ensures status { result ≡ status_of_verdict verdict }
+        ensures answered { IsAnswered result }
+    {
+        match verdict {
+            Verdict::Complete => Status::Complete,
+            Verdict::Deadlock => Status::Deadlock,
+            Verdict::Budget => Status::Budget,
+            Verdict::Undefined(_) => Status::Undefined,
+            Verdict::Open => Status::Open,
+        }
+    }
+
     /// The exit status of the program.
     pub fn code(&self) -> u8
         ensures { result ≡ code_of self.now }

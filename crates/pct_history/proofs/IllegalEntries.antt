@@ -2,7 +2,7 @@
 use Rattle.std.proofs.Common.{◌≡◌, ℕ, suc, ◌+◌, ◌<◌, ◌≤◌, true, List, [], ◌∷◌, ◌++◌, Option, Some, None, refl, sym, ap, ◌∙◌, subst, arith, length, get_or, take, drop, append_assoc}
 use Rattle.std.specs.Prelude.{is_some, option_map, option_and_then}
 use Rattle.std.specs.Option.{option_map_or}
-use Rattle.std.proofs.lemmas.List.{length-take-le, take-append-drop, take_more}
+use Rattle.std.proofs.lemmas.List.{length-take-le, take-append-drop, take_all, take_more}
 use Rattle.std.proofs.lemmas.Option.{none-some, same_Some}
 use Rattle.pct_model.specs.declared.script.Script.{Script}
 use Rattle.pct_model.specs.declared.schedule.Config.{Config}
@@ -11,6 +11,7 @@ use Rattle.pct_model.specs.World.{opening}
 use Rattle.pct_model.specs.Run.{Run, run_step, run_from, illegal_in, first_illegal, run}
 use Rattle.pct_engine.specs.EngineStates.{EngineValue, IsRunWith}
 use Rattle.pct_engine_laws.proofs.LongerRuns.{run_parts, run_more}
+use Rattle.pct_history.specs.Replays.{Follows}
 
 -- ---- options
 
@@ -65,3 +66,38 @@ illegal-at engine script config entries i d made within few legal illegal =
     ap (illegal_in script config from) (around entries i d within)
     ∙ illegal-after script config from r before e (drop (i + 1) entries) (run_parts script config before r so_far.1).ran (sym (run_more script config before e r so_far.1 (omega arith)) ∙ stopped)
     ∙ ap (λ (n : ℕ). Some n) (omega (arith, count))
+
+-- ---- schedules that are legal
+
+none_after : (script : Script) (config : Config) (r : Run) (entries : List Entry)
+    → ((next : Run) → run_from script config next entries ≡ Some r → illegal_in script config next entries ≡ None)
+    → (o : Option Run) → option_and_then (λ next. run_from script config next entries) o ≡ Some r → counted script config entries o ≡ None
+none_after script config r entries each None ran = absurd (none-some r ran)
+none_after script config r entries each (Some next) ran = ap (option_map suc) (each next ran)
+
+-- entries that are a run are all legal
+none-illegal : (script : Script) (config : Config) (from r : Run) (entries : List Entry) → run_from script config from entries ≡ Some r → illegal_in script config from entries ≡ None
+unfolding run_from illegal_in
+none-illegal script config from r [] ran = refl
+none-illegal script config from r (e ∷ entries) ran = none_after script config r entries (λ next at. none-illegal script config next r entries at) (run_step script config from e) ran
+
+-- ---- an engine that follows a schedule
+
+-- it has made the steps of the entries before one that is not legal
+pub follows-until : (engine : EngineValue) (script : Script) (config : Config) (entries : List Entry) (i : ℕ) (entry_number : ℕ) → engine ≡ record { script = script; config = config; history = take i entries } → entry_number ≡ i + 1
+    → first_illegal script config entries ≡ Some (i + 1) → Follows script config entries engine (Some entry_number)
+follows-until engine script config entries i entry_number made number illegal = record {
+  illegal_is = illegal ∙ ap (λ (n : ℕ). Some n) (sym number);
+  engine_is = made ∙ ap (λ (n : ℕ). record { script = script; config = config; history = take n entries }) (omega (arith, number));
+}
+
+-- it has made the steps of all entries
+pub follows-all : (engine : EngineValue) (script : Script) (config : Config) (entries : List Entry) (i : ℕ) → engine ≡ record { script = script; config = config; history = take i entries } → length entries ≤ i
+    → is_some (run script config (take i entries)) ≡ true → Follows script config entries engine None
+follows-all engine script config entries i made past legal =
+    let all : take i entries ≡ entries = take_all i entries past in
+    let is_run = has_value (run script config entries) (subst (λ (xs : List Entry). is_some (run script config xs) ≡ true) all legal) in
+    record {
+      illegal_is = none-illegal script config _ is_run.0 entries (run_parts script config entries is_run.0 is_run.1).ran;
+      engine_is = made ∙ ap (λ (xs : List Entry). record { script = script; config = config; history = xs }) all;
+    }

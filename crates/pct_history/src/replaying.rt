@@ -1,12 +1,13 @@
 //! The run of a script under a given schedule.
 
-ghost use Rattle.std.specs.Prelude.{◌≡◌, ◌≤◌, true, [], length, is_some, Some, IfErr, IfNone, IfOk, IfSome, IsTrue};
-ghost use Rattle.pct_model.specs.Run.{Run, first_illegal, is_config};
+ghost use Rattle.std.specs.Prelude.{◌≡◌, ◌≤◌, true, [], length, IfErr, IfNone, IfOk, IsTrue};
+ghost use Rattle.pct_model.specs.Run.{Run, is_config};
 ghost use Rattle.pct_engine.specs.EngineStates.{IsRunOf, KeepsLaws};
-ghost use Rattle.pct_history.specs.Replays.{StopsReplay};
+ghost use Rattle.pct_history.specs.Replays.{Follows, StopsReplay};
 
 use crate::replay_fault::ReplayFault;
 use pct_engine::{Engine, NotLegal};
+use pct_io::NoMemory;
 use pct_model::{Config, Entry, Script};
 use std::alloc::Global;
 
@@ -37,14 +38,32 @@ pub fn replay(
     }
 }
 
+/// Runs a script under the entries of a schedule up to the first that is not legal: it makes the step of each entry before that
+/// one. It returns the engine, which may make further steps, and the number of the entry that is not legal, counted from 1.
+///
+/// `NoMemory` is returned if the run does not fit into memory; all memory is taken before the first step.
+pub fn follow(
+    alloc: Global,
+    script: Script,
+    config: Config,
+    entries: &[Entry],
+) -> Result<(Engine, Option<u32>), NoMemory>
+    requires config { IsTrue (is_config config) }
+    requires few { length entries.now ≤ config.budget }
+    ensures { IfOk result (λ parts. Follows script config entries.now parts.0 parts.1) }
+{
+    let mut engine = Engine::open(alloc, script, config)?;
+    let illegal = make_steps(&mut engine, entries);
+    Ok((engine, illegal))
+}
+
 // Makes the steps of the entries up to the first that is not legal, and returns the number of that one, counted from 1.
 fn make_steps(engine: &mut Engine, entries: &[Entry]) -> Option<u32>
     requires opened { engine.old.history ≡ [] }
     requires config { IsTrue (is_config engine.old.config) }
     requires few { length entries.now ≤ engine.old.config.budget }
-    ensures all { IfNone result (engine.new ≡ record engine.old { history = entries.now }) }
+    ensures follows { Follows engine.old.script engine.old.config entries.now engine.new result }
     ensures runs { IfNone result ((after : Run) × IsRunOf engine.new after) }
-    ensures first { IfSome result (λ entry_number. first_illegal engine.old.script engine.old.config entries.now ≡ Some entry_number) }
 {
     let mut entry_number = 0;
     for entry in entries {

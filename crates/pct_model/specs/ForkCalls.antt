@@ -56,7 +56,7 @@ abbrev pub handlers_among : Phase → List ForkHandlers → List ℕ → List Ha
 handlers_among phase registered indexes = flat_map (λ i. option_to_list (option_map (λ f. record { index = i; func = f }) (handler_at phase registered i))) indexes
 
 -- the indexes of the registrations whose handlers a thread in fork has still to call, in the order of the calls: before the fork the
--- reverse order of registration, and after it this order (XSH pthread_atfork)
+-- reverse of the order of registration, and after it the order of registration (XSH pthread_atfork)
 abbrev pub indexes_left : ForkAt → List ℕ
 indexes_left at = if is_prepare at.phase then reverse (range_with_len 0 at.next) else range_with_len at.next (at.length - at.next)
 

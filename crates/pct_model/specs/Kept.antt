@@ -208,7 +208,7 @@ pub record ArePlainHandlers (script : Script) (handlers : ForkHandlers) : Type 0
   pub parent : IsPlainIfSome script handlers.parent
   pub child : IsPlainIfSome script handlers.child
 
--- the status, the frames and the kept values of a thread that can be in a fork
+-- the status, the frames and the kept values of a thread, which may be in fork or in a fork handler
 pub record ForkKept (script : Script) (st : Status) (frames : List Frame) (kept : Option ForkAt) : Type 0 where
   -- a frame is that of a fork handler exactly if the thread is in one, and then it is the top one
   pub in_handler : list_any (λ (frame : Frame). is_fork_kind frame.kind) frames ≡ is_in_fork_handler st frames
@@ -217,7 +217,7 @@ pub record ForkKept (script : Script) (st : Status) (frames : List Frame) (kept 
   pub functions : All (λ (frame : Frame). is_fork_kind frame.kind ≡ true → IsPlainFunction script frame.func) frames
   -- the thread keeps the values of a fork exactly if it is in a fork handler
   pub keeps : is_some kept ≡ is_in_fork_handler st frames
-  -- it has at most MAX_FRAMES frames, and one more in a fork handler
+  -- it has at most MAX_FRAMES frames, or one more in a fork handler
   pub depth : length frames ≤ (if is_in_fork_handler st frames then suc MAX_FRAMES else MAX_FRAMES)
 
 -- a thread of a process with these keys, and what the events so far report of it

@@ -17,6 +17,6 @@ pub record Laws (events : List Event) (passes slots : ℕ) : Type 0 where
   -- a mutex is acquired while no thread owns it, and released by its owner; a condition wait ends with its mutex owned again, also if a
   -- request ends it; and a signal is handed on as a thread leaves its wait by a request
   pub conds : CondLaw events
-  -- a new thread gets an id that no thread of its process had, and each earlier thread on its slot has ended and was joined or is
+  -- a new thread gets an id that no known thread of its process has had, and each known thread on its slot has ended and was joined or is
   -- detached
   pub creations : SlotLaw slots events

@@ -76,6 +76,6 @@ pub struct RunOptions {
     pub seed: u64,
     /// The number of workers: 1, which no option changes yet.
     pub workers: u32,
-    /// The most turns of a worker: the budget, which no option changes yet.
+    /// The most turns of a worker: as many as the budget, since no option sets their number yet.
     pub turns: u32,
 }

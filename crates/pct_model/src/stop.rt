@@ -5,8 +5,7 @@ ghost use Rattle.pct_model.specs.StopTexts.{class_of_stop, name_of_stop};
 
 use crate::keyword::Keyword;
 
-/// Why a run was stopped: POSIX leaves the behavior undefined, or this host treats it alike, leaves it out or limits
-/// it.
+/// Why a run was stopped: POSIX leaves the behavior undefined, or this host treats it alike, leaves it out or limits it.
 #[derive(Clone, Copy, Debug, PartialEq, Eq)]
 pub enum Why {
     ForkChildCall,

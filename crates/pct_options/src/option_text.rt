@@ -1,9 +1,11 @@
 //! The name and the value of an option, as they are written.
 
-ghost use Rattle.std.specs.Prelude.{◌≡◌, ◌≤◌, IfSome, find};
+ghost use Rattle.std.specs.Prelude.{◌≡◌, ◌≤◌, if◌then◌else◌, Some, None as Nothing, IfSome, find};
 ghost use Rattle.std.specs.List.{list_all};
+ghost use Rattle.std.specs.Str.Parse.{digits_value};
+ghost use Rattle.pct_model.specs.declared.run_options.RunOption.TheVariants as option;
 ghost use Rattle.pct_model.specs.Names.{is_digit};
-ghost use Rattle.pct_model.specs.RunOptions.{all_options, greatest_value, is_named};
+ghost use Rattle.pct_model.specs.RunOptions.{all_options, greatest_value, is_named, is_value};
 ghost use Rattle.pct_options.specs.OptionTexts.{number_of, value_of};
 
 use pct_model::RunOption;
@@ -43,6 +45,14 @@ pub(crate) fn value_of(option: RunOption, text: &str) -> Option<u64>
     } else {
         None
     }
+}
+
+/// The seed that a text writes: the number of its 1 to 20 digits, if it has at most 64 bits. Leading zeros are allowed.
+#[tactic(auto, using(crate::proofs::OptionTexts::value_as_read))]
+pub fn read_seed(text: &str) -> Option<u64>
+    ensures { result ≡ (if is_value option.Seed text.now then Some (digits_value 10 text.now) else Nothing) }
+{
+    value_of(RunOption::Seed, text)
 }
 
 // The number that 1 to 20 digits write, if it has at most 64 bits. Leading zeros are allowed.

@@ -37,7 +37,7 @@ pub struct ProcessState {
     pub exit_functions: ExitFunctions,
     /// The value with which exit began.
     pub exit_value: Option<u32>,
-    /// The process is the child of one that had several threads, and may execute async-signal-safe operations only.
+    /// The process is the child of one that had several threads, and may execute few statements.
     pub restricted: bool,
 }
 

@@ -2,11 +2,10 @@
 //! exits with the code of the status that `command` returns. It writes nothing to standard error.
 #![tactic(auto)]
 
-use pct_command::{Status, command};
+use pct_command::{Status, command, words_of};
 use pct_io::{NoGate, NoMemory, StdSink, StdSource};
+use std::io;
 use std::process::ExitCode;
-use std::rt::Env;
-use std::{env, io};
 
 fn main(rt: HostRuntime) -> ExitCode {
     let status = match words_of(&rt) {
@@ -18,15 +17,4 @@ fn main(rt: HostRuntime) -> ExitCode {
         }
     };
     ExitCode::from(status.code())
-}
-
-// The arguments after the program's name. If one is not UTF-8, the list is empty, which `command` refuses as well.
-fn words_of<R: Env + AllocGlobal>(rt: &R) -> Result<Vec<String>, NoMemory> {
-    match env::args(rt) {
-        Ok(args) => Ok(args.skip(1).collect(rt.alloc())?),
-        Err(error) => match error.kind() {
-            io::ErrorKind::OutOfMemory => Err(NoMemory),
-            _ => Ok(Vec::new(rt.alloc())),
-        },
-    }
 }

@@ -1,4 +1,4 @@
--- Reading with the list of entries so far gives the schedule of a text.
+-- Reading with the list of entries so far gives the schedule of a text, or the prefix in it.
 use Rattle.std.proofs.Common.{◌≡◌, ℕ, ◌+◌, Bool, true, false, cond, List, [], ◌∷◌, ◌++◌, Option, Some, None, Ok, Err, length, map, refl, sym, ap, ◌∙◌, append_assoc, append-nil, length-append, nat_lt}
 use Rattle.pct_model.specs.declared.schedule.Config.{Config}
 use Rattle.pct_model.specs.declared.schedule.Entry.{Entry}
@@ -7,7 +7,11 @@ use Rattle.pct_model.specs.declared.keyword.Keyword.TheVariants as keyword
 use Rattle.pct_model.specs.Keywords.{keyword_text}
 use Rattle.pct_model.specs.Lines.{lines_of, strip_cr}
 use Rattle.pct_model.specs.Schedule.{Read, Schedule, begins, header_of, entry_of, is_end, read_entry, nothing_after, read_end, prepend_entry, entries_from, with_config, schedule_at, schedule_from, sched_of}
-use Rattle.pct_schedule.proofs.LineByLine.{ended, with_entry, entries_in, with_header, schedule_in}
+use Rattle.pct_schedule.specs.declared.reader.End.{End}
+use Rattle.pct_schedule.specs.declared.reader.End.TheVariants as end
+use Rattle.pct_schedule.specs.Ends.{entries_to}
+use Rattle.pct_schedule.specs.Prefix.{prefix_entries_from}
+use Rattle.pct_schedule.proofs.LineByLine.{ended, with_entry, with_header, schedule_in, entries_in_to, unended, no_line, one_line}
 
 -- a schedule of these entries and the entries that are read after them
 abbrev after_these : Config → List Entry → Read (List Entry) → Schedule
@@ -40,36 +44,51 @@ either_same : (config : Config) (prefix : List Entry) (t : Bool) (a b : Schedule
 either_same config prefix true a b x y e f = e
 either_same config prefix false a b x y e f = f
 
-entries_same : (n : ℕ) (config : Config) (prefix : List Entry) (lines : List (List ℕ))
-    → entries_in n config prefix lines ≡ after_these config prefix (entries_from n config.budget (length prefix) (map strip_cr lines))
-unfolding entries_in entries_from
-entries_same n config prefix [] = refl
-entries_same n config prefix (line ∷ lines) =
+-- the entries of no line, to either end
+unended_same : (to : End) (n : ℕ) (config : Config) (prefix : List Entry) → unended to n config prefix ≡ after_these config prefix (entries_to to n config.budget (length prefix) [])
+unfolding entries_from prefix_entries_from
+unended_same end.Required n config prefix = refl
+unended_same end.Optional n config prefix = ap (λ (es : List Entry). Ok (config, es)) (sym (append-nil prefix))
+
+-- the entries of one line and of the lines after it, to either end
+one_more : (to : End) (n budget k : ℕ) (line : List ℕ) (lines : List (List ℕ))
+    → cond (begins (keyword_text keyword.End) line) (read_end n k line lines) (prepend_entry (read_entry n budget k (entry_of line)) (entries_to to (n + 1) budget (k + 1) lines)) ≡ entries_to to n budget k (line ∷ lines)
+unfolding entries_from prefix_entries_from
+one_more end.Required n budget k line lines = refl
+one_more end.Optional n budget k line lines = refl
+
+-- the entries of the lines after these entries
+entries_same : (to : End) (n : ℕ) (config : Config) (prefix : List Entry) (lines : List (List ℕ))
+    → entries_in_to to n config prefix lines ≡ after_these config prefix (entries_to to n config.budget (length prefix) (map strip_cr lines))
+entries_same to n config prefix [] = no_line to n config prefix ∙ unended_same to n config prefix
+entries_same to n config prefix (line ∷ lines) =
     let read = strip_cr line in
     let after = map strip_cr lines in
-    let go : Entry → Schedule = λ e. entries_in (n + 1) config (prefix ++ e ∷ []) lines in
-    let rest = entries_from (n + 1) config.budget (length prefix + 1) after in
-    either_same config prefix (begins (keyword_text keyword.End) read)
+    let go : Entry → Schedule = λ e. entries_in_to to (n + 1) config (prefix ++ e ∷ []) lines in
+    let rest = entries_to to (n + 1) config.budget (length prefix + 1) after in
+    one_line to n config prefix line lines
+    ∙ either_same config prefix (begins (keyword_text keyword.End) read)
     (cond (is_end (length prefix) read) (ended (n + 1) config prefix lines) (Err (n, why.BadEnd)))
     (with_entry n config (length prefix) (entry_of read) go)
     (read_end n (length prefix) read after)
     (prepend_entry (read_entry n config.budget (length prefix) (entry_of read)) rest)
     (end_same n config prefix lines (is_end (length prefix) read))
     (entry_same n (length prefix) config prefix (entry_of read) go rest
-    (λ e. entries_same (n + 1) config (prefix ++ e ∷ []) lines
-    ∙ ap (λ (k : ℕ). after_these config (prefix ++ e ∷ []) (entries_from (n + 1) config.budget k after)) (length-append prefix (e ∷ []))))
+    (λ e. entries_same to (n + 1) config (prefix ++ e ∷ []) lines
+    ∙ ap (λ (k : ℕ). after_these config (prefix ++ e ∷ []) (entries_to to (n + 1) config.budget k after)) (length-append prefix (e ∷ []))))
+    ∙ ap (after_these config prefix) (one_more to n config.budget (length prefix) read after)
 
 none_before : (config : Config) (read : Read (List Entry)) → after_these config [] read ≡ with_config config read
 none_before config (Ok entries) = refl
 none_before config (Err fault) = refl
 
 -- the lines after a header with these numbers
-pub from_first : (n : ℕ) (config : Config) (lines : List (List ℕ)) → with_config config (entries_from n config.budget 0 (map strip_cr lines)) ≡ entries_in n config [] lines
-from_first n config lines = sym (entries_same n config [] lines ∙ none_before config (entries_from n config.budget 0 (map strip_cr lines)))
+pub from_first : (to : End) (n : ℕ) (config : Config) (lines : List (List ℕ)) → with_config config (entries_to to n config.budget 0 (map strip_cr lines)) ≡ entries_in_to to n config [] lines
+from_first to n config lines = sym (entries_same to n config [] lines ∙ none_before config (entries_to to n config.budget 0 (map strip_cr lines)))
 
-pub header_same : (n : ℕ) (o : Option Config) (lines : List (List ℕ)) → with_header n o lines ≡ schedule_at n o (map strip_cr lines)
+header_same : (n : ℕ) (o : Option Config) (lines : List (List ℕ)) → with_header n o lines ≡ schedule_at n o (map strip_cr lines)
 header_same n None lines = refl
-header_same n (Some config) lines = sym (from_first (n + 1) config lines)
+header_same n (Some config) lines = sym (from_first end.Required (n + 1) config lines)
 
 both_same : (t : Bool) (a b x y : Schedule) → a ≡ x → b ≡ y → cond t a b ≡ cond t x y
 both_same true a b x y e f = e

@@ -2,7 +2,9 @@ pub mod Splits
 pub mod BySplits
 pub mod LineByLine
 pub mod ByEntries
+pub mod ByHeader
 pub mod LineLoops
 pub mod Markers
+pub mod Prefixes
 pub mod ScheduleTexts
 pub mod WithinLimits

@@ -9,16 +9,16 @@ use Rattle.pct_model.specs.declared.refusal.ScheduleWhy.TheVariants as why
 use Rattle.pct_model.specs.declared.keyword.Keyword.TheVariants as keyword
 use Rattle.pct_model.specs.Keywords.{keyword_text}
 use Rattle.pct_model.specs.Lines.{lines_of, strip_cr}
-use Rattle.pct_model.specs.Schedule.{Schedule, begins, header_of, entry_of, is_end, read_entry, nothing_after, read_end, sched_of}
+use Rattle.pct_model.specs.Schedule.{Schedule, begins, header_of, entry_of, is_end, read_entry, nothing_after, read_end}
 use Rattle.pct_text.specs.FirstLine.{IsFirstLine}
 use Rattle.pct_text.proofs.Lines.{lines_of-nil}
 use Rattle.pct_text.proofs.FirstLines.{has_a_line}
+use Rattle.pct_schedule.specs.declared.reader.End.{End}
 use Rattle.pct_schedule.specs.declared.fault.ScheduleFault.{ScheduleFault}
 use Rattle.pct_schedule.specs.declared.fault.ScheduleFault.TheVariants as fault
 use Rattle.pct_schedule.specs.Gives.{Fails, Refuses}
 use Rattle.pct_schedule.specs.Memory.{header_line, entry_is_first, has_entry_after, stores_an_entry}
-use Rattle.pct_schedule.proofs.LineByLine.{ended, with_entry, entries_in, schedule_in, from_header}
-use Rattle.pct_schedule.proofs.ByEntries.{by_lines}
+use Rattle.pct_schedule.proofs.LineByLine.{ended, with_entry, entries_in_to, unended, at_entry, no_line, one_line}
 
 -- the first line of a text, without its CR
 pub record ReadsLine (text line after : List ℕ) : Type 0 where
@@ -60,20 +60,6 @@ pub no_header : (n : ℕ) (rest : List ℕ) (all : Header) → rest ≡ [] → a
 unfolding header_line
 no_header n rest all e so_far = so_far ∙ ap (header_line n) (no_lines rest e)
 
-header_step : (found : Bool) (n : ℕ) (line : List ℕ) (lines : List (List ℕ)) (rest : Schedule) → rest ≡ from_header (header_line (n + 1) lines)
-    → cond found (from_header (Some (n, line, lines))) rest ≡ from_header (at_line n lines line found)
-header_step true n line lines rest e = refl
-header_step false n line lines rest e = e
-
-by_header : (n : ℕ) (lines : List (List ℕ)) → schedule_in n lines ≡ from_header (header_line n lines)
-unfolding schedule_in header_line
-by_header n [] = refl
-by_header n (line ∷ lines) = header_step (begins (keyword_text keyword.Schedule) (strip_cr line)) n (strip_cr line) lines (schedule_in (n + 1) lines) (by_header (n + 1) lines)
-
--- the schedule of a text is that of its header and the lines after it
-pub from_its_header : (text : List ℕ) (header : Header) → header_line 1 (lines_of text) ≡ header → sched_of text ≡ from_header header
-from_its_header text header e = by_lines text ∙ by_header 1 (lines_of text) ∙ ap from_header e
-
 -- ---- one line
 
 -- `end` with the right number, and what is after it
@@ -97,18 +83,13 @@ abbrev and_then : {X : Type 0} → Result X (ℕ × ScheduleWhy) → (X → Sche
 and_then (Ok x) go = go x
 and_then (Err e) go = Err e
 
-abbrev at_entry : ℕ → Config → List Entry → List (List ℕ) → List ℕ → Bool → Schedule
-at_entry n config entries lines line last =
-    cond last (cond (is_end (length entries) line) (ended (n + 1) config entries lines) (Err (n, why.BadEnd)))
-    (with_entry n config (length entries) (entry_of line) (λ e. entries_in (n + 1) config (entries ++ e ∷ []) lines))
-
-by_entry_line : (n : ℕ) (config : Config) (entries : List Entry) (rest line after : List ℕ) (last : Bool) → ReadsLine rest line after
-    → begins (keyword_text keyword.End) line ≡ last → entries_in n config entries (lines_of rest) ≡ at_entry n config entries (lines_of after) line last
-unfolding entries_in
-by_entry_line n config entries rest line after last reads is =
-    ap (entries_in n config entries) reads.first.lines
-    ∙ ap (λ (l : List ℕ). at_entry n config entries (lines_of after) l (begins (keyword_text keyword.End) l)) reads.read
-    ∙ ap (at_entry n config entries (lines_of after) line) is
+by_entry_line : (to : End) (n : ℕ) (config : Config) (entries : List Entry) (rest line after : List ℕ) (last : Bool) → ReadsLine rest line after
+    → begins (keyword_text keyword.End) line ≡ last → entries_in_to to n config entries (lines_of rest) ≡ at_entry to n config entries (lines_of after) line last
+by_entry_line to n config entries rest line after last reads is =
+    ap (entries_in_to to n config entries) reads.first.lines
+    ∙ one_line to n config entries reads.raw (lines_of after)
+    ∙ ap (λ (l : List ℕ). at_entry to n config entries (lines_of after) l (begins (keyword_text keyword.End) l)) reads.read
+    ∙ ap (at_entry to n config entries (lines_of after) line) is
 
 ended_at : (n : ℕ) (config : Config) (entries : List Entry) (after : List (List ℕ)) → ended (n + 1) config entries after ≡ and_then (nothing_after n after) (λ _. Ok (config, entries))
 ended_at n config entries [] = refl
@@ -128,24 +109,25 @@ by_entry : (n : ℕ) (config : Config) (count : ℕ) (o : Option Entry) (go : En
 by_entry n config count None go = refl
 by_entry n config count (Some e) go = if_in_budget n e go (nat_lt count config.budget)
 
-pub at_last_line : (n count : ℕ) (config : Config) (entries : List Entry) (rest line after : List ℕ) (all : Schedule) → ReadsLine rest line after
-    → begins (keyword_text keyword.End) line ≡ true → all ≡ entries_in n config entries (lines_of rest)
+pub at_last_line : (to : End) (n count : ℕ) (config : Config) (entries : List Entry) (rest line after : List ℕ) (all : Schedule) → ReadsLine rest line after
+    → begins (keyword_text keyword.End) line ≡ true → all ≡ entries_in_to to n config entries (lines_of rest)
     → count ≡ length entries → all ≡ and_then (read_end n count line (lines_of after)) (λ _. Ok (config, entries))
-at_last_line n count config entries rest line after all reads is so_far many =
-    so_far ∙ by_entry_line n config entries rest line after true reads is ∙ by_end n config entries (lines_of after) (is_end (length entries) line)
+at_last_line to n count config entries rest line after all reads is so_far many =
+    so_far ∙ by_entry_line to n config entries rest line after true reads is ∙ by_end n config entries (lines_of after) (is_end (length entries) line)
     ∙ ap (λ (k : ℕ). and_then (read_end n k line (lines_of after)) (λ _. Ok (config, entries))) (sym many)
 
-pub at_entry_line : (n count : ℕ) (config : Config) (entries : List Entry) (rest line after : List ℕ) (all : Schedule) → ReadsLine rest line after
-    → begins (keyword_text keyword.End) line ≡ false → all ≡ entries_in n config entries (lines_of rest)
-    → count ≡ length entries → all ≡ and_then (read_entry n config.budget count (entry_of line)) (λ e. entries_in (n + 1) config (entries ++ e ∷ []) (lines_of after))
-at_entry_line n count config entries rest line after all reads is so_far many =
-    so_far ∙ by_entry_line n config entries rest line after false reads is
-    ∙ by_entry n config (length entries) (entry_of line) (λ e. entries_in (n + 1) config (entries ++ e ∷ []) (lines_of after))
-    ∙ ap (λ (k : ℕ). and_then (read_entry n config.budget k (entry_of line)) (λ e. entries_in (n + 1) config (entries ++ e ∷ []) (lines_of after))) (sym many)
+pub at_entry_line : (to : End) (n count : ℕ) (config : Config) (entries : List Entry) (rest line after : List ℕ) (all : Schedule) → ReadsLine rest line after
+    → begins (keyword_text keyword.End) line ≡ false → all ≡ entries_in_to to n config entries (lines_of rest)
+    → count ≡ length entries → all ≡ and_then (read_entry n config.budget count (entry_of line)) (λ e. entries_in_to to (n + 1) config (entries ++ e ∷ []) (lines_of after))
+at_entry_line to n count config entries rest line after all reads is so_far many =
+    let go : Entry → Schedule = λ e. entries_in_to to (n + 1) config (entries ++ e ∷ []) (lines_of after) in
+    so_far ∙ by_entry_line to n config entries rest line after false reads is
+    ∙ by_entry n config (length entries) (entry_of line) go
+    ∙ ap (λ (k : ℕ). and_then (read_entry n config.budget k (entry_of line)) go) (sym many)
 
-pub no_end : (n : ℕ) (config : Config) (entries : List Entry) (rest : List ℕ) (all : Schedule) → rest ≡ [] → all ≡ entries_in n config entries (lines_of rest) → all ≡ Err (n, why.BadEnd)
-unfolding entries_in
-no_end n config entries rest all e so_far = so_far ∙ ap (entries_in n config entries) (no_lines rest e)
+pub no_end : (to : End) (n : ℕ) (config : Config) (entries : List Entry) (rest : List ℕ) (all : Schedule) → rest ≡ [] → all ≡ entries_in_to to n config entries (lines_of rest)
+    → all ≡ unended to n config entries
+no_end to n config entries rest all e so_far = so_far ∙ ap (entries_in_to to n config entries) (no_lines rest e) ∙ no_line to n config entries
 
 -- what follows a value that is read
 pub goes_on : {X : Type 0} (all : Schedule) (read : Result X (ℕ × ScheduleWhy)) (x : X) (go : X → Schedule) → all ≡ and_then read go → read ≡ Ok x → all ≡ go x

@@ -16,9 +16,14 @@ use Rattle.pct_model.specs.Keywords.{keyword_text}
 use Rattle.pct_model.specs.Lines.{◌>>=◌, lines_of, without_empty_last, strip_cr, words_of, number_of}
 use Rattle.pct_model.specs.Run.{is_config}
 use Rattle.pct_model.specs.Schedule.{Schedule, begins, config_of, header_of_words, header_of, numbered_choice, choice_of, entry_of_parts, entry_of_words, entry_of, is_end, sched_of, is_marker, marker_in, split_at_marker, replay_parts}
+use Rattle.pct_schedule.specs.declared.reader.End.{End}
+use Rattle.pct_schedule.specs.declared.reader.End.TheVariants as end
+use Rattle.pct_schedule.specs.Ends.{schedule_to}
+use Rattle.pct_schedule.specs.Memory.{header_line}
 use Rattle.pct_schedule.specs.Schedules.{fits, is_choice, is_entry, IsSchedule}
-use Rattle.pct_schedule.proofs.LineByLine.{ended, with_entry, entries_in, with_header, schedule_in}
-use Rattle.pct_schedule.proofs.ByEntries.{by_lines}
+use Rattle.pct_schedule.proofs.LineByLine.{ended, with_entry, entries_in_to, unended, no_line, one_line}
+use Rattle.pct_schedule.proofs.ByEntries.{from_first}
+use Rattle.pct_schedule.proofs.ByHeader.{at_header, from_header, from_its_header}
 
 -- ---- values that pass a test
 
@@ -132,31 +137,40 @@ entry_within n config entries (Some e) go is passes more =
     cond_both (nat_lt (length entries) config.budget) (go e) (Err (n, why.TooMany)) Within
     (λ within. more e (more_within config entries e is (ltb-true (length entries) config.budget within) passes)) (λ _. tt)
 
-entries_within : (n : ℕ) (config : Config) (entries : List Entry) (lines : List (List ℕ)) → IsSchedule config entries → Within (entries_in n config entries lines)
-unfolding entries_in
-entries_within n config entries [] is = tt
-entries_within n config entries (line ∷ lines) is =
-    if_within (begins (keyword_text keyword.End) (strip_cr line))
+unended_within : (to : End) (n : ℕ) (config : Config) (entries : List Entry) → IsSchedule config entries → Within (unended to n config entries)
+unended_within end.Required n config entries is = tt
+unended_within end.Optional n config entries is = is
+
+entries_within : (to : End) (n : ℕ) (config : Config) (entries : List Entry) (lines : List (List ℕ)) → IsSchedule config entries → Within (entries_in_to to n config entries lines)
+entries_within to n config entries [] is = subst Within (sym (no_line to n config entries)) (unended_within to n config entries is)
+entries_within to n config entries (line ∷ lines) is =
+    let go : Entry → Schedule = λ e. entries_in_to to (n + 1) config (entries ++ e ∷ []) lines in
+    subst Within (sym (one_line to n config entries line lines))
+    (if_within (begins (keyword_text keyword.End) (strip_cr line))
     (cond (is_end (length entries) (strip_cr line)) (ended (n + 1) config entries lines) (Err (n, why.BadEnd)))
-    (with_entry n config (length entries) (entry_of (strip_cr line)) (λ e. entries_in (n + 1) config (entries ++ e ∷ []) lines))
+    (with_entry n config (length entries) (entry_of (strip_cr line)) go)
     (if_within (is_end (length entries) (strip_cr line)) (ended (n + 1) config entries lines) (Err (n, why.BadEnd)) (ended_within (n + 1) config entries lines is) tt)
-    (entry_within n config entries (entry_of (strip_cr line)) (λ e. entries_in (n + 1) config (entries ++ e ∷ []) lines) is (line_is_entry (strip_cr line))
-    (λ e more. entries_within (n + 1) config (entries ++ e ∷ []) lines more))
+    (entry_within n config entries (entry_of (strip_cr line)) go is (line_is_entry (strip_cr line))
+    (λ e more. entries_within to (n + 1) config (entries ++ e ∷ []) lines more)))
 
-header_within : (n : ℕ) (o : Option Config) (lines : List (List ℕ)) → Passes is_config o → Within (with_header n o lines)
-header_within n None lines passes = tt
-header_within n (Some config) lines passes = entries_within (n + 1) config [] lines (record { config_fits = passes; few = omega arith; each = refl })
+header_within : (to : End) (n : ℕ) (o : Option Config) (lines : List (List ℕ)) → Passes is_config o → Within (at_header to n o lines)
+header_within to n None lines passes = tt
+header_within to n (Some config) lines passes =
+    subst Within (sym (from_first to (n + 1) config lines)) (entries_within to (n + 1) config [] lines (record { config_fits = passes; few = omega arith; each = refl }))
 
-lines_within : (n : ℕ) (lines : List (List ℕ)) → Within (schedule_in n lines)
-unfolding schedule_in
-lines_within n [] = tt
-lines_within n (line ∷ lines) =
-    if_within (begins (keyword_text keyword.Schedule) (strip_cr line)) (with_header n (header_of (strip_cr line)) lines) (schedule_in (n + 1) lines)
-    (header_within n (header_of (strip_cr line)) lines (line_is_config (strip_cr line))) (lines_within (n + 1) lines)
+found_within : (to : End) (header : Option (ℕ × List ℕ × List (List ℕ))) → Within (from_header to header)
+found_within to None = tt
+found_within to (Some found) = header_within to found.0 (header_of found.1) found.2 (line_is_config found.1)
 
--- the schedule that a text gives is within its limits
+-- the schedule that a text gives, or the prefix, is within its limits
+pub text_within : (to : End) (text : List ℕ) (config : Config) (entries : List Entry) → schedule_to to text ≡ Ok (config, entries) → IsSchedule config entries
+text_within to text config entries e =
+    let header = header_line 1 (lines_of text) in
+    subst Within (sym (from_its_header to text header refl) ∙ e) (found_within to header)
+
+-- and so is its schedule
 pub sched_within : (text : List ℕ) (config : Config) (entries : List Entry) → sched_of text ≡ Ok (config, entries) → IsSchedule config entries
-sched_within text config entries e = subst Within (sym (by_lines text) ∙ e) (lines_within 1 (lines_of text))
+sched_within text config entries e = text_within end.Required text config entries e
 
 -- ---- the sections of an input
 

@@ -1,3 +1,6 @@
+pub mod Ends
 pub mod Gives
 pub mod Memory
+pub mod Prefix
+pub mod PrefixLaws
 pub mod Schedules

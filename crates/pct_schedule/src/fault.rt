@@ -7,10 +7,10 @@ use pct_model::ScheduleWhy;
 use std::alloc::{AllocError, AllocFailed};
 use thiserror::Error;
 
-/// Why `read_schedule` returned no schedule.
+/// Why `read_schedule` or `read_prefix` returned no schedule.
 #[derive(Debug, Drop, Error)]
 pub enum ScheduleFault {
-    /// The text is not a schedule: its first fault, and the line of the fault, counted from 1.
+    /// The text is not a schedule, or not a prefix of one: its first fault, and the line of the fault, counted from 1.
     #[error("line {line}: {why:?}")]
     Refused { line: u32, why: ScheduleWhy },
     /// Memory ran out.

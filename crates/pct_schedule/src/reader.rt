@@ -1,13 +1,16 @@
-//! Reading a schedule: the header is found, then each line after it is parsed once, and its entry is stored.
+//! Reading a schedule, or a prefix of one: the header is found, then each line after it is parsed once, and its entry is
+//! stored.
 
 ghost use Rattle.std.specs.Prelude.{◌≡◌, ◌+◌, ◌-◌, ◌<◌, ◌≤◌, ◌^◌, true, length, map, Err, IfSome, IfOk, []};
 ghost use Rattle.std.specs.Option.{option_map};
 ghost use Rattle.pct_model.specs.declared.limits.TheConstants.{MAX_INPUT};
 ghost use Rattle.pct_model.specs.Lines.{lines_of, strip_cr};
-ghost use Rattle.pct_model.specs.Schedule.{entry_of, read_entry, read_end, entries_from, with_config, sched_of};
+ghost use Rattle.pct_model.specs.Schedule.{entry_of, read_entry, read_end, with_config, sched_of};
 ghost use Rattle.pct_schedule.specs.declared.fault.ScheduleFault.TheVariants.{NoMemory};
+ghost use Rattle.pct_schedule.specs.Ends.{entries_to, schedule_to};
 ghost use Rattle.pct_schedule.specs.Gives.{Gives, GivesAlways};
 ghost use Rattle.pct_schedule.specs.Memory.{header_line, entry_is_first, stores_an_entry};
+ghost use Rattle.pct_schedule.specs.Prefix.{prefix_of};
 ghost use Rattle.pct_schedule.specs.Schedules.{IsSchedule};
 
 use crate::fault::ScheduleFault;
@@ -18,6 +21,20 @@ use std::alloc::Global;
 
 /// The entries of a schedule, in order. A contract sees the list.
 pub type Entries = Sequence<Entry>;
+
+// Whether the line `end N` is required after the entries, or they may go to the end of the text.
+#[derive(Clone, Copy)]
+enum End {
+    Required,
+    Optional,
+}
+
+// The lines after a header: the number of the first of them, and their text.
+#[derive(Clone, Copy)]
+struct Lines<'a> {
+    first: u32,
+    text: &'a [u8],
+}
 
 // The first line that begins with `schedule `: its number, the line, and the rest of the text after it.
 fn find_header(text: &[u8]) -> Option<(u32, &[u8], &[u8])>
@@ -80,21 +97,21 @@ fn end_at(number: u32, count: usize, line: &[u8], after: &[u8]) -> Result<(), Sc
     }
 }
 
-// The entries down to the last line, where the text begins with line `first`.
+// The entries down to the line `end N` or, where it is optional, to the end of the text.
 fn read_entries(
     alloc: Global,
     config: Config,
-    first: u32,
-    text: &[u8],
+    lines: Lines,
+    end: End,
 ) -> Result<Entries, ScheduleFault>
-    requires { first + length text.now < 2 ^ 32 }
-    ensures read { Gives (λ entries. (config, entries)) result
-        (with_config config (entries_from first config.budget 0 (map strip_cr (lines_of text.now)))) }
-    ensures memory { result ≡ Err NoMemory → entry_is_first (lines_of text.now) ≡ true }
+    requires { lines.first + length lines.text.now < 2 ^ 32 }
+    ensures read { Gives (λ entries. (config, entries)) result (with_config config
+        (entries_to end lines.entry.first config.budget 0 (map strip_cr (lines_of lines.entry.text.now)))) }
+    ensures memory { result ≡ Err NoMemory → entry_is_first (lines_of lines.entry.text.now) ≡ true }
 {
     let mut entries = Vec::new(alloc);
-    let mut number = first;
-    let mut rest = text;
+    let mut number = lines.first;
+    let mut rest = lines.text;
     while let Some((raw, after)) = first_line(rest) {
         let line = strip_cr(raw);
         if begins_with(line, Keyword::End) {
@@ -106,10 +123,40 @@ fn read_entries(
         number += 1;
         rest = after;
     }
-    Err(ScheduleFault::Refused {
-        line: number,
-        why: ScheduleWhy::BadEnd,
-    })
+    match end {
+        End::Required => Err(ScheduleFault::Refused {
+            line: number,
+            why: ScheduleWhy::BadEnd,
+        }),
+        End::Optional => Ok(Sequence::of(entries)),
+    }
+}
+
+// The configuration and the entries in a text with a header.
+fn read_text(alloc: Global, text: &[u8], end: End) -> Result<(Config, Entries), ScheduleFault>
+    requires { length text.now ≤ MAX_INPUT }
+    ensures read { Gives (λ schedule. (schedule.0, schedule.1)) result (schedule_to end text.now) }
+    ensures within { IfOk result (λ schedule. IsSchedule schedule.0 schedule.1) }
+    ensures memory { result ≡ Err NoMemory → stores_an_entry text.now ≡ true }
+{
+    let Some((number, line, after)) = find_header(text) else {
+        return Err(ScheduleFault::Refused {
+            line: 1,
+            why: ScheduleWhy::BadHeader,
+        });
+    };
+    let Some(config) = header_of(line) else {
+        return Err(ScheduleFault::Refused {
+            line: number,
+            why: ScheduleWhy::BadHeader,
+        });
+    };
+    let lines = Lines {
+        first: number + 1,
+        text: after,
+    };
+    let entries = read_entries(alloc, config, lines, end)?;
+    Ok((config, entries))
 }
 
 /// The schedule in a text of at most 16,777,216 bytes, which may be a whole report: the numbers under which the run
@@ -127,18 +174,24 @@ pub fn read_schedule(alloc: Global, text: &[u8]) -> Result<(Config, Entries), Sc
     ensures within { IfOk result (λ schedule. IsSchedule schedule.0 schedule.1) }
     ensures memory { result ≡ Err NoMemory → stores_an_entry text.now ≡ true }
 {
-    let Some((number, line, after)) = find_header(text) else {
-        return Err(ScheduleFault::Refused {
-            line: 1,
-            why: ScheduleWhy::BadHeader,
-        });
-    };
-    let Some(config) = header_of(line) else {
-        return Err(ScheduleFault::Refused {
-            line: number,
-            why: ScheduleWhy::BadHeader,
-        });
-    };
-    let entries = read_entries(alloc, config, number + 1, after)?;
-    Ok((config, entries))
+    read_text(alloc, text, End::Required)
+}
+
+/// The prefix of a schedule in a text of at most 16,777,216 bytes: the numbers under which the run goes, and its first
+/// entries.
+///
+/// The text is one that `read_schedule` takes, in which the line `end` with the number of entries may be missing: then
+/// the entries go to the end of the text. A text with no byte has no entry, and its numbers are `Config::DEFAULT`.
+///
+/// `Refused` and `NoMemory` are as in `read_schedule`.
+pub fn read_prefix(alloc: Global, text: &[u8]) -> Result<(Config, Entries), ScheduleFault>
+    requires { length text.now ≤ MAX_INPUT }
+    ensures read { Gives (λ schedule. (schedule.0, schedule.1)) result (prefix_of text.now) }
+    ensures within { IfOk result (λ schedule. IsSchedule schedule.0 schedule.1) }
+    ensures memory { result ≡ Err NoMemory → stores_an_entry text.now ≡ true }
+{
+    if text.is_empty() {
+        return Ok((Config::DEFAULT, Sequence::of(Vec::new(alloc))));
+    }
+    read_text(alloc, text, End::Optional)
 }

@@ -9,3 +9,4 @@ pub mod OthersRead
 pub mod WaitersRead
 pub mod ProcessReads
 mod OfferedLists
+pub mod EnabledThreads

@@ -8,6 +8,7 @@ mod cleanup_handlers;
 mod cond_calls;
 mod context;
 mod current;
+mod enabled_threads;
 mod fork_calls;
 mod key_calls;
 mod mutex_calls;

@@ -10,10 +10,14 @@ ghost use Rattle.pct_process.specs.ProcessViews.{thread_on_slot};
 ghost use Rattle.pct_transitions.specs.Numbers.{AreOnPlaces};
 ghost use Rattle.pct_transitions.specs.ProcessSteps.{with_data, NewNumbersFit, ForksHaveRoom, Takes};
 
+use crate::cancel_calls::may_return;
 use crate::choice_table::choices_at;
 use crate::context::{Context, Surroundings};
+use crate::enabled_threads::{
+    count_in, goes_or_acts, has_ended, has_running_child, reacquires_or_acts, record_of, runs_on,
+};
 use crate::transition_table::transition_by;
-use pct_model::{Alt, Transition};
+use pct_model::{Alt, Status, Transition};
 use pct_process::ProcessState;
 
 // ---- choices
@@ -23,8 +27,22 @@ pub fn has_choice(around: Surroundings, process: &ProcessState, slot: u32) -> bo
     requires { is_some (thread_on_slot process.now.slots slot) ≡ true }
     ensures { (t : Thread) → thread_on_slot process.now.slots slot ≡ Some t → result ≡ is_ready_in around.entry.program.now.script (length process.now.slots) (other_processes around.entry.family) (with_data process.now) t }
 {
-    let context = Context::new(around, process, slot);
-    choices_at(&context).count(context.position.keys) > 0
+    let thread = record_of(process, slot);
+    match thread.status {
+        Status::Running => runs_on(around.program, process, slot, &thread.cancel),
+        Status::Waiting(_, _) => goes_or_acts(false, &thread.cancel),
+        Status::Reacquire(_, mutex, cause) => {
+            reacquires_or_acts(process, mutex, cause, &thread.cancel)
+        }
+        Status::AtPoint(index) => goes_or_acts(may_return(index), &thread.cancel),
+        Status::Joining(id) => goes_or_acts(has_ended(process, id), &thread.cancel),
+        Status::InSem(sem) => goes_or_acts(count_in(process, sem) > 0, &thread.cancel),
+        Status::InWaitPid(pid) => {
+            goes_or_acts(!has_running_child(around.family, pid), &thread.cancel)
+        }
+        Status::Ending | Status::Forking(_, _, _, _) | Status::Exiting => true,
+        Status::Ended(_) => false,
+    }
 }
 
 /// The choice of the thread on a slot that a number chooses, modulo the number of its choices. `None` exactly if it has none.

@@ -310,8 +310,8 @@ fn is_inner_kind(kind: FrameKind) -> bool
     !matches!(kind, FrameKind::Main | FrameKind::Start)
 }
 
-// Whether a frame of this kind is that of a fork handler.
-fn is_fork_kind(kind: FrameKind) -> bool
+/// Whether a frame of this kind is that of a fork handler.
+pub(crate) fn is_fork_kind(kind: FrameKind) -> bool
     ensures { result ≡ is_fork_kind kind }
 {
     matches!(kind, FrameKind::ForkFn)

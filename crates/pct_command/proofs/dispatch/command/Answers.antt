@@ -1,32 +1,24 @@
-use Rattle.std.proofs.Common.{ℕ, List, map, refl}
+use Rattle.std.proofs.Common.{map}
 use Rattle.std.specs.Prelude.{string_bytes}
 use Rattle.pct_io.proofs.Unchanged.{KeepsInners-refl}
-use Rattle.pct_command.specs.declared.status.Status.{Status}
-use Rattle.pct_command.specs.declared.status.Status.TheVariants as status
-use Rattle.pct_command.specs.Status.{code_of, IsAnswered}
-use Rattle.pct_command.specs.Command.{Outside, Decides, Answers}
+use Rattle.pct_model.specs.Outcome.{needs_input}
+use Rattle.pct_command.specs.Command.{Outside, IsAnswer, Decides}
 use Rattle.pct_command.specs.Answer.{code_of_answer, text_of_answer}
-use Rattle.pct_command.proofs.CompleteOutcomes.{complete}
+use Rattle.pct_command.proofs.CompleteOutcomes.{complete, decides}
 use Rattle.pct_command.proofs.dispatch.command.Goals as goal
-
--- what holds of an answer that was written whole is what its status promises
-decides : (words : List (List ℕ)) (before after : Outside) (s : Status) → IsAnswered s → Decides words before after (code_of s) → Answers words before after s
-decides words before after status.ReadFault answered whole = absurd (answered.no_read_fault refl)
-decides words before after status.WriteFault answered whole = absurd (answered.no_write_fault refl)
-decides words before after status.NoMemory answered whole = absurd (answered.some_memory refl)
-decides words before after _ answered whole = whole
 
 pub returns-in-Ok-write_answer-clause-answers : goal.returns-in-Ok-write_answer-clause-answers
 returns-in-Ok-write_answer-clause-answers g c =
     let before : Outside = record { left = g.S.Source.left c.args.source.now; read_errors = g.S.Source.errors c.args.source.now; written = g.K.Sink.written c.args.sink.now; write_errors = g.K.Sink.errors c.args.sink.now } in
     let after : Outside = record { left = g.S.Source.left c.answer_words.new.source; read_errors = g.S.Source.errors c.answer_words.new.source; written = g.K.Sink.written c.write_answer.new.sink; write_errors = g.K.Sink.errors c.write_answer.new.sink } in
     let read = c.in-Ok.ensures.answer in
-    let whole : Decides (map string_bytes c.args.words.now) before after (code_of_answer c.in-Ok.answer) = record {
+    let words = map string_bytes c.args.words.now in
+    let whole : Decides (needs_input words) (IsAnswer words) before after (code_of_answer c.in-Ok.answer) = record {
       input = read.input;
       read = read.read;
       output = record { text = text_of_answer c.in-Ok.answer; answer = read.is_answer; wrote = c.in-Ok-write_answer.ensures.ok };
     } in
-    decides (map string_bytes c.args.words.now) before after c.status.result c.status.ensures.answered (rw c.status.ensures.status whole)
+    decides (needs_input words) (IsAnswer words) before after c.status.result c.status.ensures.answered (rw c.status.ensures.status whole)
 
 pub returns-in-Ok-write_answer-clause-complete : goal.returns-in-Ok-write_answer-clause-complete
 returns-in-Ok-write_answer-clause-complete g c =

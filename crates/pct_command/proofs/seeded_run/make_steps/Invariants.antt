@@ -6,7 +6,7 @@ use Rattle.pct_command.proofs.seeded_run.make_steps.Given as goal
 abbrev pub invariant-loop-entry : goal.invariant-loop-entry
 invariant-loop-entry l = record {
   same : l.engine ≡ record l.initial.engine { history = l.engine.history };
-  so_far : IsChosenSoFar l.initial.words l.engine.script l.engine.config l.engine.history l.words;
+  so_far : IsChosenSoFar l.initial.words l.engine.script l.engine.config l.initial.engine.history l.engine.history l.words;
 }
 
 abbrev pub decreases-loop-entry : goal.decreases-loop-entry

@@ -1,10 +1,10 @@
-use Rattle.std.proofs.Common.{Some, ℕ, ◌+◌, ap, ◌∙◌, sym, arith}
+use Rattle.std.proofs.Common.{ℕ, ◌+◌, ap, ◌∙◌, arith}
 use Rattle.std.specs.Prelude.{is_some}
 use Rattle.std.proofs.lemmas.Bool.{false≢true}
 use Rattle.pct_engine_laws.proofs.LongerRuns.{run_none}
 use Rattle.pct_model.specs.Run.{run}
 use Rattle.pct_engine.specs.EngineStates.{EngineValue}
-use Rattle.pct_history.proofs.IllegalEntries.{has_value, illegal-at}
+use Rattle.pct_history.proofs.IllegalEntries.{has_value, illegal-at, follows-until, follows-all}
 use Rattle.pct_history.proofs.replaying.make_steps.Goals as goal
 
 pub loop-entry-init : goal.loop-entry-init
@@ -17,12 +17,18 @@ loop-entry-init c =
       legal = ap is_some (run_none engine.script engine.config c.requires.config);
     }
 
-pub returns-in-Err-clause-first : goal.returns-in-Err-clause-first
-returns-in-Err-clause-first c =
+pub returns-in-Err-clause-follows : goal.returns-in-Err-clause-follows
+returns-in-Err-clause-follows c =
     let so_far = c.loop-entry.invariant in
     let opened = c.args.engine.now in
-    illegal-at c.loop-entry.engine opened.script opened.config c.args.entries.now c.loop-entry.entry-index _ so_far.made (omega arith) c.requires.few so_far.legal (λ legal. false≢true (c.in-Err.ensures.legal.1 legal))
-    ∙ ap (λ (n : ℕ). Some (n + 1)) (sym so_far.entry_number)
+    follows-until _ opened.script opened.config c.args.entries.now c.loop-entry.entry-index _ (c.in-Err.ensures.same ∙ so_far.made) (ap (λ (n : ℕ). n + 1) so_far.entry_number)
+    (illegal-at c.loop-entry.engine opened.script opened.config c.args.entries.now c.loop-entry.entry-index _ so_far.made (omega arith) c.requires.few so_far.legal (λ legal. false≢true (c.in-Err.ensures.legal.1 legal)))
+
+pub returns-clause-follows : goal.returns-clause-follows
+returns-clause-follows c =
+    let so_far = c.loop-entry.invariant in
+    let opened = c.args.engine.now in
+    follows-all c.loop-entry.engine opened.script opened.config c.args.entries.now c.loop-entry.entry-index so_far.made (omega arith) so_far.legal
 
 pub returns-clause-runs : goal.returns-clause-runs
 returns-clause-runs c =

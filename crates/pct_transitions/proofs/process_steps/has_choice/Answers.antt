@@ -1,22 +1,104 @@
-use Rattle.std.proofs.Common.{ℕ, List, length, nat_lt, ap, ◌∙◌}
-use Rattle.pct_model.specs.declared.schedule.Alt.{Alt}
-use Rattle.pct_model.specs.ChoiceTable.{choices_at, is_enabled}
+use Rattle.std.proofs.Common.{◌≡◌, ℕ, Bool, not, ◌++◌, length, nat_lt, inl, inr, sym, ap, ◌∙◌}
+use Rattle.pct_model.specs.declared.script.Script.{Script}
+use Rattle.pct_model.specs.declared.state.Status.{Status}
+use Rattle.pct_model.specs.Cancelability.{is_deliverable}
+use Rattle.pct_model.specs.ChoiceTable.{go_if, act_if, choices_at, is_enabled}
 use Rattle.pct_model.specs.NextStatement.{next_of, body_at}
-use Rattle.pct_engine_laws.specs.SeenSteps.{others_in}
+use Rattle.pct_model.specs.OtherProcesses.{Family}
+use Rattle.pct_model.specs.World.{Thread}
+use Rattle.pct_engine_laws.specs.SeenSteps.{others_in, is_ready_in}
 use Rattle.pct_process.specs.FamilyViews.{other_processes}
-use Rattle.pct_transitions.specs.Listed.{listed}
-use Rattle.pct_transitions.proofs.OfferedLists.{has_row, enabled_by_count}
+use Rattle.pct_process.specs.ProcessViews.{ProcessData}
+use Rattle.pct_transitions.specs.ProcessSteps.{with_data}
+use Rattle.pct_transitions.proofs.EnabledThreads.{ending_enabled}
 use Rattle.pct_transitions.proofs.process_steps.has_choice.Goals as goal
 
-pub count-requires : goal.count-requires
-count-requires c = has_row c.new-context.result.threads.now c.new-context.result.position.keys.now c.choices_at.result c.new-context.ensures.whole.rows c.choices_at.ensures.within
+-- whether the thread has a choice, where this is its status
+abbrev with_status : Script → ProcessData → Family → Thread → Status → Bool
+with_status script d family t s = is_enabled (choices_at (body_at script t.frames) d.shared t (others_in (length d.slots) family d.slots t.id) (next_of script t.frames) s)
 
-pub returns : goal.returns
-returns c = λ t at.
-    let p = c.args.process.now in
-    let is = c.new-context.ensures.context t at in
-    let others = others_in (length p.slots) (other_processes c.args.around.family) p.slots t.id in
-    let choices = c.choices_at.ensures.value p.shared t others is ∙ (λ i. choices_at (body_at (c.new-context.ensures.program i).script t.frames) p.shared t others (next_of (c.new-context.ensures.program i).script t.frames) t.status) in
-    let context = c.new-context.result in
-    let these = listed context.threads.now context.position.keys.now c.choices_at.result in
-    ap (λ (n : ℕ). nat_lt 0 n) (c.count.ensures context.threads.now) ∙ enabled_by_count these ∙ ap (λ (xs : List Alt). is_enabled xs) choices
+-- the status of the record decides
+by_status : (script : Script) (d : ProcessData) (family : Family) (t : Thread) (kept s : Status) → kept ≡ s → kept ≡ t.status → with_status script d family t s ≡ is_ready_in script (length d.slots) family (with_data d) t
+by_status script d family t kept s is status = ap (with_status script d family t) (sym is ∙ status)
+
+-- with this test for `go`
+goes : (t : Thread) (a b : Bool) → a ≡ b → is_enabled (go_if a ++ act_if (is_deliverable t.state t.pending)) ≡ is_enabled (go_if b ++ act_if (is_deliverable t.state t.pending))
+goes t a b same = ap (λ (go : Bool). is_enabled (go_if go ++ act_if (is_deliverable t.state t.pending))) same
+
+pub returns-in-Running : goal.returns-in-Running
+returns-in-Running c = λ t at.
+    let d = c.args.process.now in
+    let script = c.args.around.program.now.script in
+    let family = other_processes c.args.around.family in
+    let is = c.record_of-thread.ensures t at in
+    c.runs_on.ensures (body_at script t.frames) t (others_in (length d.slots) family d.slots t.id) at is.cancel_is
+    ∙ by_status script d family t c.record_of-thread.result.now.status _ c.in-Running.is is.status_is
+
+pub returns-in-Waiting : goal.returns-in-Waiting
+unfolding choices_at
+returns-in-Waiting c = λ t at.
+    let is = c.record_of-thread.ensures t at in
+    c.goes_or_acts.ensures t is.cancel_is
+    ∙ by_status c.args.around.program.now.script c.args.process.now (other_processes c.args.around.family) t c.record_of-thread.result.now.status _ c.in-Waiting.is is.status_is
+
+pub returns-in-Reacquire : goal.returns-in-Reacquire
+returns-in-Reacquire c = λ t at.
+    let d = c.args.process.now in
+    let script = c.args.around.program.now.script in
+    let family = other_processes c.args.around.family in
+    let is = c.record_of-thread.ensures t at in
+    c.reacquires_or_acts.ensures (body_at script t.frames) t (others_in (length d.slots) family d.slots t.id) (next_of script t.frames) c.in-Reacquire.field-0 is.cancel_is
+    ∙ by_status script d family t c.record_of-thread.result.now.status _ c.in-Reacquire.is is.status_is
+
+pub returns-in-AtPoint : goal.returns-in-AtPoint
+unfolding choices_at
+returns-in-AtPoint c = λ t at.
+    let is = c.record_of-thread.ensures t at in
+    c.goes_or_acts-in-AtPoint.ensures t is.cancel_is
+    ∙ goes t _ _ c.may_return.ensures
+    ∙ by_status c.args.around.program.now.script c.args.process.now (other_processes c.args.around.family) t c.record_of-thread.result.now.status _ c.in-AtPoint.is is.status_is
+
+pub returns-in-Joining : goal.returns-in-Joining
+unfolding choices_at
+returns-in-Joining c = λ t at.
+    let family = other_processes c.args.around.family in
+    let is = c.record_of-thread.ensures t at in
+    c.goes_or_acts-in-Joining.ensures t is.cancel_is
+    ∙ goes t _ _ (c.has_ended.ensures family t.id)
+    ∙ by_status c.args.around.program.now.script c.args.process.now family t c.record_of-thread.result.now.status _ c.in-Joining.is is.status_is
+
+pub returns-in-InSem : goal.returns-in-InSem
+unfolding choices_at
+returns-in-InSem c = λ t at.
+    let is = c.record_of-thread.ensures t at in
+    c.goes_or_acts-in-InSem.ensures t is.cancel_is
+    ∙ goes t _ _ (ap (λ (n : ℕ). nat_lt 0 n) c.count_in.ensures)
+    ∙ by_status c.args.around.program.now.script c.args.process.now (other_processes c.args.around.family) t c.record_of-thread.result.now.status _ c.in-InSem.is is.status_is
+
+pub returns-in-InWaitPid : goal.returns-in-InWaitPid
+unfolding choices_at others_in
+returns-in-InWaitPid c = λ t at.
+    let is = c.record_of-thread.ensures t at in
+    c.goes_or_acts-in-InWaitPid.ensures t is.cancel_is
+    ∙ goes t _ _ (ap not c.has_running_child.ensures)
+    ∙ by_status c.args.around.program.now.script c.args.process.now (other_processes c.args.around.family) t c.record_of-thread.result.now.status _ c.in-InWaitPid.is is.status_is
+
+pub returns-in-Ending : goal.returns-in-Ending
+unfolding choices_at
+returns-in-Ending c = λ t at.
+    let d = c.args.process.now in
+    let script = c.args.around.program.now.script in
+    let family = other_processes c.args.around.family in
+    let status = (c.record_of-thread.ensures t at).status_is in
+    elim c.in-Ending.is [
+      | inl ending ↦
+          sym (ending_enabled (body_at script t.frames) d.shared t (others_in (length d.slots) family d.slots t.id) t.handlers)
+          ∙ by_status script d family t c.record_of-thread.result.now.status _ ending status
+      | inr (inl (phase, index, count, pid, forking)) ↦ by_status script d family t c.record_of-thread.result.now.status _ forking status
+      | inr (inr exiting) ↦ by_status script d family t c.record_of-thread.result.now.status _ exiting status
+    ]
+
+pub returns-in-Ended : goal.returns-in-Ended
+unfolding choices_at
+returns-in-Ended c = λ t at.
+    by_status c.args.around.program.now.script c.args.process.now (other_processes c.args.around.family) t c.record_of-thread.result.now.status _ c.in-Ended.is (c.record_of-thread.ensures t at).status_is

@@ -1,0 +1,77 @@
+-- The outcome of an input that is not refused, and the answer to all that a source had left.
+use Rattle.std.proofs.Common.{◌≡◌, inr, ℕ, ◌<◌, true, List, length, Option, None, Ok, Err, refl, sym, ap, ◌∙◌, subst, arith}
+use Rattle.std.specs.Prelude.{IfOk}
+use Rattle.std.specs.Io.KnownBytes.{Appends}
+use Rattle.std.proofs.lemmas.Bool.{true≢false}
+use Rattle.std.proofs.lemmas.Option.{same_Some}
+use Rattle.std.proofs.lemmas.Result.{IfOk-at_ok}
+use Rattle.pct_model.specs.declared.script.Script.{Script}
+use Rattle.pct_model.specs.declared.schedule.Config.{Config}
+use Rattle.pct_model.specs.declared.schedule.Entry.{Entry}
+use Rattle.pct_model.specs.declared.refusal.ScheduleWhy.{ScheduleWhy}
+use Rattle.pct_model.specs.declared.stop.Verdict.{Verdict}
+use Rattle.pct_model.specs.declared.stop.Verdict.TheVariants as verdict
+use Rattle.pct_model.specs.Schedule.{Schedule}
+use Rattle.pct_model.specs.Run.{Run, first_illegal, verdict_of}
+use Rattle.pct_model.specs.Outcome.{code_of_verdict}
+use Rattle.pct_grammar.proofs.Scripts.{spells_one_script}
+use Rattle.pct_schedule.specs.Prefix.{prefix_of}
+use Rattle.pct_command.specs.Command.{Outside}
+use Rattle.pct_command.proofs.Scripts.{spelled_or_fault}
+use Rattle.pct_inspection.specs.declared.answer.Answer.{Answer}
+use Rattle.pct_inspection.specs.Words.{is_inspection}
+use Rattle.pct_inspection.specs.Inspection.{prefix_in, code_by, Continues, IsInspected, IsValidPrefix, IsWhole}
+use Rattle.pct_inspection.specs.Inspection as outcome
+use Rattle.pct_inspection.specs.Answer.{AnswersRead, status_of_answer, text_of_answer}
+
+-- ---- an input that is not refused
+
+-- a text gives one prefix
+same_given : (s : Schedule) (one other : Config × List Entry) → s ≡ Ok one → s ≡ Ok other → one ≡ other
+same_given s one other reads also = IfOk-at_ok (λ given. given ≡ other) reads (subst (λ (x : Schedule). IfOk x (λ given. given ≡ other)) (sym also) refl)
+
+-- and then no fault
+given_or_fault : (s : Schedule) (given : Config × List Entry) (fault : ℕ × ScheduleWhy) → s ≡ Ok given → s ≡ Err fault → ⊥
+given_or_fault s given fault good bad = absurd cc
+
+-- a run that is not open has a code below 4
+closed_code : (v : Verdict) → ¬ (v ≡ verdict.Open) → code_of_verdict v < 4
+unfolding code_of_verdict
+closed_code verdict.Complete closed = omega arith
+closed_code verdict.Deadlock closed = omega arith
+closed_code verdict.Budget closed = omega arith
+closed_code (verdict.Undefined why) closed = omega arith
+closed_code verdict.Open closed = absurd (closed refl)
+
+-- if each entry of the prefix is legal, the code is that of the verdict
+legal_code : (words : List (List ℕ)) (input : List ℕ) (code : ℕ) (text : List ℕ) → IsValidPrefix input → Continues words input code text → code < 4
+legal_code words input code text valid goes_on =
+    let same_script : goes_on.script ≡ valid.script = spells_one_script _ goes_on.script valid.script goes_on.spelled valid.spelled in
+    let same_prefix : (goes_on.config, goes_on.entries) ≡ (valid.config, valid.entries) = same_given (prefix_of (prefix_in input)) (goes_on.config, goes_on.entries) (valid.config, valid.entries) goes_on.read valid.read in
+    let legal : goes_on.illegal ≡ None =
+    sym goes_on.illegal_is
+    ∙ ap (λ (p : Config × List Entry). first_illegal goes_on.script p.0 p.1) same_prefix
+    ∙ ap (λ (s : Script). first_illegal s valid.config valid.entries) same_script
+    ∙ valid.legal in
+    let same_run : goes_on.continued.after ≡ goes_on.after = same_Some goes_on.continued.after goes_on.after (sym goes_on.continued.is_run ∙ goes_on.is_run) in
+    let v : Verdict = verdict_of goes_on.script goes_on.config goes_on.after.world (length goes_on.schedule) in
+    let closed : ¬ (v ≡ verdict.Open) = λ is_open. goes_on.continued.is_closed (ap (λ (r : Run). verdict_of goes_on.script goes_on.config r.world (length goes_on.schedule)) same_run ∙ is_open) in
+    let code_is : code ≡ code_of_verdict v = goes_on.code_is ∙ ap (λ (illegal : Option ℕ). code_by illegal (code_of_verdict v)) legal in
+    rw code_is (closed_code v closed)
+
+-- an input that is not refused has an outcome with such a code
+not_refused : (words : List (List ℕ)) (input : List ℕ) (code : ℕ) (text : List ℕ) → is_inspection words ≡ true → IsValidPrefix input → IsInspected words input code text → code < 4
+not_refused words input code text accepted valid (outcome.WordsRefused refuses) = absurd (true≢false (sym accepted ∙ refuses.refused))
+not_refused words input code text accepted valid (outcome.InputRefused refuses) = absurd (omega (arith, valid.fits, refuses.too_long))
+not_refused words input code text accepted valid (outcome.ScriptRefused refuses) = absurd (spelled_or_fault _ valid.script refuses.line refuses.why valid.spelled refuses.first)
+not_refused words input code text accepted valid (outcome.PrefixRefused refuses) =
+    absurd (given_or_fault (prefix_of (prefix_in input)) (valid.config, valid.entries) (refuses.line, refuses.why) valid.read refuses.first)
+not_refused words input code text accepted valid (outcome.Continued goes_on) = legal_code words input code text valid goes_on
+
+-- ---- all that a source had left
+
+-- if the source reports its bytes, the answer to all of them was written
+pub complete : (words : List (List ℕ)) (before after : Outside) (a : Answer) → AnswersRead words before.left after.left a → Appends before.written after.written (text_of_answer a) → IsWhole words before after (status_of_answer a)
+complete words before after a read wrote = λ input has no_read_fault no_write_fault.
+    let answer = read.of_all input has in
+    inr (record { text = text_of_answer a; answer = answer; wrote = wrote }, λ accepted valid. not_refused words input _ _ accepted valid answer)

@@ -1,0 +1,27 @@
+-- The script and the prefix of an input.
+use Rattle.std.proofs.Common.{◌≡◌, ℕ, ◌-◌, ◌≤◌, true, List, length, take, drop, ap, ◌∙◌, subst, le_refl}
+use Rattle.std.specs.Prelude.{is_some}
+use Rattle.std.proofs.lemmas.Slice.{between_to_end}
+use Rattle.pct_model.specs.declared.script.Script.{Script}
+use Rattle.pct_model.specs.Spells.{Spells}
+use Rattle.pct_model.specs.Schedule.{replay_parts}
+use Rattle.pct_inspection.specs.Words.{is_inspection}
+use Rattle.pct_inspection.specs.Inspection.{script_in, prefix_in}
+use Rattle.pct_inspection.specs.Answer.{AsksToContinue, HasParts}
+
+-- words that ask to continue are accepted
+pub is_accepted : (words : List (List ℕ)) (seed : ℕ) → AsksToContinue words seed → is_inspection words ≡ true
+is_accepted words seed asked = ap is_some asked
+
+-- the script of an input that was split
+pub is_script : (input : List ℕ) (parts : ℕ × ℕ) → parts ≡ replay_parts input → take parts.0 input ≡ script_in input
+unfolding script_in
+is_script input parts same = ap (λ (p : ℕ × ℕ). take p.0 input) same
+
+-- the script and the prefix of an input that was split
+pub has-parts : (input : List ℕ) (script : Script) (parts : ℕ × ℕ) → length input ≤ 16777216 → parts ≡ replay_parts input → Spells (take parts.0 input) script → HasParts input script (take (length input - parts.1) (drop parts.1 input))
+unfolding prefix_in
+has-parts input script parts fits same spelled = record {
+  has_script = record { fits = fits; spelled = subst (λ (part : List ℕ). Spells part script) (is_script input parts same) spelled };
+  rest = between_to_end input parts.1 (length input) (le_refl _) ∙ ap (λ (p : ℕ × ℕ). drop p.1 input) same;
+}

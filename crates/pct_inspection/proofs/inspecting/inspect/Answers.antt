@@ -1,0 +1,44 @@
+use Rattle.std.proofs.Common.{map}
+use Rattle.std.specs.Prelude.{string_bytes}
+use Rattle.pct_io.proofs.Unchanged.{KeepsInners-refl}
+use Rattle.pct_command.specs.Command.{Outside, Decides}
+use Rattle.pct_command.proofs.CompleteOutcomes.{decides}
+use Rattle.pct_inspection.specs.Words.{is_inspection}
+use Rattle.pct_inspection.specs.Inspection.{IsInspected}
+use Rattle.pct_inspection.specs.Answer.{code_of_answer, text_of_answer}
+use Rattle.pct_inspection.proofs.CompleteOutcomes.{complete}
+use Rattle.pct_inspection.proofs.inspecting.inspect.Goals as goal
+
+pub returns-in-Ok-write_answer-clause-answers : goal.returns-in-Ok-write_answer-clause-answers
+returns-in-Ok-write_answer-clause-answers g c =
+    let before : Outside = record { left = g.S.Source.left c.args.source.now; read_errors = g.S.Source.errors c.args.source.now; written = g.K.Sink.written c.args.sink.now; write_errors = g.K.Sink.errors c.args.sink.now } in
+    let after : Outside = record { left = g.S.Source.left c.answer_words.new.source; read_errors = g.S.Source.errors c.answer_words.new.source; written = g.K.Sink.written c.write_answer.new.sink; write_errors = g.K.Sink.errors c.write_answer.new.sink } in
+    let read = c.in-Ok.ensures.answer in
+    let words = map string_bytes c.args.words.now in
+    let whole : Decides (is_inspection words) (IsInspected words) before after (code_of_answer c.in-Ok.answer) = record {
+      input = read.input;
+      read = read.read;
+      output = record { text = text_of_answer c.in-Ok.answer; answer = read.is_answer; wrote = c.in-Ok-write_answer.ensures.ok };
+    } in
+    decides (is_inspection words) (IsInspected words) before after c.status.result c.status.ensures.answered (rw c.status.ensures.status whole)
+
+pub returns-in-Ok-write_answer-clause-complete : goal.returns-in-Ok-write_answer-clause-complete
+returns-in-Ok-write_answer-clause-complete g c =
+    let before : Outside = record { left = g.S.Source.left c.args.source.now; read_errors = g.S.Source.errors c.args.source.now; written = g.K.Sink.written c.args.sink.now; write_errors = g.K.Sink.errors c.args.sink.now } in
+    let after : Outside = record { left = g.S.Source.left c.answer_words.new.source; read_errors = g.S.Source.errors c.answer_words.new.source; written = g.K.Sink.written c.write_answer.new.sink; write_errors = g.K.Sink.errors c.write_answer.new.sink } in
+    rw c.status.ensures.status (complete (map string_bytes c.args.words.now) before after c.in-Ok.answer c.in-Ok.ensures.answer c.in-Ok-write_answer.ensures.ok)
+
+pub returns-in-Ok-clause-answers : goal.returns-in-Ok-clause-answers
+returns-in-Ok-clause-answers g c =
+    let read = c.in-Ok.ensures.answer in
+    record {
+      input = read.input;
+      output = record { code = code_of_answer c.in-Ok.answer; text = text_of_answer c.in-Ok.answer; answer = read.is_answer; wrote = c.in-Err.ensures.err; cause = c.in-Err.ensures.cause };
+      read = read.read;
+    }
+
+pub returns-in-Err-ReadFault-clause-inners : goal.returns-in-Err-ReadFault-clause-inners
+returns-in-Err-ReadFault-clause-inners g c = KeepsInners-refl _
+
+pub returns-clause-inners : goal.returns-clause-inners
+returns-clause-inners g c = KeepsInners-refl _

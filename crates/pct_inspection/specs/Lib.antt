@@ -1,0 +1,3 @@
+pub mod Words
+pub mod Inspection
+pub mod Answer

@@ -1,0 +1,56 @@
+//! Writing of an answer.
+
+ghost use Rattle.std.specs.Prelude.{◌++◌};
+ghost use Rattle.pct_io.specs.Writes.{Writes};
+ghost use Rattle.pct_command.specs.Answer.{text_of_run};
+ghost use Rattle.pct_inspection.specs.Answer.{text_of_answer};
+ghost use Rattle.pct_inspection.specs.Inspection.{notice};
+
+use crate::answer::Answer;
+use pct_command::write_refusal;
+use pct_engine::Engine;
+use pct_io::{Failed, Field, Sink, write_line};
+use pct_model::Keyword;
+use pct_report::write_report;
+
+/// Writes an answer: the line of a refusal, or the report of a run, and the notice after it.
+pub(crate) fn write_answer<K: Sink>(answer: &Answer, sink: &mut K) -> Result<(), Failed>
+    ensures { Writes K.written K.errors K.inners sink.old sink.new (text_of_answer answer.now) result }
+{
+    match answer {
+        Answer::Refused(refusal) => write_refusal(*refusal, sink),
+        Answer::Continued { engine, illegal } => write_continued(engine, *illegal, sink),
+    }
+}
+
+// Writes the report of a run, and after it the notice.
+fn write_continued<K: Sink>(
+    engine: &Engine,
+    illegal: Option<u32>,
+    sink: &mut K,
+) -> Result<(), Failed>
+    ensures { Writes K.written K.errors K.inners sink.old sink.new (text_of_run engine.now ++ notice illegal) result }
+{
+    write_report(engine, sink)?;
+    write_notice(illegal, sink)
+}
+
+// Writes the line that names an entry which is not legal, if there is one.
+fn write_notice<K: Sink>(illegal: Option<u32>, sink: &mut K) -> Result<(), Failed>
+    ensures { Writes K.written K.errors K.inners sink.old sink.new (notice illegal) result }
+{
+    match illegal {
+        None => Ok(()),
+        Some(entry_number) => write_line(
+            sink,
+            &[
+                Field::Text(Keyword::Entry.text()),
+                Field::Number(entry_number),
+                Field::Text(b"is"),
+                Field::Text(b"not"),
+                Field::Text(b"legal"),
+                Field::Text(b"here"),
+            ],
+        ),
+    }
+}

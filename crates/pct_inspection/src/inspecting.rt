@@ -1,0 +1,116 @@
+//! The top call: what the words ask for, the input, and the answer.
+
+ghost use Rattle.std.specs.Prelude.{◌≡◌, ◌⊎◌, List, ℕ, true, false, map, string_bytes, Ok as Gives, IfOk, IfErr};
+ghost use Rattle.pct_io.specs.Inners.{KeepsInners};
+ghost use Rattle.pct_command.specs.Command.{Answers, HasRead, Records};
+ghost use Rattle.pct_inspection.specs.Answer.{AnswersRead, AsksToContinue, ReadsInput};
+ghost use Rattle.pct_inspection.specs.Inspection.{IsInspected, IsWhole};
+ghost use Rattle.pct_inspection.specs.Words.{is_inspection};
+
+use crate::answer::{Answer, Unanswered};
+use crate::answer_writer::write_answer;
+use crate::continuing::continue_input;
+use crate::words::{Inspection, read_inspection};
+use pct_command::{Refusal, Status};
+use pct_io::{Failed, NoMemory, ReadEnd, Sink, Source, read_all};
+use pct_model::MAX_INPUT;
+use std::alloc::Global;
+
+/// Does what the words ask for on the bytes of the source, and writes the answer to the sink.
+///
+/// The words are `continue` and a seed. The input is a script, a line `%%`, and a prefix of a schedule: a schedule or a whole report, in
+/// which the line `end N` may be missing. Without a line `%%`, or with nothing after it, the prefix has no entry, and the numbers of the
+/// run are those of `run` without options. The run makes the steps of the prefix, up to the first entry that is not legal, and worker 1 makes
+/// each further step, as two words of its random stream choose under the seed, until the verdict is not `Open`. The report is
+/// written, and after it, if entry N of the prefix is not legal, a line `entry N is not legal here`. A refusal is one line that names the
+/// reason.
+///
+/// The answer is the first of these that holds, unless it is `ReadFault`, `WriteFault` or `NoMemory`:
+///
+/// - `Usage`: the words are not accepted; nothing is read.
+/// - `TooLong`: more than 16,777,216 bytes were read.
+/// - `ScriptRefused`: the text of the script has a fault.
+/// - `ScheduleRefused`: the text of the prefix has a fault, or one of its entries is not legal; then the report and the notice were
+///   written.
+/// - `Complete`, `Deadlock`, `Budget` or `Undefined`: the report of a run with this verdict was written.
+///
+/// With the answers of this list from `ScriptRefused` on the input was read to its end.
+///
+/// - `ReadFault` comes only with accepted words, and only if the source recorded an error in this call. The sink is unchanged.
+/// - `WriteFault` comes only if the sink recorded an error in this call. A prefix of the text was written.
+/// - `NoMemory` comes only with accepted words. The sink is unchanged.
+pub fn inspect<S: Source, K: Sink>(
+    alloc: Global,
+    words: &[String],
+    source: &mut S,
+    sink: &mut K,
+) -> Status
+    ensures answers { Answers (is_inspection (map string_bytes words.now)) (IsInspected (map string_bytes words.now))
+        (record { left = S.left source.old; read_errors = S.errors source.old; written = K.written sink.old; write_errors = K.errors sink.old })
+        (record { left = S.left source.new; read_errors = S.errors source.new; written = K.written sink.new; write_errors = K.errors sink.new })
+        result }
+
+    // Unless a call failed or memory ran out, the whole outcome was written. With accepted words a valid input is not refused.
+    ensures complete { IsWhole (map string_bytes words.now)
+        (record { left = S.left source.old; read_errors = S.errors source.old; written = K.written sink.old; write_errors = K.errors sink.old })
+        (record { left = S.left source.new; read_errors = S.errors source.new; written = K.written sink.new; write_errors = K.errors sink.new })
+        result }
+
+    // With words that are not accepted nothing is read.
+    ensures usage { is_inspection (map string_bytes words.now) ≡ false → (source.new ≡ source.old) × ((result ≡ Status.Usage) ⊎ (result ≡ Status.WriteFault)) }
+
+    // Out of memory comes only after a byte was read.
+    ensures memory { result ≡ Status.NoMemory → HasRead (S.left source.old) (S.left source.new) }
+
+    // A read error and exhausted memory leave the sink as it was.
+    ensures untouched { (result ≡ Status.ReadFault) ⊎ (result ≡ Status.NoMemory) → sink.new ≡ sink.old }
+
+    // A count of errors rises by one with the status of its failure, and is unchanged with every other status.
+    ensures read_errors { Records Status.ReadFault result (S.errors source.old) (S.errors source.new) }
+    ensures write_errors { Records Status.WriteFault result (K.errors sink.old) (K.errors sink.new) }
+
+    // The sink still writes through the same sinks, and each of them has only grown.
+    ensures inners { KeepsInners (K.inners sink.old) (K.inners sink.new) }
+{
+    match answer_words(alloc, words, source) {
+        Ok(answer) => match write_answer(&answer, sink) {
+            Ok(()) => answer.status(),
+            Err(Failed) => Status::WriteFault,
+        },
+        Err(Unanswered::ReadFault) => Status::ReadFault,
+        Err(Unanswered::NoMemory) => Status::NoMemory,
+    }
+}
+
+// The answer to the words, and to the bytes of the source if the words are accepted.
+fn answer_words<S: Source>(
+    alloc: Global,
+    words: &[String],
+    source: &mut S,
+) -> Result<Answer, Unanswered>
+    ensures answer { IfOk result (λ answer. AnswersRead (map string_bytes words.now) (S.left source.old) (S.left source.new) answer) }
+    ensures input { IfErr result (λ _. is_inspection (map string_bytes words.now) ≡ true) }
+    ensures usage { is_inspection (map string_bytes words.now) ≡ false → (source.new ≡ source.old) × (result ≡ Gives (Answer.Refused Refusal.Words)) }
+    ensures reads { ReadsInput S.left S.errors source.old source.new result }
+{
+    match read_inspection(words) {
+        None => Ok(Answer::Refused(Refusal::Words)),
+        Some(Inspection::Continue(seed)) => answer_input(alloc, seed, source),
+    }
+}
+
+// The answer of `continue` to the bytes of the source.
+fn answer_input<S: Source>(alloc: Global, seed: u64, source: &mut S) -> Result<Answer, Unanswered>
+    ensures answer { (words : List (List ℕ)) → AsksToContinue words seed → IfOk result (λ answer. AnswersRead words (S.left source.old) (S.left source.new) answer) }
+    ensures reads { ReadsInput S.left S.errors source.old source.new result }
+{
+    match read_all(alloc, source, MAX_INPUT) {
+        Ok(text) => match continue_input(alloc, seed, &text) {
+            Ok(answer) => Ok(answer),
+            Err(NoMemory) => Err(Unanswered::NoMemory),
+        },
+        Err(ReadEnd::TooLong) => Ok(Answer::Refused(Refusal::Input)),
+        Err(ReadEnd::Failed) => Err(Unanswered::ReadFault),
+        Err(ReadEnd::NoMemory) => Err(Unanswered::NoMemory),
+    }
+}

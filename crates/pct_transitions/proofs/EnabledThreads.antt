@@ -1,0 +1,124 @@
+-- Whether a thread has a choice, by its status, or by the statement at which it runs.
+use Rattle.std.proofs.Common.{◌≡◌, ℕ, Bool, true, false, not, ◌&&◌, ◌||◌, List, [], ◌∷◌, ◌++◌, if◌then◌else◌, refl, sym, ap, ◌∙◌}
+use Rattle.std.proofs.lemmas.Bool.{false≢true}
+use Rattle.pct_model.specs.declared.frame.Frame.{Frame}
+use Rattle.pct_model.specs.declared.schedule.Alt.{Alt}
+use Rattle.pct_model.specs.declared.schedule.Alt.TheVariants as alt
+use Rattle.pct_model.specs.declared.statement.Stmt.{Stmt}
+use Rattle.pct_model.specs.declared.statement.Stmt.TheVariants as statement
+use Rattle.pct_model.specs.declared.state.Cause.{Cause}
+use Rattle.pct_model.specs.declared.state.Status.TheVariants as status
+use Rattle.pct_model.specs.Cancelability.{is_deliverable, is_asynchronous}
+use Rattle.pct_model.specs.ChoiceTable.{go_if, act_if, first_row, is_create, is_key_create, is_signal, waiters_to_signal, new_or_go, pick_or_go, dtor_or_go, unblocked_acts, running_rows, running_choices, ending_choices, choices_at, is_enabled}
+use Rattle.pct_model.specs.CancelCalls.{called_kind, is_required, is_optional}
+use Rattle.pct_model.specs.Keys.{new_keys, left_keys}
+use Rattle.pct_model.specs.MutexCalls.{is_free_mutex, is_blocked}
+use Rattle.pct_model.specs.NextStatement.{NextStatement}
+use Rattle.pct_model.specs.OtherThreads.{Waiter, Others}
+use Rattle.pct_model.specs.StopTable.{is_fork_kind, is_forbidden_in_child}
+use Rattle.pct_model.specs.World.{Thread, SharedState}
+
+-- ---- lists of choices
+
+-- with `go` there is a choice
+go_enabled : (go : Bool) (rest : List Alt) → is_enabled (go_if go ++ rest) ≡ (go || is_enabled rest)
+go_enabled true rest = refl
+go_enabled false rest = refl
+
+-- the value of "or", where its first part holds, and where it does not
+pub or_first : (a b : Bool) → a ≡ true → a ≡ (a || b)
+or_first true b holds = refl
+or_first false b holds = absurd (false≢true holds)
+
+pub or_second : (a b : Bool) → a ≡ false → b ≡ (a || b)
+or_second a b fails = ap (λ (first : Bool). first || b) (sym fails)
+
+-- where a test holds there are these choices, and else there is none
+if_enabled : (test : Bool) (acts : List Alt) → is_enabled (if test then acts else []) ≡ (test && is_enabled acts)
+if_enabled true acts = refl
+if_enabled false acts = refl
+
+-- where there is a choice whether a test holds or not
+always : (test : Bool) (choices others : List Alt) → is_enabled choices ≡ true → is_enabled others ≡ true → is_enabled (if test then choices else others) ≡ true
+always true choices others some other = some
+always false choices others some other = other
+
+-- there is a choice at pthread_create and at pthread_key_create, at pthread_cond_signal, and between destructors
+new_enabled : (numbers : List ℕ) → is_enabled (new_or_go numbers) ≡ true
+new_enabled [] = refl
+new_enabled (n ∷ numbers) = refl
+
+pick_enabled : (waiters : List Waiter) → is_enabled (pick_or_go waiters) ≡ true
+pick_enabled [] = refl
+pick_enabled (waiter ∷ waiters) = refl
+
+dtor_enabled : (numbers : List ℕ) → is_enabled (dtor_or_go numbers) ≡ true
+dtor_enabled [] = refl
+dtor_enabled (n ∷ numbers) = refl
+
+-- ---- a running thread
+
+-- a statement that is not pthread_mutex_lock does not block
+never_blocked : (s : Stmt) (shared : SharedState) → ((m : ℕ) → s ≡ statement.Lock m → ⊥) → is_blocked s shared ≡ false
+never_blocked (statement.Lock m) shared other = absurd (other m refl)
+never_blocked s shared other = refl
+
+-- the choices at pthread_mutex_lock, by the tests of the rows
+at_lock : (forbidden asynchronous requested free : Bool) (acts : List Alt)
+    → is_enabled (first_row ((forbidden, alt.Go ∷ []) ∷ (asynchronous, alt.Go ∷ acts) ∷ (requested && false, alt.Act 0 ∷ []) ∷ (requested && false, alt.Go ∷ alt.Act 0 ∷ []) ∷ (not free, []) ∷ []) (alt.Go ∷ []))
+    ≡ (free || (asynchronous || forbidden))
+at_lock true true requested true acts = refl
+at_lock true true requested false acts = refl
+at_lock true false requested true acts = refl
+at_lock true false requested false acts = refl
+at_lock false true requested true acts = refl
+at_lock false true requested false acts = refl
+at_lock false false true true acts = refl
+at_lock false false true false acts = refl
+at_lock false false false true acts = refl
+at_lock false false false false acts = refl
+
+-- the process is restricted, and the frame is not that of a fork handler
+forbidden_lock : (restricted fork : Bool) → (restricted && (not fork && true)) ≡ (restricted && not fork)
+forbidden_lock true true = refl
+forbidden_lock true false = refl
+forbidden_lock false fork = refl
+
+module _ (body : List Stmt) (shared : SharedState) (t : Thread) (others : Others) (frame : Frame) where
+  -- a running thread has a choice at each statement but pthread_mutex_lock
+  pub running_enabled : (s : Stmt) → ((m : ℕ) → s ≡ statement.Lock m → ⊥) → is_enabled (running_choices body shared t others frame s) ≡ true
+  unfolding running_choices running_rows
+  running_enabled s other =
+      always (is_forbidden_in_child body shared frame s) _ _ refl
+      (always (is_asynchronous t.state t.mode) _ _ refl
+      (always (is_deliverable t.state t.pending && is_required (called_kind s)) _ _ refl
+      (always (is_deliverable t.state t.pending && is_optional (called_kind s)) _ _ refl
+      (rw (never_blocked s shared other)
+      (always (is_create s) _ _ (new_enabled others.new_ids)
+      (always (is_key_create s) _ _ (new_enabled (new_keys shared.keys))
+      (always (is_signal s) _ _ (pick_enabled (waiters_to_signal others s)) refl)))))))
+
+  -- at pthread_mutex_lock it has one if the mutex has no owner, if it may act upon a request at any time, or if the call is a stop of
+  -- a child process
+  pub lock_enabled : (m : ℕ) → is_enabled (running_choices body shared t others frame (statement.Lock m)) ≡ (is_free_mutex m shared || (is_asynchronous t.state t.mode || (shared.restricted && not (is_fork_kind frame.kind))))
+  unfolding running_choices running_rows called_kind
+  lock_enabled m =
+      at_lock (shared.restricted && (not (is_fork_kind frame.kind) && true)) (is_asynchronous t.state t.mode) (is_deliverable t.state t.pending) (is_free_mutex m shared) (act_if t.pending)
+      ∙ ap (λ (b : Bool). is_free_mutex m shared || (is_asynchronous t.state t.mode || b)) (forbidden_lock shared.restricted (is_fork_kind frame.kind))
+
+-- ---- by status
+
+module _ (body : List Stmt) (shared : SharedState) (t : Thread) (others : Others) where
+  -- a thread that was unblocked on a condition variable
+  pub reacquire_enabled : (next : NextStatement) (c m : ℕ) (why : Cause)
+      → (is_free_mutex m shared || (is_deliverable t.state t.pending && is_enabled (unblocked_acts why (others.waiters c)))) ≡ is_enabled (choices_at body shared t others next (status.Reacquire c m why))
+  unfolding choices_at
+  reacquire_enabled next c m why =
+      ap (λ (b : Bool). is_free_mutex m shared || b) (sym (if_enabled (is_deliverable t.state t.pending) (unblocked_acts why (others.waiters c))))
+      ∙ sym (go_enabled (is_free_mutex m shared) (if is_deliverable t.state t.pending then unblocked_acts why (others.waiters c) else []))
+
+  -- an ending thread
+  pub ending_enabled : (handlers : List (ℕ × ℕ)) → is_enabled (ending_choices body shared t others handlers) ≡ true
+  unfolding ending_choices
+  ending_enabled [] = dtor_enabled (left_keys shared.keys t.specific)
+  ending_enabled (handler ∷ handlers) = refl
