@@ -32,7 +32,7 @@ from checkout import BUILT, INSPECT, ROOT
 
 SECONDS = 120
 # What ./pct calls; the PATH of the cases has these commands, without the kit's rt.
-TOOLS = "sh awk cat chmod cp cut date dirname find head mkdir mktemp od printf readlink rm sed sleep tail test touch".split()
+TOOLS = "sh awk cat chmod cp cut date dirname find grep head mkdir mktemp od printf readlink rm sed sleep tail test touch".split()
 RT = """#!/bin/sh
 echo "$*" >> "$TOP/rt.words"
 [ "${PWD##*/}" = pct_run ] || PROGRAM=$INSPECT
@@ -43,7 +43,7 @@ case $1 in
         while [ "$1" != -- ]; do shift; done
         shift
         case $1 in
-            run | replay | check | continue) [ -f /dev/stdin ] || { echo 'run=none proved=no' >&2; exit 2; } ;;
+            run | replay | check | continue | trace | choices | lanes | picture) [ -f /dev/stdin ] || { echo 'run=none proved=no' >&2; exit 2; } ;;
         esac
         "$PROGRAM" "$@"
         status=$?
@@ -69,7 +69,12 @@ end 2
 WORKER = "fn w x\nend\nfn main x\npthread_create - - w 1\nend\n"
 HEADER = "%%\nschedule 1 100 4 64\n"
 BEGUN = "schedule 1 10000 4 64\n1 1 1 go\n"
+SHOWN = "pct: here each thread is, and each entry that is legal there ('./pct choices a.replay'):\n"
 FROM_UNPROVED = ["the answer comes from an unproved build", "'./pct build' proves and builds it"]
+# The views of SMALLEST after BEGUN.
+TRACE = "1\t1.1\tmain:2\treturn 0\tgo\texit 0\nverdict open\n"
+CHOICES = "verdict open\n1.1\t-\t-\texiting\tdisable deferred, no request\t-\n1 1 1 go\n"
+LANES = "step\t1.1\n1\texit 0\nverdict open\n"
 
 
 @dataclasses.dataclass
@@ -226,23 +231,32 @@ SCHEDULES = [
     ),
     Case(
         "an entry of a thread that does not exist", "./pct replay a.replay", 7, "refused entry 2\n",
-        ["a.replay:7: entry 2 is not legal\n", "    1 1 2 go\n", "does not exist yet", "end the schedule before"],
+        [
+            "a.replay:7: entry 2 is not legal\n", "    1 1 2 go\n", "does not exist yet", "end the schedule before", SHOWN,
+            "    verdict open\n    1.1  -  -  exiting  disable deferred, no request  -\n    1 1 1 go\n    entry 2 is not legal here\n",
+        ],
         {"a.replay": SMALLEST + HEADER + "1 1 1 go\n1 1 2 go\nend 2\n"},
     ),
     Case(
         "an entry of a process that does not exist", "./pct replay a.replay", 7, "refused entry 1\n",
-        ["a.replay:6: entry 1 is not legal\n", "    1 2 1 go\n", "its process does not exist yet", "end the schedule"],
+        [
+            "a.replay:6: entry 1 is not legal\n", "    1 2 1 go\n", "its process does not exist yet", "end the schedule", SHOWN,
+            "    1.1  main:2  return 0  running  enable deferred, no request  -\n    1 1 1 go\n",
+        ],
         {"a.replay": SMALLEST + HEADER + "1 2 1 go\nend 1\n"},
     ),
     Case(
         "go where a thread is created", "./pct replay a.replay", 7, "refused entry 1\n",
-        ["a.replay:8: entry 1 is not legal\n", "    1 1 1 go\n", "'new N' where it creates a thread", "MACHINE.md"],
+        [
+            "a.replay:8: entry 1 is not legal\n", "    1 1 1 go\n", "'new N' where it creates a thread", "MACHINE.md", SHOWN,
+            "    1.1  main:4  pthread_create - - w 1  running", "    1 1 1 new 2\n", "    1 1 1 new 64\n    entry 1 is not legal here\n",
+        ],
         {"a.replay": WORKER + HEADER + "1 1 1 go\nend 1\n"},
     ),
     # WORKER has five lines, and %% is line 6. REPORT has five lines before its first entry.
     Case(
         "a report of another script", "./pct replay a.replay", 7, "refused entry 1\n",
-        ["a.replay:12: entry 1 is not legal\n", "    1 1 1 go\n", "the script was changed and the schedule was not"],
+        ["a.replay:12: entry 1 is not legal\n", "    1 1 1 go\n", "the script was changed and the schedule was not", SHOWN],
         {"a.replay": WORKER + "%%\r\n" + REPORT},
     ),
     Case(
@@ -364,7 +378,8 @@ CONTINUED = [
         {"a.replay": SMALLEST + "%%\nschedule 1 1 4 64\n", "begun": BEGUN},
     ),
     Case(
-        "an entry of a prefix that is not legal", "./pct continue 7 a.pct begun", 7, REPORT + "entry 2 is not legal here\n", [],
+        "an entry of a prefix that is not legal", "./pct continue 7 a.pct begun", 7, REPORT + "entry 2 is not legal here\n",
+        ["pct: entry 2 of the prefix is not legal, and the report is of a run without it", "pct: './pct choices' with the same files"],
         {"a.pct": SMALLEST, "begun": BEGUN + "1 1 2 go\n"},
     ),
     Case(
@@ -383,9 +398,48 @@ CONTINUED = [
     Case("continue without a seed", "./pct continue", 5, "refused words\n", [USAGE]),
     Case("continue with a file in the place of the seed", "./pct continue a.pct", 5, "refused words\n", [USAGE], {"a.pct": SMALLEST}),
     Case(
-        "continue with a word too many", "./pct continue 7 a.pct begun more", 5, "refused words\n", [USAGE],
+        "continue with a word too many", "./pct continue 7 a.pct begun 1 more", 5, "refused words\n", [USAGE],
         {"a.pct": SMALLEST, "begun": BEGUN},
     ),
+    Case("trace", "./pct trace a.pct begun", 4, TRACE, [], {"a.pct": SMALLEST, "begun": BEGUN}),
+    Case("choices", "./pct choices a.pct begun", 4, CHOICES, [], {"a.pct": SMALLEST, "begun": BEGUN}),
+    Case("lanes", "./pct lanes a.pct begun", 4, LANES, [], {"a.pct": SMALLEST, "begun": BEGUN}),
+    Case("a picture", "./pct picture a.pct begun | grep -c '<svg '", 0, "1\n", [], {"a.pct": SMALLEST, "begun": BEGUN}),
+    Case("trace of one file", "./pct trace a.replay", 4, TRACE, [], {"a.replay": SMALLEST + "%%\n" + BEGUN}),
+    Case("trace of standard input", "./pct trace < a.replay", 4, TRACE, [], {"a.replay": SMALLEST + "%%\n" + BEGUN}),
+    Case("trace without a prefix", "./pct trace a.pct", 4, "verdict open\n", [], {"a.pct": SMALLEST}),
+    Case("trace of a whole report", "./pct trace a.pct report | grep -c go", 0, "2\n", [], {"a.pct": SMALLEST, "report": REPORT}),
+    Case(
+        "trace of a prefix with an entry that is not legal", "./pct trace a.pct begun", 7, TRACE + "entry 2 is not legal here\n", [],
+        {"a.pct": SMALLEST, "begun": BEGUN + "1 1 2 go\n"},
+    ),
+    Case(
+        "choices of a script with a fault", "./pct choices a.pct begun", 6, "refused script 2 word_count\n",
+        ["a.pct:2: word_count\n", "    emit\n", "Usual cause:", "Mend:"], {"a.pct": FAULTY, "begun": BEGUN},
+    ),
+    Case(
+        "lanes of a prefix with a fault", "./pct lanes a.pct begun", 7, "refused schedule 1 bad_header\n",
+        ["begun:1: bad_header\n", "    schedule 1 0 4 64\n", "Usual cause:", "Mend:"],
+        {"a.pct": SMALLEST, "begun": "schedule 1 0 4 64\n"},
+    ),
+    Case(
+        "a picture of a prefix that is not there", "./pct picture a.pct nowhere", 66, "",
+        ["pct: nowhere is no file that can be read\n"], {"a.pct": SMALLEST},
+    ),
+    Case("the first entries of a report", "./pct trace a.pct report 1", 4, TRACE, [], {"a.pct": SMALLEST, "report": REPORT}),
+    Case("no entries of a report", "./pct trace a.pct report 0", 4, "verdict open\n", [], {"a.pct": SMALLEST, "report": REPORT}),
+    Case(
+        "more entries than a report has", "./pct trace a.pct report 9 | tail -n 1", 0, "verdict complete\n", [],
+        {"a.pct": SMALLEST, "report": REPORT},
+    ),
+    Case("go on from the first entry of a report", "./pct continue 7 a.pct report 1", 0, REPORT, [], {"a.pct": SMALLEST, "report": REPORT}),
+    Case("a prefix from standard input", "./pct trace a.pct - < begun", 4, TRACE, [], {"a.pct": SMALLEST, "begun": BEGUN}),
+    Case("the first entries from standard input", "./pct run a.pct | ./pct choices a.pct - 1", 4, CHOICES, [], {"a.pct": SMALLEST}),
+    Case(
+        "a number of entries that is none", "./pct trace a.pct begun more", 5, "",
+        ["pct: more is no number of entries\n"], {"a.pct": SMALLEST, "begun": BEGUN},
+    ),
+    Case("trace with a word too many", "./pct trace a.pct begun 1 more", 5, "refused words\n", [USAGE], {"a.pct": SMALLEST, "begun": BEGUN}),
 ]
 
 # A program that answers wrongly, and two of the files that it is made from, which are older.
@@ -474,6 +528,12 @@ UNPROVED = [
     Case(
         "a program that is older than crates.txt", OLD + "touch crates.txt; ./pct run a.pct", 0, REPORT,
         ["pct: the built program is older than its sources, so", *FROM_UNPROVED], {"a.pct": SMALLEST},
+    ),
+    Case("trace without a program", "./pct trace a.pct begun", 4, TRACE, FROM_UNPROVED, {"a.pct": SMALLEST, "begun": BEGUN}),
+    Case(
+        "a refused replay without the program that inspects runs", "./pct build 2>build.log; rm crates/pct_inspect/out/pct_inspect; ./pct replay a.replay", 7,
+        "refused entry 1\n", ["a.replay:6: entry 1 is not legal\n", "pct: './pct choices a.replay' shows where each thread is there"],
+        {"a.replay": SMALLEST + HEADER + "1 2 1 go\nend 1\n"},
     ),
     Case("continue without a program", "./pct continue 7 a.pct", 0, REPORT, FROM_UNPROVED, {"a.pct": SMALLEST}),
     Case("a program that is not outdated", OLD + "./pct run a.pct", 0, "old\n", [], {"a.pct": SMALLEST}),

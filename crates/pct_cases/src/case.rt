@@ -1,6 +1,7 @@
 //! One case: the words and the inputs of its calls, and the status and the output that are expected of each.
 
 use pct_command::command;
+use pct_inspection::inspect;
 use pct_io::{Failed, MemSink, MemSource, NoGate, NoMemory, Sink, write_parts};
 use std::alloc::{AllocError, Global};
 use std::thread::Threads;
@@ -27,10 +28,18 @@ impl From<Failed> for Failure {
     }
 }
 
+/// The call that a case makes.
+#[derive(Clone, Copy)]
+pub(crate) enum Call {
+    Command,
+    Inspect,
+}
+
 /// A case, as far as it was read.
 #[derive(Drop)]
 pub(crate) struct Case {
     pub(crate) name: Vec<u8>,
+    pub(crate) call: Call,
     pub(crate) words: Vec<String>,
     /// The inputs of the calls.
     pub(crate) inputs: Vec<Vec<u8>>,
@@ -44,6 +53,7 @@ impl Case {
     pub(crate) fn named(alloc: Global, name: &[u8]) -> Result<Case, Failure> {
         Ok(Case {
             name: name.to_vec(alloc)?,
+            call: Call::Command,
             words: Vec::new(alloc),
             inputs: Vec::new(alloc),
             code: Vec::new(alloc),
@@ -81,7 +91,10 @@ impl Case {
     ) -> Result<bool, Failure> {
         let mut source = MemSource::new(alloc, input, 4096, &[])?;
         let mut sink = MemSink::new(alloc, 2_000_000, 1_000_000, &[])?;
-        let status = command(rt, alloc, &self.words, &mut source, &mut sink, &NoGate);
+        let status = match self.call {
+            Call::Command => command(rt, alloc, &self.words, &mut source, &mut sink, &NoGate),
+            Call::Inspect => inspect(alloc, &self.words, &mut source, &mut sink),
+        };
         let code = format!(in alloc; "{}", status.code())?;
         let is_expected = code.as_bytes() == self.code.as_slice()
             && sink.written() == self.output.as_slice();

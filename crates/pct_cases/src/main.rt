@@ -7,8 +7,8 @@
 //!     exits CODE
 //!     the output that is expected, any number of lines
 //!
-//! With `each WORD ..` in the place of `words WORD ..` each line of the input is the input of a call of its own. In an input and in an
-//! output `\r`, `\t`, `\\` and `\xHH` are bytes, and a `\` at the end of a line leaves out its line end. A line `\*N REST` stands for N
+//! With `each WORD ..` in the place of `words WORD ..` each line of the input is the input of a call of its own. With `inspect WORD ..`
+//! the call is that of the program that inspects runs. In an input and in an output `\r`, `\t`, `\\` and `\xHH` are bytes, and a `\` at the end of a line leaves out its line end. A line `\*N REST` stands for N
 //! lines REST, in which `\#` is the number of the line, from 1. After an `exits`, empty lines and lines that begin with `#` are
 //! comments.
 #![tactic(auto)]

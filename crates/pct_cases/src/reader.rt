@@ -1,6 +1,6 @@
 //! The cases of a text.
 
-use crate::case::{Case, Failure};
+use crate::case::{Call, Case, Failure};
 use crate::escapes::add_line;
 use pct_io::Sink;
 use std::alloc::{AllocError, Global};
@@ -83,6 +83,10 @@ fn take_words(alloc: Global, case: &mut Case, line: &[u8]) -> Result<Part, Alloc
         return Ok(Part::Inputs);
     }
     if let Some(words) = line.strip_prefix(b"words ") {
+        add_words(alloc, &mut case.words, words)?;
+    }
+    if let Some(words) = line.strip_prefix(b"inspect ") {
+        case.call = Call::Inspect;
         add_words(alloc, &mut case.words, words)?;
     }
     case.inputs.push(Vec::new(alloc))?;

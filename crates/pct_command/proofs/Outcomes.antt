@@ -55,7 +55,7 @@ run-report engine after is_run =
 abbrev pub code_by : Verdict → ℕ
 code_by v = code_of (status_of_verdict v)
 
-code-is : (v : Verdict) → code_by v ≡ code_of_verdict v
+pub code-is : (v : Verdict) → code_by v ≡ code_of_verdict v
 unfolding code_of_verdict
 code-is verdict.Complete = refl
 code-is verdict.Deadlock = refl

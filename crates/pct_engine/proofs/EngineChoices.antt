@@ -41,7 +41,7 @@ module _ (program : ProgramValue) (trace : TraceValue) (machine : Seen) (stands 
   some_slots = (slots_within program.config (run_parts program.script program.config trace.history after is).limits).0
 
   -- the machine has what is kept of the state after the run
-  state_after : machine ≡ seen program.config.slots after.world
+  pub state_after : machine ≡ seen program.config.slots after.world
   state_after = stands.state_is ∙ ap (λ (r : Run). seen program.config.slots r.world) same
 
   -- the events are those of the run

@@ -1,5 +1,5 @@
 mod ForkingThreads
-mod ReachedStates
+pub mod ReachedStates
 mod OpenChoices
 mod EngineRuns
 mod EngineChoices

@@ -6,7 +6,7 @@ ghost use Rattle.pct_engine.specs.EngineStates.{StandsFor};
 
 use crate::trace::Trace;
 use pct_io::NoMemory;
-use pct_machine::{Draw, Machine};
+use pct_machine::{Draw, Machine, ProcessView};
 use pct_model::{Config, Entry, Event, Script, Verdict};
 use pct_transitions::{Program, no_change};
 use std::alloc::Global;
@@ -36,9 +36,11 @@ impl Model for Engine {
 }
 
 impl Engine {
-    ghost use Rattle.std.specs.Prelude.{◌≡◌, ◌↔◌, ◌*◌, ◌≤◌, [], ◌∷◌, ◌++◌, length, reverse, IfOk, IsOk, OnOk, OnErr, IsTrue};
-    ghost use Rattle.pct_model.specs.declared.limits.TheConstants.{MAX_WORKER};
+    ghost use Rattle.std.specs.Prelude.{◌≡◌, ◌↔◌, ◌*◌, ◌≤◌, [], ◌∷◌, ◌++◌, length, reverse, IfOk, IsOk, OnOk, OnErr, IsTrue, slice_get};
+    ghost use Rattle.pct_model.specs.declared.limits.TheConstants.{MAX_PROCESSES, MAX_WORKER};
     ghost use Rattle.pct_model.specs.Run.{Run, is_config, verdict_of};
+    ghost use Rattle.pct_engine_laws.specs.Seen.{seen};
+    ghost use Rattle.pct_machine.specs.ShownProcesses.{ShowsIfSome};
     ghost use Rattle.pct_engine.specs.EngineStates.{IsRunOf, IsRunWith, IsAllowed, IsChoice, KeepsLaws};
 
     /// The engine of the run without entries. It takes the memory of the whole run: `budget` entries, three events for each,
@@ -99,6 +101,16 @@ impl Engine {
     {
         self.machine
             .verdict(&self.program, self.trace.history().len())
+    }
+
+    /// The process at an index among those that are not reaped, by rising id, in the state of the run so far. `None` exactly if there are
+    /// no more than that.
+    pub fn process(&self, index: usize) -> Option<ProcessView<'_>>
+        ensures shown { (after : Run) → IsRunOf self.now after
+            → ShowsIfSome (record { script = self.now.script; config = self.now.config }) (seen self.now.config.slots after.world) (slice_get (seen self.now.config.slots after.world).processes index) result }
+        ensures few { (after : Run) → IsRunOf self.now after → length (seen self.now.config.slots after.world).processes ≤ MAX_PROCESSES }
+    {
+        self.machine.process(&self.program, index)
     }
 
     /// The entries of the run so far, in order. There are at most as many as the budget allows.

@@ -1,5 +1,5 @@
 -- The outcome of an input that is not refused, and the answer to all that a source had left.
-use Rattle.std.proofs.Common.{◌≡◌, inr, ℕ, ◌<◌, true, List, length, Option, None, Ok, Err, refl, sym, ap, ◌∙◌, subst, arith}
+use Rattle.std.proofs.Common.{◌≡◌, inr, ℕ, ◌<◌, true, List, length, Option, Some, None, Ok, Err, refl, sym, ap, ◌∙◌, subst, arith}
 use Rattle.std.specs.Prelude.{IfOk}
 use Rattle.std.specs.Io.KnownBytes.{Appends}
 use Rattle.std.proofs.lemmas.Bool.{true≢false}
@@ -12,15 +12,21 @@ use Rattle.pct_model.specs.declared.refusal.ScheduleWhy.{ScheduleWhy}
 use Rattle.pct_model.specs.declared.stop.Verdict.{Verdict}
 use Rattle.pct_model.specs.declared.stop.Verdict.TheVariants as verdict
 use Rattle.pct_model.specs.Schedule.{Schedule}
+use Rattle.pct_model.specs.Spells.{Spells}
 use Rattle.pct_model.specs.Run.{Run, first_illegal, verdict_of}
 use Rattle.pct_model.specs.Outcome.{code_of_verdict}
 use Rattle.pct_grammar.proofs.Scripts.{spells_one_script}
 use Rattle.pct_schedule.specs.Prefix.{prefix_of}
+use Rattle.pct_history.specs.Replays.{followed}
 use Rattle.pct_command.specs.Command.{Outside}
 use Rattle.pct_command.proofs.Scripts.{spelled_or_fault}
 use Rattle.pct_inspection.specs.declared.answer.Answer.{Answer}
-use Rattle.pct_inspection.specs.Words.{is_inspection}
-use Rattle.pct_inspection.specs.Inspection.{prefix_in, code_by, Continues, IsInspected, IsValidPrefix, IsWhole}
+use Rattle.pct_inspection.specs.declared.words.Form.TheVariants as form
+use Rattle.pct_inspection.specs.declared.words.Inspection.TheVariants as inspection
+use Rattle.pct_inspection.specs.declared.words.View.{View}
+use Rattle.pct_inspection.specs.declared.words.View.TheVariants as view
+use Rattle.pct_inspection.specs.Words.{inspection_asked, is_inspection}
+use Rattle.pct_inspection.specs.Inspection.{script_in, prefix_in, code_by, code_after, Continues, FollowsPrefix, IsCodeOfRun, IsInspected, IsValidPrefix, IsWhole}
 use Rattle.pct_inspection.specs.Inspection as outcome
 use Rattle.pct_inspection.specs.Answer.{AnswersRead, status_of_answer, text_of_answer}
 
@@ -43,30 +49,68 @@ closed_code verdict.Budget closed = omega arith
 closed_code (verdict.Undefined why) closed = omega arith
 closed_code verdict.Open closed = absurd (closed refl)
 
+-- and each run has one below 5
+run_code : (v : Verdict) → code_of_verdict v < 5
+unfolding code_of_verdict
+run_code verdict.Complete = omega arith
+run_code verdict.Deadlock = omega arith
+run_code verdict.Budget = omega arith
+run_code (verdict.Undefined why) = omega arith
+run_code verdict.Open = omega arith
+
+-- in a prefix that is valid no entry is illegal
+none_illegal : (input : List ℕ) → IsValidPrefix input → (script : Script) (config : Config) (entries : List Entry) (illegal : Option ℕ)
+    → Spells (script_in input) script → prefix_of (prefix_in input) ≡ Ok (config, entries) → first_illegal script config entries ≡ illegal → illegal ≡ None
+none_illegal input valid script config entries illegal spelled read first =
+    let same_script : script ≡ valid.script = spells_one_script _ script valid.script spelled valid.spelled in
+    let same_prefix : (config, entries) ≡ (valid.config, valid.entries) = same_given (prefix_of (prefix_in input)) (config, entries) (valid.config, valid.entries) read valid.read in
+    sym first
+    ∙ ap (λ (p : Config × List Entry). first_illegal script p.0 p.1) same_prefix
+    ∙ ap (λ (s : Script). first_illegal s valid.config valid.entries) same_script
+    ∙ valid.legal
+
+-- the code of a run that followed such a prefix
+followed_code : (input : List ℕ) (code : ℕ) → IsValidPrefix input → (f : FollowsPrefix input) → code ≡ code_after f → code < 5
+followed_code input code valid f code_is =
+    let v : Verdict = verdict_of f.script f.config f.after.world (length (followed f.illegal f.entries)) in
+    let legal : f.illegal ≡ None = none_illegal input valid f.script f.config f.entries f.illegal f.spelled f.read f.illegal_is in
+    rw (code_is ∙ ap (λ (illegal : Option ℕ). code_by illegal (code_of_verdict v)) legal) (run_code v)
+
 -- if each entry of the prefix is legal, the code is that of the verdict
 legal_code : (words : List (List ℕ)) (input : List ℕ) (code : ℕ) (text : List ℕ) → IsValidPrefix input → Continues words input code text → code < 4
 legal_code words input code text valid goes_on =
-    let same_script : goes_on.script ≡ valid.script = spells_one_script _ goes_on.script valid.script goes_on.spelled valid.spelled in
-    let same_prefix : (goes_on.config, goes_on.entries) ≡ (valid.config, valid.entries) = same_given (prefix_of (prefix_in input)) (goes_on.config, goes_on.entries) (valid.config, valid.entries) goes_on.read valid.read in
-    let legal : goes_on.illegal ≡ None =
-    sym goes_on.illegal_is
-    ∙ ap (λ (p : Config × List Entry). first_illegal goes_on.script p.0 p.1) same_prefix
-    ∙ ap (λ (s : Script). first_illegal s valid.config valid.entries) same_script
-    ∙ valid.legal in
+    let legal : goes_on.illegal ≡ None = none_illegal input valid goes_on.script goes_on.config goes_on.entries goes_on.illegal goes_on.spelled goes_on.read goes_on.illegal_is in
     let same_run : goes_on.continued.after ≡ goes_on.after = same_Some goes_on.continued.after goes_on.after (sym goes_on.continued.is_run ∙ goes_on.is_run) in
     let v : Verdict = verdict_of goes_on.script goes_on.config goes_on.after.world (length goes_on.schedule) in
     let closed : ¬ (v ≡ verdict.Open) = λ is_open. goes_on.continued.is_closed (ap (λ (r : Run). verdict_of goes_on.script goes_on.config r.world (length goes_on.schedule)) same_run ∙ is_open) in
     let code_is : code ≡ code_of_verdict v = goes_on.code_is ∙ ap (λ (illegal : Option ℕ). code_by illegal (code_of_verdict v)) legal in
     rw code_is (closed_code v closed)
 
--- an input that is not refused has an outcome with such a code
-not_refused : (words : List (List ℕ)) (input : List ℕ) (code : ℕ) (text : List ℕ) → is_inspection words ≡ true → IsValidPrefix input → IsInspected words input code text → code < 4
+-- words that ask for a view do not ask to continue
+shown_alone : (words : List (List ℕ)) (shown : View) (seed : ℕ) → inspection_asked words ≡ Some (inspection.Show shown) → inspection_asked words ≡ Some (inspection.Continue seed) → ⊥
+shown_alone words shown seed one other = absurd cc
+
+-- the code of a view of such a run
+view_code : (words : List (List ℕ)) (input : List ℕ) (code : ℕ) (shown : View) → IsValidPrefix input → inspection_asked words ≡ Some (inspection.Show shown)
+    → (f : FollowsPrefix input) → code ≡ code_after f → IsCodeOfRun words code
+view_code words input code shown valid asked f code_is = record {
+  run_code = followed_code input code valid f code_is;
+  closed = λ seed continued. absurd (shown_alone words shown seed asked continued);
+}
+
+-- an input that is not refused has an outcome with the code of a run
+not_refused : (words : List (List ℕ)) (input : List ℕ) (code : ℕ) (text : List ℕ) → is_inspection words ≡ true → IsValidPrefix input → IsInspected words input code text → IsCodeOfRun words code
 not_refused words input code text accepted valid (outcome.WordsRefused refuses) = absurd (true≢false (sym accepted ∙ refuses.refused))
 not_refused words input code text accepted valid (outcome.InputRefused refuses) = absurd (omega (arith, valid.fits, refuses.too_long))
 not_refused words input code text accepted valid (outcome.ScriptRefused refuses) = absurd (spelled_or_fault _ valid.script refuses.line refuses.why valid.spelled refuses.first)
 not_refused words input code text accepted valid (outcome.PrefixRefused refuses) =
     absurd (given_or_fault (prefix_of (prefix_in input)) (valid.config, valid.entries) (refuses.line, refuses.why) valid.read refuses.first)
-not_refused words input code text accepted valid (outcome.Continued goes_on) = legal_code words input code text valid goes_on
+not_refused words input code text accepted valid (outcome.Continued goes_on) =
+    let below : code < 4 = legal_code words input code text valid goes_on in
+    record { run_code = omega (arith, below); closed = λ _ _. below }
+not_refused words input code text accepted valid (outcome.Traced traces) = view_code words input code (view.Steps form.Trace) valid traces.asked traces.prefix traces.code_is
+not_refused words input code text accepted valid (outcome.Listed lists) = view_code words input code view.Choices valid lists.asked lists.prefix lists.code_is
+not_refused words input code text accepted valid (outcome.Drawn draws) = view_code words input code (view.Steps draws.shown) valid draws.asked draws.prefix draws.code_is
 
 -- ---- all that a source had left
 

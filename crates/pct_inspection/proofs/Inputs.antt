@@ -5,13 +5,14 @@ use Rattle.std.proofs.lemmas.Slice.{between_to_end}
 use Rattle.pct_model.specs.declared.script.Script.{Script}
 use Rattle.pct_model.specs.Spells.{Spells}
 use Rattle.pct_model.specs.Schedule.{replay_parts}
+use Rattle.pct_inspection.specs.declared.words.Inspection.{Inspection}
 use Rattle.pct_inspection.specs.Words.{is_inspection}
 use Rattle.pct_inspection.specs.Inspection.{script_in, prefix_in}
-use Rattle.pct_inspection.specs.Answer.{AsksToContinue, HasParts}
+use Rattle.pct_inspection.specs.Answer.{AsksFor, HasParts}
 
--- words that ask to continue are accepted
-pub is_accepted : (words : List (List ℕ)) (seed : ℕ) → AsksToContinue words seed → is_inspection words ≡ true
-is_accepted words seed asked = ap is_some asked
+-- words that ask for something are accepted
+pub is_accepted : (words : List (List ℕ)) (what : Inspection) → AsksFor words what → is_inspection words ≡ true
+is_accepted words what asked = ap is_some asked
 
 -- the script of an input that was split
 pub is_script : (input : List ℕ) (parts : ℕ × ℕ) → parts ≡ replay_parts input → take parts.0 input ≡ script_in input

@@ -17,10 +17,11 @@ use Rattle.pct_command.specs.SeedSchedule.{SeedContinuation}
 use Rattle.pct_command.specs.Answer.{text_of_run}
 use Rattle.pct_command.proofs.Outcomes.{read-back, run-code, run-report}
 use Rattle.pct_inspection.specs.declared.answer.Answer.TheVariants as answer
+use Rattle.pct_inspection.specs.declared.words.Inspection.{Inspection}
 use Rattle.pct_inspection.specs.Words.{is_inspection}
 use Rattle.pct_inspection.specs.Inspection.{script_in, prefix_in, code_by, IsInspected}
 use Rattle.pct_inspection.specs.Inspection as outcome
-use Rattle.pct_inspection.specs.Answer.{code_of_answer, text_of_answer, AsksToContinue, HasScript}
+use Rattle.pct_inspection.specs.Answer.{code_of_answer, text_of_answer, AsksFor, AsksToContinue, HasScript}
 use Rattle.pct_inspection.proofs.Inputs.{is_accepted}
 
 -- ---- runs
@@ -81,14 +82,14 @@ continue-answer words input seed script config entries before engine illegal ask
 pub words-answer : (words : List (List ℕ)) (input : List ℕ) → is_inspection words ≡ false → IsInspected words input 5 (line_text refused_words)
 words-answer words input refused = outcome.WordsRefused (record { refused = refused; code_is = refl; text_is = refl })
 
-pub input-answer : (words : List (List ℕ)) (input : List ℕ) (seed : ℕ) → AsksToContinue words seed → 16777216 < length input → IsInspected words input 8 (line_text refused_input)
-input-answer words input seed asked too_long = outcome.InputRefused (record { accepted = is_accepted words seed asked; too_long = too_long; code_is = refl; text_is = refl })
+pub input-answer : (words : List (List ℕ)) (input : List ℕ) (what : Inspection) → AsksFor words what → 16777216 < length input → IsInspected words input 8 (line_text refused_input)
+input-answer words input what asked too_long = outcome.InputRefused (record { accepted = is_accepted words what asked; too_long = too_long; code_is = refl; text_is = refl })
 
-pub script-answer : (words : List (List ℕ)) (input : List ℕ) (seed line : ℕ) (why : ParseWhy) → AsksToContinue words seed → length input ≤ 16777216 → FirstFault (script_in input) line why → IsInspected words input 6 (line_text (refused_script line why))
-script-answer words input seed line why asked fits first =
-    outcome.ScriptRefused (record { accepted = is_accepted words seed asked; fits = fits; line = line; why = why; first = first; code_is = refl; text_is = refl })
+pub script-answer : (words : List (List ℕ)) (input : List ℕ) (what : Inspection) (line : ℕ) (why : ParseWhy) → AsksFor words what → length input ≤ 16777216 → FirstFault (script_in input) line why → IsInspected words input 6 (line_text (refused_script line why))
+script-answer words input what line why asked fits first =
+    outcome.ScriptRefused (record { accepted = is_accepted words what asked; fits = fits; line = line; why = why; first = first; code_is = refl; text_is = refl })
 
-pub prefix-answer : (words : List (List ℕ)) (input : List ℕ) (seed : ℕ) (script : Script) (line : ℕ) (why : ScheduleWhy) → AsksToContinue words seed → HasScript input script
+pub prefix-answer : (words : List (List ℕ)) (input : List ℕ) (what : Inspection) (script : Script) (line : ℕ) (why : ScheduleWhy) → AsksFor words what → HasScript input script
     → prefix_of (prefix_in input) ≡ Err (line, why) → IsInspected words input 7 (line_text (refused_schedule line why))
-prefix-answer words input seed script line why asked has first =
-    outcome.PrefixRefused (record { accepted = is_accepted words seed asked; fits = has.fits; script = script; spelled = has.spelled; line = line; why = why; first = first; code_is = refl; text_is = refl })
+prefix-answer words input what script line why asked has first =
+    outcome.PrefixRefused (record { accepted = is_accepted words what asked; fits = has.fits; script = script; spelled = has.spelled; line = line; why = why; first = first; code_is = refl; text_is = refl })

@@ -15,6 +15,7 @@ use Rattle.pct_inspection.specs.declared.answer.Answer.{Answer}
 use Rattle.pct_inspection.specs.declared.answer.Answer.TheVariants as answer
 use Rattle.pct_inspection.specs.declared.answer.Unanswered.{Unanswered}
 use Rattle.pct_inspection.specs.declared.answer.Unanswered.TheVariants as unanswered
+use Rattle.pct_inspection.specs.declared.words.Inspection.{Inspection}
 use Rattle.pct_inspection.specs.declared.words.Inspection.TheVariants as inspection
 use Rattle.pct_inspection.specs.Words.{inspection_asked, is_inspection}
 use Rattle.pct_inspection.specs.Inspection.{script_in, prefix_in, notice, IsInspected}
@@ -30,21 +31,27 @@ status_by (Some entry_number) s = status.ScheduleRefused
 abbrev pub status_of_answer : Answer → Status
 status_of_answer (answer.Refused why) = status_of_refusal why
 status_of_answer (answer.Continued engine illegal) = status_by illegal (status_of_verdict (verdict_of_run engine))
+status_of_answer (answer.Shown text v illegal) = status_by illegal (status_of_verdict v)
 
 -- the code of an answer
 abbrev pub code_of_answer : Answer → ℕ
 code_of_answer a = code_of (status_of_answer a)
 
--- the text of an answer: the line of a refusal, or the report of a run and the notice after it
+-- the text of an answer: the line of a refusal, the report of a run and the notice after it, or a view
 abbrev pub text_of_answer : Answer → List ℕ
 text_of_answer (answer.Refused why) = line_text (line_of_refusal why)
 text_of_answer (answer.Continued engine illegal) = text_of_run engine ++ notice illegal
+text_of_answer (answer.Shown text v illegal) = text.items
 
 -- ---- the answer to a text
 
+-- the words ask for this
+abbrev pub AsksFor : List (List ℕ) → Inspection → Type 0
+AsksFor words asked = inspection_asked words ≡ Some asked
+
 -- the words ask to continue with this seed
 abbrev pub AsksToContinue : List (List ℕ) → ℕ → Type 0
-AsksToContinue words seed = inspection_asked words ≡ Some (inspection.Continue seed)
+AsksToContinue words seed = AsksFor words (inspection.Continue seed)
 
 -- an input within the limit, whose script's part spells this script
 pub record HasScript (input : List ℕ) (script : Script) : Type 0 where

@@ -1,9 +1,11 @@
 -- The outcome of the program that inspects runs: the exit status, given by its code, and the bytes written, for given arguments and
 -- input.
-use Rattle.std.specs.Prelude.{◌≡◌, ◌≢◌, ◌⊎◌, ℕ, ◌<◌, ◌≤◌, true, false, List, [], ◌∷◌, ◌++◌, length, take, drop, Option, Some, None, Ok, Err, codes, decimal}
+use Rattle.std.specs.Prelude.{◌≡◌, ◌≢◌, ◌⊎◌, ℕ, ◌<◌, ◌≤◌, Bool, true, false, List, [], ◌∷◌, ◌++◌, length, take, drop, slice_get, Contains, IsSomeAnd, Option, Some, None, Ok, Err, codes, decimal}
 use Rattle.pct_model.specs.declared.refusal.ParseWhy.{ParseWhy}
 use Rattle.pct_model.specs.declared.refusal.ScheduleWhy.{ScheduleWhy}
+use Rattle.pct_model.specs.declared.script.Func.{Func}
 use Rattle.pct_model.specs.declared.script.Script.{Script}
+use Rattle.pct_model.specs.declared.statement.Stmt.{Stmt}
 use Rattle.pct_model.specs.declared.schedule.Config.{Config}
 use Rattle.pct_model.specs.declared.schedule.Entry.{Entry}
 use Rattle.pct_model.specs.declared.keyword.Keyword.TheVariants as keyword
@@ -18,6 +20,11 @@ use Rattle.pct_model.specs.Report.{report}
 use Rattle.pct_model.specs.Kept.{Kept}
 use Rattle.pct_model.specs.Laws.{Laws}
 use Rattle.pct_schedule.specs.Prefix.{prefix_of}
+use Rattle.pct_script.specs.StatementLines.{statement_lines, line_at, SpellsStatement}
+use Rattle.pct_view_laws.specs.Listed.{ListedThread, listed_threads, AreLegalEntries, IsBlockedIfWaiting}
+use Rattle.pct_view_laws.specs.TracedSteps.{IsTraceOf, steps_of}
+use Rattle.pct_view_texts.specs.Choices.{choices_text}
+use Rattle.pct_view_texts.specs.Trace.{trace_text}
 use Rattle.pct_history.specs.Replays.{followed}
 use Rattle.pct_command.specs.declared.status.Status.{Status}
 use Rattle.pct_command.specs.declared.status.Status.TheVariants as status
@@ -25,6 +32,9 @@ use Rattle.pct_command.specs.Status.{code_of}
 use Rattle.pct_command.specs.SeedSchedule.{SeedContinuation}
 use Rattle.pct_command.specs.Command.{Outside, WroteAll}
 use Rattle.pct_inspection.specs.declared.words.Inspection.TheVariants as inspection
+use Rattle.pct_inspection.specs.declared.words.Form.{Form}
+use Rattle.pct_inspection.specs.declared.words.Form.TheVariants as form
+use Rattle.pct_inspection.specs.declared.words.View.TheVariants as view
 use Rattle.pct_inspection.specs.Words.{inspection_asked, is_inspection}
 
 -- ---- the input
@@ -111,6 +121,65 @@ pub record Continues (words : List (List ℕ)) (input : List ℕ) (code : ℕ) (
   pub laws : Laws after.events config.passes config.slots
   pub kept : Kept script config after.world after.events
 
+-- an input with a script and a prefix of a schedule, and the run of the entries of the prefix up to the first that is not legal
+pub record FollowsPrefix (input : List ℕ) : Type 0 where
+  pub fits : length input ≤ MAX_INPUT
+  pub script : Script
+  pub spelled : Spells (script_in input) script
+  pub config : Config
+  pub entries : List Entry
+  pub read : prefix_of (prefix_in input) ≡ Ok (config, entries)
+  pub illegal : Option ℕ
+  pub illegal_is : first_illegal script config entries ≡ illegal
+  pub after : Run
+  pub is_run : run script config (followed illegal entries) ≡ Some after
+
+-- the entries that are followed
+abbrev pub entries_in : {input : List ℕ} → FollowsPrefix input → List Entry
+entries_in f = followed f.illegal f.entries
+
+-- the exit code after such a run
+abbrev pub code_after : {input : List ℕ} → FollowsPrefix input → ℕ
+code_after f = code_by f.illegal (code_of_verdict (verdict_of f.script f.config f.after.world (length (entries_in f))))
+
+-- the line that is shown for a statement of a script is a line of the text that spells the statement
+abbrev pub LinesSpell : List ℕ → Script → Type 0
+LinesSpell text script = (func pc : ℕ) (f : Func) (s : Stmt) → slice_get script.funcs func ≡ Some f → slice_get f.body pc ≡ Some s → IsSomeAnd (line_at (statement_lines text) func pc) (SpellsStatement text script f.locals s)
+
+-- `trace`: the steps of the run, and the notice. The steps have the entries that are followed and the events of their run, in order
+pub record Traces (words : List (List ℕ)) (input : List ℕ) (code : ℕ) (text : List ℕ) : Type 0 where
+  pub asked : inspection_asked words ≡ Some (inspection.Show (view.Steps form.Trace))
+  pub prefix : FollowsPrefix input
+  pub code_is : code ≡ code_after prefix
+  pub text_is : text ≡ trace_text (statement_lines (script_in input)) prefix.script prefix.config (entries_in prefix) prefix.after ++ notice prefix.illegal
+  pub steps_are : IsTraceOf (entries_in prefix) prefix.after (steps_of prefix.script prefix.config (entries_in prefix))
+  pub lines_are : LinesSpell (script_in input) prefix.script
+
+-- `choices`: the state after the run, with what each thread may do next, and the notice. The entries that are listed are the legal ones with
+-- worker 1. A thread that waits cannot go on, and one that has no choice waits
+pub record ListsChoices (words : List (List ℕ)) (input : List ℕ) (code : ℕ) (text : List ℕ) : Type 0 where
+  pub asked : inspection_asked words ≡ Some (inspection.Show view.Choices)
+  pub prefix : FollowsPrefix input
+  pub code_is : code ≡ code_after prefix
+  pub text_is : text ≡ choices_text (statement_lines (script_in input)) prefix.script prefix.config prefix.after.world (length (entries_in prefix)) ++ notice prefix.illegal
+  pub entries_are : AreLegalEntries prefix.script prefix.config prefix.after.world
+  pub waits_are : (l : ListedThread) → Contains (listed_threads prefix.script prefix.config prefix.after.world) l → IsBlockedIfWaiting l
+  pub lines_are : LinesSpell (script_in input) prefix.script
+
+-- the steps are drawn in this form
+abbrev pub is_drawn : Form → Bool
+is_drawn form.Trace = false
+is_drawn form.Lanes = true
+is_drawn form.Picture = true
+
+-- `lanes` and `picture`: of the text nothing is said, and the exit code is that of `trace`
+pub record Draws (words : List (List ℕ)) (input : List ℕ) (code : ℕ) : Type 0 where
+  pub shown : Form
+  pub drawn : is_drawn shown ≡ true
+  pub asked : inspection_asked words ≡ Some (inspection.Show (view.Steps shown))
+  pub prefix : FollowsPrefix input
+  pub code_is : code ≡ code_after prefix
+
 -- the outcome for these arguments and this input. The cases are disjoint, and in the order in which they are decided.
 pub data IsInspected (words : List (List ℕ)) (input : List ℕ) (code : ℕ) (text : List ℕ) : Type 0 where
   WordsRefused : RefusesWords words code text → IsInspected words input code text
@@ -118,6 +187,9 @@ pub data IsInspected (words : List (List ℕ)) (input : List ℕ) (code : ℕ) (
   ScriptRefused : RefusesScript words input code text → IsInspected words input code text
   PrefixRefused : RefusesPrefix words input code text → IsInspected words input code text
   Continued : Continues words input code text → IsInspected words input code text
+  Traced : Traces words input code text → IsInspected words input code text
+  Listed : ListsChoices words input code text → IsInspected words input code text
+  Drawn : Draws words input code → IsInspected words input code text
 
 -- ---- completeness
 
@@ -131,10 +203,15 @@ pub record IsValidPrefix (input : List ℕ) : Type 0 where
   pub read : prefix_of (prefix_in input) ≡ Ok (config, entries)
   pub legal : first_illegal script config entries ≡ None
 
+-- the code is that of a verdict, and with `continue` that of a run that is not open
+pub record IsCodeOfRun (words : List (List ℕ)) (code : ℕ) : Type 0 where
+  pub run_code : code < 5
+  pub closed : (seed : ℕ) → inspection_asked words ≡ Some (inspection.Continue seed) → code < 4
+
 -- if the source reports its bytes and no call failed, the outcome of all that it had left was written whole, or memory ran out;
 -- with accepted words a valid input is not refused
 abbrev pub IsWhole : List (List ℕ) → Outside → Outside → Status → Type 0
 IsWhole words before after s =
     (input : List ℕ) → before.left ≡ Some input
     → s ≢ status.ReadFault → s ≢ status.WriteFault
-    → (s ≡ status.NoMemory) ⊎ (WroteAll (IsInspected words) input before.written after.written (code_of s) × (is_inspection words ≡ true → IsValidPrefix input → code_of s < 4))
+    → (s ≡ status.NoMemory) ⊎ (WroteAll (IsInspected words) input before.written after.written (code_of s) × (is_inspection words ≡ true → IsValidPrefix input → IsCodeOfRun words (code_of s)))

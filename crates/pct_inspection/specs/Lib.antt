@@ -1,3 +1,4 @@
 pub mod Words
 pub mod Inspection
 pub mod Answer
+pub mod Shown

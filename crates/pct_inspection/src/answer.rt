@@ -1,11 +1,13 @@
-//! The answers: a refusal, or a run.
+//! The answers: a refusal, a run, or a view of a run.
 
 ghost use Rattle.std.specs.Prelude.{◌≡◌};
 ghost use Rattle.pct_command.specs.Status.{IsAnswered};
-ghost use Rattle.pct_inspection.specs.Answer.{status_of_answer};
+ghost use Rattle.pct_command.specs.Answer.{status_of_verdict};
+ghost use Rattle.pct_inspection.specs.Answer.{status_by, status_of_answer};
 
 use pct_command::{Refusal, Status};
 use pct_engine::Engine;
+use pct_model::Verdict;
 
 /// What is written.
 #[derive(Drop)]
@@ -15,6 +17,13 @@ pub(crate) enum Answer {
     /// The report of the run; and a notice, if an entry of the prefix is not legal: the number of the first one, counted from 1.
     Continued {
         engine: Engine,
+        illegal: Option<u32>,
+    },
+    /// The text of a view of a run; the verdict of the run; and the number of the first entry of the prefix that is not legal, if
+    /// there is one.
+    Shown {
+        text: Vec<u8>,
+        verdict: Verdict,
         illegal: Option<u32>,
     },
 }
@@ -36,10 +45,23 @@ impl Answer {
     {
         match self {
             Answer::Refused(refusal) => refusal.status(),
-            Answer::Continued { engine, illegal } => match illegal {
-                None => Status::of_verdict(engine.verdict()),
-                Some(_) => Status::ScheduleRefused,
-            },
+            Answer::Continued { engine, illegal } => status_by(*illegal, engine.verdict()),
+            Answer::Shown {
+                verdict,
+                illegal,
+                ..
+            } => status_by(*illegal, *verdict),
         }
+    }
+}
+
+// The status of a run with this verdict, which followed a prefix up to an entry that is not legal, if there is one.
+fn status_by(illegal: Option<u32>, verdict: Verdict) -> Status
+    ensures status { result ≡ status_by illegal (status_of_verdict verdict) }
+    ensures answered { IsAnswered result }
+{
+    match illegal {
+        None => Status::of_verdict(verdict),
+        Some(_) => Status::ScheduleRefused,
     }
 }

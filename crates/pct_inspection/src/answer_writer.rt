@@ -9,17 +9,18 @@ ghost use Rattle.pct_inspection.specs.Inspection.{notice};
 use crate::answer::Answer;
 use pct_command::write_refusal;
 use pct_engine::Engine;
-use pct_io::{Failed, Field, Sink, write_line};
+use pct_io::{Failed, Field, Sink, write_all, write_line};
 use pct_model::Keyword;
 use pct_report::write_report;
 
-/// Writes an answer: the line of a refusal, or the report of a run, and the notice after it.
+/// Writes an answer: the line of a refusal, the report of a run and the notice after it, or a view.
 pub(crate) fn write_answer<K: Sink>(answer: &Answer, sink: &mut K) -> Result<(), Failed>
     ensures { Writes K.written K.errors K.inners sink.old sink.new (text_of_answer answer.now) result }
 {
     match answer {
         Answer::Refused(refusal) => write_refusal(*refusal, sink),
         Answer::Continued { engine, illegal } => write_continued(engine, *illegal, sink),
+        Answer::Shown { text, .. } => write_all(sink, text),
     }
 }
 
@@ -35,8 +36,8 @@ fn write_continued<K: Sink>(
     write_notice(illegal, sink)
 }
 
-// Writes the line that names an entry which is not legal, if there is one.
-fn write_notice<K: Sink>(illegal: Option<u32>, sink: &mut K) -> Result<(), Failed>
+/// Writes the line that names an entry which is not legal, if there is one.
+pub(crate) fn write_notice<K: Sink>(illegal: Option<u32>, sink: &mut K) -> Result<(), Failed>
     ensures { Writes K.written K.errors K.inners sink.old sink.new (notice illegal) result }
 {
     match illegal {

@@ -1,35 +1,18 @@
 //! The run that begins with the entries of a prefix, and goes on as a seed chooses.
 
-ghost use Rattle.std.specs.Prelude.{◌≡◌, ◌<◌, ◌≤◌, ℕ, List, length, IsErr};
+ghost use Rattle.std.specs.Prelude.{◌≤◌, ℕ, List, length};
 ghost use Rattle.pct_model.specs.declared.limits.TheConstants.{MAX_INPUT};
 ghost use Rattle.pct_inspection.specs.Answer.{Answered, AsksToContinue, HasParts};
 
 use crate::answer::Answer;
 use pct_command::{Refusal, continue_seeded};
-use pct_history::{ScheduleFault, follow, read_prefix, split_replay};
+use pct_history::{ScheduleFault, follow, read_prefix};
 use pct_io::NoMemory;
 use pct_model::Script;
-use pct_script::{ParseFault, parse};
 use std::alloc::Global;
 
-/// The answer of `continue` to an input. `NoMemory` comes only with an input that is not empty.
-pub(crate) fn continue_input(alloc: Global, seed: u64, input: &[u8]) -> Result<Answer, NoMemory>
-    requires { length input.now ≤ MAX_INPUT }
-    ensures answer { (words : List (List ℕ)) → AsksToContinue words seed → Answered words input.now result }
-    ensures memory { IsErr result → 0 < length input.now }
-{
-    let (end, start) = split_replay(input);
-    match parse(alloc, &input[..end]) {
-        Ok(script) => continue_script(alloc, seed, script, &input[start..]),
-        Err(ParseFault::Refused { line, why }) => {
-            Ok(Answer::Refused(Refusal::Script { line, why }))
-        }
-        Err(ParseFault::NoMemory) => Err(NoMemory),
-    }
-}
-
-// The answer of `continue` to a script and the text of a prefix.
-fn continue_script(
+/// The answer of `continue` to a script and the text of a prefix.
+pub(crate) fn continue_script(
     alloc: Global,
     seed: u64,
     script: Script,

@@ -3,13 +3,13 @@
 ghost use Rattle.std.specs.Prelude.{◌≡◌, ◌⊎◌, List, ℕ, true, false, map, string_bytes, Ok as Gives, IfOk, IfErr};
 ghost use Rattle.pct_io.specs.Inners.{KeepsInners};
 ghost use Rattle.pct_command.specs.Command.{Answers, HasRead, Records};
-ghost use Rattle.pct_inspection.specs.Answer.{AnswersRead, AsksToContinue, ReadsInput};
+ghost use Rattle.pct_inspection.specs.Answer.{AnswersRead, AsksFor, ReadsInput};
 ghost use Rattle.pct_inspection.specs.Inspection.{IsInspected, IsWhole};
 ghost use Rattle.pct_inspection.specs.Words.{is_inspection};
 
 use crate::answer::{Answer, Unanswered};
 use crate::answer_writer::write_answer;
-use crate::continuing::continue_input;
+use crate::answering::answer_input;
 use crate::words::{Inspection, read_inspection};
 use pct_command::{Refusal, Status};
 use pct_io::{Failed, NoMemory, ReadEnd, Sink, Source, read_all};
@@ -18,21 +18,28 @@ use std::alloc::Global;
 
 /// Does what the words ask for on the bytes of the source, and writes the answer to the sink.
 ///
-/// The words are `continue` and a seed. The input is a script, a line `%%`, and a prefix of a schedule: a schedule or a whole report, in
-/// which the line `end N` may be missing. Without a line `%%`, or with nothing after it, the prefix has no entry, and the numbers of the
-/// run are those of `run` without options. The run makes the steps of the prefix, up to the first entry that is not legal, and worker 1 makes
-/// each further step, as two words of its random stream choose under the seed, until the verdict is not `Open`. The report is
-/// written, and after it, if entry N of the prefix is not legal, a line `entry N is not legal here`. A refusal is one line that names the
-/// reason.
+/// The words are `continue` and a seed, or one of `trace`, `choices`, `lanes` and `picture`. The input is a script, a line `%%`, and a prefix
+/// of a schedule: a schedule or a whole report, in which the line `end N` may be missing. Without a line `%%`, or with nothing after it, the
+/// prefix has no entry, and the numbers of the run are those of `run` without options. The run makes the steps of the prefix, up to the first
+/// entry that is not legal.
+///
+/// - `continue`: worker 1 makes each further step, as two words of its random stream choose under the seed, until the verdict is not `Open`.
+///   The report is written.
+/// - `trace`: a line for each step is written, with where the thread was, the statement there, the choice and the events; then the verdict.
+/// - `choices`: the verdict is written; then, for each thread that has not ended, where it is, what it waits for, its cancelability and its
+///   handlers, and below it each entry of worker 1 that is legal.
+/// - `lanes`, `picture`: the steps are written with a column for each thread, as text or as SVG.
+///
+/// After it, if entry N of the prefix is not legal, a line `entry N is not legal here` is written. A refusal is one line that names the reason.
 ///
 /// The answer is the first of these that holds, unless it is `ReadFault`, `WriteFault` or `NoMemory`:
 ///
 /// - `Usage`: the words are not accepted; nothing is read.
 /// - `TooLong`: more than 16,777,216 bytes were read.
 /// - `ScriptRefused`: the text of the script has a fault.
-/// - `ScheduleRefused`: the text of the prefix has a fault, or one of its entries is not legal; then the report and the notice were
-///   written.
-/// - `Complete`, `Deadlock`, `Budget` or `Undefined`: the report of a run with this verdict was written.
+/// - `ScheduleRefused`: the text of the prefix has a fault, or one of its entries is not legal; then the report or the view, and the notice,
+///   were written.
+/// - `Complete`, `Deadlock`, `Budget`, `Undefined` or, of a view, `Open`: the report or the view of a run with this verdict was written.
 ///
 /// With the answers of this list from `ScriptRefused` on the input was read to its end.
 ///
@@ -95,17 +102,21 @@ fn answer_words<S: Source>(
 {
     match read_inspection(words) {
         None => Ok(Answer::Refused(Refusal::Words)),
-        Some(Inspection::Continue(seed)) => answer_input(alloc, seed, source),
+        Some(asked) => answer_read(alloc, asked, source),
     }
 }
 
-// The answer of `continue` to the bytes of the source.
-fn answer_input<S: Source>(alloc: Global, seed: u64, source: &mut S) -> Result<Answer, Unanswered>
-    ensures answer { (words : List (List ℕ)) → AsksToContinue words seed → IfOk result (λ answer. AnswersRead words (S.left source.old) (S.left source.new) answer) }
+// The answer to the bytes of the source.
+fn answer_read<S: Source>(
+    alloc: Global,
+    asked: Inspection,
+    source: &mut S,
+) -> Result<Answer, Unanswered>
+    ensures answer { (words : List (List ℕ)) → AsksFor words asked → IfOk result (λ answer. AnswersRead words (S.left source.old) (S.left source.new) answer) }
     ensures reads { ReadsInput S.left S.errors source.old source.new result }
 {
     match read_all(alloc, source, MAX_INPUT) {
-        Ok(text) => match continue_input(alloc, seed, &text) {
+        Ok(text) => match answer_input(alloc, asked, &text) {
             Ok(answer) => Ok(answer),
             Err(NoMemory) => Err(Unanswered::NoMemory),
         },

@@ -3,3 +3,4 @@ pub mod Places
 pub mod ListChanges
 pub mod MachineSteps
 pub mod Candidates
+pub mod ShownProcesses

@@ -5,8 +5,10 @@ mod candidates;
 mod changes;
 mod machine;
 mod place;
+mod process_view;
 mod processes;
 mod scheduler;
 
 pub use machine::Machine;
+pub use process_view::ProcessView;
 pub use scheduler::Draw;

@@ -2,6 +2,7 @@
 
 use crate::candidates::{all_ended, any_ready, pick};
 use crate::changes::act_all;
+use crate::process_view::ProcessView;
 use crate::processes::Processes;
 use crate::scheduler::{Draw, Pick};
 use pct_io::NoMemory;
@@ -28,13 +29,14 @@ impl Model for Machine {
 }
 
 impl Machine {
-    ghost use Rattle.std.specs.Prelude.{◌≡◌, ◌≤◌, true, if◌then◌else◌, is_some, IfOk, IfSome};
-    ghost use Rattle.pct_model.specs.declared.limits.TheConstants.{MAX_SLOTS, MAX_WORKER};
+    ghost use Rattle.std.specs.Prelude.{◌≡◌, ◌≤◌, true, if◌then◌else◌, is_some, length, slice_get, IfOk, IfSome};
+    ghost use Rattle.pct_model.specs.declared.limits.TheConstants.{MAX_PROCESSES, MAX_SLOTS, MAX_WORKER};
     ghost use Rattle.pct_model.specs.World.{opening};
     ghost use Rattle.pct_engine_laws.specs.Seen.{seen, seen_after};
     ghost use Rattle.pct_engine_laws.specs.SeenSteps.{seen_chosen, seen_verdict};
     ghost use Rattle.pct_machine.specs.ProcessSteps.{AllCanStep, some_if};
     ghost use Rattle.pct_machine.specs.MachineSteps.{legal_transition};
+    ghost use Rattle.pct_machine.specs.ShownProcesses.{ShowsIfSome};
 
     /// The state before the first step, with 1 to 64 thread slots. `NoMemory` is returned if the tables of eight processes do not fit into
     /// memory: no other call takes memory.
@@ -102,5 +104,16 @@ impl Machine {
             Pick::Here(entry) => entry,
             Pick::Before(_) => None,
         }
+    }
+
+    /// The process at an index among those that are not reaped, by rising id. `None` exactly if there are no more than that.
+    pub fn process<'a>(&'a self, program: &'a Program, index: usize) -> Option<ProcessView<'a>>
+        requires { AllCanStep program.now.config.slots self.now.processes self.now.made }
+        ensures shown { ShowsIfSome program.now self.now (slice_get self.now.processes index) result }
+        // This holds of all processes.
+        ensures few { length self.now.processes ≤ MAX_PROCESSES }
+    {
+        let place = self.processes.as_slice().get(index)?;
+        Some(place.view(self.processes.around(program, place.pid())))
     }
 }

@@ -1,6 +1,7 @@
 //! A process of a machine.
 
 use crate::changes::Change;
+use crate::process_view::ProcessView;
 use crate::scheduler::{Draw, ready_slots};
 use pct_actions::make;
 use pct_io::NoMemory;
@@ -50,6 +51,7 @@ impl Place {
     ghost use Rattle.pct_machine.specs.Candidates.{takes_in};
     ghost use Rattle.pct_machine.specs.ListChanges.{process_changed};
     ghost use Rattle.pct_machine.specs.ProcessSteps.{CanStep, HasThread, taken_in, some_if};
+    ghost use Rattle.pct_machine.specs.ShownProcesses.{ShowsProcess};
 
     /// The first process before the first step, with 1 to 64 thread slots. `NoMemory` is returned if its tables do not fit into memory.
     pub fn first(alloc: Global, script: &Script, slots: u32) -> Result<Place, NoMemory>
@@ -144,6 +146,19 @@ impl Place {
             tid: self.state.id_on(slot),
             alt,
         })
+    }
+
+    /// The process, as it is shown.
+    pub fn view<'a>(&'a self, around: Surroundings<'a>) -> ProcessView<'a>
+        requires { CanStep around.program.now.config.slots self.now }
+        ensures { ShowsProcess around.entry.program.now (other_processes around.entry.family) self.now result }
+    {
+        ProcessView {
+            pid: self.entry.pid,
+            has_ended: self.has_ended(),
+            state: &self.state,
+            around,
+        }
     }
 
     /// Makes the step of an entry of a thread of the process, and writes the transition that it takes to `transition`. The result is

@@ -20,7 +20,8 @@ use Rattle.pct_model.specs.Contents.{Contents}
 use Rattle.pct_model.specs.Canon.{argument_text, argument_texts, statement_words, declaration_line, function_lines, script_lines}
 use Rattle.pct_printer.specs.Printing.{spaced, declarations_text, arguments_text, body_text, functions_text}
 
-joined : (w : List ℕ) (words : List (List ℕ)) → join_with_byte 32 (w ∷ words) ≡ w ++ spaced words
+-- words separated by spaces are the first word, and the others, each after a space
+pub joined : (w : List ℕ) (words : List (List ℕ)) → join_with_byte 32 (w ∷ words) ≡ w ++ spaced words
 joined w [] = sym (append-nil w)
 joined w (next ∷ words) = ap (λ rest. w ++ (32 ∷ rest)) (joined next words) ∙ ap (λ rest. w ++ rest) (sym (flat_map-cons (λ (x : List ℕ). 32 ∷ x) next words))
 

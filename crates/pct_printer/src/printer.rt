@@ -1,6 +1,7 @@
 //! `print`: the canonical text of a script.
 
 ghost use Rattle.std.specs.Prelude.{[], ◌∷◌, ◌++◌, length, decimal};
+ghost use Rattle.std.specs.List.{join_with_byte};
 ghost use Rattle.pct_io.specs.Writes.{Writes};
 ghost use Rattle.pct_model.specs.declared.line_kind.SymbolKind.TheVariants as kind;
 ghost use Rattle.pct_model.specs.Keywords.{line_text, text_of};
@@ -180,8 +181,21 @@ fn write_statement<K: Sink>(
 ) -> Result<(), Failed>
     ensures { Writes K.written K.errors K.inners sink.old sink.new (line_text (statement_words (contents_of script.now) locals.now statement)) result }
 {
-    write_encoded(sink, script, locals, &encode(statement))?;
+    write_statement_words(sink, script, locals, statement)?;
     write_all(sink, b"\n")
+}
+
+/// Writes the words of a statement, as in the canonical text, to the sink: the statement is in a function with these
+/// locals. After `Failed` a prefix of them was written, and the sink has recorded an error. It allocates no memory.
+pub fn write_statement_words<K: Sink>(
+    sink: &mut K,
+    script: &Script,
+    locals: &[Name],
+    statement: Stmt,
+) -> Result<(), Failed>
+    ensures { Writes K.written K.errors K.inners sink.old sink.new (join_with_byte 32 (statement_words (contents_of script.now) locals.now statement)) result }
+{
+    write_encoded(sink, script, locals, &encode(statement))
 }
 
 // The words of a statement's line.

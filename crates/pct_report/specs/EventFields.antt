@@ -1,4 +1,4 @@
--- The words of an event as the code builds them. No public contract cites this module.
+-- The words of an event as the code builds them.
 use Rattle.std.specs.Prelude.{ℕ, List, [], ◌∷◌}
 use Rattle.pct_io.specs.Fields.{field_text}
 use Rattle.pct_model.specs.Keywords.{keyword_text}

@@ -12,7 +12,7 @@ use pct_model::{Keyword, Script, What};
 /// The words of an event.
 #[inline(always)]
 #[tactic(auto, unfolding(pct_model::specs::EventTexts::event_words, pct_model::specs::StopTexts::stop_words))]
-pub(crate) fn event_fields(script: &Script, what: What) -> Fields<'_>
+pub fn fields_of_event(script: &Script, what: What) -> Fields<'_>
     ensures { words_of result ≡ event_words script.now what }
 {
     match what {

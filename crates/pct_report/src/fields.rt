@@ -12,7 +12,7 @@ use pct_model::Keyword;
 
 /// The words of an event: a fixed word, and one to four fields.
 #[derive(Clone, Copy)]
-pub(crate) enum Fields<'a> {
+pub enum Fields<'a> {
     One(Keyword, Field<'a>),
     Two(Keyword, Field<'a>, Field<'a>),
     Three(Keyword, Field<'a>, Field<'a>, Field<'a>),

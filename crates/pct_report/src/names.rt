@@ -1,4 +1,4 @@
-//! The fields of events that are words or names.
+//! The fields of events and of other texts that are words or names.
 
 ghost use Rattle.std.specs.Prelude.{◌≡◌, true};
 ghost use Rattle.pct_io.specs.Fields.{field_text};
@@ -13,7 +13,7 @@ use pct_io::Field;
 use pct_model::{Caller, Keyword, LineKind, Name, Script};
 
 /// A fixed word.
-pub(crate) fn word(keyword: Keyword) -> Field<'static>
+pub fn word(keyword: Keyword) -> Field<'static>
     ensures { field_text result ≡ keyword_text keyword }
 {
     Field::Text(keyword.text())
@@ -40,8 +40,8 @@ pub(crate) fn caller(call: Caller) -> Field<'static>
     }
 }
 
-// The keyword of a kind of line that has one of its own.
-fn keyword_of(line_kind: LineKind) -> Field<'static>
+/// The keyword of a kind of line that has one of its own.
+pub fn keyword_of(line_kind: LineKind) -> Field<'static>
     requires { is_no_point line_kind ≡ true }
     ensures { field_text result ≡ (syntax_of line_kind).keyword }
 {
@@ -49,7 +49,7 @@ fn keyword_of(line_kind: LineKind) -> Field<'static>
 }
 
 /// The name of a cancellation point.
-pub(crate) fn point(index: u32) -> Field<'static>
+pub fn point(index: u32) -> Field<'static>
     ensures { field_text result ≡ point_name index }
 {
     Field::Text(point_name(index))
@@ -57,7 +57,7 @@ pub(crate) fn point(index: u32) -> Field<'static>
 
 /// The name of a function.
 #[tactic(auto, unfolding(pct_model::specs::Names::name_at))]
-pub(crate) fn func(script: &Script, index: u32) -> Field<'_>
+pub fn func(script: &Script, index: u32) -> Field<'_>
     ensures { field_text result ≡ func_name script.now index }
 {
     match script.funcs.as_slice().get(index as usize) {
@@ -67,14 +67,14 @@ pub(crate) fn func(script: &Script, index: u32) -> Field<'_>
 }
 
 /// The name of a mutex.
-pub(crate) fn mutex(script: &Script, index: u32) -> Field<'_>
+pub fn mutex(script: &Script, index: u32) -> Field<'_>
     ensures { field_text result ≡ mutex_name script.now index }
 {
     name_at(script.mutexes.as_slice(), index)
 }
 
 /// The name of a condition variable.
-pub(crate) fn cond(script: &Script, index: u32) -> Field<'_>
+pub fn cond(script: &Script, index: u32) -> Field<'_>
     ensures { field_text result ≡ cond_name script.now index }
 {
     name_at(script.conds.as_slice(), index)
@@ -82,7 +82,7 @@ pub(crate) fn cond(script: &Script, index: u32) -> Field<'_>
 
 /// The name of a semaphore.
 #[tactic(auto, unfolding(pct_model::specs::Names::name_at))]
-pub(crate) fn sem(script: &Script, index: u32) -> Field<'_>
+pub fn sem(script: &Script, index: u32) -> Field<'_>
     ensures { field_text result ≡ sem_name script.now index }
 {
     match script.sems.as_slice().get(index as usize) {

@@ -10,7 +10,7 @@ ghost use Rattle.pct_model.specs.Report.{event_line, verdict_line, report_lines,
 ghost use Rattle.pct_model.specs.Run.{Run};
 ghost use Rattle.pct_engine.specs.EngineStates.{IsRunOf};
 
-use crate::event_fields::event_fields;
+use crate::event_fields::fields_of_event;
 use crate::fields::{prepend_words, write_words};
 use pct_engine::Engine;
 use pct_io::{BufferedSink, Failed, Field, Sink, prepend, prepend_number, write_all, write_line};
@@ -149,12 +149,14 @@ fn write_end<K: Sink>(
 ) -> Result<(), Failed>
     ensures { Writes K.written K.errors K.inners sink.old sink.new (line_text (verdict_line verdict) ++ text_of (schedule_lines config entries.now)) result }
 {
-    write_verdict(sink, verdict)?;
+    write_verdict_line(sink, verdict)?;
     write_schedule(config, entries, sink)
 }
 
+/// Writes the line of a verdict. `Failed` means that the sink recorded one error, and that a prefix of the line was
+/// written. The call allocates no memory.
 #[tactic(auto, unfolding(pct_model::specs::Report::verdict_line, pct_model::specs::Report::verdict_words, pct_model::specs::StopTexts::stop_words))]
-fn write_verdict<K: Sink>(sink: &mut K, verdict: Verdict) -> Result<(), Failed>
+pub fn write_verdict_line<K: Sink>(sink: &mut K, verdict: Verdict) -> Result<(), Failed>
     ensures { Writes K.written K.errors K.inners sink.old sink.new (line_text (verdict_line verdict)) result }
 {
     let title = Field::Text(Keyword::Verdict.text());
@@ -184,7 +186,7 @@ fn prepend_event(script: &Script, event: Event, buffer: &mut [u8], end: usize) -
         What::Emit(value) => prepend_emit(event.pid, event.tid, value, buffer, end),
         _ => {
             let thread = Field::Dotted(event.pid, event.tid);
-            prepend_words(thread, event_fields(script, event.what), buffer, end)
+            prepend_words(thread, fields_of_event(script, event.what), buffer, end)
         }
     }
 }
@@ -210,5 +212,5 @@ fn write_event<K: Sink>(sink: &mut K, script: &Script, event: Event) -> Result<(
     ensures { Writes K.written K.errors K.inners sink.old sink.new (line_text (event_line script.now event)) result }
 {
     let thread = Field::Dotted(event.pid, event.tid);
-    write_words(sink, thread, event_fields(script, event.what))
+    write_words(sink, thread, fields_of_event(script, event.what))
 }

@@ -22,3 +22,7 @@ pub mod ContentsSteps
 pub mod LimitsMakeReady
 pub mod TextChecks
 pub mod EmptyTexts
+pub mod LineRuns
+pub mod FunctionLines
+pub mod StatementSpellings
+pub mod LineOrder

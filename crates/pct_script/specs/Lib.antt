@@ -12,3 +12,5 @@ pub mod Order
 pub mod Symbols
 pub mod UnknownNames
 pub mod StoredContents
+pub mod StatementLines
+pub mod LineRuns

@@ -1,5 +1,5 @@
 //! Scripts and their texts: `parse` returns the script that a text spells or the first fault of the text. `Jumps` is the jump
-//! table of a script.
+//! table of a script. `statement_lines` are the numbers of the lines of a text's statements.
 //!
 //! A text passes the modules in this order: scan, spelling, line and arguments, nesting, limits, sections, duplicates,
 //! symbols and resolve, push_returns, plain_functions, checks.
@@ -14,6 +14,7 @@ mod fault;
 mod identifier;
 mod limits;
 mod line;
+mod line_numbers;
 mod nesting;
 mod parser;
 mod plain_functions;
@@ -25,6 +26,7 @@ mod spelling;
 mod symbols;
 
 pub use fault::ParseFault;
+pub use line_numbers::{StatementLines, lines_spell_statements, statement_lines};
 pub use parser::parse;
 pub use pct_grammar::texts_spell_scripts;
 pub use pct_jumps::Jumps;

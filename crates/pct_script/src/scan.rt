@@ -132,6 +132,22 @@ pub(crate) fn next_outline(lines: &mut SpelledLines) -> Option<(u32, LineOutline
     None
 }
 
+/// The next line that can be parsed, or `None` after the last one.
+pub(crate) fn next_parsed(
+    alloc: Global,
+    lines: &mut SpelledLines,
+) -> Result<Option<Line>, AllocError>
+    ensures { IfOk result (λ found. MatchOption found (filter_map parsed_numbered lines.old ≡ [])
+        (λ first. filter_map parsed_numbered lines.old ≡ first ∷ filter_map parsed_numbered lines.new)) }
+{
+    while let Some((number, line)) = lines.next() {
+        if let Some(parsed) = parse_line(alloc, line)? {
+            return Ok(Some((number, parsed)));
+        }
+    }
+    Ok(None)
+}
+
 /// The maximum number of stored lines: one more than a text within the limits has, which are 64 functions, 32 declarations
 /// of each of 4 other kinds, and 2,000 statement lines.
 const MAX_STORED: usize = 2_193;

@@ -33,25 +33,25 @@ use pct_threads::Thread as ThreadRecord;
 
 /// The record of the thread on a slot.
 #[inline(always)]
-pub(crate) fn record_of(process: &ProcessState, slot: u32) -> &ThreadRecord
+pub fn record_of(process: &ProcessState, slot: u32) -> &ThreadRecord
     requires { is_some (thread_on_slot process.now.slots slot) ≡ true }
     ensures { (t : Thread) → thread_on_slot process.now.slots slot ≡ Some t → IsRecord result.now t }
 {
     process.threads.read(slot)
 }
 
-// The next statement of the thread on a slot, if there is one.
+/// The next statement of the thread on a slot, if there is one.
 #[inline(always)]
-fn next_on<'a>(program: &'a Program, process: &'a ProcessState, slot: u32) -> Option<At<'a>>
+pub fn next_on<'a>(program: &'a Program, process: &'a ProcessState, slot: u32) -> Option<At<'a>>
     requires { is_some (thread_on_slot process.now.slots slot) ≡ true }
     ensures { (t : Thread) → thread_on_slot process.now.slots slot ≡ Some t → next_at result ≡ next_of program.now.script t.frames }
 {
     next_of(&program.script, process.threads.top_frame_ref(slot))
 }
 
-// Whether no thread of a process owns the mutex with this index.
+/// Whether no thread of a process owns the mutex with this index.
 #[inline(always)]
-fn is_unowned(process: &ProcessState, mutex: u32) -> bool
+pub fn is_unowned(process: &ProcessState, mutex: u32) -> bool
     ensures { result ≡ is_free_mutex mutex process.now.shared }
 {
     is_free_mutex(process.owners.as_slice(), mutex)
@@ -59,7 +59,7 @@ fn is_unowned(process: &ProcessState, mutex: u32) -> bool
 
 /// The count of the semaphore of a process with this index.
 #[inline(always)]
-pub(crate) fn count_in(process: &ProcessState, sem: u32) -> u32
+pub fn count_in(process: &ProcessState, sem: u32) -> u32
     ensures { result ≡ slice_index process.now.shared.counts sem }
 {
     count_of(process.counts.as_slice(), sem)
@@ -67,7 +67,7 @@ pub(crate) fn count_in(process: &ProcessState, sem: u32) -> u32
 
 /// Whether the thread of a process with this id has ended, as each thread of the process sees it.
 #[inline(always)]
-pub(crate) fn has_ended(process: &ProcessState, id: u32) -> bool
+pub fn has_ended(process: &ProcessState, id: u32) -> bool
     ensures { (family : OtherProcesses) (tid : ℕ) → result ≡ is_ended_thread id (others_in (length process.now.slots) family process.now.slots tid) }
 {
     let slot = process.threads.slot_of(id);
@@ -76,7 +76,7 @@ pub(crate) fn has_ended(process: &ProcessState, id: u32) -> bool
 
 /// Whether a process has a child with this id that has not ended, by what it sees of the other processes.
 #[inline(always)]
-pub(crate) fn has_running_child(family: Family, pid: u32) -> bool
+pub fn has_running_child(family: Family, pid: u32) -> bool
     ensures { result ≡ is_running_child pid (other_processes family.entry) }
 {
     match family.child(pid) {

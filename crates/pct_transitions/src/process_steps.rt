@@ -1,6 +1,6 @@
 //! The steps of the threads of a process.
 
-ghost use Rattle.std.specs.Prelude.{◌≡◌, Some, is_some, length, true};
+ghost use Rattle.std.specs.Prelude.{◌≡◌, Some, is_some, length, slice_get, true};
 ghost use Rattle.pct_model.specs.World.{Thread};
 ghost use Rattle.pct_model.specs.Chosen.{item_at};
 ghost use Rattle.pct_engine_laws.specs.Fitting.{AllFit};
@@ -67,6 +67,31 @@ pub fn choice_by(
         context.position.keys,
         number as usize % count,
     )
+}
+
+/// The number of the choices of the thread on a slot.
+pub fn choice_count(around: Surroundings, process: &ProcessState, slot: u32) -> usize
+    requires held { is_some (thread_on_slot process.now.slots slot) ≡ true }
+    requires numbers { NewNumbersFit process.now }
+    ensures { (t : Thread) → thread_on_slot process.now.slots slot ≡ Some t → result ≡ length (choices_in around.entry.program.now.script (length process.now.slots) (other_processes around.entry.family) (with_data process.now) t) }
+{
+    let context = Context::new(around, process, slot);
+    choices_at(&context).count(context.position.keys)
+}
+
+/// The choice of the thread on a slot at an index among its choices. `None` exactly if it has no more than that.
+pub fn choice_at(
+    around: Surroundings,
+    process: &ProcessState,
+    slot: u32,
+    index: usize,
+) -> Option<Alt>
+    requires held { is_some (thread_on_slot process.now.slots slot) ≡ true }
+    requires numbers { NewNumbersFit process.now }
+    ensures { (t : Thread) → thread_on_slot process.now.slots slot ≡ Some t → result ≡ slice_get (choices_in around.entry.program.now.script (length process.now.slots) (other_processes around.entry.family) (with_data process.now) t) index }
+{
+    let context = Context::new(around, process, slot);
+    choices_at(&context).nth(context.threads, context.position.keys, index)
 }
 
 // ---- steps

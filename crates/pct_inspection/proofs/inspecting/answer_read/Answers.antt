@@ -1,7 +1,7 @@
 use Rattle.std.proofs.Common.{refl, arith}
 use Rattle.pct_command.proofs.CompleteOutcomes.{front_length}
 use Rattle.pct_inspection.proofs.Outcomes.{input-answer}
-use Rattle.pct_inspection.proofs.inspecting.answer_input.Goals as goal
+use Rattle.pct_inspection.proofs.inspecting.answer_read.Goals as goal
 
 pub returns-in-Err-TooLong-clause-answer : goal.returns-in-Err-TooLong-clause-answer
 returns-in-Err-TooLong-clause-answer g c = λ words asks.
@@ -9,6 +9,6 @@ returns-in-Err-TooLong-clause-answer g c = λ words asks.
     record {
       input = over.0;
       read = record { prefix = over.1.prefix; to_end = λ _ not_long. absurd (not_long refl) };
-      is_answer = input-answer words over.0 c.args.seed asks over.1.bound;
-      of_all = λ left has. input-answer words left c.args.seed asks (omega (arith, over.1.bound, front_length _ _ over.0 left over.1.prefix has));
+      is_answer = input-answer words over.0 c.args.asked asks over.1.bound;
+      of_all = λ left has. input-answer words left c.args.asked asks (omega (arith, over.1.bound, front_length _ _ over.0 left over.1.prefix has));
     }

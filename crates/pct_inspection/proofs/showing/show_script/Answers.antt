@@ -1,0 +1,44 @@
+use Rattle.std.proofs.Common.{◌≡◌, ℕ, List, Option, sym, ap, ◌∙◌, subst}
+use Rattle.pct_model.specs.declared.schedule.Entry.{Entry}
+use Rattle.pct_script.specs.StatementLines.{statement_lines}
+use Rattle.pct_command.specs.Answer.{status_of_verdict}
+use Rattle.pct_command.specs.Status.{code_of}
+use Rattle.pct_engine.specs.EngineStates.{EngineValue}
+use Rattle.pct_view_texts.specs.TextBuffers.{text_in}
+use Rattle.pct_inspection.specs.declared.words.Inspection.TheVariants as inspection
+use Rattle.pct_inspection.specs.declared.words.View.{View}
+use Rattle.pct_inspection.specs.Answer.{status_by, AsksFor}
+use Rattle.pct_inspection.specs.Inspection.{IsInspected}
+use Rattle.pct_inspection.specs.Shown.{ShowsTrace}
+use Rattle.pct_inspection.proofs.Outcomes.{prefix-answer}
+use Rattle.pct_inspection.proofs.Views.{choices-answer, steps-answered}
+use Rattle.pct_inspection.proofs.showing.show_script.Goals as goal
+
+pub returns-in-Choices : goal.returns-in-Choices
+returns-in-Choices c = λ words input asks has of_text.
+    let runs = c.choices.ensures.runs in
+    let followed = c.in_ok-engine-in-Choices in
+    let shown = c.in_ok-shown-in-Choices in
+    let v = shown.shown.verdict in
+    subst (λ (text : List ℕ). IsInspected words input (code_of (status_by shown.shown.illegal (status_of_verdict v))) text) (sym c.into_bytes.ensures)
+    (subst (λ (illegal : Option ℕ). IsInspected words input (code_of (status_by illegal (status_of_verdict v))) (text_in shown.shown.text)) (sym shown.ensures.illegal)
+    (choices-answer words input c.args.script c.in-Ok.config c.in-Ok.entries has.has_script (rw has.rest at c.in-Ok.ensures.read) followed.engine followed.illegal runs.0 c.in_ok-lines.lines (text_in shown.shown.text) v
+    (rw c.as_slice.ensures at followed.ensures) runs.1
+    (subst (λ (view : View). AsksFor words (inspection.Show view)) c.in-Choices.is asks)
+    (c.in_ok-lines.ensures ∙ ap statement_lines of_text)
+    (shown.ensures.shown runs.0 runs.1)))
+
+pub returns-in-Ok : goal.returns-in-Ok
+returns-in-Ok c = λ words input asks has of_text.
+    let shown = c.in_ok-shown-in-Steps in
+    steps-answered words input c.args.script c.in-Ok.config c.in-Ok.entries has.has_script (rw has.rest at c.in-Ok.ensures.read) c.in-Steps.form shown.shown.illegal c.in_ok-lines.lines (text_in shown.shown.text) shown.shown.verdict c.in_form.result
+    (subst (λ (view : View). AsksFor words (inspection.Show view)) c.in-Steps.is asks)
+    (c.in_ok-lines.ensures ∙ ap statement_lines of_text)
+    (subst (λ (entries : List Entry). ShowsTrace c.in_ok-lines.lines c.args.script c.in-Ok.config entries shown.shown.illegal (text_in shown.shown.text) shown.shown.verdict) c.as_slice-in-Steps.ensures
+    (subst (λ (e : EngineValue). ShowsTrace c.in_ok-lines.lines e.script e.config c.as_slice-in-Steps.result.now shown.shown.illegal (text_in shown.shown.text) shown.shown.verdict) c.in_ok-engine-in-Steps.ensures shown.ensures))
+    c.in_form.ensures
+
+pub returns-in-Err-Refused : goal.returns-in-Err-Refused
+returns-in-Err-Refused c = λ words input asks has of_text.
+    rw c.in-Err-Refused.field-0-is
+    (prefix-answer words input (inspection.Show c.args.view) c.args.script c.in-Err-Refused.line c.in-Err-Refused.why asks has.has_script (rw (c.in-Err-Refused.field-0-is, has.rest) at c.in-Err-Refused.ensures.read))

@@ -1,0 +1,152 @@
+//! The views of a run: `trace`, `choices`, `lanes` and `picture`.
+
+ghost use Rattle.std.specs.Prelude.{◌≡◌, ◌≤◌, [], ℕ, List, length, IsTrue, IfOk};
+ghost use Rattle.pct_engine.specs.EngineStates.{IsRunOf};
+ghost use Rattle.pct_model.specs.Run.{Run, is_config};
+ghost use Rattle.pct_model.specs.declared.limits.TheConstants.{MAX_INPUT};
+ghost use Rattle.pct_view_texts.specs.TextBuffers.{text_in, Appends};
+ghost use Rattle.pct_inspection.specs.declared.words.Inspection.TheVariants as inspection;
+ghost use Rattle.pct_inspection.specs.Answer.{Answered, AsksFor, HasParts};
+ghost use Rattle.pct_inspection.specs.Inspection.{notice, script_in};
+ghost use Rattle.pct_inspection.specs.Shown.{IsInForm, ShowsChoices, ShowsTrace};
+
+use crate::answer::Answer;
+use crate::answer_writer::write_notice;
+use crate::words::{Form, View};
+use pct_command::Refusal;
+use pct_engine::Engine;
+use pct_history::{ScheduleFault, follow, read_prefix};
+use pct_io::{Failed, NoMemory};
+use pct_lanes::{lanes, picture};
+use pct_model::{Entry, Script, Verdict};
+use pct_script::{StatementLines, statement_lines};
+use pct_view_texts::{TextBuffer, push_choices, push_trace};
+use std::alloc::Global;
+
+/// The parts of an input.
+#[derive(Clone, Copy)]
+pub(crate) struct Parts<'a> {
+    /// The text of the script.
+    pub text: &'a [u8],
+    /// The prefix of a schedule.
+    pub prefix: &'a [u8],
+}
+
+// The text of a view, with the notice; the verdict of the run that it shows; and the number of the first entry of the prefix that is
+// not legal, if there is one.
+#[derive(Drop)]
+struct Shown {
+    text: TextBuffer,
+    verdict: Verdict,
+    illegal: Option<u32>,
+}
+
+/// The answer of a view to a script, its text and a prefix.
+pub(crate) fn show_script(
+    alloc: Global,
+    view: View,
+    script: Script,
+    parts: Parts,
+) -> Result<Answer, NoMemory>
+    requires text { length parts.text.now ≤ MAX_INPUT }
+    requires prefix { length parts.prefix.now ≤ MAX_INPUT }
+    ensures { (words : List (List ℕ)) (input : List ℕ) → AsksFor words (inspection.Show view) → HasParts input script parts.entry.prefix.now → parts.entry.text.now ≡ script_in input → Answered words input result }
+{
+    let lines = statement_lines(alloc, parts.text)?;
+    match read_prefix(alloc, parts.prefix) {
+        Ok((config, entries)) => match view {
+            View::Choices => {
+                let (engine, illegal) = follow(alloc, script, config, entries.as_slice())?;
+                let shown = choices(alloc, &lines, &engine, illegal)?;
+                Ok(Answer::Shown {
+                    text: shown.text.into_bytes(),
+                    verdict: shown.verdict,
+                    illegal: shown.illegal,
+                })
+            }
+            View::Steps(form) => {
+                let engine = Engine::open(alloc, script, config)?;
+                let shown = trace(alloc, &lines, engine, entries.as_slice())?;
+                in_form(alloc, form, shown)
+            }
+        },
+        Err(ScheduleFault::Refused { line, why }) => {
+            Ok(Answer::Refused(Refusal::Schedule { line, why }))
+        }
+        Err(ScheduleFault::NoMemory) => Err(NoMemory),
+    }
+}
+
+// The text of `choices` after the run of an engine that followed a prefix.
+fn choices(
+    alloc: Global,
+    lines: &StatementLines,
+    engine: &Engine,
+    illegal: Option<u32>,
+) -> Result<Shown, NoMemory>
+    ensures illegal { IfOk result (λ shown. shown.illegal ≡ illegal) }
+    // The run of the entries is defined, for every engine.
+    ensures runs { (after : Run) × IsRunOf engine.now after }
+    ensures shown { (after : Run) → IsRunOf engine.now after → IfOk result (λ shown. ShowsChoices lines.now engine.now after illegal (text_in shown.text) shown.verdict) }
+{
+    let verdict = engine.verdict();
+    let mut text = TextBuffer::new(alloc);
+    push_choices(&mut text, lines, engine)?;
+    push_notice(&mut text, illegal)?;
+    Ok(Shown {
+        text,
+        verdict,
+        illegal,
+    })
+}
+
+// The text of `trace` for the entries of a prefix, up to the first that is not legal, with an engine without entries.
+fn trace(
+    alloc: Global,
+    lines: &StatementLines,
+    engine: Engine,
+    entries: &[Entry],
+) -> Result<Shown, NoMemory>
+    requires opened { engine.history ≡ [] }
+    requires config { IsTrue (is_config engine.config) }
+    requires few { length entries.now ≤ engine.config.budget }
+    ensures { IfOk result (λ shown. ShowsTrace lines.now engine.script engine.config entries.now shown.illegal (text_in shown.text) shown.verdict) }
+{
+    let mut engine = engine;
+    let mut text = TextBuffer::new(alloc);
+    let illegal = push_trace(&mut text, lines, &mut engine, entries)?;
+    push_notice(&mut text, illegal)?;
+    Ok(Shown {
+        text,
+        verdict: engine.verdict(),
+        illegal,
+    })
+}
+
+// The answer that shows the steps of a text of `trace` in a form.
+fn in_form(alloc: Global, form: Form, shown: Shown) -> Result<Answer, NoMemory>
+    ensures { IfOk result (IsInForm form shown.illegal (text_in shown.text) shown.verdict) }
+{
+    let verdict = shown.verdict;
+    let illegal = shown.illegal;
+    let text = match form {
+        Form::Trace => shown.text.into_bytes(),
+        Form::Lanes => lanes(alloc, shown.text.as_slice())?,
+        Form::Picture => picture(alloc, shown.text.as_slice())?,
+    };
+    Ok(Answer::Shown {
+        text,
+        verdict,
+        illegal,
+    })
+}
+
+// Appends the line that names an entry which is not legal, if there is one.
+fn push_notice(text: &mut TextBuffer, illegal: Option<u32>) -> Result<(), NoMemory>
+    ensures { Appends text.old text.new (notice illegal) result }
+{
+    match write_notice(illegal, text) {
+        Ok(()) => Ok(()),
+        Err(Failed) => Err(NoMemory),
+    }
+}

@@ -1,0 +1,63 @@
+//! The table of a run: a line for each step, and a column for each thread.
+
+use crate::run::{Row, Run};
+use pct_io::NoMemory;
+use std::alloc::Global;
+
+/// The lanes of a trace: a line with `step` and the `PID.TID` of each thread, in the order in which they come into being; then a
+/// line for each step, with its number and for each thread a field; then the lines of the trace without a tab. The fields of a
+/// line are separated by one tab.
+///
+/// The thread that makes the step has its events as its field; if there are none, the statement; if there is none, where it was.
+/// Another thread has `|` if it is there at this step, else `.`. A thread is there from the step that makes it to the step with
+/// which it or its process ends.
+pub fn lanes(alloc: Global, trace: &[u8]) -> Result<Vec<u8>, NoMemory> {
+    let run = Run::parse(alloc, trace)?;
+    let mut table = Vec::new(alloc);
+    table.reserve(size_of_fields(&run))?;
+    push_header(alloc, &mut table, &run)?;
+    for (index, row) in run.rows.iter().enumerate() {
+        push_row(&mut table, &run, index, row)?;
+    }
+    for line in run.closing.iter() {
+        table.extend_from_slice(line)?;
+        table.push(b'\n')?;
+    }
+    Ok(table)
+}
+
+// The table has at least two bytes for each step and thread. They are asked for at once, so that a table which cannot fit into
+// memory is refused before it is begun.
+fn size_of_fields(run: &Run) -> usize {
+    run.rows
+        .len()
+        .saturating_mul(run.threads.len())
+        .saturating_mul(2)
+}
+
+fn push_header(alloc: Global, table: &mut Vec<u8>, run: &Run) -> Result<(), NoMemory> {
+    table.extend_from_slice(b"step")?;
+    for thread in run.threads.iter() {
+        let name = thread.id.to_string(alloc)?;
+        table.push(b'\t')?;
+        table.extend_from_slice(name.as_bytes())?;
+    }
+    table.push(b'\n')?;
+    Ok(())
+}
+
+fn push_row(table: &mut Vec<u8>, run: &Run, index: usize, row: &Row) -> Result<(), NoMemory> {
+    table.extend_from_slice(row.step.number)?;
+    for (at, thread) in run.threads.iter().enumerate() {
+        table.push(b'\t')?;
+        if row.thread == Some(at) {
+            table.extend_from_slice(row.step.summary())?;
+        } else if thread.is_there(index) {
+            table.push(b'|')?;
+        } else {
+            table.push(b'.')?;
+        }
+    }
+    table.push(b'\n')?;
+    Ok(())
+}

@@ -1,0 +1,9 @@
+use Rattle.std.proofs.Common.{◌≡◌, filter_map, length}
+use Rattle.pct_model.specs.Sections.{parsed_numbered}
+use Rattle.pct_script.proofs.scan.next_parsed.Given as goal
+
+abbrev pub invariant-loop-number : goal.invariant-loop-number
+invariant-loop-number l = filter_map parsed_numbered l.fn.lines ≡ filter_map parsed_numbered l.lines
+
+abbrev pub decreases-loop-number : goal.decreases-loop-number
+decreases-loop-number l = length l.lines

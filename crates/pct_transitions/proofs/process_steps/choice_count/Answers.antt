@@ -1,0 +1,19 @@
+use Rattle.std.proofs.Common.{List, length, ap, ◌∙◌}
+use Rattle.pct_model.specs.declared.schedule.Alt.{Alt}
+use Rattle.pct_model.specs.ChoiceTable.{choices_at}
+use Rattle.pct_model.specs.NextStatement.{next_of, body_at}
+use Rattle.pct_engine_laws.specs.SeenSteps.{others_in}
+use Rattle.pct_process.specs.FamilyViews.{other_processes}
+use Rattle.pct_transitions.proofs.OfferedLists.{has_row}
+use Rattle.pct_transitions.proofs.process_steps.choice_count.Goals as goal
+
+pub count-requires : goal.count-requires
+count-requires c = has_row c.new-context.result.threads.now c.new-context.result.position.keys.now c.choices_at.result c.new-context.ensures.whole.rows c.choices_at.ensures.within
+
+pub returns : goal.returns
+returns c = λ t at.
+    let p = c.args.process.now in
+    let is = c.new-context.ensures.context t at in
+    let others = others_in (length p.slots) (other_processes c.args.around.family) p.slots t.id in
+    let choices = c.choices_at.ensures.value p.shared t others is ∙ (λ i. choices_at (body_at (c.new-context.ensures.program i).script t.frames) p.shared t others (next_of (c.new-context.ensures.program i).script t.frames) t.status) in
+    c.count.ensures c.new-context.result.threads.now ∙ ap (λ (xs : List Alt). length xs) choices

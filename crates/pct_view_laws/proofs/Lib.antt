@@ -1,0 +1,7 @@
+pub mod ListedSeen
+pub mod StartSeen
+pub mod TracedRuns
+pub mod ContainedItems
+pub mod ListedThreads
+pub mod LegalListed
+pub mod BlockedWaits

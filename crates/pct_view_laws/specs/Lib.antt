@@ -1,0 +1,4 @@
+pub mod Waits
+pub mod Listed
+pub mod TracedSteps
+pub mod SeenViews

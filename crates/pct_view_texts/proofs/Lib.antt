@@ -1,0 +1,6 @@
+pub mod Appending
+pub mod FieldTexts
+pub mod LineTexts
+pub mod ListedTexts
+pub mod StatusTexts
+pub mod StepLines

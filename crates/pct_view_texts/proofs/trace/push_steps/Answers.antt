@@ -1,0 +1,33 @@
+use Rattle.std.proofs.Common.{ℕ, ◌+◌, List, ◌++◌, ap, ◌∙◌, sym, arith}
+use Rattle.std.specs.Prelude.{is_some}
+use Rattle.std.proofs.lemmas.List.{append-nil}
+use Rattle.pct_engine_laws.proofs.LongerRuns.{run_none}
+use Rattle.pct_history.proofs.IllegalEntries.{illegal-at, follows-until, follows-all}
+use Rattle.pct_view_texts.specs.TextBuffers.{text_in}
+use Rattle.pct_view_texts.proofs.StepLines.{no_lines}
+use Rattle.pct_view_texts.proofs.trace.push_steps.Goals as goal
+
+pub loop-entry-init : goal.loop-entry-init
+loop-entry-init c =
+    let engine = c.args.engine.now in
+    record {
+      number = omega arith;
+      within = omega arith;
+      made = ap (λ history. record engine { history = history }) c.requires.opened;
+      legal = ap is_some (run_none engine.script engine.config c.requires.config);
+      text = sym (append-nil (text_in c.args.text.now)) ∙ ap (λ (text : List ℕ). text_in c.args.text.now ++ text) (sym (no_lines c.args.lines.now engine c.requires.opened));
+    }
+
+pub returns-then-not-branch-clause-follows : goal.returns-then-not-branch-clause-follows
+returns-then-not-branch-clause-follows c =
+    let so_far = c.loop-entry.invariant in
+    let opened = c.args.engine.now in
+    let refused = c.in_ok-push_next.ensures.refused c.if-not-branch.true in
+    follows-until _ opened.script opened.config c.args.entries.now c.loop-entry.entry-index _ (refused.engine_is ∙ so_far.made) (ap (λ (n : ℕ). n + 1) so_far.number)
+    (illegal-at c.loop-entry.engine opened.script opened.config c.args.entries.now c.loop-entry.entry-index _ so_far.made (omega arith) c.requires.few so_far.legal refused.illegal)
+
+pub returns-clause-follows : goal.returns-clause-follows
+returns-clause-follows c =
+    let so_far = c.loop-entry.invariant in
+    let opened = c.args.engine.now in
+    follows-all c.loop-entry.engine opened.script opened.config c.args.entries.now c.loop-entry.entry-index so_far.made (omega arith) so_far.legal

@@ -1,0 +1,16 @@
+use Rattle.std.proofs.Common.{◌≡◌, ◌≤◌, ◌++◌, true, length, take}
+use Rattle.std.specs.Prelude.{is_some}
+use Rattle.pct_model.specs.Run.{run}
+use Rattle.pct_view_texts.specs.NextSteps.{steps_text}
+use Rattle.pct_view_texts.specs.TextBuffers.{text_in}
+use Rattle.pct_view_texts.proofs.trace.push_steps.Given as goal
+
+-- the steps of the entries so far were made, and their lines appended
+abbrev pub invariant-loop-entry : goal.invariant-loop-entry
+invariant-loop-entry l = record {
+  number : l.number ≡ l.entry-index;
+  within : l.entry-index ≤ length l.entries;
+  made : l.engine ≡ record l.initial.engine { history = take l.entry-index l.entries };
+  legal : is_some (run l.initial.engine.script l.initial.engine.config (take l.entry-index l.entries)) ≡ true;
+  text : text_in l.text ≡ text_in l.initial.text ++ steps_text l.lines l.engine;
+}

@@ -1,0 +1,15 @@
+use Rattle.std.proofs.Common.{◌++◌, ap, ◌∙◌}
+use Rattle.pct_model.specs.declared.stop.Verdict.{Verdict}
+use Rattle.pct_model.specs.Keywords.{line_text}
+use Rattle.pct_model.specs.Report.{verdict_line}
+use Rattle.pct_view_texts.specs.TextBuffers.{text_in}
+use Rattle.pct_view_texts.specs.Trace.{trace_text}
+use Rattle.pct_view_texts.proofs.Appending.{both_texts}
+use Rattle.pct_view_texts.proofs.trace.push_trace.Goals as goal
+
+pub returns-clause-text : goal.returns-clause-text
+unfolding trace_text
+returns-clause-text c =
+    λ after is.
+    both_texts (text_in c.args.text.now) _ _ _ _ c.in_ok-illegal.ensures.text
+    (c.in_ok-push_verdict.ensures ∙ ap (λ (verdict : Verdict). text_in c.push_steps.new.text ++ line_text (verdict_line verdict)) (c.verdict.ensures.value after is))

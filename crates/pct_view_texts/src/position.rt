@@ -1,0 +1,78 @@
+//! The position of a thread, and the statement there.
+
+ghost use Rattle.std.specs.Prelude.{[], ◌∷◌, slice_get};
+ghost use Rattle.std.specs.Option.{option_map_or};
+ghost use Rattle.pct_model.specs.Canon.{statement_words};
+ghost use Rattle.pct_model.specs.Spells.{contents_of};
+ghost use Rattle.pct_view_texts.specs.Fields.{field_text};
+ghost use Rattle.pct_view_texts.specs.Positions.{position_phrases, position_text, statement_phrases};
+ghost use Rattle.pct_view_texts.specs.TextBuffers.{Appends};
+
+use crate::{Source, TextBuffer};
+use pct_io::NoMemory;
+use pct_model::{Func, Script};
+use pct_printer::write_statement_words;
+use pct_report::names::func;
+use pct_views::Position;
+
+/// Appends the position of a thread, or `-` if it has no frames.
+#[tactic(auto, unfolding(crate::specs::Fields::field_text))]
+pub(crate) fn push_position(
+    text: &mut TextBuffer,
+    source: Source,
+    position: Option<Position>,
+) -> Result<(), NoMemory>
+    ensures { Appends text.old text.new (field_text (position_phrases source.entry.lines.now source.entry.script.now position)) result }
+{
+    match position {
+        None => text.push(b"-"),
+        Some(position) => push_place(text, source, position),
+    }
+}
+
+// Appends `FUNC:LINE`.
+fn push_place(text: &mut TextBuffer, source: Source, position: Position) -> Result<(), NoMemory>
+    ensures { Appends text.old text.new (position_text source.entry.lines.now source.entry.script.now position) result }
+{
+    text.push_field(&func(source.script, position.func))?;
+    text.push(b":")?;
+    text.push_number(source.lines.line(position.func, position.pc).unwrap_or(0))
+}
+
+/// Appends the statement at the position of a thread, or `-` if there is none.
+#[tactic(auto, unfolding(crate::specs::Fields::field_text, pct_view_laws::specs::TracedSteps::statement_on))]
+pub(crate) fn push_statement(
+    text: &mut TextBuffer,
+    script: &Script,
+    position: Option<Position>,
+) -> Result<(), NoMemory>
+    ensures { Appends text.old text.new (field_text (statement_phrases script.now position)) result }
+{
+    let Some(position) = position else {
+        return text.push(b"-");
+    };
+    match script.funcs.as_slice().get(position.func as usize) {
+        None => text.push(b"-"),
+        Some(func) => push_statement_of(text, script, func, position.pc),
+    }
+}
+
+// Appends the statement of a function at this program counter, or `-` if there is none.
+#[tactic(auto, unfolding(crate::specs::Fields::field_text))]
+fn push_statement_of(
+    text: &mut TextBuffer,
+    script: &Script,
+    func: &Func,
+    pc: u32,
+) -> Result<(), NoMemory>
+    ensures { Appends text.old text.new (field_text (option_map_or (λ s. statement_words (contents_of script.now) func.now.locals s ∷ []) (slice_get func.now.body pc) [])) result }
+{
+    match func.body.as_slice().get(pc as usize) {
+        None => text.push(b"-"),
+        Some(statement) => {
+            write_statement_words(text, script, func.locals.as_slice(), *statement).map_err(
+                |_| NoMemory,
+            )
+        }
+    }
+}

@@ -1,0 +1,4 @@
+mod UnendedThreads
+mod ListedThreads
+mod FoundProcesses
+mod Waits

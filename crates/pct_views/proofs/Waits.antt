@@ -1,0 +1,21 @@
+-- What a thread waits for, by its status and its next statement.
+use Rattle.std.proofs.Common.{◌≡◌, ℕ, Bool, true, false, not, cond, Some, None, refl}
+use Rattle.pct_model.specs.declared.frame.Frame.{Frame}
+use Rattle.pct_model.specs.declared.statement.Stmt.{Stmt}
+use Rattle.pct_model.specs.declared.statement.Stmt.TheVariants as statement
+use Rattle.pct_model.specs.NextStatement.{StatementIn}
+use Rattle.pct_model.specs.OtherThreads.{Others}
+use Rattle.pct_model.specs.World.{SharedState}
+use Rattle.pct_view_laws.specs.declared.wait.Wait.{Wait}
+use Rattle.pct_view_laws.specs.Waits.{wait_at}
+
+-- a wait that is over unless a test holds
+pub over_unless : (test : Bool) (w : Wait) → cond (not test) None (Some w) ≡ cond test (Some w) None
+over_unless true w = refl
+over_unless false w = refl
+
+-- a thread without a choice waits for nothing at another statement than pthread_mutex_lock
+pub nothing_elsewhere : (shared : SharedState) (others : Others) (frame : Frame) (s : Stmt) → ((m : ℕ) → s ≡ statement.Lock m → ⊥) → wait_at shared others (StatementIn frame s) ≡ None
+unfolding wait_at
+nothing_elsewhere shared others frame (statement.Lock m) other = absurd (other m refl)
+nothing_elsewhere shared others frame _ other = refl

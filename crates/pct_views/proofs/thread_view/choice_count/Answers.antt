@@ -1,0 +1,13 @@
+use Rattle.std.proofs.Common.{List, length, ap, ◌∙◌}
+use Rattle.pct_model.specs.declared.schedule.Alt.{Alt}
+use Rattle.pct_process.specs.ProcessViews.{thread_on_slot}
+use Rattle.pct_view_laws.specs.Listed.{ListedThread}
+use Rattle.pct_views.proofs.ListedThreads.{choices_are, listed_alone, thread_of}
+use Rattle.pct_views.proofs.thread_view.choice_count.Goals as goal
+
+pub returns : goal.returns
+returns c = λ program family p l shown is.
+    let view = c.args.process in
+    let t = thread_of (thread_on_slot view.state.now.slots c.args.slot) c.requires.held in
+    c.choice_count.ensures t.0 t.1
+    ∙ ap (λ (choices : List Alt). length choices) (choices_are program family p view shown t.0 ∙ ap (λ (l : ListedThread). l.choices) (listed_alone program family p view shown t.0 c.args.slot l c.slot_count.ensures.single t.1 is))

@@ -1,0 +1,86 @@
+//! What a thread waits for.
+
+ghost use Rattle.std.specs.Prelude.{◌≡◌, if◌then◌else◌, true, is_some, length, Some, None};
+ghost use Rattle.pct_engine_laws.specs.SeenSteps.{choices_in, others_in};
+ghost use Rattle.pct_model.specs.NextStatement.{next_of};
+ghost use Rattle.pct_model.specs.OtherThreads.{Others};
+ghost use Rattle.pct_model.specs.World.{Thread};
+ghost use Rattle.pct_process.specs.FamilyViews.{other_processes};
+ghost use Rattle.pct_process.specs.ProcessViews.{thread_on_slot};
+ghost use Rattle.pct_transitions.specs.Positions.{next_at};
+ghost use Rattle.pct_transitions.specs.ProcessSteps.{with_data};
+ghost use Rattle.pct_view_laws.specs.Waits.{mutex_wait, wait_at, wait_by};
+
+use pct_model::{Status, Stmt};
+use pct_process::ProcessState;
+use pct_transitions::{
+    At, Surroundings, count_in, has_choice, has_ended, has_running_child, is_unowned, may_return,
+    next_on, record_of,
+};
+use pct_view_laws::Wait;
+
+/// What the thread on a slot waits for.
+pub(crate) fn wait_on(around: Surroundings, state: &ProcessState, slot: u32) -> Option<Wait>
+    requires { is_some (thread_on_slot state.now.slots slot) ≡ true }
+    ensures { (t : Thread) → thread_on_slot state.now.slots slot ≡ Some t
+        → result ≡ wait_by state.now.shared (others_in (length state.now.slots) (other_processes around.entry.family) state.now.slots t.id)
+        (choices_in around.entry.program.now.script (length state.now.slots) (other_processes around.entry.family) (with_data state.now) t) (next_of around.entry.program.now.script t.frames) t.status }
+{
+    match record_of(state, slot).status {
+        Status::Running => {
+            if has_choice(around, state, slot) {
+                None
+            } else {
+                wait_at(state, next_on(around.program, state, slot))
+            }
+        }
+        Status::AtPoint(index) => wait_unless(may_return(index), Wait::Signal),
+        Status::Joining(id) => wait_unless(has_ended(state, id), Wait::Thread(id)),
+        Status::InSem(sem) => wait_unless(count_in(state, sem) > 0, Wait::Semaphore(sem)),
+        Status::InWaitPid(pid) => {
+            wait_unless(!has_running_child(around.family, pid), Wait::Process(pid))
+        }
+        Status::Waiting(cond, _) => Some(Wait::Condition(cond)),
+        Status::Reacquire(_, mutex, _) => mutex_wait(state, mutex),
+        Status::Ending | Status::Forking(_, _, _, _) | Status::Exiting | Status::Ended(_) => None,
+    }
+}
+
+// This wait, unless it is over.
+fn wait_unless(over: bool, wait: Wait) -> Option<Wait>
+    ensures { result ≡ (if over then None else Some wait) }
+{
+    if over { None } else { Some(wait) }
+}
+
+// What a running thread without a choice waits for at its next statement.
+fn wait_at(state: &ProcessState, next: Option<At>) -> Option<Wait>
+    ensures { (others : Others) → result ≡ wait_at state.now.shared others (next_at next.entry) }
+{
+    match next {
+        None => None,
+        Some(at) => match at.statement {
+            Stmt::Lock(mutex) => mutex_wait(state, *mutex),
+            _ => None,
+        },
+    }
+}
+
+// What a thread that needs the mutex waits for.
+fn mutex_wait(state: &ProcessState, mutex: u32) -> Option<Wait>
+    ensures { (others : Others) → result ≡ mutex_wait state.now.shared others mutex }
+{
+    if is_unowned(state, mutex) {
+        None
+    } else {
+        Some(Wait::Mutex {
+            mutex,
+            owner: state
+                .owners
+                .as_slice()
+                .get(mutex as usize)
+                .copied()
+                .unwrap_or(0),
+        })
+    }
+}
