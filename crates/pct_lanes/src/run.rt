@@ -1,4 +1,4 @@
-//! The run that a trace tells of: its steps, and the threads and when they are there.
+//! The run of a trace: its steps, its threads, and when each of them is there.
 
 use crate::effects::Effect;
 use crate::thread_id::ThreadId;

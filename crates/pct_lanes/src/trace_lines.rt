@@ -40,7 +40,7 @@ impl<'a> Step<'a> {
         }
     }
 
-    /// What tells most of the step: its events; if it has none, the statement; if there is none, where the thread was.
+    /// What the table shows of the step: its events; if it has none, the statement; if there is none, where the thread was.
     pub(crate) fn summary(&self) -> &'a [u8] {
         if !is_absent(self.events) {
             self.events
