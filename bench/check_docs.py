@@ -15,6 +15,7 @@ What is checked:
 - Refusals in the text. Lines in backticks, separated by commas, and then `: `, ` is ` or ` | ` and a refusal in backticks
   are an example: the lines are given to `check`, or after a small script and a line %% to `replay` if the refusal is
   one of a schedule or an entry. Other forms are passed over.
+- Definitions. In a block marked ```antt FILE each line is one of this file, but for the spaces around it.
 - Reasons. docs/reasons.txt, from which ./pct explains a refusal, has each reason of SCRIPT.md and of FORMATS.md, with the
   same usual cause and the same way to mend it.
 - Statements. The tables of SCRIPT.md have all statements that the definitions know, and no others.
@@ -100,6 +101,21 @@ def results(page, program):
             text = "".join(f"{line}\n" for line in (given if is_script else REPLAYED + given))
             _, written = run(folder, f"./pct {'check' if is_script else 'replay'}", text=text)
             yield number, ", ".join(given), answer + "\n", written
+
+
+# ---- definitions
+
+
+def displayed(page):
+    """For each line of a definition that a page displays: its number, the file, the line, and the line as the file has it, if it does."""
+    source = None
+    for number, line in enumerate(page.read_text().splitlines(), 1):
+        if line.startswith("```"):
+            is_definition = source is None and line.startswith("```antt ")
+            source = ROOT / line.removeprefix("```antt ") if is_definition else None
+            known = {text.strip() for text in source.read_text().splitlines()} if source else set()
+        elif source and line.strip():
+            yield number, source.name, line, line if line.strip() in known else "no such line"
 
 
 # ---- reasons
@@ -193,6 +209,8 @@ def checks(program):
     for page in [ROOT / "README.md", *sorted((ROOT / "docs").glob("*.md"))]:
         for number, command, printed, written in results(page, program):
             yield f"{page.relative_to(ROOT)}:{number}: {command}", printed, written
+        for number, source, line, has in displayed(page):
+            yield f"{page.relative_to(ROOT)}:{number}: a line of {source}", line, has
 
 
 def main():

@@ -16,7 +16,7 @@ use Rattle.pct_model.specs.Run.{first_illegal}
 use Rattle.pct_model.specs.Outcome.{is_accepted, schedule_part, code_of_verdict, Outcome}
 use Rattle.pct_model.specs.Outcome as outcome
 use Rattle.pct_grammar.proofs.Scripts.{spells_one_script}
-use Rattle.pct_command.specs.declared.answer.Answer.{Answer}
+use Rattle.pct_command.specs.declared.answers.Answer.{Answer}
 use Rattle.pct_command.specs.declared.status.Status.{Status}
 use Rattle.pct_command.specs.declared.status.Status.TheVariants as status
 use Rattle.pct_command.specs.Status.{code_of, IsAnswered}
@@ -58,7 +58,7 @@ not_illegal input script other config entries entry_number valid same read illeg
     ∙ illegal)
 
 -- an input that is not refused has an outcome with another code
-not_refused : (words : List (List ℕ)) (input : List ℕ) (schedule : List Entry) (code : ℕ) (text : List ℕ) → is_accepted words ≡ true → IsValid words input → Outcome words input schedule code text → code < 5
+pub not_refused : (words : List (List ℕ)) (input : List ℕ) (schedule : List Entry) (code : ℕ) (text : List ℕ) → is_accepted words ≡ true → IsValid words input → Outcome words input schedule code text → code < 5
 not_refused words input schedule code text accepted valid (outcome.WordsRefused refuses) = absurd (true≢false (sym accepted ∙ refuses.refused))
 not_refused words input schedule code text accepted valid (outcome.InputRefused refuses) = absurd (omega (arith, valid.fits, refuses.too_long))
 not_refused words input schedule code text accepted valid (outcome.ScriptRefused refuses) = absurd (spelled_or_fault _ valid.script refuses.line refuses.why valid.spelled refuses.first)

@@ -26,7 +26,7 @@ use Rattle.pct_schedule_laws.proofs.ReadBack.{report_is_read_back}
 use Rattle.pct_grammar.proofs.Scripts.{spells_one_script}
 use Rattle.pct_engine.specs.EngineStates.{EngineValue, IsRunOf}
 use Rattle.pct_engine.proofs.EngineLaws.{keeps_laws}
-use Rattle.pct_command.specs.declared.answer.Answer.TheVariants as answer
+use Rattle.pct_command.specs.declared.answers.Answer.TheVariants as answer
 use Rattle.pct_command.specs.declared.words.Job.{Job}
 use Rattle.pct_command.specs.declared.words.Job.TheVariants.{Run as run_job, Replay, Check, Points}
 use Rattle.pct_command.specs.SeedSchedule.{SeedSchedule, IsSeededRun}

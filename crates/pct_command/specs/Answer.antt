@@ -15,12 +15,12 @@ use Rattle.pct_model.specs.Run.{run, verdict_of}
 use Rattle.pct_model.specs.Report.{report_of}
 use Rattle.pct_model.specs.Outcome.{needs_input, script_part, refused_words, refused_input, refused_script, refused_schedule, refused_entry}
 use Rattle.pct_engine.specs.EngineStates.{EngineValue}
-use Rattle.pct_command.specs.declared.answer.Refusal.{Refusal}
-use Rattle.pct_command.specs.declared.answer.Refusal.TheVariants as refusal
-use Rattle.pct_command.specs.declared.answer.Answer.{Answer}
-use Rattle.pct_command.specs.declared.answer.Answer.TheVariants as answer
-use Rattle.pct_command.specs.declared.answer.Unanswered.{Unanswered}
-use Rattle.pct_command.specs.declared.answer.Unanswered.TheVariants as unanswered
+use Rattle.pct_command.specs.declared.answers.Refusal.{Refusal}
+use Rattle.pct_command.specs.declared.answers.Refusal.TheVariants as refusal
+use Rattle.pct_command.specs.declared.answers.Answer.{Answer}
+use Rattle.pct_command.specs.declared.answers.Answer.TheVariants as answer
+use Rattle.pct_command.specs.declared.answers.Unanswered.{Unanswered}
+use Rattle.pct_command.specs.declared.answers.Unanswered.TheVariants as unanswered
 use Rattle.pct_command.specs.declared.status.Status.{Status}
 use Rattle.pct_command.specs.declared.status.Status.TheVariants as status
 use Rattle.pct_command.specs.declared.words.Job.{Job}

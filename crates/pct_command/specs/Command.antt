@@ -57,10 +57,11 @@ IsReplayed words input code text =
     → sched_of (schedule_part again) ≡ sched_of text → length again ≤ MAX_INPUT
     → Outcome (keyword_text keyword.Replay ∷ []) again [] code text
 
--- the text is the report of a run of the script of the input. Its events keep the laws of how threads end: that of cleanup handlers
--- and destructors (XSH 2.9.5.3, pthread_exit, pthread_key_create), that of joins, requests and detaches (XSH 2.9.2, pthread_join,
--- pthread_cancel, pthread_detach), that of mutexes and condition waits (XSH pthread_mutex_lock, pthread_cond_wait), and that of the ids of
--- threads (XSH pthread_create). The state after it keeps the invariant.
+-- the text is the report of a run of the script of the input. The run keeps the laws of how threads end: those of cleanup handlers,
+-- destructors and the calls of functions (XSH 2.9.5.3, pthread_exit, pthread_key_create), that of cancellation (XSH 2.9.5.1, 2.9.5.2,
+-- pthread_cancel), that of joins, requests and detaches (XSH 2.9.2, pthread_join, pthread_detach), that of mutexes and condition waits
+-- (XSH pthread_mutex_lock, pthread_cond_wait), that of the ids of threads (XSH pthread_create), and that of processes (XSH fork, exit,
+-- waitpid). The state after it keeps the invariant.
 pub record IsLawful (words : List (List ℕ)) (input : List ℕ) (text : List ℕ) : Type 0 where
   pub script : Script
   pub spelled : Spells (script_part words input) script
@@ -69,7 +70,7 @@ pub record IsLawful (words : List (List ℕ)) (input : List ℕ) (text : List �
   pub after : Run
   pub is_run : run script config entries ≡ Some after
   pub text_is : report script config entries ≡ Some text
-  pub laws : Laws after.events config.passes config.slots
+  pub laws : Laws script config entries after
   pub kept : Kept script config after.world after.events
 
 -- what holds of a report, by the job that the words name: the schedule of a `replay` is that of the input; both are replayed, and

@@ -7,7 +7,7 @@ ghost use Rattle.pct_io.specs.Fields.{field_text};
 ghost use Rattle.pct_model.specs.Keywords.{line_text};
 ghost use Rattle.pct_command.specs.Answer.{line_of_refusal, text_of_answer};
 
-use crate::answer::{Answer, Refusal};
+use crate::answers::{Answer, Refusal};
 use pct_cancel::write_points;
 use pct_io::{BufferedSink, Failed, Field, Sink, write_line};
 use pct_model::Keyword;

@@ -5,7 +5,7 @@ ghost use Rattle.pct_model.specs.declared.limits.TheConstants.{MAX_INPUT};
 ghost use Rattle.pct_command.specs.Answer.{Answered, HasParts};
 ghost use Rattle.pct_command.specs.Words.{Asks, HasInput, parts_of_job};
 
-use crate::answer::{Answer, Refusal};
+use crate::answers::{Answer, Refusal};
 use crate::replay_command::replay_script;
 use crate::run_command::run_script;
 use crate::words::Job;

@@ -8,9 +8,9 @@ ghost use Rattle.pct_command.specs.Answer.{AnswersRead, ReadsInput};
 ghost use Rattle.pct_command.specs.Command.{Answers, HasRead, IsAnswer, IsComplete, Records};
 ghost use Rattle.pct_command.specs.Words.{Asks, HasInput};
 
-use crate::answer::{Answer, Refusal, Unanswered};
 use crate::answer_writer::write_answer;
 use crate::answering::answer_of;
+use crate::answers::{Answer, Refusal, Unanswered};
 use crate::status::Status;
 use crate::words::{Job, Usage, read_words};
 use pct_io::{Failed, Gate, NoMemory, ReadEnd, Sink, Source, read_all};

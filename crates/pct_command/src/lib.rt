@@ -2,22 +2,25 @@
 //! its canonical text. Without an input it writes the table of cancellation points.
 #![tactic(auto)]
 
-mod answer;
 mod answer_writer;
 mod answering;
+mod answers;
 mod arguments;
 mod dispatch;
+mod in_memory;
 mod law;
 mod replay_command;
 mod run_command;
 mod seeded_run;
 mod status;
+mod text_sink;
 mod words;
 
-pub use answer::Refusal;
 pub use answer_writer::write_refusal;
+pub use answers::Refusal;
 pub use arguments::words_of;
 pub use dispatch::command;
+pub use in_memory::answer;
 pub use law::{answers_are_one, outcomes_are_one};
 pub use pct_model::RunOptions;
 pub use seeded_run::continue_seeded;

@@ -8,7 +8,7 @@ ghost use Rattle.pct_model.specs.Outcome.{is_asked, schedule_part};
 ghost use Rattle.pct_model.specs.declared.keyword.Keyword.TheVariants as keyword;
 ghost use Rattle.pct_command.specs.Answer.{Answered, HasScript};
 
-use crate::answer::{Answer, Refusal};
+use crate::answers::{Answer, Refusal};
 use pct_history::{Entries, ReplayFault, ScheduleFault, read_schedule, replay};
 use pct_io::NoMemory;
 use pct_model::{Config, Script};

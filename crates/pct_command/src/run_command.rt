@@ -5,7 +5,7 @@ ghost use Rattle.pct_model.specs.Run.{is_config};
 ghost use Rattle.pct_model.specs.RunOptions.{run_options};
 ghost use Rattle.pct_command.specs.Answer.{Answered, HasScript};
 
-use crate::answer::Answer;
+use crate::answers::Answer;
 use crate::seeded_run::run_seeded;
 use pct_io::NoMemory;
 use pct_model::{RunOptions, Script};

@@ -155,7 +155,7 @@ module _ (script : Script) (passes : ℕ) (shared : SharedState) (registered : R
   case_outside : (t : Thread) (others : Others) {body : List Stmt} {next : NextStatement} {s : Status} {o : Transition} → TransitionCase passes body shared t others true next s o → Outside t.frames t.kept → ForkFits script (view script (moved o t))
   unfolding thread_at thread_after
   case_outside t others (function_called frame f v room) out = inl (called_outside (suc frame.pc) f (value_of shared.globals frame v) kind.Call refl t.frames t.kept room out)
-  case_outside t others (handler_called frame v f a handlers is room) out = inl (called_outside (suc frame.pc) f a kind.PopHandler refl t.frames t.kept room out)
+  case_outside t others (handler_called frame v f a handlers is room not_zero) out = inl (called_outside (suc frame.pc) f a kind.PopHandler refl t.frames t.kept room out)
   case_outside t others (fork_handler_called next at call is) out = inr (record {
     runs = refl;
     is_handler = refl;
@@ -192,9 +192,9 @@ module _ (script : Script) (passes : ℕ) (shared : SharedState) (registered : R
     case_inside (call_left _ _ v returns kinds) plain = inl inside.rest
     case_inside (handler_left _ _ v returns kinds) plain = inl inside.rest
     case_inside (exit_function_left _ _ v returns is) plain = inl inside.rest
-    case_inside (main_returned _ _ v returns is) plain = inl without_frames
+    case_inside (main_returned _ _ v returns is once) plain = inl without_frames
     case_inside (start_returned _ _ v returns is) plain = inl without_frames
-    case_inside (canceled next enabled) plain = inl without_frames
+    case_inside (canceled next delivered where_it_may) plain = inl without_frames
     case_inside _ plain = absurd (false≢true plain)
 
   -- any thread

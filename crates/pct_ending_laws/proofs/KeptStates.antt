@@ -6,6 +6,9 @@ use Rattle.pct_model.specs.declared.script.Script.{Script}
 use Rattle.pct_model.specs.declared.schedule.Config.{Config}
 use Rattle.pct_model.specs.declared.schedule.Entry.{Entry}
 use Rattle.pct_model.specs.declared.state.Status.TheVariants as status
+use Rattle.pct_model.specs.Calls.{EachIsCalled, SaysCalls, KeepsExitFunctions}
+use Rattle.pct_model.specs.CancelLaw.{EachMayAct, ActsAtCalls}
+use Rattle.pct_model.specs.Ends.{EachMayBegin, KeepsValues}
 use Rattle.pct_model.specs.Kept.{IsPlainFunction, IsSuspendedInJoin}
 use Rattle.pct_model.specs.Run.{Run, run}
 use Rattle.pct_model.specs.World.{Thread, made_process, made_thread, thread_with}
@@ -13,14 +16,33 @@ use Rattle.pct_ending_laws.specs.EndingLaws.{RunsKeepLaws, StatesAreKept}
 use Rattle.pct_ending_laws.proofs.exits.RegisteredFunctions.{registered_of_run}
 use Rattle.pct_ending_laws.proofs.ForksOfRun.{forks_of_run}
 use Rattle.pct_ending_laws.proofs.ThreadsOfRun.{once_of_run, keys_kept, threads_kept, last_kept}
+use Rattle.pct_ending_laws.proofs.ends.AfterTheEnd.{after_end_of_run}
+use Rattle.pct_ending_laws.proofs.ends.HandlersRun.{ran_all}
+use Rattle.pct_ending_laws.proofs.ends.LeftoverValues.{leftovers_of_run}
 use Rattle.pct_ending_laws.proofs.lift.MadeNumbers.{numbers_of_run}
 use Rattle.pct_ending_laws.proofs.joins.JoinTransitions.{is_in_join}
 use Rattle.pct_ending_laws.proofs.joins.NewestEvents.{newest_of_run}
 use Rattle.pct_ending_laws.proofs.joins.JoiningThreads.{JoinsOne, joins_of_processes}
 use Rattle.pct_ending_laws.proofs.joins.ReportedFlags.{known_of_run, joined_of_run, detached_of_run}
 use Rattle.pct_ending_laws.proofs.joins.LawfulJoins.{joins_of_run}
+use Rattle.pct_ending_laws.proofs.keys.KeyEvents.{key_events_of_run, keys_law_of_run}
 use Rattle.pct_ending_laws.proofs.owners.OwnersOfRun.{owners_of_run, owners_kept}
+use Rattle.pct_ending_laws.proofs.processes.EndedProcesses.{process_ended_of_run}
+use Rattle.pct_ending_laws.proofs.processes.ExitValues.{exits_of_run}
+use Rattle.pct_ending_laws.proofs.processes.LawfulProcesses.{processes_of_run}
+use Rattle.pct_ending_laws.proofs.requests.ActingCalls.{acts_at_calls_of_run}
+use Rattle.pct_ending_laws.proofs.requests.ActingSteps.{each_may_act_of_run}
+use Rattle.pct_ending_laws.proofs.requests.AwakenedThreads.{awakened_of_run}
+use Rattle.pct_ending_laws.proofs.requests.CancelStates.{cancelability_of_run}
+use Rattle.pct_ending_laws.proofs.requests.LawfulRequests.{requests_of_run}
+use Rattle.pct_ending_laws.proofs.requests.PendingRequests.{pending_of_run}
 use Rattle.pct_ending_laws.proofs.slots.LawfulCreations.{slots_of_run}
+use Rattle.pct_ending_laws.proofs.steps.CalledFunctions.{each_is_called_of_run}
+use Rattle.pct_ending_laws.proofs.steps.EndStages.{each_may_begin_of_run}
+use Rattle.pct_ending_laws.proofs.steps.KeptExitFunctions.{keeps_exit_functions_of_run}
+use Rattle.pct_ending_laws.proofs.steps.KeptValues.{keeps_values_of_run}
+use Rattle.pct_ending_laws.proofs.steps.MadeFrames.{says_calls_of_run}
+use Rattle.pct_ending_laws.proofs.steps.MovedThreads.{each_step}
 use Rattle.pct_ending_laws.proofs.waits.WaitsOfRun.{waits_of_run, hand_ons_of_run, calls_of_run, waits_kept_of_run}
 
 -- each thread that is suspended in pthread_join
@@ -41,13 +63,33 @@ kept_joins_of_run script config entries r is pid tid t made here id joins =
       alone = λ second u is_u. one.alone second u (sym (in_process second) ∙ is_u);
     })
 
--- the laws of the events of every run
+-- the laws of every run
 pub every_run_keeps_laws : RunsKeepLaws
 every_run_keeps_laws script config entries r is = record {
   once = once_of_run script config entries r is;
+  ran_all = ran_all config.passes r.events (once_of_run script config entries r is) (processes_of_run script config entries r is);
+  after_end = after_end_of_run script config entries r is;
+  calls = record {
+    called = each_step script config (EachIsCalled script) (each_is_called_of_run script config) entries;
+    said = each_step script config (SaysCalls script) (says_calls_of_run script config) entries;
+    exits = each_step script config (KeepsExitFunctions script) (keeps_exit_functions_of_run script config) entries;
+    keys = keys_law_of_run script config entries r is;
+  };
+  ends = record {
+    stages = each_step script config (EachMayBegin config.passes) (each_may_begin_of_run script config) entries;
+    values = each_step script config (KeepsValues script) (keeps_values_of_run script config) entries;
+    left = leftovers_of_run script config entries r is;
+  };
+  cancels = record {
+    requests = requests_of_run script config entries r is;
+    acts = each_step script config (EachMayAct script) (each_may_act_of_run script config) entries;
+    at_calls = each_step script config (ActsAtCalls script) (acts_at_calls_of_run script config) entries;
+    awakened = awakened_of_run script config entries r is;
+  };
   joins = joins_of_run script config entries r is;
   conds = record { owners = owners_of_run script config entries r is; waits = waits_of_run script config entries r is; hand_ons = hand_ons_of_run script config entries r is };
   creations = slots_of_run script config entries r is;
+  processes = processes_of_run script config entries r is;
 }
 
 -- the invariant of the state after every run
@@ -56,10 +98,16 @@ every_state_is_kept script config entries r is = record {
   numbers = numbers_of_run script config entries r is;
   known = known_of_run script config entries r is;
   keys = keys_kept script config entries r is;
+  reported_keys = key_events_of_run script config entries r is;
+  ended = process_ended_of_run script config entries r is;
+  exits = exits_of_run script config entries r is;
   exit_functions = λ pid p made. All-from_recursion (IsPlainFunction script) p.shared.exit_functions (registered_of_run script config entries r is pid p made).exit_functions;
   fork_handlers = λ pid p made. (registered_of_run script config entries r is pid p made).fork_handlers;
   forks = forks_of_run script config entries r is;
   threads = λ pid p made tid t found here. threads_kept script config entries r is pid tid p t made found here;
+  state = λ pid tid t made here unbegun. (cancelability_of_run script config entries r is pid tid t made here unbegun).0;
+  mode = λ pid tid t made here unbegun. (cancelability_of_run script config entries r is pid tid t made here unbegun).1;
+  pending = pending_of_run script config entries r is;
   joined = joined_of_run script config entries r is;
   detached = detached_of_run script config entries r is;
   joins = kept_joins_of_run script config entries r is;

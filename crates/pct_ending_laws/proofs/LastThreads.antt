@@ -117,7 +117,7 @@ module _ (script : Script) (config : Config) (w : World) (p : Process) (e : Entr
       all_ended (λ id u is present other. all id u is present) (moved_end o goes.never t ∙ ended) goes.none
 
   -- where it ends as the last thread, each other has ended
-  others_if_last : seen.is_last ≡ true → OthersEnded
+  pub others_if_last : seen.is_last ≡ true → OthersEnded
   unfolding others_of
   others_if_last alone id u is present other =
       let passes : (not (holds_slot u) || (u.ended || nat_eq u.id t.id)) ≡ true = item_passes (λ (x : Thread). not (holds_slot x) || (x.ended || nat_eq x.id t.id)) p.threads (position_or_len (λ (x : Thread). nat_eq x.id id) p.threads) u alone (found_at (λ (x : Thread). nat_eq x.id id) p.threads u is) in

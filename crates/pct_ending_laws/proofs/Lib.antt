@@ -11,4 +11,8 @@ pub mod LastThreads
 pub mod joins
 pub mod waits
 pub mod slots
+pub mod steps
+pub mod ends
+pub mod requests
+pub mod processes
 pub mod KeptStates

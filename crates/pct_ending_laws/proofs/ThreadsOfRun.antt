@@ -82,7 +82,7 @@ module _ (script : Script) (passes : ℕ) where
   named_fits _ t s fits = fits
 
 -- a thread that exits its process does not have the status of its end
-exiting_alive : (s : Status) (frames : List Frame) → is_exiting s frames ≡ true → is_ended_status s ≡ false
+pub exiting_alive : (s : Status) (frames : List Frame) → is_exiting s frames ≡ true → is_ended_status s ≡ false
 exiting_alive (status.Ended v) frames exits = absurd (false≢true exits)
 exiting_alive _ frames exits = refl
 
@@ -105,14 +105,14 @@ module _ (script : Script) (config : Config) where
   passes = config.passes
 
   -- what is known of the process of a thread: its keys are kept, and its registered functions are plain
-  abbrev ProcessFits : Process → Type 0
+  abbrev pub ProcessFits : Process → Type 0
   ProcessFits p = KeysFit script p × RegistersPlain script p.shared
 
   keeps : (w : World) (p : Process) (t : Thread) (s : ThreadSummary) (choice : Alt) → ProcessFits p → offers (choices_of script config w p t) choice ≡ true → FitsAny script passes t s → KeepsAny script passes t s (transition_by script config w p t choice)
   keeps w p t s choice known = transition_keeps script (push_matches script) (names_functions script) config w p t s choice known.0.keys known.1
 
   -- each thread keeps the rule, in such a process
-  thread_rule : IsThreadRule summary (FitsAny script passes) script config ProcessFits
+  pub thread_rule : IsThreadRule summary (FitsAny script passes) script config ProcessFits
   thread_rule = record {
     initial = in_any script passes (initial_thread script) no_events (new_fits script passes (push_matches script) 1 (main_of (names_of script.funcs)) 0 false kind.Main (names_functions script).main (refl, refl));
     created = λ w p t s choice new known offered fits is. created_fits script (push_matches script) (names_functions script) config w p t choice known.0.keys known.1 offered new is;
@@ -123,7 +123,7 @@ module _ (script : Script) (config : Config) where
 
   -- ---- runs
 
-  processes_fit : AfterEveryRun script config (OfEveryProcess ProcessFits)
+  pub processes_fit : AfterEveryRun script config (OfEveryProcess ProcessFits)
   processes_fit entries r is pid p made = (keys_of_run script config entries r is pid p made, registered_of_run script config entries r is pid p made)
 
   -- after every run, the rule holds of every thread

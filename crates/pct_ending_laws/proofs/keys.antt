@@ -4,3 +4,4 @@ pub mod KeyActions
 pub mod KeptKeys
 pub mod KeysOfProcesses
 pub mod LeftKeys
+pub mod KeyEvents

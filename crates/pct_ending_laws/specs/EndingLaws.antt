@@ -7,9 +7,9 @@ use Rattle.pct_model.specs.Kept.{Kept}
 use Rattle.pct_model.specs.Laws.{Laws}
 use Rattle.pct_model.specs.Run.{Run, run}
 
--- the events of every run keep the laws
+-- every run keeps the laws
 abbrev pub RunsKeepLaws : Type 0
-RunsKeepLaws = (script : Script) (config : Config) (entries : List Entry) (r : Run) → run script config entries ≡ Some r → Laws r.events config.passes config.slots
+RunsKeepLaws = (script : Script) (config : Config) (entries : List Entry) (r : Run) → run script config entries ≡ Some r → Laws script config entries r
 
 -- every run ends in a state that keeps the invariant
 abbrev pub StatesAreKept : Type 0

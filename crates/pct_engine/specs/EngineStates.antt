@@ -35,9 +35,9 @@ pub record StandsFor (program : ProgramValue) (trace : TraceValue) (machine : Se
 abbrev pub IsRunOf : EngineValue → Run → Type 0
 IsRunOf engine after = run engine.script engine.config engine.history ≡ Some after
 
--- the events of the run of an engine keep the laws of how threads end, and its state keeps the invariant
+-- the run of an engine keeps the laws of how threads end, and its state keeps the invariant
 pub record KeepsLaws (engine : EngineValue) (after : Run) : Type 0 where
-  pub laws : Laws after.events engine.config.passes engine.config.slots
+  pub laws : Laws engine.script engine.config engine.history after
   pub kept : Kept engine.script engine.config after.world after.events
 
 -- the history with one entry more is a run

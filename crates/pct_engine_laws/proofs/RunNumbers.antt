@@ -113,7 +113,7 @@ case_within : (limit : ℕ) (shared : SharedState) (t : Thread) (others : Others
     → ((c : ℕ) → All (λ (w : Waiter). w.id ≤ limit) (others.waiters c)) → All (λ (n : ℕ). n ≤ limit) others.new_ids → All (λ (n : ℕ). n ≤ limit) (new_keys shared.keys) → All (λ (n : ℕ). n ≤ limit) (left_keys shared.keys t.specific)
     → {next : NextStatement} {s : Status} {choice : Alt} → Offered shared t others next s choice → IsChoiceWithin limit choice
 case_within limit shared t others waiting ids made left (may_go next s alive) = tt
-case_within limit shared t others waiting ids made left (may_act next s alive enabled) = omega arith
+case_within limit shared t others waiting ids made left (may_act next s alive delivered where_it_may) = omega arith
 case_within limit shared t others waiting ids made left (may_create frame result id f v detached n among) = all_among (λ (k : ℕ). k ≤ limit) n others.new_ids ids among
 case_within limit shared t others waiting ids made left (may_make_key frame result key destructor n among) = all_among (λ (k : ℕ). k ≤ limit) n (new_keys shared.keys) made among
 case_within limit shared t others waiting ids made left (may_pick frame c n among) = waiter_among (λ (k : ℕ). k ≤ limit) n (others.waiters c) (waiting c) among

@@ -118,7 +118,7 @@ pub record Continues (words : List (List ℕ)) (input : List ℕ) (code : ℕ) (
   pub report_is : report script config schedule ≡ Some report_text
   pub text_is : text ≡ report_text ++ notice illegal
   pub read_back : sched_of report_text ≡ Ok (config, schedule)
-  pub laws : Laws after.events config.passes config.slots
+  pub laws : Laws script config schedule after
   pub kept : Kept script config after.world after.events
 
 -- an input with a script and a prefix of a schedule, and the run of the entries of the prefix up to the first that is not legal

@@ -1,11 +1,11 @@
 //! The picture of a run.
 
 use crate::layout::{
-    BAR_DROP, BASELINE, Layout, RADIUS, ROW_HEIGHT, place_caption, statement_caption,
+    BAR, BASELINE, Caption, Column, Layout, MIDDLE, NAME_GAP, NAMES_BASELINE, RADIUS, ROW_HEIGHT,
+    TOP, row_at,
 };
+use crate::page::Page;
 use crate::run::{Arrow, Row, Run, Thread};
-use crate::svg::{Caption, Pixels};
-use crate::thread_id::ThreadId;
 use pct_io::NoMemory;
 use std::alloc::Global;
 
@@ -19,296 +19,256 @@ use std::alloc::Global;
 /// something of it. The verdict stands at the bottom. Long texts are cut.
 pub fn picture(alloc: Global, trace: &[u8]) -> Result<Vec<u8>, NoMemory> {
     let run = Run::parse(alloc, trace)?;
-    let layout = Layout::new(alloc, &run)?;
-    let mut svg = String::new(alloc);
-    open_document(&mut svg, &run, &layout)?;
-    draw_stripes(&mut svg, &layout)?;
-    draw_names(&mut svg, &run, &layout)?;
-    draw_lanes(&mut svg, &run, &layout)?;
-    draw_arrows(&mut svg, &run, &layout)?;
-    draw_ends(&mut svg, &run, &layout)?;
-    draw_marks(&mut svg, &run, &layout)?;
-    draw_numbers(&mut svg, &run, &layout)?;
-    draw_places(&mut svg, &run, &layout)?;
-    draw_statements(&mut svg, &run, &layout)?;
-    draw_events(&mut svg, &run, &layout)?;
-    draw_closing(&mut svg, &run, &layout)?;
-    svg.push_str("</svg>\n")?;
-    Ok(svg.into_bytes())
+    let layout = Layout::new(&run);
+    let mut svg = Page::new(alloc);
+    let mut drawing = Drawing {
+        run: &run,
+        layout: &layout,
+        svg: &mut svg,
+    };
+    drawing.draw();
+    svg.finish()
 }
 
-fn open_document(svg: &mut String, run: &Run, layout: &Layout) -> Result<(), NoMemory> {
-    let width = layout.width;
-    let height = layout.closing_baseline(run.closing.len());
-    svg.push_str("<?xml version=\"1.0\" encoding=\"UTF-8\"?>\n")?;
-    writeln!(
-        svg,
-        "<svg xmlns=\"http://www.w3.org/2000/svg\" version=\"1.1\" width=\"{width}\" height=\"{height}\" viewBox=\"0 0 {width} {height}\" font-family=\"monospace\" font-size=\"12\">"
-    )?;
-    writeln!(
-        svg,
-        "<rect width=\"{width}\" height=\"{height}\" fill=\"#fff\"/>"
-    )?;
-    Ok(())
+// The picture of a run, while it is drawn.
+#[derive(Drop)]
+struct Drawing<'a, 't> {
+    run: &'a Run<'t>,
+    layout: &'a Layout,
+    svg: &'a mut Page,
 }
 
-// Every second row is gray.
-fn draw_stripes(svg: &mut String, layout: &Layout) -> Result<(), NoMemory> {
-    let width = layout.width;
-    let height = ROW_HEIGHT;
-    svg.push_str("<g fill=\"#f2f2f2\">\n")?;
-    for row in 0..layout.rows {
-        if row % 2 == 0 {
-            let top = layout.row_top(row);
-            writeln!(
-                svg,
-                "<rect y=\"{top}\" width=\"{width}\" height=\"{height}\"/>"
-            )?;
-        }
+impl Drawing<'_, '_> {
+    fn draw(&mut self) {
+        self.open_document();
+        self.draw_stripes();
+        self.draw_names();
+        self.draw_lanes();
+        self.draw_arrows();
+        self.draw_ends();
+        self.draw_marks();
+        self.draw_column("<g fill=\"#666\" text-anchor=\"end\">\n", Column::Numbers);
+        self.draw_column("<g fill=\"#666\">\n", Column::Places);
+        self.draw_column("<g>\n", Column::Statements);
+        self.draw_column("<g>\n", Column::Events);
+        self.draw_closing();
+        self.svg.push("</svg>\n");
     }
-    close_group(svg)
-}
 
-fn close_group(svg: &mut String) -> Result<(), NoMemory> {
-    svg.push_str("</g>\n")?;
-    Ok(())
-}
-
-// ---- lanes
-
-// In a long picture a lane is named below it too, and where it begins.
-fn draw_names(svg: &mut String, run: &Run, layout: &Layout) -> Result<(), NoMemory> {
-    svg.push_str("<g font-weight=\"bold\" text-anchor=\"middle\">\n")?;
-    draw_names_at(svg, run, layout, layout.names_baseline())?;
-    if let Some(baseline) = layout.lower_names_baseline() {
-        draw_names_at(svg, run, layout, baseline)?;
+    fn open_document(&mut self) {
+        let width = self.layout.width;
+        let height = self.layout.closing_baseline(self.run.closing.len());
+        self.svg
+            .push("<?xml version=\"1.0\" encoding=\"UTF-8\"?>\n");
+        self.svg.fill(
+            "<svg xmlns=\"http://www.w3.org/2000/svg\" version=\"1.1\" width=\"%\" height=\"%\" viewBox=\"0 0 % %\" font-family=\"monospace\" font-size=\"12\">\n",
+            &[width, height, width, height],
+        );
+        self.svg.fill(
+            "<rect width=\"%\" height=\"%\" fill=\"#fff\"/>\n",
+            &[width, height],
+        );
     }
-    close_group(svg)?;
-    if layout.is_long() {
-        draw_first_names(svg, run, layout)?;
-    }
-    Ok(())
-}
 
-fn draw_names_at(
-    svg: &mut String,
-    run: &Run,
-    layout: &Layout,
-    baseline: Pixels,
-) -> Result<(), NoMemory> {
-    for (index, thread) in run.threads.iter().enumerate() {
-        let lane = layout.lane(index);
-        let id = thread.id;
-        writeln!(svg, "<text x=\"{lane}\" y=\"{baseline}\">{id}</text>")?;
-    }
-    Ok(())
-}
-
-// The name of each thread that another one makes, at the beginning of its lane.
-fn draw_first_names(svg: &mut String, run: &Run, layout: &Layout) -> Result<(), NoMemory> {
-    svg.push_str("<g font-weight=\"bold\">\n")?;
-    for (index, thread) in run.threads.iter().enumerate() {
-        if thread.id != ThreadId::MAIN {
-            let start = layout.first_name(index);
-            let baseline = baseline(layout, thread.first);
-            let id = thread.id;
-            writeln!(svg, "<text x=\"{start}\" y=\"{baseline}\">{id}</text>")?;
-        }
-    }
-    close_group(svg)
-}
-
-fn draw_lanes(svg: &mut String, run: &Run, layout: &Layout) -> Result<(), NoMemory> {
-    svg.push_str("<g stroke=\"#888\" stroke-width=\"1.5\">\n")?;
-    for (index, thread) in run.threads.iter().enumerate() {
-        draw_lane(svg, layout, index, thread)?;
-    }
-    close_group(svg)
-}
-
-// A line while the thread is there, and a dotted one after it.
-fn draw_lane(
-    svg: &mut String,
-    layout: &Layout,
-    index: usize,
-    thread: &Thread,
-) -> Result<(), NoMemory> {
-    let lane = layout.lane(index);
-    let top = lane_top(layout, thread);
-    let bottom = lane_bottom(layout, thread);
-    writeln!(
-        svg,
-        "<line x1=\"{lane}\" y1=\"{top}\" x2=\"{lane}\" y2=\"{bottom}\"/>"
-    )?;
-    let last_seen = layout.row_middle(thread.last_seen);
-    if last_seen > bottom {
-        writeln!(
-            svg,
-            "<line x1=\"{lane}\" y1=\"{bottom}\" x2=\"{lane}\" y2=\"{last_seen}\" stroke-dasharray=\"2 3\"/>"
-        )?;
-    }
-    Ok(())
-}
-
-fn lane_top(layout: &Layout, thread: &Thread) -> Pixels {
-    if thread.id == ThreadId::MAIN {
-        layout.row_top(thread.first)
-    } else {
-        layout.row_middle(thread.first)
-    }
-}
-
-fn lane_bottom(layout: &Layout, thread: &Thread) -> Pixels {
-    match thread.last {
-        None => layout.rows_end(),
-        Some(last) if thread.is_cut_off => layout.row_middle(last),
-        Some(last) => layout.row_middle(last) + BAR_DROP,
-    }
-}
-
-// A bar where a thread ends, or a cross where it is cut off.
-fn draw_ends(svg: &mut String, run: &Run, layout: &Layout) -> Result<(), NoMemory> {
-    svg.push_str("<g stroke=\"#000\" stroke-width=\"2\">\n")?;
-    for (index, thread) in run.threads.iter().enumerate() {
-        if thread.last.is_some() {
-            let lane = layout.lane(index);
-            let bottom = lane_bottom(layout, thread);
-            if thread.is_cut_off {
-                writeln!(svg, "<path d=\"M{lane} {bottom}m-4-4l8 8m-8 0l8-8\"/>")?;
-            } else {
-                writeln!(svg, "<path d=\"M{lane} {bottom}m-6 0h12\"/>")?;
+    // Every second row is gray.
+    fn draw_stripes(&mut self) {
+        self.svg.push("<g fill=\"#f2f2f2\">\n");
+        for row in 0..self.layout.rows {
+            if row % 2 == 0 {
+                self.svg.fill(
+                    "<rect y=\"%\" width=\"%\" height=\"%\"/>\n",
+                    &[row_at(row, TOP), self.layout.width, ROW_HEIGHT],
+                );
             }
         }
+        self.svg.push("</g>\n");
     }
-    close_group(svg)
-}
 
-// ---- steps
+    // ---- lanes
 
-fn draw_arrows(svg: &mut String, run: &Run, layout: &Layout) -> Result<(), NoMemory> {
-    svg.push_str("<g stroke=\"#000\" fill=\"#000\">\n")?;
-    for arrow in run.arrows.iter() {
-        if let Some(row) = run.rows.get(arrow.row) {
-            draw_arrow(svg, layout, arrow, row)?;
+    // In a long picture a lane is named below it too, and where it begins.
+    fn draw_names(&mut self) {
+        self.svg
+            .push("<g font-weight=\"bold\" text-anchor=\"middle\">\n");
+        self.draw_names_at(NAMES_BASELINE);
+        if self.layout.is_long() {
+            self.draw_names_at(self.layout.lower_names_baseline());
+        }
+        self.svg.push("</g>\n");
+        if self.layout.is_long() {
+            self.draw_first_names();
         }
     }
-    close_group(svg)
-}
 
-fn draw_arrow(svg: &mut String, layout: &Layout, arrow: &Arrow, row: &Row) -> Result<(), NoMemory> {
-    let y = layout.row_middle(arrow.row);
-    let (start, end) = arrow_ends(layout, arrow, row);
-    if start < end {
-        writeln!(svg, "<path d=\"M{start} {y}H{end}l-7-3v6l7-3\"/>")?;
-    } else if end < start {
-        writeln!(svg, "<path d=\"M{start} {y}H{end}l7-3v6l-7-3\"/>")?;
-    }
-    Ok(())
-}
-
-// Where an arrow begins and ends. Beside the mark of the step it leaves room for the events.
-fn arrow_ends(layout: &Layout, arrow: &Arrow, row: &Row) -> (Pixels, Pixels) {
-    let from = layout.lane(arrow.from);
-    let to = layout.lane(arrow.to);
-    if row.thread == Some(arrow.from) && from < to {
-        (layout.right_of_mark(arrow.from, row), to)
-    } else if row.thread == Some(arrow.to) && to < from {
-        (from, layout.right_of_mark(arrow.to, row))
-    } else if row.thread == Some(arrow.to) && from < to {
-        (from, to - RADIUS)
-    } else {
-        (from, to)
-    }
-}
-
-fn draw_marks(svg: &mut String, run: &Run, layout: &Layout) -> Result<(), NoMemory> {
-    svg.push_str("<g stroke=\"#000\" stroke-width=\"1.5\">\n")?;
-    for (index, row) in run.rows.iter().enumerate() {
-        if let Some(thread) = row.thread {
-            let lane = layout.lane(thread);
-            let y = layout.row_middle(index);
-            let radius = RADIUS;
-            let fill = if row.step.is_act() { "#fff" } else { "#000" };
-            writeln!(
-                svg,
-                "<circle cx=\"{lane}\" cy=\"{y}\" r=\"{radius}\" fill=\"{fill}\"/>"
-            )?;
+    fn draw_names_at(&mut self, baseline: usize) {
+        for (index, thread) in self.run.threads.iter().enumerate() {
+            self.draw_name(self.layout.lane(index), baseline, thread);
         }
     }
-    close_group(svg)
-}
 
-// ---- texts
-
-fn draw_numbers(svg: &mut String, run: &Run, layout: &Layout) -> Result<(), NoMemory> {
-    svg.push_str("<g fill=\"#666\" text-anchor=\"end\">\n")?;
-    for (index, row) in run.rows.iter().enumerate() {
-        let number = Caption::new(row.step.number, row.step.number.len());
-        draw_text(svg, layout.numbers_end, baseline(layout, index), &number)?;
+    // The name of each thread that another one makes, at the beginning of its lane.
+    fn draw_first_names(&mut self) {
+        self.svg.push("<g font-weight=\"bold\">\n");
+        for (index, thread) in self.run.threads.iter().enumerate() {
+            if index > 0 {
+                let start = self.layout.lane(index).saturating_add(NAME_GAP);
+                self.draw_name(start, row_at(thread.first, BASELINE), thread);
+            }
+        }
+        self.svg.push("</g>\n");
     }
-    close_group(svg)
-}
 
-fn draw_places(svg: &mut String, run: &Run, layout: &Layout) -> Result<(), NoMemory> {
-    svg.push_str("<g fill=\"#666\">\n")?;
-    for (index, row) in run.rows.iter().enumerate() {
-        draw_text(
-            svg,
-            layout.places,
-            baseline(layout, index),
-            &place_caption(row),
-        )?;
+    fn draw_name(&mut self, x: usize, y: usize, thread: &Thread) {
+        self.svg.fill(
+            "<text x=\"%\" y=\"%\">%.%</text>\n",
+            &[x, y, thread.id.process, thread.id.thread],
+        );
     }
-    close_group(svg)
-}
 
-fn draw_statements(svg: &mut String, run: &Run, layout: &Layout) -> Result<(), NoMemory> {
-    svg.push_str("<g>\n")?;
-    for (index, row) in run.rows.iter().enumerate() {
-        draw_text(
-            svg,
-            layout.statements,
-            baseline(layout, index),
-            &statement_caption(row),
-        )?;
+    fn draw_lanes(&mut self) {
+        self.svg.push("<g stroke=\"#888\" stroke-width=\"1.5\">\n");
+        for (index, thread) in self.run.threads.iter().enumerate() {
+            self.draw_lane(index, thread);
+        }
+        self.svg.push("</g>\n");
     }
-    close_group(svg)
-}
 
-fn draw_events(svg: &mut String, run: &Run, layout: &Layout) -> Result<(), NoMemory> {
-    svg.push_str("<g>\n")?;
-    for (index, row) in run.rows.iter().enumerate() {
-        if let Some(thread) = row.thread {
-            let start = layout.events_start(thread);
-            draw_text(
-                svg,
-                start,
-                baseline(layout, index),
-                &layout.events_caption(row),
-            )?;
+    // A line while the thread is there, and a dotted one after it. The first thread is there before its first step.
+    fn draw_lane(&mut self, index: usize, thread: &Thread) {
+        let lane = self.layout.lane(index);
+        let top = row_at(thread.first, if index == 0 { TOP } else { MIDDLE });
+        let bottom = self.lane_bottom(thread);
+        self.svg.fill(
+            "<line x1=\"%\" y1=\"%\" x2=\"%\" y2=\"%\"/>\n",
+            &[lane, top, lane, bottom],
+        );
+        let last_seen = row_at(thread.last_seen, MIDDLE);
+        if last_seen > bottom {
+            self.svg.fill(
+                "<line x1=\"%\" y1=\"%\" x2=\"%\" y2=\"%\" stroke-dasharray=\"2 3\"/>\n",
+                &[lane, bottom, lane, last_seen],
+            );
         }
     }
-    close_group(svg)
-}
 
-// The lines after the steps.
-fn draw_closing(svg: &mut String, run: &Run, layout: &Layout) -> Result<(), NoMemory> {
-    svg.push_str("<g font-weight=\"bold\">\n")?;
-    for (index, line) in run.closing.iter().enumerate() {
-        let caption = Caption::new(line, line.len());
-        draw_text(svg, layout.places, layout.closing_baseline(index), &caption)?;
+    fn lane_bottom(&self, thread: &Thread) -> usize {
+        match thread.last {
+            None => row_at(self.layout.rows, TOP),
+            Some(last) => row_at(last, if thread.is_cut_off { MIDDLE } else { BAR }),
+        }
     }
-    close_group(svg)
-}
 
-// The base line of the texts of a row.
-fn baseline(layout: &Layout, row: usize) -> Pixels {
-    layout.row_middle(row) + BASELINE
-}
-
-fn draw_text(svg: &mut String, x: Pixels, y: Pixels, caption: &Caption) -> Result<(), NoMemory> {
-    if !caption.is_empty() {
-        writeln!(svg, "<text x=\"{x}\" y=\"{y}\">{caption}</text>")?;
+    // A bar where a thread ends, or a cross where it is cut off.
+    fn draw_ends(&mut self) {
+        self.svg.push("<g stroke=\"#000\" stroke-width=\"2\">\n");
+        for (index, thread) in self.run.threads.iter().enumerate() {
+            if thread.last.is_some() {
+                let form = if thread.is_cut_off {
+                    "<path d=\"M% %m-4-4l8 8m-8 0l8-8\"/>\n"
+                } else {
+                    "<path d=\"M% %m-6 0h12\"/>\n"
+                };
+                let lane = self.layout.lane(index);
+                let bottom = self.lane_bottom(thread);
+                self.svg.fill(form, &[lane, bottom]);
+            }
+        }
+        self.svg.push("</g>\n");
     }
-    Ok(())
+
+    // ---- steps
+
+    fn draw_arrows(&mut self) {
+        self.svg.push("<g stroke=\"#000\" fill=\"#000\">\n");
+        for arrow in self.run.arrows.iter() {
+            if let Some(row) = self.run.rows.get(arrow.row) {
+                self.draw_arrow(arrow, row);
+            }
+        }
+        self.svg.push("</g>\n");
+    }
+
+    // Beside the mark of the step an arrow leaves room for the events.
+    fn draw_arrow(&mut self, arrow: &Arrow, row: &Row) {
+        let y = row_at(arrow.row, MIDDLE);
+        let from = self.layout.lane(arrow.from);
+        let to = self.layout.lane(arrow.to);
+        if from < to {
+            let (start, end) = if row.thread == Some(arrow.from) {
+                (self.layout.right_of_mark(arrow.from, row), to)
+            } else {
+                (from, to.saturating_sub(RADIUS))
+            };
+            self.draw_arrow_between(start, end, y);
+        } else if to < from {
+            let end = if row.thread == Some(arrow.to) {
+                self.layout.right_of_mark(arrow.to, row)
+            } else {
+                to
+            };
+            self.draw_arrow_between(from, end, y);
+        }
+    }
+
+    fn draw_arrow_between(&mut self, start: usize, end: usize, y: usize) {
+        let form = if start < end {
+            "<path d=\"M% %H%l-7-3v6l7-3\"/>\n"
+        } else {
+            "<path d=\"M% %H%l7-3v6l-7-3\"/>\n"
+        };
+        self.svg.fill(form, &[start, y, end]);
+    }
+
+    fn draw_marks(&mut self) {
+        self.svg.push("<g stroke=\"#000\" stroke-width=\"1.5\">\n");
+        for (index, row) in self.run.rows.iter().enumerate() {
+            if let Some(thread) = row.thread {
+                let form = if row.step.is_act() {
+                    "<circle cx=\"%\" cy=\"%\" r=\"%\" fill=\"#fff\"/>\n"
+                } else {
+                    "<circle cx=\"%\" cy=\"%\" r=\"%\" fill=\"#000\"/>\n"
+                };
+                let lane = self.layout.lane(thread);
+                self.svg.fill(form, &[lane, row_at(index, MIDDLE), RADIUS]);
+            }
+        }
+        self.svg.push("</g>\n");
+    }
+
+    // ---- texts
+
+    fn draw_column(&mut self, group: &str, column: Column) {
+        self.svg.push(group);
+        for (index, row) in self.run.rows.iter().enumerate() {
+            let (start, caption) = self.layout.text(column, row);
+            self.draw_text(start, row_at(index, BASELINE), caption);
+        }
+        self.svg.push("</g>\n");
+    }
+
+    // The lines after the steps.
+    fn draw_closing(&mut self) {
+        self.svg.push("<g font-weight=\"bold\">\n");
+        for (index, line) in self.run.closing.iter().enumerate() {
+            let y = self.layout.closing_baseline(index);
+            self.draw_text(self.layout.places, y, Caption::whole(line));
+        }
+        self.svg.push("</g>\n");
+    }
+
+    // Of a text that is cut, the first characters and two dots are shown.
+    fn draw_text(&mut self, x: usize, y: usize, caption: Caption) {
+        if caption.text.is_empty() {
+            return;
+        }
+        self.svg.fill("<text x=\"%\" y=\"%\">", &[x, y]);
+        let is_cut = caption.text.len() > caption.limit;
+        let dots = if is_cut { 2 } else { 0 };
+        let shown = caption.limit.saturating_sub(dots);
+        for character in caption.text.chars().take(shown) {
+            self.svg.push_escaped(character);
+        }
+        self.svg
+            .push(if is_cut { "..</text>\n" } else { "</text>\n" });
+    }
 }

@@ -1,6 +1,6 @@
 //! What the events of a step do to threads.
 
-use crate::thread_id::{ThreadId, parse_number};
+use crate::thread_id::ThreadId;
 
 /// What an event does to threads.
 #[derive(Clone, Copy)]
@@ -17,41 +17,60 @@ pub(crate) enum Effect {
     EndsProcess,
 }
 
+// The events with an effect.
+#[derive(Clone, Copy)]
+enum Kind {
+    Create,
+    Fork,
+    Request,
+    Signal,
+    Joined,
+    Ended,
+    ProcessEnd,
+}
+
+// The first word of each, and how many words stand between it and the number.
+const KINDS: [(&str, usize, Kind); 8] = [
+    ("create", 0, Kind::Create),
+    ("fork", 0, Kind::Fork),
+    ("request", 0, Kind::Request),
+    ("signal", 1, Kind::Signal),
+    ("handon", 1, Kind::Signal),
+    ("joined", 0, Kind::Joined),
+    ("ended", 0, Kind::Ended),
+    ("process_end", 0, Kind::ProcessEnd),
+];
+
 impl Effect {
     /// The effect of this event of a step that the thread `by` makes. It is `None` for an event that concerns no other thread and
     /// ends nothing.
-    pub(crate) fn parse(event: &[u8], by: ThreadId) -> Option<Effect> {
-        let mut words = event
-            .split(|byte| *byte == b' ')
-            .filter(|word| !word.is_empty());
-        let name = words.next()?;
-        if name == b"ended".as_slice() {
-            return Some(Effect::Ends);
-        }
-        if name == b"process_end".as_slice() {
-            return Some(Effect::EndsProcess);
-        }
-        let object = words.next()?;
-        if name == b"fork".as_slice() {
-            let process = parse_number(object)?;
-            return Some(Effect::Makes(ThreadId { process, ..by }));
-        }
-        if name == b"signal".as_slice() || name == b"handon".as_slice() {
-            let thread = parse_number(words.next()?)?;
-            return Some(Effect::Calls(ThreadId { thread, ..by }));
-        }
-        if name == b"create".as_slice() {
-            let thread = parse_number(object)?;
-            return Some(Effect::Makes(ThreadId { thread, ..by }));
-        }
-        if name == b"request".as_slice() {
-            let thread = parse_number(object)?;
-            return Some(Effect::Calls(ThreadId { thread, ..by }));
-        }
-        if name == b"joined".as_slice() {
-            let thread = parse_number(object)?;
-            return Some(Effect::Joins(ThreadId { thread, ..by }));
-        }
-        None
+    pub(crate) fn parse(event: &str, by: ThreadId) -> Option<Effect> {
+        let mut words = event.split_ascii_whitespace();
+        let (skipped, kind) = find_kind(words.next()?)?;
+        let number = words.nth(skipped)?.parse().ok()?;
+        let thread = ThreadId {
+            thread: number,
+            ..by
+        };
+        Some(match kind {
+            Kind::Create => Effect::Makes(thread),
+            Kind::Fork => Effect::Makes(ThreadId {
+                process: number,
+                ..by
+            }),
+            Kind::Request | Kind::Signal => Effect::Calls(thread),
+            Kind::Joined => Effect::Joins(thread),
+            Kind::Ended => Effect::Ends,
+            Kind::ProcessEnd => Effect::EndsProcess,
+        })
     }
+}
+
+fn find_kind(name: &str) -> Option<(usize, Kind)> {
+    for (word, skipped, kind) in KINDS.iter() {
+        if *word == name {
+            return Some((*skipped, *kind));
+        }
+    }
+    None
 }

@@ -1,5 +1,6 @@
 //! The table of a run: a line for each step, and a column for each thread.
 
+use crate::page::Page;
 use crate::run::{Row, Run};
 use pct_io::NoMemory;
 use std::alloc::Global;
@@ -13,17 +14,10 @@ use std::alloc::Global;
 /// which it or its process ends.
 pub fn lanes(alloc: Global, trace: &[u8]) -> Result<Vec<u8>, NoMemory> {
     let run = Run::parse(alloc, trace)?;
-    let mut table = Vec::new(alloc);
+    let mut table = Page::new(alloc);
     table.reserve(size_of_fields(&run))?;
-    push_header(alloc, &mut table, &run)?;
-    for (index, row) in run.rows.iter().enumerate() {
-        push_row(&mut table, &run, index, row)?;
-    }
-    for line in run.closing.iter() {
-        table.extend_from_slice(line)?;
-        table.push(b'\n')?;
-    }
-    Ok(table)
+    push_lines(&mut table, &run);
+    table.finish()
 }
 
 // The table has at least two bytes for each step and thread. They are asked for at once, so that a table which cannot fit into
@@ -35,29 +29,32 @@ fn size_of_fields(run: &Run) -> usize {
         .saturating_mul(2)
 }
 
-fn push_header(alloc: Global, table: &mut Vec<u8>, run: &Run) -> Result<(), NoMemory> {
-    table.extend_from_slice(b"step")?;
+fn push_lines(table: &mut Page, run: &Run) {
+    table.push("step");
     for thread in run.threads.iter() {
-        let name = thread.id.to_string(alloc)?;
-        table.push(b'\t')?;
-        table.extend_from_slice(name.as_bytes())?;
+        table.fill("\t%.%", &[thread.id.process, thread.id.thread]);
     }
-    table.push(b'\n')?;
-    Ok(())
+    table.push("\n");
+    for (index, row) in run.rows.iter().enumerate() {
+        table.push(row.step.number);
+        push_fields(table, run, index, row);
+    }
+    for line in run.closing.iter() {
+        table.push(line);
+        table.push("\n");
+    }
 }
 
-fn push_row(table: &mut Vec<u8>, run: &Run, index: usize, row: &Row) -> Result<(), NoMemory> {
-    table.extend_from_slice(row.step.number)?;
+fn push_fields(table: &mut Page, run: &Run, index: usize, row: &Row) {
     for (at, thread) in run.threads.iter().enumerate() {
-        table.push(b'\t')?;
-        if row.thread == Some(at) {
-            table.extend_from_slice(row.step.summary())?;
+        table.push("\t");
+        table.push(if row.thread == Some(at) {
+            row.step.summary()
         } else if thread.is_there(index) {
-            table.push(b'|')?;
+            "|"
         } else {
-            table.push(b'.')?;
-        }
+            "."
+        });
     }
-    table.push(b'\n')?;
-    Ok(())
+    table.push("\n");
 }

@@ -6,6 +6,7 @@ use crate::trace_lines::Step;
 use pct_io::NoMemory;
 use std::alloc::Global;
 use std::collections::BTreeMap;
+use std::str;
 
 /// A thread, and when it is there. Rows count the steps from 0.
 #[derive(Clone, Copy)]
@@ -54,20 +55,20 @@ pub(crate) struct Row<'a> {
 pub(crate) struct Run<'a> {
     /// The steps.
     pub(crate) rows: Vec<Row<'a>>,
-    /// The threads, in the order in which they come into being.
+    /// The threads, in the order in which they come into being. The first one is there from the beginning.
     pub(crate) threads: Vec<Thread>,
     /// What goes between threads, by rising row.
     pub(crate) arrows: Vec<Arrow>,
     /// The lines after the steps: the verdict, and a notice.
-    pub(crate) closing: Vec<&'a [u8]>,
-    // The index of each thread.
-    indices: BTreeMap<ThreadId, usize>,
-    // Of each process that has ended, the row, and the thread that made the step.
-    process_ends: BTreeMap<u32, (usize, ThreadId)>,
+    pub(crate) closing: Vec<&'a str>,
+    // The index of each thread, by its process and its number.
+    indices: BTreeMap<(usize, usize), usize>,
+    // Of each process that has ended, the row, and the number of the thread that made the step.
+    process_ends: BTreeMap<usize, (usize, usize)>,
 }
 
 impl<'a> Run<'a> {
-    /// The run of a trace.
+    /// The run of a trace. A trace is ASCII text, and one that is not even UTF-8 counts as empty.
     pub(crate) fn parse(alloc: Global, trace: &'a [u8]) -> Result<Run<'a>, NoMemory> {
         let mut run = Run {
             rows: Vec::new(alloc),
@@ -77,65 +78,68 @@ impl<'a> Run<'a> {
             indices: BTreeMap::new(alloc),
             process_ends: BTreeMap::new(alloc),
         };
-        run.add_thread(ThreadId::MAIN, 0)?;
-        for line in trace.split(|byte| *byte == b'\n') {
-            run.add_line(line)?;
-        }
+        run.add_thread(ThreadId::MAIN)?;
+        run.add_lines(str::from_utf8(trace).unwrap_or(""))?;
         run.end_processes();
         Ok(run)
     }
 
-    fn add_line(&mut self, line: &'a [u8]) -> Result<(), NoMemory> {
-        match Step::parse(line) {
-            Some(step) => self.add_step(step)?,
-            None if line.is_empty() => {}
-            None => self.closing.push(line)?,
+    fn add_lines(&mut self, trace: &'a str) -> Result<(), NoMemory> {
+        for line in trace.split('\n') {
+            if let Some(step) = Step::parse(line) {
+                self.add_step(step)?;
+            } else if !line.is_empty() {
+                self.closing.push(line)?;
+            }
         }
         Ok(())
     }
 
     fn add_step(&mut self, step: Step<'a>) -> Result<(), NoMemory> {
-        let row = self.rows.len();
         let mut thread = None;
         if let Some(by) = ThreadId::parse(step.thread) {
-            thread = self.index_of(by);
-            self.see(thread, row);
-            for event in step.events().split(|byte| *byte == b',') {
-                if let Some(effect) = Effect::parse(event, by) {
-                    self.apply(effect, by, row)?;
-                }
-            }
+            thread = self.see(by);
+            self.add_events(step.events, by)?;
         }
         self.rows.push(Row { step, thread })?;
         Ok(())
     }
 
-    // Applies an effect of the step in this row, which the thread `by` makes.
-    fn apply(&mut self, effect: Effect, by: ThreadId, row: usize) -> Result<(), NoMemory> {
-        match effect {
-            Effect::Makes(id) => {
-                self.add_thread(id, row)?;
-                self.add_arrow(by, id, row)
-            }
-            Effect::Calls(id) => self.add_arrow(by, id, row),
-            Effect::Joins(id) => self.add_arrow(id, by, row),
-            Effect::Ends => {
-                self.end_thread(by, row);
-                Ok(())
-            }
-            Effect::EndsProcess => {
-                self.process_ends.insert(by.process, (row, by))?;
-                Ok(())
+    // Adds the events of a step that the thread `by` makes.
+    fn add_events(&mut self, events: &str, by: ThreadId) -> Result<(), NoMemory> {
+        for event in events.split(',') {
+            if let Some(effect) = Effect::parse(event, by) {
+                self.apply(effect, by)?;
             }
         }
+        Ok(())
+    }
+
+    fn apply(&mut self, effect: Effect, by: ThreadId) -> Result<(), NoMemory> {
+        match effect {
+            Effect::Makes(id) => {
+                self.add_thread(id)?;
+                self.add_arrow(by, id)?;
+            }
+            Effect::Calls(id) => self.add_arrow(by, id)?,
+            Effect::Joins(id) => self.add_arrow(id, by)?,
+            Effect::Ends => self.end_thread(by),
+            Effect::EndsProcess => {
+                let end = (self.rows.len(), by.thread);
+                self.process_ends.insert(by.process, end)?;
+            }
+        }
+        Ok(())
     }
 
     fn index_of(&self, id: ThreadId) -> Option<usize> {
-        self.indices.get(&id).copied()
+        self.indices.get(&(id.process, id.thread)).copied()
     }
 
-    fn add_thread(&mut self, id: ThreadId, row: usize) -> Result<(), NoMemory> {
-        self.indices.insert(id, self.threads.len())?;
+    fn add_thread(&mut self, id: ThreadId) -> Result<(), NoMemory> {
+        self.indices
+            .insert((id.process, id.thread), self.threads.len())?;
+        let row = self.rows.len();
         self.threads.push(Thread {
             id,
             first: row,
@@ -146,28 +150,25 @@ impl<'a> Run<'a> {
         Ok(())
     }
 
-    fn add_arrow(&mut self, from: ThreadId, to: ThreadId, row: usize) -> Result<(), NoMemory> {
-        if let (Some(from), Some(to)) = (self.index_of(from), self.index_of(to)) {
-            self.see(Some(from), row);
-            self.see(Some(to), row);
+    fn add_arrow(&mut self, from: ThreadId, to: ThreadId) -> Result<(), NoMemory> {
+        if let (Some(from), Some(to)) = (self.see(from), self.see(to)) {
+            let row = self.rows.len();
             self.arrows.push(Arrow { row, from, to })?;
         }
         Ok(())
     }
 
-    // Notes that this row has something of the thread with this index.
-    fn see(&mut self, index: Option<usize>, row: usize) {
-        if let Some(index) = index {
-            if let Some(thread) = self.threads.get_mut(index) {
-                thread.last_seen = row;
-            }
-        }
+    // Notes that the row of the step has something of this thread, and returns its index.
+    fn see(&mut self, id: ThreadId) -> Option<usize> {
+        let index = self.index_of(id)?;
+        self.threads.get_mut(index)?.last_seen = self.rows.len();
+        Some(index)
     }
 
-    fn end_thread(&mut self, id: ThreadId, row: usize) {
+    fn end_thread(&mut self, id: ThreadId) {
         if let Some(index) = self.index_of(id) {
             if let Some(thread) = self.threads.get_mut(index) {
-                thread.last = Some(row);
+                thread.last = Some(self.rows.len());
             }
         }
     }
@@ -175,10 +176,10 @@ impl<'a> Run<'a> {
     // Ends the threads that are there when their process ends.
     fn end_processes(&mut self) {
         for thread in self.threads.iter_mut() {
-            if let Some((row, by)) = self.process_ends.get(&thread.id.process) {
-                if thread.last.is_none() {
+            if thread.last.is_none() {
+                if let Some((row, by)) = self.process_ends.get(&thread.id.process) {
                     thread.last = Some(*row);
-                    thread.is_cut_off = thread.id != *by;
+                    thread.is_cut_off = thread.id.thread != *by;
                 }
             }
         }

@@ -1,12 +1,10 @@
 //! The names of threads.
 
-use std::{fmt, str};
-
 /// A thread of a process, written `PID.TID`.
-#[derive(Clone, Copy, PartialEq, Eq, PartialOrd, Ord)]
+#[derive(Clone, Copy)]
 pub(crate) struct ThreadId {
-    pub(crate) process: u32,
-    pub(crate) thread: u32,
+    pub(crate) process: usize,
+    pub(crate) thread: usize,
 }
 
 impl ThreadId {
@@ -17,23 +15,25 @@ impl ThreadId {
     };
 
     /// The thread that this text names. It is `None` where the text is not of the form `PID.TID`.
-    pub(crate) fn parse(text: &[u8]) -> Option<ThreadId> {
-        let mut numbers = text.split(|byte| *byte == b'.');
-        let process = parse_number(numbers.next()?)?;
-        let thread = parse_number(numbers.next()?)?;
-        Some(ThreadId { process, thread })
+    pub(crate) fn parse(text: &str) -> Option<ThreadId> {
+        let (process, thread) = text.split_once('.')?;
+        Some(ThreadId {
+            process: process.parse().ok()?,
+            thread: thread.parse().ok()?,
+        })
+    }
+
+    /// The number of characters of `PID.TID`.
+    pub(crate) fn len(self) -> usize {
+        digits(self.process)
+            .saturating_add(digits(self.thread))
+            .saturating_add(1)
     }
 }
 
-impl fmt::Display for ThreadId {
-    fn fmt<W: fmt::Write>(&self, f: &mut fmt::Formatter<W>) -> fmt::Result {
-        let process = self.process;
-        let thread = self.thread;
-        write!(f, "{process}.{thread}")
+fn digits(number: usize) -> usize {
+    match number.checked_ilog10() {
+        None => 1,
+        Some(power) => (power as usize).saturating_add(1),
     }
-}
-
-/// The number that a word spells in decimal.
-pub(crate) fn parse_number(word: &[u8]) -> Option<u32> {
-    str::from_utf8(word).ok()?.parse().ok()
 }

@@ -4,47 +4,48 @@
 #[derive(Clone, Copy)]
 pub(crate) struct Step<'a> {
     /// The number of the step, from 1.
-    pub(crate) number: &'a [u8],
+    pub(crate) number: &'a str,
     /// The thread that makes it, `PID.TID`.
-    pub(crate) thread: &'a [u8],
+    pub(crate) thread: &'a str,
     /// Where the thread was: `FUNC:LINE`, or its status.
-    pub(crate) place: &'a [u8],
+    pub(crate) place: &'a str,
     /// The statement of the script, or `-`.
-    pub(crate) statement: &'a [u8],
+    pub(crate) statement: &'a str,
     /// The choice, as in a schedule.
-    pub(crate) choice: &'a [u8],
+    pub(crate) choice: &'a str,
     /// The events, separated by commas, or `-`.
-    pub(crate) events: &'a [u8],
+    pub(crate) events: &'a str,
 }
 
 impl<'a> Step<'a> {
     /// The step of this line. It is `None` where the line has fewer than six fields, as that of the verdict.
-    pub(crate) fn parse(line: &'a [u8]) -> Option<Step<'a>> {
-        let mut fields = line.split(|byte| *byte == b'\t');
+    pub(crate) fn parse(line: &'a str) -> Option<Step<'a>> {
+        let mut rest = line.split('\t');
+        let mut fields = [line; 6];
+        for field in fields.iter_mut() {
+            *field = rest.next()?;
+        }
+        let [number, thread, place, statement, choice, events] = fields;
         Some(Step {
-            number: fields.next()?,
-            thread: fields.next()?,
-            place: fields.next()?,
-            statement: fields.next()?,
-            choice: fields.next()?,
-            events: fields.next()?,
+            number,
+            thread,
+            place,
+            statement,
+            choice,
+            events,
         })
     }
 
     /// The events, or nothing.
-    pub(crate) fn events(&self) -> &'a [u8] {
-        if is_absent(self.events) {
-            &[]
-        } else {
-            self.events
-        }
+    pub(crate) fn events(&self) -> &'a str {
+        if self.events == "-" { "" } else { self.events }
     }
 
     /// What the table shows of the step: its events; if it has none, the statement; if there is none, where the thread was.
-    pub(crate) fn summary(&self) -> &'a [u8] {
-        if !is_absent(self.events) {
+    pub(crate) fn summary(&self) -> &'a str {
+        if self.events != "-" {
             self.events
-        } else if !is_absent(self.statement) {
+        } else if self.statement != "-" {
             self.statement
         } else {
             self.place
@@ -53,15 +54,11 @@ impl<'a> Step<'a> {
 
     /// Whether the thread was at a statement of the script, `FUNC:LINE`, and had no other status.
     pub(crate) fn is_at_statement(&self) -> bool {
-        self.place.contains(&b':')
+        self.place.contains(':')
     }
 
     /// Whether the thread acts on a request in this step.
     pub(crate) fn is_act(&self) -> bool {
-        self.choice.starts_with(b"act")
+        self.choice.starts_with("act")
     }
-}
-
-fn is_absent(field: &[u8]) -> bool {
-    field == b"-".as_slice()
 }

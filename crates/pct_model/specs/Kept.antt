@@ -19,17 +19,21 @@ use Rattle.pct_model.specs.declared.state.State.TheVariants.{Disable}
 use Rattle.pct_model.specs.declared.state.Status.{Status}
 use Rattle.pct_model.specs.declared.state.Status.TheVariants as status
 use Rattle.pct_model.specs.declared.statement.Stmt.TheVariants as statement
-use Rattle.pct_model.specs.Actions.{without_first}
-use Rattle.pct_model.specs.CancelCalls.{point_kind, is_required}
+use Rattle.pct_model.specs.Actions.{has_ended, without_first}
+use Rattle.pct_model.specs.AfterEnd.{begins_exit}
+use Rattle.pct_model.specs.CancelCalls.{point_kind, is_required, state_if, mode_if}
+use Rattle.pct_model.specs.CancelEvents.{is_requested, is_enabled_last, is_asynchronous_last, has_not_begun}
 use Rattle.pct_model.specs.CondCalls.{cond_wait_point}
 use Rattle.pct_model.specs.ForkCalls.{is_fork}
-use Rattle.pct_model.specs.Keys.{Key, KeyPlace, key_at, value_at}
+use Rattle.pct_model.specs.KeyEvents.{has_key}
+use Rattle.pct_model.specs.Keys.{Key, KeyPlace, key_at, key_with, value_at}
 use Rattle.pct_model.specs.KnownThreads.{is_known, is_detached, is_joined, newest_event}
 use Rattle.pct_model.specs.LineParsing.{is_empty}
 use Rattle.pct_model.specs.MutexOwners.{owner_of}
 use Rattle.pct_model.specs.NextStatement.{NextStatement, StatementIn, next_of}
 use Rattle.pct_model.specs.Once.{is_pair}
 use Rattle.pct_model.specs.OpenPushes.{open_pushes}
+use Rattle.pct_model.specs.ProcessLaw.{has_in, ends_process}
 use Rattle.pct_model.specs.Static.{is_plain_body}
 use Rattle.pct_model.specs.StopTable.{has_begun_to_end, is_fork_kind}
 use Rattle.pct_model.specs.ThreadCalls.{join_point}
@@ -388,6 +392,11 @@ pub record Kept (script : Script) (config : Config) (w : World) (events : List E
   pub known : (pid tid : ℕ) → is_known pid tid events ≡ option_map_or (λ t. not t.gone) (made_thread pid tid w) false
   -- the keys of each process
   pub keys : EachProcess w (λ pid p. KeysKept script p.shared.keys)
+  -- there is a key with a number in a process exactly if the events report so
+  pub reported_keys : EachProcess w (λ pid p. (key : ℕ) → is_some (key_with key p.shared.keys) ≡ has_key pid key events)
+  -- a process has ended, and exit has begun in it, exactly if the events report so
+  pub ended : EachProcess w (λ pid p. has_ended p ≡ has_in ends_process pid events)
+  pub exits : EachProcess w (λ pid p. is_some p.shared.exit_value ≡ has_in begins_exit pid events)
   -- the functions that are registered with atexit are plain functions of the script
   pub exit_functions : EachProcess w (λ pid p. All (IsPlainFunction script) p.shared.exit_functions)
   -- the fork handlers that are registered are plain functions of the script
@@ -396,6 +405,11 @@ pub record Kept (script : Script) (config : Config) (w : World) (events : List E
   pub forks : EachThread w (λ pid tid t. ForkKept script t.status t.frames t.kept)
   -- each thread of each process
   pub threads : EachProcess w (λ pid p. EachThreadOf p (λ tid t. ThreadKept script p.shared.keys t (summary_of pid tid events)))
+  -- until a thread begins to end, or to exit its process, the state and the type of its cancelability are those that the events report
+  pub state : EachThread w (λ pid tid t. has_not_begun pid tid events ≡ true → t.state ≡ state_if (is_enabled_last pid tid events))
+  pub mode : EachThread w (λ pid tid t. has_not_begun pid tid events ≡ true → t.mode ≡ mode_if (is_asynchronous_last pid tid events))
+  -- a request is pending for a thread that has not ended exactly if the events report one
+  pub pending : EachThread w (λ pid tid t. t.ended ≡ false → t.pending ≡ is_requested pid tid events)
   -- a thread is joined or detached exactly if the events report so
   pub joined : EachThread w (λ pid tid t. t.joined ≡ is_joined pid tid events)
   pub detached : EachThread w (λ pid tid t. t.detached ≡ is_detached pid tid events)

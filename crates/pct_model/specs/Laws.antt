@@ -1,22 +1,46 @@
--- The laws that the events of every run keep.
-use Rattle.std.specs.Prelude.{ℕ, List}
-use Rattle.pct_model.specs.declared.event.Event.{Event}
+-- The laws that every run keeps.
+use Rattle.std.specs.Prelude.{List}
+use Rattle.pct_model.specs.declared.schedule.Config.{Config}
+use Rattle.pct_model.specs.declared.schedule.Entry.{Entry}
+use Rattle.pct_model.specs.declared.script.Script.{Script}
+use Rattle.pct_model.specs.AfterEnd.{AfterEnd}
+use Rattle.pct_model.specs.Calls.{Calls}
+use Rattle.pct_model.specs.CancelLaw.{CancelLaw}
 use Rattle.pct_model.specs.CondLaw.{CondLaw}
+use Rattle.pct_model.specs.Ends.{Ends}
 use Rattle.pct_model.specs.JoinLaw.{JoinLaw}
 use Rattle.pct_model.specs.Once.{Once}
+use Rattle.pct_model.specs.ProcessLaw.{ProcessLaw}
+use Rattle.pct_model.specs.RanAll.{RanAll}
+use Rattle.pct_model.specs.Run.{Run}
 use Rattle.pct_model.specs.SlotLaw.{SlotLaw}
 
--- the laws of the events of a run, newest first, with the greatest number of passes over destructors and the number of slots
-pub record Laws (events : List Event) (passes slots : ℕ) : Type 0 where
+-- the laws of the run of a schedule, and of its events, newest first
+pub record Laws (script : Script) (config : Config) (entries : List Entry) (r : Run) : Type 0 where
   -- no cleanup handler is removed twice, the newest is removed first, a thread ends once, with none left, and after its handlers no
   -- key has two events of its destructor in a pass
-  pub once : Once passes events
+  pub once : Once config.passes r.events
+  -- the handlers that ran in a thread that has ended are all those that were open as it began to end, the newest first
+  pub ran_all : RanAll r.events
+  -- a thread that has ended, or exits its process, neither removes a handler nor calls a destructor nor ends again; after its end it
+  -- only exits its process, as the last thread
+  pub after_end : AfterEnd r.events
+  -- each event which says that a function is called comes with its call; destructors get the value of a key, which is not NULL
+  pub calls : Calls script config entries r.events
+  -- the stages of an end follow each other, and keys with values are left only after the last pass
+  pub ends : Ends script config entries r.events
+  -- a thread is canceled only by a request, with cancelability enabled, at a cancellation point or with the asynchronous type; and with
+  -- a request to act upon it acts at each function that it calls and that shall be a cancellation point
+  pub cancels : CancelLaw script config entries r
   -- each join that returns gets the value of a thread that has ended, no thread is joined twice or while it is detached, and no
   -- request or detach names a thread outside the lifetime of its id
-  pub joins : JoinLaw events
+  pub joins : JoinLaw r.events
   -- a mutex is acquired while no thread owns it, and released by its owner; a condition wait ends with its mutex owned again, also if a
   -- request ends it; and a signal is handed on as a thread leaves its wait by a request
-  pub conds : CondLaw events
+  pub conds : CondLaw r.events
   -- a new thread gets an id that no known thread of its process has had, and each known thread on its slot has ended and was joined or is
   -- detached
-  pub creations : SlotLaw slots events
+  pub creations : SlotLaw config.slots r.events
+  -- a process makes no event after its end and is made by one fork; exit begins at most once, and sets the status if its thread ends
+  -- the process; and waitpid gives the status once
+  pub processes : ProcessLaw r.events

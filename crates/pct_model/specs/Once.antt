@@ -1,8 +1,8 @@
 -- The law of cleanup handlers and destructors: no handler is removed twice; the newest is removed first, by a pop or as the thread
 -- ends; a thread ends once, with none left; and after the handlers, pass by pass, no key has two events of its destructor in a pass
 -- (XSH 2.9.5.3, pthread_exit, pthread_cleanup_push, pthread_key_create). It speaks of the events of a run alone, listed newest first as
--- in its trace, and of the limit on the passes. That the functions named by the events then run, and that a thread that has ended makes
--- no further event, is not said here.
+-- in its trace, and of the limit on the passes. That the functions named by the events are called is said by the law of calls, and that a
+-- thread that has ended makes no further event of this kind by the law of what follows the end.
 use Rattle.std.specs.Prelude.{◌≡◌, ℕ, suc, ◌<◌, ◌≤◌, Bool, true, false, ◌&&◌, List, [], ◌∷◌, length, Option, Some, None, nat_eq}
 use Rattle.std.specs.List.{list_any}
 use Rattle.pct_model.specs.declared.event.Event.{Event}

@@ -10,6 +10,14 @@ mod WaitRows
 mod ProcessRows
 mod ForkRows
 mod SlotRows
+mod EndRows
+mod StageRows
+mod CallRows
+mod ProcessLawRows
+mod RequestRows
+mod ActRows
+mod LawTests
+mod OneLawRows
 mod OptionRows
 mod EventRows
 mod StaticRows

@@ -1,8 +1,8 @@
 -- Each transition of the table is one of the cases.
-use Rattle.std.proofs.Common.{◌≡◌, ℕ, suc, ◌<◌, ◌≤◌, Bool, true, false, cond, not, ◌&&◌, ◌||◌, List, [], ◌∷◌, ◌++◌, length, nat_eq, nat_lt, find, slice_index, is_none, is_some, Option, Some, None, option_map, option_and_then, inl, inr, refl, sym, ap, ◌∙◌, eqb-true, pos_of_ne-zero, arith}
+use Rattle.std.proofs.Common.{◌≡◌, ℕ, suc, ◌<◌, ◌≤◌, Bool, true, false, cond, not, ◌&&◌, ◌||◌, List, [], ◌∷◌, ◌++◌, length, nat_eq, nat_lt, find, slice_index, is_none, is_some, Option, Some, None, option_map, option_and_then, inl, inr, refl, sym, ap, subst, ◌∙◌, eqb-true, pos_of_ne-zero, arith}
 use Rattle.std.specs.List.{list_any}
 use Rattle.std.specs.Option.{option_map_or}
-use Rattle.std.proofs.lemmas.Bool.{true≢false, or_parts, not-false, ltb-true, ltb-false, eqb-false}
+use Rattle.std.proofs.lemmas.Bool.{true≢false, or_parts, not-true, not-false, ltb-true, ltb-false, eqb-false}
 use Rattle.std.proofs.lemmas.Option.{none-some}
 use Rattle.pct_model.specs.declared.event.Caller.TheVariants as caller
 use Rattle.pct_model.specs.declared.event.What.TheVariants as what
@@ -31,28 +31,29 @@ use Rattle.pct_model.specs.declared.stop.Why.{Why}
 use Rattle.pct_model.specs.declared.stop.Why.TheVariants.{ForkChildCall, AsyncCall}
 use Rattle.pct_model.specs.declared.transition.Action.TheVariants as action
 use Rattle.pct_model.specs.declared.transition.Transition.{Transition}
-use Rattle.pct_model.specs.Cancelability.{is_asynchronous}
-use Rattle.pct_model.specs.CancelCalls.{requests, sets_state, sets_mode, tests_cancel, point_kind, calls_point, passes_point, acts_on_request}
+use Rattle.pct_model.specs.Cancelability.{is_deliverable, is_asynchronous}
+use Rattle.pct_model.specs.CancelCalls.{requests, sets_state, sets_mode, testcancel_point, tests_cancel, point_kind, called_kind, is_required, calls_point, passes_point, acts_on_request}
 use Rattle.pct_model.specs.ChoiceTable.{choices_at, offers}
 use Rattle.pct_model.specs.CleanupHandlers.{pushes, pops}
-use Rattle.pct_model.specs.CondCalls.{begins_wait, reacquires, leaves_wait, hands_on, signals_by, broadcasts}
-use Rattle.pct_model.specs.ForkCalls.{in_fork, next_handler, calls_handler, registers_fork, begins_fork, forks_by, returns_in_parent, returns_in_child, goes_on_after_handlers, goes_on_forking, leaves_handler, finds_no_child, begins_waitpid, reaps, reaps_if, waits_at}
+use Rattle.pct_model.specs.CondCalls.{cond_wait_point, begins_wait, reacquires, leaves_wait, hands_on, signals_by, broadcasts}
+use Rattle.pct_model.specs.ForkCalls.{in_fork, next_handler, calls_handler, registers_fork, begins_fork, forks_by, returns_in_parent, returns_in_child, goes_on_after_handlers, goes_on_forking, leaves_handler, finds_no_child, waitpid_point, begins_waitpid, reaps, reaps_if, waits_at}
 use Rattle.pct_model.specs.Jumps.{open_of}
 use Rattle.pct_model.specs.KeyCalls.{creates_key, fails_to_create_key, creates_key_by, deletes_key, sets_specific, gets_specific}
 use Rattle.pct_model.specs.Keys.{Key, key_place, key_with, left_keys, value_at}
 use Rattle.pct_model.specs.MutexCalls.{owns, locks, unlocks}
 use Rattle.pct_model.specs.NextStatement.{NextStatement, StatementIn}
 use Rattle.pct_model.specs.OtherThreads.{Others, waits_with_another_mutex, exit_value_of}
+use Rattle.pct_model.specs.Points.{points}
 use Rattle.pct_model.specs.ProcessExit.{exits, returns_by, ends_now, goes_on_exiting, may_register, registers_if}
 use Rattle.pct_model.specs.ScriptStatements.{jumps, emits, sets, adds, calls, after_block, after_test, after_end}
-use Rattle.pct_model.specs.SemCalls.{begins_sem_wait, takes, posts}
-use Rattle.pct_model.specs.StopTable.{StopTest, first_stop, is_stack_full, has_begun_to_end, is_in_handler, is_allowed_asynchronously, is_forbidden_in_child, stops_of, stop_at}
-use Rattle.pct_model.specs.ThreadCalls.{creates, fails_to_create, creates_by, begins_join, ends_join, joins_at, detaches, gets_self}
+use Rattle.pct_model.specs.SemCalls.{sem_wait_point, begins_sem_wait, takes, posts}
+use Rattle.pct_model.specs.StopTable.{StopTest, first_stop, is_stack_full, has_begun_to_end, is_in_handler, is_allowed_asynchronously, is_forbidden_in_child, exits_twice, stops_of, stop_at}
+use Rattle.pct_model.specs.ThreadCalls.{creates, fails_to_create, creates_by, join_point, begins_join, ends_join, joins_at, detaches, gets_self}
 use Rattle.pct_model.specs.ThreadEnds.{end_value, ends_by_exit, ends_thread, calls_destructor, due_keys, goes_on_ending}
 use Rattle.pct_model.specs.Transitions.{goes_on, acts}
 use Rattle.pct_model.specs.TransitionTable.{ends_block, stops_or, runs, transition_at, acts_or}
 use Rattle.pct_model.specs.World.{Thread, SharedState, value_of}
-use Rattle.pct_transition_cases.proofs.OfferedChoices.{is_acting, goes_at, Offered, offered_alive, may_go_on, act_enabled, heir_among, picked_among, id_among, key_among, left_among, offered_of, free_to_lock}
+use Rattle.pct_transition_cases.proofs.OfferedChoices.{is_acting, goes_at, Offered, offered_alive, may_go_on, act_delivered, act_where_it_may, heir_among, picked_among, id_among, key_among, left_among, offered_of, free_to_lock, gone_on_at_required, no_key_left}
 use Rattle.pct_transition_cases.proofs.TransitionCases.{past_nop, past_if, past_while, past_else, past_end, Returns, by_return, by_end, TransitionCase, rests, stopped, jumped, emitted, variable_set, variable_added, function_called, main_returned, start_returned, call_left, handler_left, exit_function_left, thread_made, thread_not_made, join_begun, join_ended, thread_detached, self_got, request_sent, state_set, mode_set, cancel_tested, point_begun, point_done, point_passed, canceled, canceled_at_point, canceled_in_join, canceled_in_sem_wait, canceled_in_waitpid, mutex_locked, mutex_unlocked, wait_begun, wait_ended, canceled_in_wait, canceled_after_wait, signal_handed_on, ended_in_wait, signal_sent, signal_lost, broadcast_sent, sem_wait_begun, sem_taken, sem_posted, fork_registered, fork_not_registered, fork_begun, fork_handler_called, fork_handler_left, process_forked, process_not_forked, fork_failed, fork_returned, waitpid_begun, child_reaped, no_child_found, child_lost, key_made, key_not_made, key_deleted, specific_set, specific_got, handler_pushed, handler_popped, handler_called, exit_called, handler_run, destructor_called, pass_begun, thread_ended, thread_ended_with_keys, last_ended, last_ended_with_keys, exit_registered, exit_not_registered, process_exited, process_ended_now, exit_function_called, process_ended}
 
 -- ---- stops
@@ -68,7 +69,7 @@ no_stop (test ∷ tests) none = by_test test.0 refl none (no_stop tests)
     by_test false is none later = ap (λ (b : Bool). b || list_any (λ (s : StopTest). s.0) tests) is ∙ later none
 
 -- where a statement does not stop, it is not forbidden in the process of the thread, it may be called with the cancelability of the thread, and none of its own stops applies
-no_stops : (body : List Stmt) (shared : SharedState) (t : Thread) (others : Others) (frame : Frame) (s : Stmt) → stop_at body shared t others frame s ≡ None
+pub no_stops : (body : List Stmt) (shared : SharedState) (t : Thread) (others : Others) (frame : Frame) (s : Stmt) → stop_at body shared t others frame s ≡ None
     → (is_forbidden_in_child body shared frame s ≡ false) × ((is_asynchronous t.state t.mode && not (is_allowed_asynchronously s) ≡ false) × (list_any (λ (test : StopTest). test.0) (stops_of body shared t others frame s) ≡ false))
 unfolding stop_at
 no_stops body shared t others frame s none =
@@ -85,6 +86,27 @@ alone false none = refl
 
 below_limit : (n limit : ℕ) → not (nat_lt n limit) ≡ false → n < limit
 below_limit n limit is = ltb-true n limit (not-false (nat_lt n limit) is)
+
+-- the calls that are no generic points shall be cancellation points
+shall_join : is_required (point_kind join_point) ≡ true
+unfolding point_kind points
+shall_join = refl
+
+shall_test : is_required (point_kind testcancel_point) ≡ true
+unfolding point_kind points
+shall_test = refl
+
+shall_wait : is_required (point_kind cond_wait_point) ≡ true
+unfolding point_kind points
+shall_wait = refl
+
+shall_wait_for_post : is_required (point_kind sem_wait_point) ≡ true
+unfolding point_kind points
+shall_wait_for_post = refl
+
+shall_wait_for_child : is_required (point_kind waitpid_point) ≡ true
+unfolding point_kind points
+shall_wait_for_child = refl
 
 module _ (passes : ℕ) (body : List Stmt) (shared : SharedState) (t : Thread) (others : Others) (offered : Bool) where
   abbrev Case : NextStatement → Status → Transition → Type 0
@@ -116,32 +138,32 @@ module _ (passes : ℕ) (body : List Stmt) (shared : SharedState) (t : Thread) (
   leave_case frame s v returns is None keeps = rests (StatementIn frame s) status.Running (λ known. refl)
 
   -- a return, by the kind of the frame
-  return_case : (frame : Frame) (s : Stmt) (v : ℕ) → Returns body shared.globals frame s v → (k : FrameKind) → frame.kind ≡ k → Case (StatementIn frame s) status.Running (returns_by t.kept k v)
+  return_case : (frame : Frame) (s : Stmt) (v : ℕ) → Returns body shared.globals frame s v → (k : FrameKind) → frame.kind ≡ k → exits_twice k shared ≡ false → Case (StatementIn frame s) status.Running (returns_by t.kept k v)
   unfolding returns_by exits ends_by_exit
-  return_case frame s v returns kind.Main is = main_returned frame s v returns is
-  return_case frame s v returns kind.Start is = start_returned frame s v returns is
-  return_case frame s v returns kind.Call is = call_left frame s v returns (inl is)
-  return_case frame s v returns kind.PopHandler is = call_left frame s v returns (inr is)
-  return_case frame s v returns kind.Handler is = handler_left frame s v returns (inl is)
-  return_case frame s v returns kind.Destructor is = handler_left frame s v returns (inr is)
-  return_case frame s v returns kind.ExitFn is = exit_function_left frame s v returns is
-  return_case frame s v returns kind.ForkFn is = leave_case frame s v returns is t.kept refl
+  return_case frame s v returns kind.Main is once = main_returned frame s v returns is once
+  return_case frame s v returns kind.Start is once = start_returned frame s v returns is
+  return_case frame s v returns kind.Call is once = call_left frame s v returns (inl is)
+  return_case frame s v returns kind.PopHandler is once = call_left frame s v returns (inr is)
+  return_case frame s v returns kind.Handler is once = handler_left frame s v returns (inl is)
+  return_case frame s v returns kind.Destructor is once = handler_left frame s v returns (inr is)
+  return_case frame s v returns kind.ExitFn is once = exit_function_left frame s v returns is
+  return_case frame s v returns kind.ForkFn is once = leave_case frame s v returns is t.kept refl
 
-  end_case : (frame : Frame) (opened : Option ℕ) → open_of body frame.pc ≡ opened → Case (StatementIn frame statement.End) status.Running (ends_block opened t.kept body frame)
+  end_case : (frame : Frame) (opened : Option ℕ) → open_of body frame.pc ≡ opened → is_none opened && exits_twice frame.kind shared ≡ false → Case (StatementIn frame statement.End) status.Running (ends_block opened t.kept body frame)
   unfolding jumps
-  end_case frame (Some opened) is = jumped frame statement.End (after_end body frame.pc opened) (past_end opened is)
-  end_case frame None is = return_case frame statement.End 0 (by_end is) frame.kind refl
+  end_case frame (Some opened) is once = jumped frame statement.End (after_end body frame.pc opened) (past_end opened is)
+  end_case frame None is once = return_case frame statement.End 0 (by_end is) frame.kind refl once
 
-  join_case : (frame : Frame) (id : Operand) (d : Dest) (found : Option Thread) → others.named (value frame id) ≡ found
+  join_case : (frame : Frame) (id : Operand) (d : Dest) → (offered ≡ true → is_deliverable t.state t.pending ≡ false) → (found : Option Thread) → others.named (value frame id) ≡ found
       → (is_none found || (nat_eq (value frame id) t.id || (option_map_or (λ u. u.detached) found false || (others.another_joins (value frame id) || false)))) ≡ false
       → Case (StatementIn frame (statement.Join id d)) status.Running (begins_join (value frame id))
   unfolding begins_join
-  join_case frame id d None is none = absurd (true≢false none)
-  join_case frame id d (Some target) is none =
+  join_case frame id d unasked None is none = absurd (true≢false none)
+  join_case frame id d unasked (Some target) is none =
       let joined : Bool = others.another_joins (value frame id) in
       let other : (nat_eq (value frame id) t.id ≡ false) × ((target.detached || (joined || false)) ≡ false) = or_parts (nat_eq (value frame id) t.id) (target.detached || (joined || false)) none in
       let joinable : (target.detached ≡ false) × ((joined || false) ≡ false) = or_parts target.detached (joined || false) other.1 in
-      join_begun frame id d target is other.0 joinable.0 (alone joined joinable.1)
+      join_begun frame id d target is other.0 joinable.0 (alone joined joinable.1) unasked
 
   detach_case : (frame : Frame) (id : Operand) (found : Option Thread) → others.named (value frame id) ≡ found → (is_none found || (option_map_or (λ u. u.detached) found false || (others.another_joins (value frame id) || false))) ≡ false
       → Case (StatementIn frame (statement.Detach id)) status.Running (detaches (suc frame.pc) (value frame id))
@@ -177,11 +199,11 @@ module _ (passes : ℕ) (body : List Stmt) (shared : SharedState) (t : Thread) (
   signal_case alt.Go frame c may = signal_lost frame c
   signal_case _ frame c may = rests (StatementIn frame (statement.Signal c)) status.Running (λ known. refl)
 
-  point_case : (frame : Frame) (index : ℕ) (k : Option PointKind) → point_kind index ≡ k → Case (StatementIn frame (statement.PointCall index)) status.Running (calls_point (suc frame.pc) index k)
+  point_case : (frame : Frame) (index : ℕ) → (is_required (point_kind index) ≡ true → offered ≡ true → is_deliverable t.state t.pending ≡ false) → (k : Option PointKind) → point_kind index ≡ k → Case (StatementIn frame (statement.PointCall index)) status.Running (calls_point (suc frame.pc) index k)
   unfolding calls_point
-  point_case frame index (Some Required) is = point_begun frame index is
-  point_case frame index (Some Optional) is = point_done frame index
-  point_case frame index None is = rests (StatementIn frame (statement.PointCall index)) status.Running (λ known. refl)
+  point_case frame index unasked (Some Required) is = point_begun frame index is (unasked (ap is_required is))
+  point_case frame index unasked (Some Optional) is = point_done frame index (ap is_required is)
+  point_case frame index unasked None is = rests (StatementIn frame (statement.PointCall index)) status.Running (λ known. refl)
 
   register_case : (frame : Frame) (result : Dest) (f : ℕ) (may : Bool) → may_register shared ≡ may → Case (StatementIn frame (statement.AtExit result f)) status.Running (registers_if may (suc frame.pc) result f)
   unfolding registers_if
@@ -195,25 +217,31 @@ module _ (passes : ℕ) (body : List Stmt) (shared : SharedState) (t : Thread) (
   register_fork_case frame result prepare parent child true is = fork_registered frame result (record { prepare = prepare; parent = parent; child = child }) (ltb-true (length shared.fork_handlers) MAX_FORK_HANDLERS is)
   register_fork_case frame result prepare parent child false is = fork_not_registered frame result prepare parent child
 
-  waitpid_case : (frame : Frame) (result d : Dest) (pid : Operand) (found : Option Child) → Case (StatementIn frame (statement.WaitPid result pid d)) status.Running (begins_waitpid found (value frame pid) (suc frame.pc) result)
+  waitpid_case : (frame : Frame) (result d : Dest) (pid : Operand) → (offered ≡ true → is_deliverable t.state t.pending ≡ false) → (found : Option Child) → Case (StatementIn frame (statement.WaitPid result pid d)) status.Running (begins_waitpid found (value frame pid) (suc frame.pc) result)
   unfolding finds_no_child
-  waitpid_case frame result d pid (Some child) = waitpid_begun frame result d pid
-  waitpid_case frame result d pid None = no_child_found frame result d pid
+  waitpid_case frame result d pid unasked (Some child) = waitpid_begun frame result d pid unasked
+  waitpid_case frame result d pid unasked None = no_child_found frame result d pid unasked
 
-  pop_by : (frame : Frame) (v : Operand) (f a : ℕ) (handlers : List (ℕ × ℕ)) → t.handlers ≡ (f, a) ∷ handlers → (drop : Bool) → not drop && is_stack_full t.frames ≡ false
+  pop_by : (frame : Frame) (v : Operand) (f a : ℕ) (handlers : List (ℕ × ℕ)) → t.handlers ≡ (f, a) ∷ handlers → (drop : Bool) → nat_eq (value frame v) 0 ≡ drop → not drop && is_stack_full t.frames ≡ false
       → Case (StatementIn frame (statement.Pop v)) status.Running (cond drop (goes_on (suc frame.pc) (action.PopHandler ∷ []) (what.Popped f a false ∷ [])) (goes_on (suc frame.pc) (action.PopHandler ∷ action.Call f a kind.PopHandler ∷ []) (what.Popped f a true ∷ [])))
-  pop_by frame v f a handlers is true none = handler_popped frame v f a handlers is
-  pop_by frame v f a handlers is false none = handler_called frame v f a handlers is (below_limit (length t.frames) MAX_FRAMES none)
+  pop_by frame v f a handlers is true zero none = handler_popped frame v f a handlers is zero
+  pop_by frame v f a handlers is false not_zero none = handler_called frame v f a handlers is (below_limit (length t.frames) MAX_FRAMES none) not_zero
 
   pop_case : (frame : Frame) (v : Operand) (handlers : List (ℕ × ℕ)) → t.handlers ≡ handlers → not (nat_eq (value frame v) 0) && is_stack_full t.frames ≡ false
       → Case (StatementIn frame (statement.Pop v)) status.Running (pops (suc frame.pc) (value frame v) handlers)
   unfolding pops
   pop_case frame v [] is none = rests (StatementIn frame (statement.Pop v)) status.Running (λ known. refl)
-  pop_case frame v ((f, a) ∷ handlers) is none = pop_by frame v f a handlers is (nat_eq (value frame v) 0) none
+  pop_case frame v ((f, a) ∷ handlers) is none = pop_by frame v f a handlers is (nat_eq (value frame v) 0) refl none
 
-  running_case : (choice : Alt) (frame : Frame) (s : Stmt) → Legal choice (StatementIn frame s) status.Running → stop_at body shared t others frame s ≡ None
+  -- a call of a function that shall be a cancellation point goes on only without a request to act upon
+  unasked : (choice : Alt) (frame : Frame) (s : Stmt) → Goes choice (StatementIn frame s) status.Running → stop_at body shared t others frame s ≡ None → is_required (called_kind s) ≡ true → is_allowed_asynchronously s ≡ false
+      → offered ≡ true → is_deliverable t.state t.pending ≡ false
+  unasked choice frame s may none shall called known =
+      gone_on_at_required body shared t others choice frame s shall called (no_stops body shared t others frame s none).0 (no_stops body shared t others frame s none).1.0 (may known).0 (may known).1
+
+  running_case : (choice : Alt) (frame : Frame) (s : Stmt) → Goes choice (StatementIn frame s) status.Running → stop_at body shared t others frame s ≡ None
       → Case (StatementIn frame s) status.Running (runs passes body shared t others choice frame s)
-  unfolding runs emits sets adds jumps calls gets_self ends_by_exit pushes sets_state sets_mode tests_cancel deletes_key sets_specific gets_specific locks unlocks begins_wait broadcasts begins_sem_wait posts registers_fork begins_fork exits ends_now stops_of
+  unfolding runs emits sets adds jumps calls gets_self ends_by_exit pushes sets_state sets_mode tests_cancel deletes_key sets_specific gets_specific locks unlocks begins_wait broadcasts begins_sem_wait posts registers_fork begins_fork exits ends_now stops_of called_kind
   running_case choice frame (statement.Emit v) may none = emitted frame v
   running_case choice frame (statement.Set d v) may none = variable_set frame d v
   running_case choice frame (statement.Add d v) may none = variable_added frame d v
@@ -221,38 +249,39 @@ module _ (passes : ℕ) (body : List Stmt) (shared : SharedState) (t : Thread) (
   running_case choice frame (statement.If v) may none = jumped frame (statement.If v) (after_test body frame.pc (value frame v)) (past_if v)
   running_case choice frame statement.Else may none = jumped frame statement.Else (after_block body frame.pc) past_else
   running_case choice frame (statement.While v) may none = jumped frame (statement.While v) (after_test body frame.pc (value frame v)) (past_while v)
-  running_case choice frame statement.End may none = end_case frame (open_of body frame.pc) refl
+  running_case choice frame statement.End may none = end_case frame (open_of body frame.pc) refl (alone (is_none (open_of body frame.pc) && exits_twice frame.kind shared) (no_stops body shared t others frame statement.End none).1.1)
   running_case choice frame (statement.Do f v) may none = function_called frame f v (below_limit (length t.frames) MAX_FRAMES (alone (is_stack_full t.frames) (no_stops body shared t others frame (statement.Do f v) none).1.1))
-  running_case choice frame (statement.Return v) may none = return_case frame (statement.Return v) (value frame v) (by_return v) frame.kind refl
-  running_case choice frame (statement.Create result id f v detached) may none = create_case choice frame result id f v detached (may_be may)
-  running_case choice frame (statement.Join id d) may none = join_case frame id d (others.named (value frame id)) refl (no_stops body shared t others frame (statement.Join id d) none).1.1
+  running_case choice frame (statement.Return v) may none = return_case frame (statement.Return v) (value frame v) (by_return v) frame.kind refl (alone (exits_twice frame.kind shared) (no_stops body shared t others frame (statement.Return v) none).1.1)
+  running_case choice frame (statement.Create result id f v detached) may none = create_case choice frame result id f v detached (may_be (λ known. (may known).0))
+  running_case choice frame (statement.Join id d) may none = join_case frame id d (unasked choice frame (statement.Join id d) may none shall_join refl) (others.named (value frame id)) refl (no_stops body shared t others frame (statement.Join id d) none).1.1
   running_case choice frame (statement.Detach id) may none = detach_case frame id (others.named (value frame id)) refl (no_stops body shared t others frame (statement.Detach id) none).1.1
   running_case choice frame (statement.CancelThread id) may none = request_case frame id (others.named (value frame id)) refl (no_stops body shared t others frame (statement.CancelThread id) none).1.1
   running_case choice frame (statement.SelfId d) may none = self_got frame d
-  running_case choice frame statement.TestCancel may none = cancel_tested frame
+  running_case choice frame statement.TestCancel may none = cancel_tested frame (unasked choice frame statement.TestCancel may none shall_test refl)
   running_case choice frame (statement.SetState enable old) may none = state_set frame enable old (alone (enable && is_in_handler t.frames) (no_stops body shared t others frame (statement.SetState enable old) none).1.1)
   running_case choice frame (statement.SetMode asynchronous old) may none = mode_set frame asynchronous old
-  running_case choice frame (statement.PointCall index) may none = point_case frame index (point_kind index) refl
-  running_case choice frame (statement.KeyCreate result key destructor) may none = create_key_case choice frame result key destructor (may_be may)
+  running_case choice frame (statement.PointCall index) may none = point_case frame index (λ shall. unasked choice frame (statement.PointCall index) may none shall refl) (point_kind index) refl
+  running_case choice frame (statement.KeyCreate result key destructor) may none = create_key_case choice frame result key destructor (may_be (λ known. (may known).0))
   running_case choice frame (statement.KeyDelete key) may none = key_deleted frame key (alone (is_none (key_with (value frame key) shared.keys)) (no_stops body shared t others frame (statement.KeyDelete key) none).1.1)
   running_case choice frame (statement.SetSpecific key v) may none = specific_set frame key v (alone (is_none (key_with (value frame key) shared.keys)) (no_stops body shared t others frame (statement.SetSpecific key v) none).1.1)
   running_case choice frame (statement.GetSpecific d key) may none = specific_got frame d key
   running_case choice frame (statement.ThreadExit v) may none = exit_called frame v (alone (has_begun_to_end t.reason) (no_stops body shared t others frame (statement.ThreadExit v) none).1.1)
   running_case choice frame (statement.Push f v) may none = handler_pushed frame f v (below_limit (length t.handlers) MAX_HANDLERS (alone (not (nat_lt (length t.handlers) MAX_HANDLERS)) (no_stops body shared t others frame (statement.Push f v) none).1.1))
   running_case choice frame (statement.Pop v) may none = pop_case frame v t.handlers refl (alone (not (nat_eq (value frame v) 0) && is_stack_full t.frames) (no_stops body shared t others frame (statement.Pop v) none).1.1)
-  running_case choice frame (statement.Lock m) may none = mutex_locked frame m (λ known. free_to_lock body shared t others choice frame m (no_stops body shared t others frame (statement.Lock m) none).0 (no_stops body shared t others frame (statement.Lock m) none).1.0 (may known))
+  running_case choice frame (statement.Lock m) may none =
+      mutex_locked frame m (λ known. free_to_lock body shared t others choice frame m (no_stops body shared t others frame (statement.Lock m) none).0 (no_stops body shared t others frame (statement.Lock m) none).1.0 (may known).0)
   running_case choice frame (statement.Unlock m) may none = mutex_unlocked frame m (not-false (owns t.id m shared) (alone (not (owns t.id m shared)) (no_stops body shared t others frame (statement.Unlock m) none).1.1))
   running_case choice frame (statement.CondWait c m) may none =
       let other : Bool = waits_with_another_mutex c m others in
       let parts : (not (owns t.id m shared) ≡ false) × ((other || false) ≡ false) = or_parts (not (owns t.id m shared)) (other || false) (no_stops body shared t others frame (statement.CondWait c m) none).1.1 in
-      wait_begun frame c m (not-false (owns t.id m shared) parts.0) (alone other parts.1)
-  running_case choice frame (statement.Signal c) may none = signal_case choice frame c (may_be may)
+      wait_begun frame c m (not-false (owns t.id m shared) parts.0) (alone other parts.1) (unasked choice frame (statement.CondWait c m) may none shall_wait refl)
+  running_case choice frame (statement.Signal c) may none = signal_case choice frame c (may_be (λ known. (may known).0))
   running_case choice frame (statement.Broadcast c) may none = broadcast_sent frame c
-  running_case choice frame (statement.SemWait sem) may none = sem_wait_begun frame sem
+  running_case choice frame (statement.SemWait sem) may none = sem_wait_begun frame sem (unasked choice frame (statement.SemWait sem) may none shall_wait_for_post refl)
   running_case choice frame (statement.SemPost sem) may none = sem_posted frame sem
   running_case choice frame (statement.AtFork result prepare parent child) may none = register_fork_case frame result prepare parent child (nat_lt (length shared.fork_handlers) MAX_FORK_HANDLERS) refl
   running_case choice frame (statement.Fork result child) may none = fork_begun frame result child (alone (has_begun_to_end t.reason) (no_stops body shared t others frame (statement.Fork result child) none).1.1)
-  running_case choice frame (statement.WaitPid result pid d) may none = waitpid_case frame result d pid (others.family.child (value frame pid))
+  running_case choice frame (statement.WaitPid result pid d) may none = waitpid_case frame result d pid (unasked choice frame (statement.WaitPid result pid d) may none shall_wait_for_child refl) (others.family.child (value frame pid))
   running_case choice frame (statement.AtExit result f) may none = register_case frame result f (may_register shared) refl
   running_case choice frame (statement.ProcExit v) may none = process_exited frame v (alone (is_some shared.exit_value) (no_stops body shared t others frame (statement.ProcExit v) none).1.1)
   running_case choice frame (statement.ProcExitNow v) may none = process_ended_now frame v
@@ -329,6 +358,14 @@ module _ (passes : ℕ) (body : List Stmt) (shared : SharedState) (t : Thread) (
   -- ---- threads that end
 
   module _ (next : NextStatement) (no_handlers : t.handlers ≡ []) where
+    -- no key is left in the pass
+    abbrev NoneLeft : Type 0
+    NoneLeft = offered ≡ true → left_keys shared.keys t.specific ≡ []
+
+    -- the number of keys of which the destructor is due
+    abbrev due : ℕ
+    due = due_keys shared.keys t
+
     destructor_by : (k : ℕ) (key : Key) → (offered ≡ true → list_any (nat_eq k) (left_keys shared.keys t.specific) ≡ true) → key_with k shared.keys ≡ Some key → (destructor : Option ℕ) → key.destructor ≡ destructor
         → Case next status.Ending (calls_destructor t.pass k (value_at (key_place k) t.specific) destructor)
     unfolding calls_destructor
@@ -341,48 +378,50 @@ module _ (passes : ℕ) (body : List Stmt) (shared : SharedState) (t : Thread) (
     destructor_case k among (Some key) is = destructor_by k key among is key.destructor refl
     destructor_case k among None is = rests next status.Ending (λ known. refl)
 
-    ended_by : (left : ℕ) → (0 < left → passes ≤ t.pass) → (none : Bool) → nat_eq left 0 ≡ none → Case next status.Ending (acts (action.EndThread (end_value t.reason) ∷ []) (cond none [] (what.Leftover left ∷ []) ++ what.EndedWith (end_value t.reason) ∷ []))
-    ended_by left last true is = thread_ended next no_handlers
-    ended_by left last false is = let some : 0 < left = pos_of_ne-zero (eqb-false left 0 is) in thread_ended_with_keys next left no_handlers some (last some)
+    ended_by : NoneLeft → (left : ℕ) → left ≡ due → (0 < left → passes ≤ t.pass) → (none : Bool) → nat_eq left 0 ≡ none → Case next status.Ending (acts (action.EndThread (end_value t.reason) ∷ []) (cond none [] (what.Leftover left ∷ []) ++ what.EndedWith (end_value t.reason) ∷ []))
+    ended_by none_left left all last true is = thread_ended next no_handlers (sym all ∙ eqb-true left 0 is) none_left
+    ended_by none_left left all last false is = let some : 0 < left = pos_of_ne-zero (eqb-false left 0 is) in thread_ended_with_keys next left no_handlers some (last some) all none_left
 
-    last_ended_by : others.is_last ≡ true → (left : ℕ) → (0 < left → passes ≤ t.pass) → (none : Bool) → nat_eq left 0 ≡ none
+    last_ended_by : NoneLeft → others.is_last ≡ true → (left : ℕ) → left ≡ due → (0 < left → passes ≤ t.pass) → (none : Bool) → nat_eq left 0 ≡ none
         → Case next status.Ending (acts (action.MarkEnded ∷ action.BeginExit 0 ∷ []) (cond none [] (what.Leftover left ∷ []) ++ what.EndedWith (end_value t.reason) ∷ what.ExitBegun 0 ∷ []))
-    last_ended_by is_last left last true is = last_ended next no_handlers is_last
-    last_ended_by is_last left last false is = let some : 0 < left = pos_of_ne-zero (eqb-false left 0 is) in last_ended_with_keys next left no_handlers is_last some (last some)
+    last_ended_by none_left is_last left all last true is = last_ended next no_handlers is_last (sym all ∙ eqb-true left 0 is) none_left
+    last_ended_by none_left is_last left all last false is = let some : 0 < left = pos_of_ne-zero (eqb-false left 0 is) in last_ended_with_keys next left no_handlers is_last some (last some) all none_left
 
-    ended_case : (left : ℕ) → (0 < left → passes ≤ t.pass) → (is_last : Bool) → others.is_last ≡ is_last → Case next status.Ending (ends_thread is_last left (end_value t.reason))
+    ended_case : NoneLeft → (left : ℕ) → left ≡ due → (0 < left → passes ≤ t.pass) → (is_last : Bool) → others.is_last ≡ is_last → Case next status.Ending (ends_thread is_last left (end_value t.reason))
     unfolding ends_thread
-    ended_case left last true is = last_ended_by is left last (nat_eq left 0) refl
-    ended_case left last false is = ended_by left last (nat_eq left 0) refl
+    ended_case none_left left all last true is = last_ended_by none_left is left all last (nat_eq left 0) refl
+    ended_case none_left left all last false is = ended_by none_left left all last (nat_eq left 0) refl
 
     -- keys are due, and the limit allows a pass
-    pass_by : (due : ℕ) (some more : Bool) → not (nat_eq due 0) ≡ some → nat_lt t.pass passes ≡ more
-        → Case next status.Ending (cond (some && more) (acts (action.BeginPass ∷ []) (what.PassBegun (suc t.pass) ∷ [])) (ends_thread others.is_last due (end_value t.reason)))
-    pass_by due true true is below = pass_begun next no_handlers (ltb-true t.pass passes below)
-    pass_by due true false is past = ended_case due (λ some. ltb-false t.pass passes past) others.is_last refl
-    pass_by due false more is limit = let nothing : due ≡ 0 = eqb-true due 0 (not-false (nat_eq due 0) is) in ended_case due (λ some. absurd (omega (arith, some, nothing))) others.is_last refl
+    pass_by : NoneLeft → (left : ℕ) → left ≡ due → (some more : Bool) → not (nat_eq left 0) ≡ some → nat_lt t.pass passes ≡ more
+        → Case next status.Ending (cond (some && more) (acts (action.BeginPass ∷ []) (what.PassBegun (suc t.pass) ∷ [])) (ends_thread others.is_last left (end_value t.reason)))
+    pass_by none_left left all true true is below = pass_begun next no_handlers (ltb-true t.pass passes below) (subst (λ n. 0 < n) all (pos_of_ne-zero (eqb-false left 0 (not-true (nat_eq left 0) is)))) none_left
+    pass_by none_left left all true false is past = ended_case none_left left all (λ some. ltb-false t.pass passes past) others.is_last refl
+    pass_by none_left left all false more is limit =
+        let nothing : left ≡ 0 = eqb-true left 0 (not-false (nat_eq left 0) is) in
+        ended_case none_left left all (λ some. absurd (omega (arith, some, nothing))) others.is_last refl
 
   ending_case : (choice : Alt) (next : NextStatement) → Legal choice next status.Ending → (handlers : List (ℕ × ℕ)) → t.handlers ≡ handlers
       → Case next status.Ending (goes_on_ending others.is_last passes shared.keys t choice handlers)
   unfolding goes_on_ending
   ending_case choice next may ((f, a) ∷ handlers) is = handler_run next f a handlers is
   ending_case (alt.Dtor k) next may [] is = destructor_case next is k (λ known. left_among (may_be may known)) (key_with k shared.keys) refl
-  ending_case _ next may [] is =
+  ending_case choice next may [] is =
       let due : ℕ = due_keys shared.keys t in
-      pass_by next is due (not (nat_eq due 0)) (nat_lt t.pass passes) refl refl
+      pass_by next is (λ known. no_key_left body shared t others choice next is refl (may known)) due refl (not (nat_eq due 0)) (nat_lt t.pass passes) refl refl
 
-  exit_case : (next : NextStatement) (functions : List ℕ) → shared.exit_functions ≡ functions → (exit_value : Option ℕ) → Case next status.Exiting (goes_on_exiting functions exit_value)
+  exit_case : (next : NextStatement) (functions : List ℕ) → shared.exit_functions ≡ functions → (exit_value : Option ℕ) → shared.exit_value ≡ exit_value → Case next status.Exiting (goes_on_exiting functions exit_value)
   unfolding goes_on_exiting ends_now
-  exit_case next (f ∷ functions) is exit_value = exit_function_called next f functions is
-  exit_case next [] is (Some v) = process_ended next v
-  exit_case next [] is None = rests next status.Exiting (λ known. refl)
+  exit_case next (f ∷ functions) is exit_value value_is = exit_function_called next f functions is
+  exit_case next [] is (Some v) value_is = process_ended next v value_is is
+  exit_case next [] is None value_is = rests next status.Exiting (λ known. refl)
 
   -- ---- the table
 
   -- where the thread goes on
   pub going_case : (choice : Alt) (next : NextStatement) (s : Status) → Goes choice next s → Case next s (transition_at passes body shared t others choice next s)
   unfolding transition_at
-  going_case choice (StatementIn frame s) status.Running may = stop_case frame s (stop_at body shared t others frame s) (runs passes body shared t others choice frame s) (running_case choice frame s (λ known. (may known).0))
+  going_case choice (StatementIn frame s) status.Running may = stop_case frame s (stop_at body shared t others frame s) (runs passes body shared t others choice frame s) (running_case choice frame s may)
   going_case choice next (status.AtPoint index) may = point_passed_case index next
   going_case choice next (status.Joining id) may = join_ended_case id next (others.named id) refl
   going_case choice next (status.InSem sem) may = taken_case sem next (goes choice next (status.InSem sem) may)
@@ -392,25 +431,25 @@ module _ (passes : ℕ) (body : List Stmt) (shared : SharedState) (t : Thread) (
   going_case choice next (status.Forking phase index length answer) may =
       let at : ForkAt = record { phase = phase; next = index; length = length; answer = answer } in
       forking_case at next (next_handler shared.fork_handlers at) refl
-  going_case choice next status.Exiting may = exit_case next shared.exit_functions refl shared.exit_value
+  going_case choice next status.Exiting may = exit_case next shared.exit_functions refl shared.exit_value refl
   going_case choice next s may = rests next s (λ known. offered_alive (offered_of body shared t others choice next s (may known).0))
 
   handing_case : (u : ℕ) (next : NextStatement) (c m : ℕ) → (offered ≡ true → Offered shared t others next (status.Reacquire c m cause.Signalled) (alt.Act u)) → (none : Bool) → nat_eq u 0 ≡ none
       → Case next (status.Reacquire c m cause.Signalled) (cond none (leaves_wait c m) (acts (action.LeaveWait c m ∷ action.Wake u ∷ []) (what.WaitCanceled c ∷ what.HandedOn c u ∷ [])))
   unfolding leaves_wait
-  handing_case u next c m may true is = canceled_after_wait next c m cause.Signalled refl (λ known. act_enabled (may known))
-  handing_case u next c m may false is = signal_handed_on next c m u (λ known. act_enabled (may known)) (λ known. heir_among (may known) is)
+  handing_case u next c m may true is = canceled_after_wait next c m cause.Signalled refl (λ known. act_delivered (may known))
+  handing_case u next c m may false is = signal_handed_on next c m u (λ known. act_delivered (may known)) (λ known. heir_among (may known) is)
 
   acting_case : (n : ℕ) (next : NextStatement) (s : Status) → (offered ≡ true → Offered shared t others next s (alt.Act n)) → Case next s (acts_on_request n s)
   unfolding acts_on_request leaves_wait hands_on
-  acting_case n next status.Running may = canceled next (λ known. act_enabled (may known))
-  acting_case n next (status.AtPoint index) may = canceled_at_point next index (λ known. act_enabled (may known))
-  acting_case n next (status.Joining id) may = canceled_in_join next id (λ known. act_enabled (may known))
-  acting_case n next (status.InSem sem) may = canceled_in_sem_wait next sem (λ known. act_enabled (may known))
-  acting_case n next (status.InWaitPid pid) may = canceled_in_waitpid next pid (λ known. act_enabled (may known))
-  acting_case n next (status.Waiting c m) may = canceled_in_wait next c m (λ known. act_enabled (may known))
+  acting_case n next status.Running may = canceled next (λ known. act_delivered (may known)) (λ known. act_where_it_may (may known))
+  acting_case n next (status.AtPoint index) may = canceled_at_point next index (λ known. act_delivered (may known))
+  acting_case n next (status.Joining id) may = canceled_in_join next id (λ known. act_delivered (may known))
+  acting_case n next (status.InSem sem) may = canceled_in_sem_wait next sem (λ known. act_delivered (may known))
+  acting_case n next (status.InWaitPid pid) may = canceled_in_waitpid next pid (λ known. act_delivered (may known))
+  acting_case n next (status.Waiting c m) may = canceled_in_wait next c m (λ known. act_delivered (may known))
   acting_case n next (status.Reacquire c m cause.Signalled) may = handing_case n next c m may (nat_eq n 0) refl
-  acting_case n next (status.Reacquire c m cause.Broadcast) may = canceled_after_wait next c m cause.Broadcast refl (λ known. act_enabled (may known))
+  acting_case n next (status.Reacquire c m cause.Broadcast) may = canceled_after_wait next c m cause.Broadcast refl (λ known. act_delivered (may known))
   acting_case n next s may = rests next s (λ known. offered_alive (may known))
 
   -- the case of the transition that a choice makes

@@ -1,13 +1,16 @@
 -- The choices that a thread is offered, by case.
-use Rattle.std.proofs.Common.{◌≡◌, ℕ, Bool, true, false, not, cond, ◌&&◌, List, [], ◌∷◌, ◌++◌, map, nat_eq, nat_lt, slice_index, Option, inl, inr, refl, sym, ap, subst, eqb-true, eq-eqb}
+use Rattle.std.proofs.Common.{◌≡◌, ℕ, Bool, true, false, not, cond, ◌&&◌, List, [], ◌∷◌, ◌++◌, map, nat_eq, nat_lt, slice_index, Option, Some, None, is_some, inl, inr, refl, sym, ap, ◌∙◌, subst, eqb-true, eq-eqb}
 use Rattle.std.specs.List.{AllByRecursion, list_any}
 use Rattle.std.proofs.lemmas.Bool.{true≢false, false≢true, and_parts, or_cases, or_left, or_right}
 use Rattle.pct_model.specs.declared.frame.Frame.{Frame}
+use Rattle.pct_model.specs.declared.point.PointKind.{PointKind}
+use Rattle.pct_model.specs.declared.point.PointKind.TheVariants.{Required, Optional}
 use Rattle.pct_model.specs.declared.schedule.Alt.{Alt}
 use Rattle.pct_model.specs.declared.schedule.Alt.TheVariants as alt
 use Rattle.pct_model.specs.declared.state.Cause.{Cause}
 use Rattle.pct_model.specs.declared.state.Cause.TheVariants as cause
 use Rattle.pct_model.specs.declared.state.Mode.{Mode}
+use Rattle.pct_model.specs.declared.state.Mode.TheVariants.{Asynchronous, Deferred}
 use Rattle.pct_model.specs.declared.state.State.{State}
 use Rattle.pct_model.specs.declared.state.State.TheVariants.{Enable, Disable}
 use Rattle.pct_model.specs.declared.state.Status.{Status}
@@ -18,13 +21,14 @@ use Rattle.pct_model.specs.declared.statement.Stmt.{Stmt}
 use Rattle.pct_model.specs.declared.statement.Stmt.TheVariants as statement
 use Rattle.pct_model.specs.Cancelability.{is_deliverable, is_asynchronous}
 use Rattle.pct_model.specs.CancelCalls.{called_kind, is_required, is_optional, may_return}
+use Rattle.pct_model.specs.CancelLaw.{is_at_cancellation_point}
 use Rattle.pct_model.specs.ChoiceTable.{ChoiceRow, first_row, go_if, act_if, new_or_go, dtor_or_go, pick_or_go, hand_on_or_act, unblocked_acts, is_create, is_key_create, is_signal, waiters_to_signal, running_rows, running_choices, ending_choices, choices_at, same_choice, offers}
 use Rattle.pct_model.specs.Keys.{new_keys, left_keys}
 use Rattle.pct_model.specs.OtherProcesses.{is_running_child}
-use Rattle.pct_model.specs.MutexCalls.{is_free_mutex}
+use Rattle.pct_model.specs.MutexCalls.{is_free_mutex, is_blocked}
 use Rattle.pct_model.specs.NextStatement.{NextStatement, StatementIn}
 use Rattle.pct_model.specs.OtherThreads.{Others, is_ended_thread}
-use Rattle.pct_model.specs.StopTable.{is_forbidden_in_child}
+use Rattle.pct_model.specs.StopTable.{is_forbidden_in_child, is_allowed_asynchronously}
 use Rattle.pct_model.specs.ThreadSlots.{is_ended_status}
 use Rattle.pct_model.specs.World.{Thread, SharedState}
 
@@ -34,6 +38,11 @@ use Rattle.pct_model.specs.World.{Thread, SharedState}
 abbrev pub is_acting : Alt → Bool
 is_acting (alt.Act n) = true
 is_acting _ = false
+
+-- the choice is to call the destructor of a key
+abbrev pub is_destroying : Alt → Bool
+is_destroying (alt.Dtor k) = true
+is_destroying _ = false
 
 -- a thread with this status may go on: what the status waits for, if it waits, has occurred
 abbrev pub goes_at : SharedState → Others → Status → Bool
@@ -50,10 +59,10 @@ goes_at shared others _ = true
 pub data Offered (shared : SharedState) (t : Thread) (others : Others) : NextStatement → Status → Alt → Type 0 where
   -- the thread goes on
   may_go : (next : NextStatement) (s : Status) → goes_at shared others s ≡ true → Offered shared t others next s alt.Go
-  -- it acts upon a request
-  may_act : (next : NextStatement) (s : Status) → is_ended_status s ≡ false → t.state ≡ Enable → Offered shared t others next s (alt.Act 0)
+  -- it acts upon a request that is pending: at a cancellation point, or anywhere with asynchronous cancelability
+  may_act : (next : NextStatement) (s : Status) → is_ended_status s ≡ false → is_deliverable t.state t.pending ≡ true → (is_at_cancellation_point next s ≡ false → t.mode ≡ Asynchronous) → Offered shared t others next s (alt.Act 0)
   -- it does so after a signal unblocked it, and hands the signal on to one of the threads that wait
-  may_hand_on : (next : NextStatement) (c m u : ℕ) → t.state ≡ Enable → list_any (λ waiter. nat_eq u waiter.id) (others.waiters c) ≡ true → Offered shared t others next (status.Reacquire c m cause.Signalled) (alt.Act u)
+  may_hand_on : (next : NextStatement) (c m u : ℕ) → is_deliverable t.state t.pending ≡ true → list_any (λ waiter. nat_eq u waiter.id) (others.waiters c) ≡ true → Offered shared t others next (status.Reacquire c m cause.Signalled) (alt.Act u)
   -- it signals a condition variable, and unblocks one of the threads that wait
   may_pick : (frame : Frame) (c u : ℕ) → list_any (λ waiter. nat_eq u waiter.id) (others.waiters c) ≡ true → Offered shared t others (StatementIn frame (statement.Signal c)) status.Running (alt.Pick u)
   -- it creates a thread, or makes a key, with one of the numbers that are free
@@ -75,25 +84,30 @@ module _ {shared : SharedState} {t : Thread} {others : Others} where
   -- a thread that has a choice does not have the status of its end
   pub offered_alive : {next : NextStatement} {s : Status} {choice : Alt} → Offered shared t others next s choice → is_ended_status s ≡ false
   offered_alive (may_go next s goes) = going_alive shared others s goes
-  offered_alive (may_act next s alive enabled) = alive
+  offered_alive (may_act next s alive delivered where_it_may) = alive
   offered_alive _ = refl
 
   -- what a thread waits for has occurred, where its choice is not to act upon a request
   pub may_go_on : {next : NextStatement} {s : Status} {choice : Alt} → Offered shared t others next s choice → is_acting choice ≡ false → goes_at shared others s ≡ true
   may_go_on (may_go next s goes) other = goes
-  may_go_on (may_act next s alive enabled) other = absurd (true≢false other)
-  may_go_on (may_hand_on next c m u enabled among) other = absurd (true≢false other)
+  may_go_on (may_act next s alive delivered where_it_may) other = absurd (true≢false other)
+  may_go_on (may_hand_on next c m u delivered among) other = absurd (true≢false other)
   may_go_on _ other = refl
 
-  -- a thread that may act upon a request has its cancelability enabled
-  pub act_enabled : {next : NextStatement} {s : Status} {n : ℕ} → Offered shared t others next s (alt.Act n) → t.state ≡ Enable
-  act_enabled (may_act next s alive enabled) = enabled
-  act_enabled (may_hand_on next c m u enabled among) = enabled
+  -- a thread that may act upon a request has one pending, and its cancelability enabled
+  pub act_delivered : {next : NextStatement} {s : Status} {n : ℕ} → Offered shared t others next s (alt.Act n) → is_deliverable t.state t.pending ≡ true
+  act_delivered (may_act next s alive delivered where_it_may) = delivered
+  act_delivered (may_hand_on next c m u delivered among) = delivered
+
+  -- it is at a cancellation point, or its cancelability is asynchronous
+  pub act_where_it_may : {next : NextStatement} {s : Status} {n : ℕ} → Offered shared t others next s (alt.Act n) → is_at_cancellation_point next s ≡ false → t.mode ≡ Asynchronous
+  act_where_it_may (may_act next s alive delivered where_it_may) elsewhere = where_it_may elsewhere
+  act_where_it_may (may_hand_on next c m u delivered among) elsewhere = absurd (true≢false elsewhere)
 
   -- the thread to which a signal is handed on, or which a signal unblocks, is among those that wait
   pub heir_among : {next : NextStatement} {c m u : ℕ} → Offered shared t others next (status.Reacquire c m cause.Signalled) (alt.Act u) → nat_eq u 0 ≡ false → list_any (λ waiter. nat_eq u waiter.id) (others.waiters c) ≡ true
-  heir_among (may_act next s alive enabled) some = absurd (true≢false some)
-  heir_among (may_hand_on next c m u enabled among) some = among
+  heir_among (may_act next s alive delivered where_it_may) some = absurd (true≢false some)
+  heir_among (may_hand_on next c m u delivered among) some = among
 
   pub picked_among : {frame : Frame} {c u : ℕ} → Offered shared t others (StatementIn frame (statement.Signal c)) status.Running (alt.Pick u) → list_any (λ waiter. nat_eq u waiter.id) (others.waiters c) ≡ true
   picked_among (may_pick frame c u among) = among
@@ -157,13 +171,50 @@ module _ (P : Alt → Type 0) (choice : Alt) where
 
 -- ---- cancelability
 
-deliverable_enabled : (state : State) (pending : Bool) → is_deliverable state pending ≡ true → state ≡ Enable
+-- a thread that acts upon a request has its cancelability enabled, and the request is pending
+pub deliverable_enabled : (state : State) (pending : Bool) → is_deliverable state pending ≡ true → state ≡ Enable
 deliverable_enabled Enable pending is = refl
 deliverable_enabled Disable pending is = absurd (false≢true is)
 
-asynchronous_enabled : (state : State) (mode : Mode) → is_asynchronous state mode ≡ true → state ≡ Enable
-asynchronous_enabled Enable mode is = refl
-asynchronous_enabled Disable mode is = absurd (false≢true is)
+pub deliverable_pending : (state : State) (pending : Bool) → is_deliverable state pending ≡ true → pending ≡ true
+deliverable_pending Enable pending is = is
+deliverable_pending Disable pending is = absurd (false≢true is)
+
+-- with asynchronous cancelability enabled, a request that is pending may be acted upon anywhere
+asynchronous_deliverable : (state : State) (mode : Mode) (pending : Bool) → is_asynchronous state mode ≡ true → pending ≡ true → is_deliverable state pending ≡ true
+asynchronous_deliverable Enable mode pending is waits = waits
+asynchronous_deliverable Disable mode pending is waits = absurd (false≢true is)
+
+asynchronous_mode : (state : State) (mode : Mode) → is_asynchronous state mode ≡ true → mode ≡ Asynchronous
+asynchronous_mode Enable Asynchronous is = refl
+asynchronous_mode Enable Deferred is = absurd (false≢true is)
+asynchronous_mode Disable mode is = absurd (false≢true is)
+
+-- a function that shall, or may, be a cancellation point is one
+required_point : (k : Option PointKind) → is_required k ≡ true → is_some k ≡ true
+required_point (Some Required) is = refl
+required_point (Some Optional) is = absurd (false≢true is)
+required_point None is = absurd (false≢true is)
+
+optional_point : (k : Option PointKind) → is_optional k ≡ true → is_some k ≡ true
+optional_point (Some Required) is = absurd (false≢true is)
+optional_point (Some Optional) is = refl
+optional_point None is = absurd (false≢true is)
+
+-- ---- choices that are no such choice
+
+-- a choice that is not to act is not offered where a thread can only act
+acts_only : (choice : Alt) → is_acting choice ≡ false → offers (alt.Act 0 ∷ []) choice ≡ false
+acts_only (alt.Act n) other = absurd (true≢false other)
+acts_only alt.Go other = refl
+acts_only (alt.New n) other = refl
+acts_only (alt.Pick n) other = refl
+acts_only (alt.Dtor n) other = refl
+
+-- where a choice is offered that calls no destructor, no key is left
+none_left : (choice : Alt) (keys : List ℕ) → is_destroying choice ≡ false → offers (dtor_or_go keys) choice ≡ true → keys ≡ []
+none_left choice [] other offered = refl
+none_left choice (k ∷ keys) other offered = absurd (true≢false (sym (number_has (λ c. is_destroying c ≡ true) choice (λ n. alt.Dtor n) (λ n. n) (k ∷ keys) (λ n among. refl) offered) ∙ other))
 
 -- ---- the table
 
@@ -186,18 +237,21 @@ module _ (body : List Stmt) (shared : SharedState) (t : Thread) (others : Others
   running_offered frame s =
       let P : Alt → Type 0 = Offered shared t others (StatementIn frame s) status.Running in
       let go : P alt.Go = may_go (StatementIn frame s) status.Running refl in
-      let act : t.state ≡ Enable → P (alt.Act 0) = λ enabled. may_act (StatementIn frame s) status.Running refl enabled in
-      let delivered : (kind : Bool) → is_deliverable t.state t.pending && kind ≡ true → P (alt.Act 0) = λ kind both. act (deliverable_enabled t.state t.pending (and_parts (is_deliverable t.state t.pending) kind both).0) in
+      let asynchronous_act : is_asynchronous t.state t.mode ≡ true → t.pending ≡ true → P (alt.Act 0) = λ asynchronous pending.
+      may_act (StatementIn frame s) status.Running refl (asynchronous_deliverable t.state t.mode t.pending asynchronous pending) (λ elsewhere. asynchronous_mode t.state t.mode asynchronous) in
+      let delivered : (kind : Bool) → (kind ≡ true → is_some (called_kind s) ≡ true) → is_deliverable t.state t.pending && kind ≡ true → P (alt.Act 0) = λ kind point both.
+      let parts : (is_deliverable t.state t.pending ≡ true) × (kind ≡ true) = and_parts (is_deliverable t.state t.pending) kind both in
+      may_act (StatementIn frame s) status.Running refl parts.0 (λ elsewhere. absurd (true≢false (sym (point parts.1) ∙ elsewhere))) in
       let new_has : (numbers : List ℕ) → ((n : ℕ) → list_any (nat_eq n) numbers ≡ true → P (alt.New n)) → offers (new_or_go numbers) choice ≡ true → P choice =
       number_or_has P choice new_or_go (λ n. alt.New n) (λ n. n) alt.Go refl (λ n numbers. refl) go in
       first_row_has (λ choices. offers choices choice ≡ true → P choice) (running_rows body shared t others frame s) (alt.Go ∷ []) (
         λ forbidden. each_has P choice (alt.Go ∷ []) (go, tt),
         (
-          λ asynchronous. go_or_has P choice true (act_if t.pending) (λ passes. go) (act_has P choice t.pending (λ pending. act (asynchronous_enabled t.state t.mode asynchronous))),
+          λ asynchronous. go_or_has P choice true (act_if t.pending) (λ passes. go) (act_has P choice t.pending (asynchronous_act asynchronous)),
           (
-            λ required. each_has P choice (alt.Act 0 ∷ []) (delivered (is_required (called_kind s)) required, tt),
+            λ required. each_has P choice (alt.Act 0 ∷ []) (delivered (is_required (called_kind s)) (required_point (called_kind s)) required, tt),
             (
-              λ optional. each_has P choice (alt.Go ∷ alt.Act 0 ∷ []) (go, (delivered (is_optional (called_kind s)) optional, tt)),
+              λ optional. each_has P choice (alt.Go ∷ alt.Act 0 ∷ []) (go, (delivered (is_optional (called_kind s)) (optional_point (called_kind s)) optional, tt)),
               (
                 λ blocked. each_has P choice [] tt,
                 (
@@ -215,19 +269,19 @@ module _ (body : List Stmt) (shared : SharedState) (t : Thread) (others : Others
       (each_has P choice (alt.Go ∷ []) (go, tt))
 
   -- a thread that is suspended at a cancellation point
-  suspended_offered : (next : NextStatement) (s : Status) → is_ended_status s ≡ false → offers (go_if (goes_at shared others s) ++ act_if (is_deliverable t.state t.pending)) choice ≡ true → Offered shared t others next s choice
-  suspended_offered next s alive =
+  suspended_offered : (next : NextStatement) (s : Status) → is_ended_status s ≡ false → is_at_cancellation_point next s ≡ true → offers (go_if (goes_at shared others s) ++ act_if (is_deliverable t.state t.pending)) choice ≡ true → Offered shared t others next s choice
+  suspended_offered next s alive at_point =
       let P : Alt → Type 0 = Offered shared t others next s in
-      go_or_has P choice (goes_at shared others s) (act_if (is_deliverable t.state t.pending)) (may_go next s) (act_has P choice (is_deliverable t.state t.pending) (λ delivered. may_act next s alive (deliverable_enabled t.state t.pending delivered)))
+      go_or_has P choice (goes_at shared others s) (act_if (is_deliverable t.state t.pending)) (may_go next s) (act_has P choice (is_deliverable t.state t.pending) (λ delivered. may_act next s alive delivered (λ elsewhere. absurd (true≢false (sym at_point ∙ elsewhere)))))
 
   -- a thread that was unblocked on a condition variable
-  unblocked_offered : (next : NextStatement) (c m : ℕ) (why : Cause) (delivered : Bool) → (delivered ≡ true → t.state ≡ Enable) → offers (cond delivered (unblocked_acts why (others.waiters c)) []) choice ≡ true → Offered shared t others next (status.Reacquire c m why) choice
-  unblocked_offered next c m cause.Signalled true enabled offered =
+  unblocked_offered : (next : NextStatement) (c m : ℕ) (why : Cause) (delivered : Bool) → (delivered ≡ true → is_deliverable t.state t.pending ≡ true) → offers (cond delivered (unblocked_acts why (others.waiters c)) []) choice ≡ true → Offered shared t others next (status.Reacquire c m why) choice
+  unblocked_offered next c m cause.Signalled true is offered =
       number_or_has (Offered shared t others next (status.Reacquire c m cause.Signalled)) choice hand_on_or_act (λ u. alt.Act u) (λ waiter. waiter.id) (alt.Act 0) refl (λ waiter waiters. refl)
-      (may_act next (status.Reacquire c m cause.Signalled) refl (enabled refl)) (others.waiters c) (λ u among. may_hand_on next c m u (enabled refl) among) offered
-  unblocked_offered next c m cause.Broadcast true enabled offered = each_has (Offered shared t others next (status.Reacquire c m cause.Broadcast)) choice (alt.Act 0 ∷ []) (may_act next (status.Reacquire c m cause.Broadcast) refl (enabled refl), tt) offered
-  unblocked_offered next c m cause.Canceled true enabled offered = absurd (false≢true offered)
-  unblocked_offered next c m why false enabled offered = absurd (false≢true offered)
+      (may_act next (status.Reacquire c m cause.Signalled) refl (is refl) (λ elsewhere. absurd (true≢false elsewhere))) (others.waiters c) (λ u among. may_hand_on next c m u (is refl) among) offered
+  unblocked_offered next c m cause.Broadcast true is offered = each_has (Offered shared t others next (status.Reacquire c m cause.Broadcast)) choice (alt.Act 0 ∷ []) (may_act next (status.Reacquire c m cause.Broadcast) refl (is refl) (λ elsewhere. absurd (true≢false elsewhere)), tt) offered
+  unblocked_offered next c m cause.Canceled true is offered = absurd (false≢true offered)
+  unblocked_offered next c m why false is offered = absurd (false≢true offered)
 
   -- a thread that is ending
   ending_offered : (next : NextStatement) (handlers : List (ℕ × ℕ)) → t.handlers ≡ handlers → offers (ending_choices body shared t others handlers) choice ≡ true → Offered shared t others next status.Ending choice
@@ -240,15 +294,15 @@ module _ (body : List Stmt) (shared : SharedState) (t : Thread) (others : Others
   pub offered_of : (next : NextStatement) (s : Status) → offers (choices_at body shared t others next s) choice ≡ true → Offered shared t others next s choice
   unfolding choices_at
   offered_of (StatementIn frame s) status.Running offered = running_offered frame s offered
-  offered_of next (status.AtPoint index) offered = suspended_offered next (status.AtPoint index) refl offered
-  offered_of next (status.Joining id) offered = suspended_offered next (status.Joining id) refl offered
-  offered_of next (status.InSem sem) offered = suspended_offered next (status.InSem sem) refl offered
-  offered_of next (status.InWaitPid pid) offered = suspended_offered next (status.InWaitPid pid) refl offered
-  offered_of next (status.Waiting c m) offered = suspended_offered next (status.Waiting c m) refl offered
+  offered_of next (status.AtPoint index) offered = suspended_offered next (status.AtPoint index) refl refl offered
+  offered_of next (status.Joining id) offered = suspended_offered next (status.Joining id) refl refl offered
+  offered_of next (status.InSem sem) offered = suspended_offered next (status.InSem sem) refl refl offered
+  offered_of next (status.InWaitPid pid) offered = suspended_offered next (status.InWaitPid pid) refl refl offered
+  offered_of next (status.Waiting c m) offered = suspended_offered next (status.Waiting c m) refl refl offered
   offered_of next (status.Reacquire c m why) offered =
       let delivered : Bool = is_deliverable t.state t.pending in
       go_or_has (Offered shared t others next (status.Reacquire c m why)) choice (is_free_mutex m shared) (cond delivered (unblocked_acts why (others.waiters c)) [])
-      (may_go next (status.Reacquire c m why)) (unblocked_offered next c m why delivered (deliverable_enabled t.state t.pending)) offered
+      (may_go next (status.Reacquire c m why)) (unblocked_offered next c m why delivered (λ is. is)) offered
   offered_of next status.Ending offered = ending_offered next t.handlers refl offered
   offered_of next (status.Forking phase index length pid) offered =
       each_has (Offered shared t others next (status.Forking phase index length pid)) choice (alt.Go ∷ []) (may_go next (status.Forking phase index length pid) refl, tt) offered
@@ -267,3 +321,27 @@ module _ (body : List Stmt) (shared : SharedState) (t : Thread) (others : Others
       by false false _ true allowed deferred offered = refl
       by false false true false allowed deferred offered = absurd (false≢true offered)
       by false false false false allowed deferred offered = absurd (false≢true offered)
+
+  -- a thread that calls a function which shall be a cancellation point, and goes on, acts upon no request, unless the call is a stop
+  pub gone_on_at_required : (frame : Frame) (s : Stmt) → is_required (called_kind s) ≡ true → is_allowed_asynchronously s ≡ false → is_forbidden_in_child body shared frame s ≡ false → is_asynchronous t.state t.mode && not (is_allowed_asynchronously s) ≡ false
+      → offers (choices_at body shared t others (StatementIn frame s) status.Running) choice ≡ true → is_acting choice ≡ false → is_deliverable t.state t.pending ≡ false
+  unfolding choices_at running_choices running_rows
+  gone_on_at_required frame s shall called allowed deferred offered other =
+      let later_rows : List ChoiceRow =
+      (is_blocked s shared, []) ∷ (is_create s, new_or_go others.new_ids) ∷ (is_key_create s, new_or_go (new_keys shared.keys)) ∷ (is_signal s, pick_or_go (waiters_to_signal others s)) ∷ [] in
+      by (is_forbidden_in_child body shared frame s) (is_asynchronous t.state t.mode) (is_deliverable t.state t.pending) (is_required (called_kind s)) (is_allowed_asynchronously s)
+      ((is_deliverable t.state t.pending && is_optional (called_kind s), alt.Go ∷ alt.Act 0 ∷ []) ∷ later_rows) shall called allowed deferred offered
+    where
+      by : (forbidden asynchronous deliverable required allowed : Bool) (rows : List ChoiceRow) → required ≡ true → allowed ≡ false → forbidden ≡ false → asynchronous && not allowed ≡ false
+          → offers (first_row ((forbidden, alt.Go ∷ []) ∷ (asynchronous, alt.Go ∷ act_if t.pending) ∷ (deliverable && required, alt.Act 0 ∷ []) ∷ rows) (alt.Go ∷ [])) choice ≡ true → deliverable ≡ false
+      by true _ _ _ _ rows shall called allowed deferred offered = absurd (true≢false allowed)
+      by false true _ _ false rows shall called allowed deferred offered = absurd (true≢false deferred)
+      by false true _ _ true rows shall called allowed deferred offered = absurd (true≢false called)
+      by false false true true _ rows shall called allowed deferred offered = absurd (true≢false (sym offered ∙ acts_only choice other))
+      by false false true false _ rows shall called allowed deferred offered = absurd (false≢true shall)
+      by false false false _ _ rows shall called allowed deferred offered = refl
+
+  -- a thread that has no handler, and ends or begins a pass, has no key left in its pass
+  pub no_key_left : (next : NextStatement) → t.handlers ≡ [] → is_destroying choice ≡ false → offers (choices_at body shared t others next status.Ending) choice ≡ true → left_keys shared.keys t.specific ≡ []
+  unfolding choices_at ending_choices
+  no_key_left next none other offered = none_left choice (left_keys shared.keys t.specific) other (subst (λ handlers. offers (ending_choices body shared t others handlers) choice ≡ true) none offered)

@@ -16,10 +16,10 @@ use Rattle.pct_model.specs.declared.state.Cause.{Cause}
 use Rattle.pct_model.specs.declared.state.Cause.TheVariants as cause
 use Rattle.pct_model.specs.declared.state.ForkAt.{ForkAt}
 use Rattle.pct_model.specs.declared.state.FrameKind.TheVariants as kind
+use Rattle.pct_model.specs.declared.state.Mode.TheVariants.{Asynchronous}
 use Rattle.pct_model.specs.declared.state.Phase.{Phase}
 use Rattle.pct_model.specs.declared.state.Phase.TheVariants.{Prepare, Parent}
 use Rattle.pct_model.specs.declared.state.Reason.TheVariants as reason
-use Rattle.pct_model.specs.declared.state.State.TheVariants.{Enable}
 use Rattle.pct_model.specs.declared.state.Status.{Status}
 use Rattle.pct_model.specs.declared.state.Status.TheVariants as status
 use Rattle.pct_model.specs.declared.statement.Dest.{Dest}
@@ -29,7 +29,9 @@ use Rattle.pct_model.specs.declared.statement.Stmt.TheVariants as statement
 use Rattle.pct_model.specs.declared.stop.Why.{Why}
 use Rattle.pct_model.specs.declared.transition.Action.TheVariants as action
 use Rattle.pct_model.specs.declared.transition.Transition.{Transition}
-use Rattle.pct_model.specs.CancelCalls.{state_number, mode_number, state_if, mode_if, testcancel_point, point_kind}
+use Rattle.pct_model.specs.Cancelability.{is_deliverable}
+use Rattle.pct_model.specs.CancelCalls.{state_number, mode_number, state_if, mode_if, testcancel_point, point_kind, is_required}
+use Rattle.pct_model.specs.CancelLaw.{calls_cancellation_point}
 use Rattle.pct_model.specs.CondCalls.{cond_wait_point}
 use Rattle.pct_model.specs.ForkCalls.{in_fork, next_handler, while_called, handler_event, waitpid_point}
 use Rattle.pct_model.specs.Jumps.{open_of}
@@ -43,7 +45,7 @@ use Rattle.pct_model.specs.ScriptStatements.{variable_value, after_block, after_
 use Rattle.pct_model.specs.SemCalls.{sem_wait_point}
 use Rattle.pct_model.specs.StopTable.{has_begun_to_end, is_in_handler}
 use Rattle.pct_model.specs.ThreadCalls.{join_point}
-use Rattle.pct_model.specs.ThreadEnds.{end_value}
+use Rattle.pct_model.specs.ThreadEnds.{end_value, due_keys}
 use Rattle.pct_model.specs.ThreadSlots.{is_ended_status}
 use Rattle.pct_model.specs.Transitions.{goes_on, creates_thread, acts, no_change, stops}
 use Rattle.pct_model.specs.World.{Thread, SharedState, value_of}
@@ -86,7 +88,7 @@ module _ (passes : ℕ) (body : List Stmt) (shared : SharedState) (t : Thread) (
     function_called : (frame : Frame) (f : ℕ) (v : Operand) → length t.frames < MAX_FRAMES
         → TransitionCase (StatementIn frame (statement.Do f v)) status.Running (goes_on (suc frame.pc) (action.Call f (value frame v) kind.Call ∷ []) [])
     -- returns, by the kind of the frame
-    main_returned : (frame : Frame) (s : Stmt) (v : ℕ) → Returns body shared.globals frame s v → frame.kind ≡ kind.Main
+    main_returned : (frame : Frame) (s : Stmt) (v : ℕ) → Returns body shared.globals frame s v → frame.kind ≡ kind.Main → is_some shared.exit_value ≡ false
         → TransitionCase (StatementIn frame s) status.Running (acts (action.BeginExit v ∷ []) (what.ExitBegun v ∷ []))
     start_returned : (frame : Frame) (s : Stmt) (v : ℕ) → Returns body shared.globals frame s v → frame.kind ≡ kind.Start
         → TransitionCase (StatementIn frame s) status.Running (acts (action.BeginEnd (reason.Exit v) ∷ []) (what.EndingExit v ∷ []))
@@ -102,7 +104,7 @@ module _ (passes : ℕ) (body : List Stmt) (shared : SharedState) (t : Thread) (
         (creates_thread (suc frame.pc) (record { id = new; detached = detached; func = f; arg = value frame v }) (action.Write result 0 ∷ action.Write id new ∷ []) (what.Created new detached ∷ []))
     thread_not_made : (frame : Frame) (result id : Dest) (f : ℕ) (v : Operand) (detached : Bool)
         → TransitionCase (StatementIn frame (statement.Create result id f v detached)) status.Running (goes_on (suc frame.pc) (action.Write result 1 ∷ []) (what.Answer caller.Create 1 ∷ []))
-    join_begun : (frame : Frame) (id : Operand) (d : Dest) (target : Thread) → others.named (value frame id) ≡ Some target → nat_eq (value frame id) t.id ≡ false → target.detached ≡ false → others.another_joins (value frame id) ≡ false
+    join_begun : (frame : Frame) (id : Operand) (d : Dest) (target : Thread) → others.named (value frame id) ≡ Some target → nat_eq (value frame id) t.id ≡ false → target.detached ≡ false → others.another_joins (value frame id) ≡ false → (offered ≡ true → is_deliverable t.state t.pending ≡ false)
         → TransitionCase (StatementIn frame (statement.Join id d)) status.Running (acts (action.BeginJoin (value frame id) ∷ []) (what.Called join_point ∷ []))
     join_ended : (frame : Frame) (operand : Operand) (d : Dest) (id v : ℕ) (target : Thread) → others.named id ≡ Some target → target.status ≡ status.Ended v
         → TransitionCase (StatementIn frame (statement.Join operand d)) (status.Joining id) (goes_on (suc frame.pc) (action.EndJoin id ∷ action.Write d v ∷ []) (what.Joined id v ∷ []))
@@ -116,19 +118,21 @@ module _ (passes : ℕ) (body : List Stmt) (shared : SharedState) (t : Thread) (
         → TransitionCase (StatementIn frame (statement.SetState enable old)) status.Running (goes_on (suc frame.pc) (action.SetState (state_if enable) ∷ action.Write old (state_number t.state) ∷ []) (what.StateSet enable ∷ []))
     mode_set : (frame : Frame) (asynchronous : Bool) (old : Dest)
         → TransitionCase (StatementIn frame (statement.SetMode asynchronous old)) status.Running (goes_on (suc frame.pc) (action.SetMode (mode_if asynchronous) ∷ action.Write old (mode_number t.mode) ∷ []) (what.ModeSet asynchronous ∷ []))
-    cancel_tested : (frame : Frame) → TransitionCase (StatementIn frame statement.TestCancel) status.Running (goes_on (suc frame.pc) [] (what.Done testcancel_point ∷ []))
-    point_begun : (frame : Frame) (index : ℕ) → point_kind index ≡ Some Required
+    cancel_tested : (frame : Frame) → (offered ≡ true → is_deliverable t.state t.pending ≡ false)
+        → TransitionCase (StatementIn frame statement.TestCancel) status.Running (goes_on (suc frame.pc) [] (what.Done testcancel_point ∷ []))
+    point_begun : (frame : Frame) (index : ℕ) → point_kind index ≡ Some Required → (offered ≡ true → is_deliverable t.state t.pending ≡ false)
         → TransitionCase (StatementIn frame (statement.PointCall index)) status.Running (acts (action.BeginPoint index ∷ []) (what.Called index ∷ []))
-    point_done : (frame : Frame) (index : ℕ) → TransitionCase (StatementIn frame (statement.PointCall index)) status.Running (goes_on (suc frame.pc) [] (what.Done index ∷ []))
+    point_done : (frame : Frame) (index : ℕ) → is_required (point_kind index) ≡ false → TransitionCase (StatementIn frame (statement.PointCall index)) status.Running (goes_on (suc frame.pc) [] (what.Done index ∷ []))
     point_passed : (frame : Frame) (index i : ℕ) → TransitionCase (StatementIn frame (statement.PointCall i)) (status.AtPoint index) (goes_on (suc frame.pc) [] (what.Done index ∷ []))
-    canceled : (next : NextStatement) → (offered ≡ true → t.state ≡ Enable) → TransitionCase next status.Running (acts (action.BeginEnd reason.Canceled ∷ []) (what.EndingCanceled ∷ []))
-    canceled_at_point : (next : NextStatement) (index : ℕ) → (offered ≡ true → t.state ≡ Enable)
+    canceled : (next : NextStatement) → (offered ≡ true → is_deliverable t.state t.pending ≡ true) → (offered ≡ true → calls_cancellation_point next ≡ false → t.mode ≡ Asynchronous)
+        → TransitionCase next status.Running (acts (action.BeginEnd reason.Canceled ∷ []) (what.EndingCanceled ∷ []))
+    canceled_at_point : (next : NextStatement) (index : ℕ) → (offered ≡ true → is_deliverable t.state t.pending ≡ true)
         → TransitionCase next (status.AtPoint index) (acts (action.BeginEnd reason.Canceled ∷ []) (what.EndingCanceled ∷ []))
-    canceled_in_join : (next : NextStatement) (id : ℕ) → (offered ≡ true → t.state ≡ Enable)
+    canceled_in_join : (next : NextStatement) (id : ℕ) → (offered ≡ true → is_deliverable t.state t.pending ≡ true)
         → TransitionCase next (status.Joining id) (acts (action.BeginEnd reason.Canceled ∷ []) (what.EndingCanceled ∷ []))
-    canceled_in_sem_wait : (next : NextStatement) (sem : ℕ) → (offered ≡ true → t.state ≡ Enable)
+    canceled_in_sem_wait : (next : NextStatement) (sem : ℕ) → (offered ≡ true → is_deliverable t.state t.pending ≡ true)
         → TransitionCase next (status.InSem sem) (acts (action.BeginEnd reason.Canceled ∷ []) (what.EndingCanceled ∷ []))
-    canceled_in_waitpid : (next : NextStatement) (pid : ℕ) → (offered ≡ true → t.state ≡ Enable)
+    canceled_in_waitpid : (next : NextStatement) (pid : ℕ) → (offered ≡ true → is_deliverable t.state t.pending ≡ true)
         → TransitionCase next (status.InWaitPid pid) (acts (action.BeginEnd reason.Canceled ∷ []) (what.EndingCanceled ∷ []))
     -- mutexes
     mutex_locked : (frame : Frame) (m : ℕ) → (offered ≡ true → is_free_mutex m shared ≡ true)
@@ -136,15 +140,15 @@ module _ (passes : ℕ) (body : List Stmt) (shared : SharedState) (t : Thread) (
     mutex_unlocked : (frame : Frame) (m : ℕ) → owns t.id m shared ≡ true
         → TransitionCase (StatementIn frame (statement.Unlock m)) status.Running (goes_on (suc frame.pc) (action.OwnMutex m 0 ∷ []) (what.Released m ∷ []))
     -- condition waits: the call; the return, by a signal or a broadcast; and the two steps by which a request ends one
-    wait_begun : (frame : Frame) (c m : ℕ) → owns t.id m shared ≡ true → waits_with_another_mutex c m others ≡ false
+    wait_begun : (frame : Frame) (c m : ℕ) → owns t.id m shared ≡ true → waits_with_another_mutex c m others ≡ false → (offered ≡ true → is_deliverable t.state t.pending ≡ false)
         → TransitionCase (StatementIn frame (statement.CondWait c m)) status.Running (acts (action.BeginWait c m ∷ action.OwnMutex m 0 ∷ []) (what.Called cond_wait_point ∷ what.Released m ∷ []))
     wait_ended : (frame : Frame) (cond mutex c m : ℕ) (why : Cause) → has_left_wait (status.Reacquire c m why) ≡ false → (offered ≡ true → is_free_mutex m shared ≡ true)
         → TransitionCase (StatementIn frame (statement.CondWait cond mutex)) (status.Reacquire c m why) (goes_on (suc frame.pc) (action.OwnMutex m t.id ∷ []) (what.Acquired m ∷ what.Done cond_wait_point ∷ []))
-    canceled_in_wait : (next : NextStatement) (c m : ℕ) → (offered ≡ true → t.state ≡ Enable)
+    canceled_in_wait : (next : NextStatement) (c m : ℕ) → (offered ≡ true → is_deliverable t.state t.pending ≡ true)
         → TransitionCase next (status.Waiting c m) (acts (action.LeaveWait c m ∷ []) (what.WaitCanceled c ∷ []))
-    canceled_after_wait : (next : NextStatement) (c m : ℕ) (why : Cause) → has_left_wait (status.Reacquire c m why) ≡ false → (offered ≡ true → t.state ≡ Enable)
+    canceled_after_wait : (next : NextStatement) (c m : ℕ) (why : Cause) → has_left_wait (status.Reacquire c m why) ≡ false → (offered ≡ true → is_deliverable t.state t.pending ≡ true)
         → TransitionCase next (status.Reacquire c m why) (acts (action.LeaveWait c m ∷ []) (what.WaitCanceled c ∷ []))
-    signal_handed_on : (next : NextStatement) (c m u : ℕ) → (offered ≡ true → t.state ≡ Enable) → (offered ≡ true → list_any (λ waiter. nat_eq u waiter.id) (others.waiters c) ≡ true)
+    signal_handed_on : (next : NextStatement) (c m u : ℕ) → (offered ≡ true → is_deliverable t.state t.pending ≡ true) → (offered ≡ true → list_any (λ waiter. nat_eq u waiter.id) (others.waiters c) ≡ true)
         → TransitionCase next (status.Reacquire c m cause.Signalled) (acts (action.LeaveWait c m ∷ action.Wake u ∷ []) (what.WaitCanceled c ∷ what.HandedOn c u ∷ []))
     ended_in_wait : (next : NextStatement) (c m : ℕ) → (offered ≡ true → is_free_mutex m shared ≡ true)
         → TransitionCase next (status.Reacquire c m cause.Canceled) (acts (action.OwnMutex m t.id ∷ action.BeginEnd reason.Canceled ∷ []) (what.Acquired m ∷ what.EndingInWait c m ∷ []))
@@ -155,7 +159,8 @@ module _ (passes : ℕ) (body : List Stmt) (shared : SharedState) (t : Thread) (
     broadcast_sent : (frame : Frame) (c : ℕ)
         → TransitionCase (StatementIn frame (statement.Broadcast c)) status.Running (goes_on (suc frame.pc) (action.WakeAll c ∷ []) (what.BroadcastTo c (length (others.waiters c)) ∷ []))
     -- semaphores
-    sem_wait_begun : (frame : Frame) (sem : ℕ) → TransitionCase (StatementIn frame (statement.SemWait sem)) status.Running (acts (action.BeginSem sem ∷ []) (what.Called sem_wait_point ∷ []))
+    sem_wait_begun : (frame : Frame) (sem : ℕ) → (offered ≡ true → is_deliverable t.state t.pending ≡ false)
+        → TransitionCase (StatementIn frame (statement.SemWait sem)) status.Running (acts (action.BeginSem sem ∷ []) (what.Called sem_wait_point ∷ []))
     sem_taken : (frame : Frame) (s sem : ℕ) → (offered ≡ true → nat_lt 0 (slice_index shared.counts sem) ≡ true)
         → TransitionCase (StatementIn frame (statement.SemWait s)) (status.InSem sem) (goes_on (suc frame.pc) (action.SetCount sem (slice_index shared.counts sem - 1) ∷ []) (what.Taken sem ∷ []))
     sem_posted : (frame : Frame) (sem : ℕ)
@@ -179,11 +184,11 @@ module _ (passes : ℕ) (body : List Stmt) (shared : SharedState) (t : Thread) (
         → TransitionCase (StatementIn frame (statement.Fork result child)) (status.Forking Parent index length pid) (goes_on (suc frame.pc) (action.Write result 1 ∷ []) [])
     fork_returned : (frame : Frame) (result child : Dest) (phase : Phase) (index length pid value : ℕ)
         → TransitionCase (StatementIn frame (statement.Fork result child)) (status.Forking phase index length pid) (goes_on (suc frame.pc) (action.Write result 0 ∷ action.Write child value ∷ []) [])
-    waitpid_begun : (frame : Frame) (result d : Dest) (pid : Operand)
+    waitpid_begun : (frame : Frame) (result d : Dest) (pid : Operand) → (offered ≡ true → is_deliverable t.state t.pending ≡ false)
         → TransitionCase (StatementIn frame (statement.WaitPid result pid d)) status.Running (acts (action.BeginWaitPid (value frame pid) ∷ []) (what.Called waitpid_point ∷ []))
     child_reaped : (frame : Frame) (result d : Dest) (operand : Operand) (pid n : ℕ) (child : Child) → others.family.child pid ≡ Some child → child.ended ≡ Some n
         → TransitionCase (StatementIn frame (statement.WaitPid result operand d)) (status.InWaitPid pid) (goes_on (suc frame.pc) (action.Reap pid ∷ action.Write result 0 ∷ action.Write d n ∷ []) (what.Reaped pid n ∷ []))
-    no_child_found : (frame : Frame) (result d : Dest) (operand : Operand)
+    no_child_found : (frame : Frame) (result d : Dest) (operand : Operand) → (offered ≡ true → is_deliverable t.state t.pending ≡ false)
         → TransitionCase (StatementIn frame (statement.WaitPid result operand d)) status.Running (goes_on (suc frame.pc) (action.Write result 3 ∷ []) (what.Answer caller.WaitPid 3 ∷ []))
     child_lost : (frame : Frame) (result d : Dest) (operand : Operand) (pid : ℕ)
         → TransitionCase (StatementIn frame (statement.WaitPid result operand d)) (status.InWaitPid pid) (goes_on (suc frame.pc) (action.Write result 3 ∷ []) (what.Answer caller.WaitPid 3 ∷ []))
@@ -201,9 +206,9 @@ module _ (passes : ℕ) (body : List Stmt) (shared : SharedState) (t : Thread) (
     -- cleanup handlers
     handler_pushed : (frame : Frame) (f : ℕ) (v : Operand) → length t.handlers < MAX_HANDLERS
         → TransitionCase (StatementIn frame (statement.Push f v)) status.Running (goes_on (suc frame.pc) (action.PushHandler f (value frame v) ∷ []) (what.Pushed f (value frame v) ∷ []))
-    handler_popped : (frame : Frame) (v : Operand) (f a : ℕ) (handlers : List (ℕ × ℕ)) → t.handlers ≡ (f, a) ∷ handlers
+    handler_popped : (frame : Frame) (v : Operand) (f a : ℕ) (handlers : List (ℕ × ℕ)) → t.handlers ≡ (f, a) ∷ handlers → nat_eq (value frame v) 0 ≡ true
         → TransitionCase (StatementIn frame (statement.Pop v)) status.Running (goes_on (suc frame.pc) (action.PopHandler ∷ []) (what.Popped f a false ∷ []))
-    handler_called : (frame : Frame) (v : Operand) (f a : ℕ) (handlers : List (ℕ × ℕ)) → t.handlers ≡ (f, a) ∷ handlers → length t.frames < MAX_FRAMES
+    handler_called : (frame : Frame) (v : Operand) (f a : ℕ) (handlers : List (ℕ × ℕ)) → t.handlers ≡ (f, a) ∷ handlers → length t.frames < MAX_FRAMES → nat_eq (value frame v) 0 ≡ false
         → TransitionCase (StatementIn frame (statement.Pop v)) status.Running (goes_on (suc frame.pc) (action.PopHandler ∷ action.Call f a kind.PopHandler ∷ []) (what.Popped f a true ∷ []))
     -- the end of a thread
     exit_called : (frame : Frame) (v : Operand) → has_begun_to_end t.reason ≡ false
@@ -212,13 +217,15 @@ module _ (passes : ℕ) (body : List Stmt) (shared : SharedState) (t : Thread) (
         → TransitionCase next status.Ending (acts (action.PopHandler ∷ action.CallAlone f a kind.Handler ∷ []) (what.HandlerRun f a ∷ []))
     destructor_called : (next : NextStatement) (k f : ℕ) (key : Key) → t.handlers ≡ [] → key_with k shared.keys ≡ Some key → key.destructor ≡ Some f → (offered ≡ true → list_any (nat_eq k) (left_keys shared.keys t.specific) ≡ true)
         → TransitionCase next status.Ending (acts (action.TakeKey k ∷ action.CallAlone f (value_at (key_place k) t.specific) kind.Destructor ∷ []) (what.DtorRun t.pass k f (value_at (key_place k) t.specific) ∷ []))
-    pass_begun : (next : NextStatement) → t.handlers ≡ [] → t.pass < passes → TransitionCase next status.Ending (acts (action.BeginPass ∷ []) (what.PassBegun (suc t.pass) ∷ []))
-    thread_ended : (next : NextStatement) → t.handlers ≡ [] → TransitionCase next status.Ending (acts (action.EndThread (end_value t.reason) ∷ []) (what.EndedWith (end_value t.reason) ∷ []))
-    thread_ended_with_keys : (next : NextStatement) (left : ℕ) → t.handlers ≡ [] → 0 < left → passes ≤ t.pass
+    pass_begun : (next : NextStatement) → t.handlers ≡ [] → t.pass < passes → 0 < due_keys shared.keys t → (offered ≡ true → left_keys shared.keys t.specific ≡ [])
+        → TransitionCase next status.Ending (acts (action.BeginPass ∷ []) (what.PassBegun (suc t.pass) ∷ []))
+    thread_ended : (next : NextStatement) → t.handlers ≡ [] → due_keys shared.keys t ≡ 0 → (offered ≡ true → left_keys shared.keys t.specific ≡ [])
+        → TransitionCase next status.Ending (acts (action.EndThread (end_value t.reason) ∷ []) (what.EndedWith (end_value t.reason) ∷ []))
+    thread_ended_with_keys : (next : NextStatement) (left : ℕ) → t.handlers ≡ [] → 0 < left → passes ≤ t.pass → left ≡ due_keys shared.keys t → (offered ≡ true → left_keys shared.keys t.specific ≡ [])
         → TransitionCase next status.Ending (acts (action.EndThread (end_value t.reason) ∷ []) (what.Leftover left ∷ what.EndedWith (end_value t.reason) ∷ []))
-    last_ended : (next : NextStatement) → t.handlers ≡ [] → others.is_last ≡ true
+    last_ended : (next : NextStatement) → t.handlers ≡ [] → others.is_last ≡ true → due_keys shared.keys t ≡ 0 → (offered ≡ true → left_keys shared.keys t.specific ≡ [])
         → TransitionCase next status.Ending (acts (action.MarkEnded ∷ action.BeginExit 0 ∷ []) (what.EndedWith (end_value t.reason) ∷ what.ExitBegun 0 ∷ []))
-    last_ended_with_keys : (next : NextStatement) (left : ℕ) → t.handlers ≡ [] → others.is_last ≡ true → 0 < left → passes ≤ t.pass
+    last_ended_with_keys : (next : NextStatement) (left : ℕ) → t.handlers ≡ [] → others.is_last ≡ true → 0 < left → passes ≤ t.pass → left ≡ due_keys shared.keys t → (offered ≡ true → left_keys shared.keys t.specific ≡ [])
         → TransitionCase next status.Ending (acts (action.MarkEnded ∷ action.BeginExit 0 ∷ []) (what.Leftover left ∷ what.EndedWith (end_value t.reason) ∷ what.ExitBegun 0 ∷ []))
     -- the exit of a process, and its end
     exit_registered : (frame : Frame) (result : Dest) (f : ℕ) → may_register shared ≡ true
@@ -231,4 +238,5 @@ module _ (passes : ℕ) (body : List Stmt) (shared : SharedState) (t : Thread) (
         → TransitionCase (StatementIn frame (statement.ProcExitNow v)) status.Running (acts (action.EndProcess (value frame v % 256) ∷ []) (what.ProcessEnded (value frame v % 256) ∷ []))
     exit_function_called : (next : NextStatement) (f : ℕ) (functions : List ℕ) → shared.exit_functions ≡ f ∷ functions
         → TransitionCase next status.Exiting (acts (action.TakeExit ∷ action.CallAlone f 0 kind.ExitFn ∷ []) (what.ExitRun f ∷ []))
-    process_ended : (next : NextStatement) (v : ℕ) → TransitionCase next status.Exiting (acts (action.EndProcess (v % 256) ∷ []) (what.ProcessEnded (v % 256) ∷ []))
+    process_ended : (next : NextStatement) (v : ℕ) → shared.exit_value ≡ Some v → shared.exit_functions ≡ []
+        → TransitionCase next status.Exiting (acts (action.EndProcess (v % 256) ∷ []) (what.ProcessEnded (v % 256) ∷ []))

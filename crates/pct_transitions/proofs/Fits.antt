@@ -79,8 +79,8 @@ module _ (script : Script) (passes : ℕ) (few : passes ≤ MAX_PASSES) (shared 
   case_fits placed low forks (function_called frame f v room) = record { next = low; actions = (omega (arith, room), tt) }
   case_fits placed low forks (fork_handler_called next at call is) = record { next = tt; actions = (tt, (forks refl, tt)) }
   case_fits placed low forks (handler_pushed frame f v room) = record { next = low; actions = (room, tt) }
-  case_fits placed low forks (handler_called frame v f a handlers is room) = record { next = low; actions = (tt, (omega (arith, room), tt)) }
-  case_fits placed low forks (pass_begun next none more) = record { next = tt; actions = (omega (arith, more, few), tt) }
+  case_fits placed low forks (handler_called frame v f a handlers is room not_zero) = record { next = low; actions = (tt, (omega (arith, room), tt)) }
+  case_fits placed low forks (pass_begun next none more some_due none_left) = record { next = tt; actions = (omega (arith, more, few), tt) }
   case_fits placed low forks _ = assumption
 
   -- the transition of a thread that acts upon a request fits it

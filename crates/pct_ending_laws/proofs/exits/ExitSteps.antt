@@ -23,6 +23,7 @@ use Rattle.pct_model.specs.StopTable.{has_begun_to_end}
 use Rattle.pct_model.specs.ThreadSummary.{ThreadSummary}
 use Rattle.pct_model.specs.Transitions.{acts}
 use Rattle.pct_model.specs.World.{Thread, SharedState, body_of}
+use Rattle.pct_transition_cases.proofs.OfferedChoices.{deliverable_enabled}
 use Rattle.pct_transition_cases.proofs.PlacedStatements.{IsPlaced, on_top}
 use Rattle.pct_transition_cases.proofs.TransitionCases.{TransitionCase, rests, stopped, jumped, emitted, variable_set, variable_added, main_returned, start_returned, call_left, handler_left, exit_function_left, fork_handler_left, mutex_locked, mutex_unlocked, canceled}
 use Rattle.pct_ending_laws.proofs.StaticPushes.{PushesMatch}
@@ -74,12 +75,12 @@ module _ (script : Script) (passes : ℕ) (matches : PushesMatch script) (t : Th
     exit_step_keeps (on_top _ _ s at) (mutex_locked _ m free) plain = record { own = at_pc_fits (suc frame.pc) (matches.next_within frame (statement.Lock m) at refl); lawful = (tt, tt) }
     exit_step_keeps (on_top _ _ s at) (mutex_unlocked _ m owned) plain = record { own = at_pc_fits (suc frame.pc) (matches.next_within frame (statement.Unlock m) at refl); lawful = (tt, tt) }
     exit_step_keeps (on_top _ _ s at) (exit_function_left _ _ v returns is) plain = record { own = record { agrees = fits.agrees; placed = tt; by_status = inl (refl, exits.2); in_passes = fits.in_passes }; lawful = tt }
-    exit_step_keeps (on_top _ _ s at) (main_returned _ _ v returns is) plain = absurd (other_kind kind.Main refl is)
+    exit_step_keeps (on_top _ _ s at) (main_returned _ _ v returns is once) plain = absurd (other_kind kind.Main refl is)
     exit_step_keeps (on_top _ _ s at) (start_returned _ _ v returns is) plain = absurd (other_kind kind.Start refl is)
     exit_step_keeps (on_top _ _ s at) (call_left _ _ v returns (inl is)) plain = absurd (other_kind kind.Call refl is)
     exit_step_keeps (on_top _ _ s at) (call_left _ _ v returns (inr is)) plain = absurd (other_kind kind.PopHandler refl is)
     exit_step_keeps (on_top _ _ s at) (handler_left _ _ v returns (inl is)) plain = absurd (other_kind kind.Handler refl is)
     exit_step_keeps (on_top _ _ s at) (handler_left _ _ v returns (inr is)) plain = absurd (other_kind kind.Destructor refl is)
     exit_step_keeps (on_top _ _ s at) (fork_handler_left _ _ v values returns is keeps) plain = absurd (other_kind kind.ForkFn refl is)
-    exit_step_keeps place (canceled next enabled) plain = absurd (not_both t.state (fits.agrees.disabled (or_right (has_begun_to_end t.reason) reported.exiting exits.2)) (enabled refl))
+    exit_step_keeps place (canceled next delivered where_it_may) plain = absurd (not_both t.state (fits.agrees.disabled (or_right (has_begun_to_end t.reason) reported.exiting exits.2)) (deliverable_enabled t.state t.pending (delivered refl)))
     exit_step_keeps place _ plain = absurd (false≢true plain)

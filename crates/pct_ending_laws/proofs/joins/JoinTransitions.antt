@@ -91,11 +91,11 @@ module _ (slots : ℕ) (w : World) (p : Process) (passes : ℕ) (body : List Stm
   unfolding others_of creates begins_join ends_join detaches requests acts_on_request
   case_kind (rests next s alive) = quiet (record { actions = refl; events = refl; none = refl }) (λ joins. refl)
   case_kind (thread_made frame result id f v detached new among) = creates_one (suc frame.pc) result id new f (value_of shared.globals frame v) detached refl
-  case_kind (join_begun frame id d target is other joinable alone) = begins (value_of shared.globals frame id) refl (record { target = target; is_target = is; other = other; joinable = joinable; alone = alone })
+  case_kind (join_begun frame id d target is other joinable alone unasked) = begins (value_of shared.globals frame id) refl (record { target = target; is_target = is; other = other; joinable = joinable; alone = alone })
   case_kind (join_ended frame operand d id v target is ended) = ends (suc frame.pc) d id v target refl is ended
   case_kind (thread_detached frame id target is joinable alone) = detaches_one (suc frame.pc) (value_of shared.globals frame id) target refl is alone
   case_kind (request_sent frame id target is) = requests_one (suc frame.pc) (value_of shared.globals frame id) target refl is
-  case_kind (canceled_in_join next id enabled) = cancels id refl
+  case_kind (canceled_in_join next id delivered) = cancels id refl
   case_kind (fork_handler_called next at call is) =
       quiet (record { actions = refl; events = of_each_phase (λ (w : What). list_all names_none (w ∷ []) ≡ true) call.func refl refl refl at.phase; none = refl }) (λ joins. absurd (false≢true joins))
   case_kind _ = quiet (record { actions = refl; events = refl; none = refl }) (λ joins. absurd (false≢true joins))

@@ -57,7 +57,7 @@ silent test none (w ∷ events) all =
     let parts = and_parts (names_none w) (list_all names_none events) all in
     or_from (test w) (list_any test events) (none w parts.0) (silent test none events parts.1)
 
-swapped : (m n : ℕ) → nat_eq m n ≡ nat_eq n m
+pub swapped : (m n : ℕ) → nat_eq m n ≡ nat_eq n m
 swapped m n = by_test (nat_eq m n) refl
   where
     by_test : (same : Bool) → nat_eq m n ≡ same → same ≡ nat_eq n m
@@ -150,7 +150,7 @@ module _ (tid : ℕ) (o : Transition) where
   abbrev pub unnamed : Thread → Thread
   unnamed u = cond (is_live_thread tid u) (moved o u) u
 
-  unnamed_flags : (u : Thread) → flags (unnamed u) ≡ flags u
+  pub unnamed_flags : (u : Thread) → flags (unnamed u) ≡ flags u
   unnamed_flags u = either_keeps flags (is_live_thread tid u) (moved o u) u u (moved_flags o u) refl
 
   module _ {id : ℕ} {threads : List Thread} {s : Status} (k : Kind id threads s o) where
@@ -180,7 +180,7 @@ module _ (p : Process) (tid : ℕ) (t : Thread) (distinct : AreDistinct (ids_of 
       ∙ ap (λ (f : ℕ × Bool × Bool × Bool). not f.1 && true) (moved_flags o u) ∙ ap (λ (gone : Bool). not gone && true) here
   unnamed_holds o u false is here holds runs = holds
 
-  named_by : (o : Transition) (n id : ℕ) (target : Thread) → with_id n p.threads ≡ Some target → nat_eq id n ≡ true → (moved o target).status ≡ status.Running → IsNamed o id
+  pub named_by : (o : Transition) (n id : ℕ) (target : Thread) → with_id n p.threads ≡ Some target → nat_eq id n ≡ true → (moved o target).status ≡ status.Running → IsNamed o id
   named_by o n id target is_target same runs =
       let live : IsLive p n target = live_thread n p target distinct is_target in
       record {

@@ -81,10 +81,10 @@ in_join_after t _ in_join = absurd (false≢true in_join)
 -- ---- its newest event
 
 -- the reading of the newest event of a thread
-abbrev newest : ThreadReading (Option What)
+abbrev pub newest : ThreadReading (Option What)
 newest = record { start = None; next = λ w k. Some w; inherits = false; replica = λ parent k. k }
 
-newest_reading : (tid pid : ℕ) (events : List Event) → newest_event pid tid events ≡ reported_by (of_thread newest tid) pid events
+pub newest_reading : (tid pid : ℕ) (events : List Event) → newest_event pid tid events ≡ reported_by (of_thread newest tid) pid events
 newest_reading tid = is_thread_reading newest tid (λ pid events. newest_event pid tid events) (λ pid. refl) (λ pid e earlier. refl)
 
 -- the newest event of a thread in pthread_join is that of the call

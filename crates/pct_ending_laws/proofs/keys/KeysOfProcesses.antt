@@ -83,7 +83,7 @@ named_moved [] rest t = refl
 named_moved (a ∷ actions) rest t = all_keep_if (λ (x : Thread). x.specific) named_after is_keyless (λ b is x. named_specific b x ∙ named_same b is x.specific) actions rest (named_after a t) ∙ named_specific a t
 
 -- the data of a thread after a transition of the one with an id
-data_moved : (tid : ℕ) (o : Transition) → list_all is_keyless (without_first o.actions) ≡ true → (t : Thread)
+pub data_moved : (tid : ℕ) (o : Transition) → list_all is_keyless (without_first o.actions) ≡ true → (t : Thread)
     → (thread_moved tid o t).specific ≡ named_data (first_of o.actions) (cond (is_live_thread tid t) (own_data (first_of o.actions) t.specific) t.specific)
 data_moved tid o rest t = named_moved o.actions rest (cond (is_live_thread tid t) (moved o t) t) ∙ ap (named_data (first_of o.actions)) (by_live (is_live_thread tid t))
   where

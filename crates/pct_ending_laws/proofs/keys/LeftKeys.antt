@@ -1,12 +1,12 @@
 -- A key that is left in the pass of a thread: its place, which is in the pass, and its destructor.
 use Rattle.std.proofs.Common.{◌≡◌, ℕ, ◌<◌, Bool, true, false, not, cond, List, length, nat_eq, slice_get, is_some, Option, Some, None, refl, ap, ◌∙◌, subst}
 use Rattle.std.specs.Option.{option_map_or}
-use Rattle.std.proofs.lemmas.Bool.{false≢true, and_parts}
+use Rattle.std.proofs.lemmas.Bool.{false≢true, and_parts, not-true}
 use Rattle.std.proofs.lemmas.Option.{none-some, slice_get_within, get_or_from_slice_get, option_and_then_some}
 use Rattle.pct_model.specs.declared.limits.TheConstants.{MAX_KEYS}
 use Rattle.pct_model.specs.declared.script.Script.{Script}
 use Rattle.pct_model.specs.Kept.{KeysKept, IsLastMade}
-use Rattle.pct_model.specs.Keys.{Key, KeyPlace, KeyValues, key_place, key_at, if_number, key_with, number_at, value_at, is_left}
+use Rattle.pct_model.specs.Keys.{Key, KeyPlace, KeyValues, key_place, key_at, if_number, key_with, number_at, value_at, is_due, is_left}
 use Rattle.pct_ending_laws.proofs.lift.OfferedNumbers.{IsNumberOf}
 use Rattle.pct_ending_laws.proofs.keys.KeyPlaces.{place_of_last}
 use Rattle.pct_ending_laws.proofs.thread.Passes.{is_in}
@@ -47,3 +47,17 @@ module _ (script : Script) (keys : List KeyPlace) (kept : KeysKept script keys) 
         let parts = and_parts (option_map_or (λ in_pass. in_pass) (slice_get own.in_pass left.item) false) _ left.passes in
         let due = and_parts (option_map_or (λ (key : Key). is_some key.destructor) (key_at keys left.item) false) (not (nat_eq (value_at left.item own) 0)) parts.1 in
         ap (is_in own.in_pass) (place_of_left (key_at keys left.item) refl due.0) ∙ is_marked own.in_pass left.item (slice_get own.in_pass left.item) refl parts.0
+
+    -- its destructor is due
+    pub left_is_due : is_due keys own (key_place k) ≡ true
+    left_is_due =
+        let parts = and_parts (option_map_or (λ in_pass. in_pass) (slice_get own.in_pass left.item) false) (is_due keys own left.item) left.passes in
+        let due = and_parts (option_map_or (λ (key : Key). is_some key.destructor) (key_at keys left.item) false) (not (nat_eq (value_at left.item own) 0)) parts.1 in
+        ap (is_due keys own) (place_of_left (key_at keys left.item) refl due.0) ∙ parts.1
+
+    -- and the thread has a value of it that is not NULL
+    pub left_has_value : nat_eq (value_at (key_place k) own) 0 ≡ false
+    left_has_value =
+        let parts = and_parts (option_map_or (λ in_pass. in_pass) (slice_get own.in_pass left.item) false) _ left.passes in
+        let due = and_parts (option_map_or (λ (key : Key). is_some key.destructor) (key_at keys left.item) false) (not (nat_eq (value_at left.item own) 0)) parts.1 in
+        ap (λ (place : ℕ). nat_eq (value_at place own) 0) (place_of_left (key_at keys left.item) refl due.0) ∙ not-true (nat_eq (value_at left.item own) 0) due.1

@@ -54,7 +54,7 @@ pub record CreatesOnly (pid : ℕ) (ids : List ℕ) (o : Transition) : Type 0 wh
   pub reports : (tid : ℕ) (same : Bool) → list_any (λ w. creates_id tid w || (makes_process pid w && same)) (reverse o.events) ≡ option_map_or (λ new. nat_eq new.id tid && true) o.created false
 
 -- a transition from a state makes a process, if it makes one, with the next id
-abbrev GivesNext : World → Others → Type 0
+abbrev pub GivesNext : World → Others → Type 0
 GivesNext w others = (new : ℕ) → others.family.new_pid ≡ Some new → new ≡ 1 + length w.processes
 
 module _ (w : World) (passes : ℕ) (body : List Stmt) (shared : SharedState) (t : Thread) (others : Others) (gives_next : GivesNext w others) where
@@ -86,7 +86,7 @@ module _ (script : Script) (config : Config) (w : World) (p : Process) (t : Thre
   its_case : TransitionCase config.passes (body_at script t.frames) p.shared t others true (next_of script t.frames) t.status o
   its_case = case_of config.passes (body_at script t.frames) p.shared t others true choice (next_of script t.frames) t.status (λ known. offered)
 
-  gives_next : GivesNext w others
+  pub gives_next : GivesNext w others
   unfolding others_of family_among
   gives_next new is =
       let relatives : List Relative = map relative_of (filter is_unreaped w.processes) in

@@ -17,8 +17,9 @@ use Rattle.pct_model.specs.Step.{Successor, step}
 use Rattle.pct_model.specs.Run.{Run, event_of, run_step, run_from, is_config, run}
 use Rattle.pct_model.proofs.LegalSteps.{step_legal}
 
--- a legal entry: the thread that it names, of a process that has not ended, has the choice
+-- a legal entry: the run was not stopped, and the thread that it names, of a process that has not ended, has the choice
 pub record IsTaken (script : Script) (config : Config) (w : World) (e : Entry) (p : Process) (t : Thread) : Type 0 where
+  pub running : w.stop ≡ None
   pub is_process : find (is_live_process e.pid) w.processes ≡ Some p
   pub is_thread : with_id e.tid p.threads ≡ Some t
   pub offered : offers (choices_of script config w p t) e.alt ≡ true
@@ -60,7 +61,7 @@ module _ (script : Script) (config : Config) where
       record {
         process = legal.process;
         thread = legal.thread;
-        taken = record { is_process = legal.live; is_thread = legal.holds; offered = legal.offered };
+        taken = record { running = legal.running; is_process = legal.live; is_thread = legal.holds; offered = legal.offered };
         is_next = ap (λ (x : Successor). record { world = x.world; events = map (event_of e) (reverse x.events) ++ r.events }) made.1 ∙ same_Some _ next is;
       }
   leads_by r e next None stepped is = absurd (none-some next is)

@@ -70,7 +70,7 @@ module _ (script : Script) (passes : ℕ) (shared : SharedState) (t : Thread) (o
     unfolding shared_after
     case_fits placed at (mutex_locked frame m free) = set_fits m (locked_mutex script frame m (statement_placed placed)) t.id e.tid is_own
     case_fits placed at (mutex_unlocked frame m is) = set_fits m (unlocked_mutex script frame m (statement_placed placed)) 0 0 refl
-    case_fits placed at (wait_begun frame c m is one) = set_fits m (waited_mutex script frame c m (statement_placed placed)) 0 0 refl
+    case_fits placed at (wait_begun frame c m is one unasked) = set_fits m (waited_mutex script frame c m (statement_placed placed)) 0 0 refl
     case_fits {next = next} placed at (wait_ended frame _ _ c m why stays free) = set_fits m (reacquired_mutex script c m next placed at) t.id e.tid is_own
     case_fits placed at (ended_in_wait next c m free) = set_fits m (reacquired_mutex script c m next placed at) t.id e.tid is_own
     case_fits placed at (fork_handler_called next values call is) = of_each_phase (λ (w : What). OwnersFit script shared.owners (λ m. owner_after m e.tid w (reported m))) call.func fits fits fits values.phase
@@ -88,7 +88,7 @@ module _ (script : Script) (passes : ℕ) (shared : SharedState) (t : Thread) (o
         → OwnersLaw earlier → OwnersLaw (map (event_of e) (reverse o.events) ++ earlier)
     case_lawful (mutex_locked frame m free) law = (owned m 0 [] refl (free refl), law)
     case_lawful (mutex_unlocked frame m is) law = (owned m t.id [] refl is ∙ is_own, law)
-    case_lawful (wait_begun frame c m is one) law = (owned m t.id (what.Called cond_wait_point ∷ []) refl is ∙ is_own, (tt, law))
+    case_lawful (wait_begun frame c m is one unasked) law = (owned m t.id (what.Called cond_wait_point ∷ []) refl is ∙ is_own, (tt, law))
     case_lawful (wait_ended frame _ _ c m why stays free) law = (tt, (owned m 0 [] refl (free refl), law))
     case_lawful (ended_in_wait next c m free) law = (tt, (owned m 0 [] refl (free refl), law))
     case_lawful (fork_handler_called next at call is) law = of_each_phase (λ (w : What). OwnersLaw (event_of e w ∷ earlier)) call.func (tt, law) (tt, law) (tt, law) at.phase

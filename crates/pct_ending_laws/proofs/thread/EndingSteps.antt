@@ -73,10 +73,10 @@ module _ (passes : ℕ) (body : List Stmt) (shared : SharedState) (t : Thread) (
   -- a transition does not end its thread, or is the end of the thread
   pub ends_only : {next : NextStatement} {s : Status} {o : Transition} → TransitionCase passes body shared t others true next s o → NeverEnds o ⊎ EndsThread t others o
   unfolding thread_at thread_after
-  ends_only (thread_ended next no_handlers) = inr (record { none = refl; last = λ alive. absurd (true≢false alive) })
-  ends_only (thread_ended_with_keys next left no_handlers some limit) = inr (record { none = refl; last = λ alive. absurd (true≢false alive) })
-  ends_only (last_ended next no_handlers is_last) = inr (record { none = refl; last = λ alive. is_last })
-  ends_only (last_ended_with_keys next left no_handlers is_last some limit) = inr (record { none = refl; last = λ alive. is_last })
+  ends_only (thread_ended next no_handlers nothing_due none_left) = inr (record { none = refl; last = λ alive. absurd (true≢false alive) })
+  ends_only (thread_ended_with_keys next left no_handlers some limit all none_left) = inr (record { none = refl; last = λ alive. absurd (true≢false alive) })
+  ends_only (last_ended next no_handlers is_last nothing_due none_left) = inr (record { none = refl; last = λ alive. is_last })
+  ends_only (last_ended_with_keys next left no_handlers is_last some limit all none_left) = inr (record { none = refl; last = λ alive. is_last })
   ends_only _ = inl refl
 
   -- ---- a thread that has ended

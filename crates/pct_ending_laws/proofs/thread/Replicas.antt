@@ -19,12 +19,12 @@ use Rattle.pct_ending_laws.proofs.thread.ThreadRule.{FramesFit, HasFrames, BySta
 
 module _ (script : Script) where
   -- a thread in fork has frames and has not begun to end
-  record InFork (why : Reason) (frames : List Frame) (handlers : List (ℕ × ℕ)) (s : ThreadSummary) : Type 0 where
-    has : HasFrames script why frames handlers s
-    at : is_at_fork (next_of script frames) ≡ true
-    alive : has_begun_to_end why ≡ false
+  pub record InFork (why : Reason) (frames : List Frame) (handlers : List (ℕ × ℕ)) (s : ThreadSummary) : Type 0 where
+    pub has : HasFrames script why frames handlers s
+    pub at : is_at_fork (next_of script frames) ≡ true
+    pub alive : has_begun_to_end why ≡ false
 
-  in_fork : (st : Status) (why : Reason) (frames : List Frame) (handlers : List (ℕ × ℕ)) (s : ThreadSummary) → is_forking st ≡ true → ByAnyStatus script st why frames handlers s → InFork why frames handlers s
+  pub in_fork : (st : Status) (why : Reason) (frames : List Frame) (handlers : List (ℕ × ℕ)) (s : ThreadSummary) → is_forking st ≡ true → ByAnyStatus script st why frames handlers s → InFork why frames handlers s
   in_fork (status.Forking phase index length pid) why frames handlers s forks by =
       let is = outside_exit script why handlers s (status.Forking phase index length pid) frames refl by in
       record { has = is.0; at = is.1; alive = is.2 }

@@ -56,9 +56,9 @@ pub record AreNeighbours (added : List What) : Type 0 where
 module _ (script : Script) (passes : ℕ) (shared : SharedState) (t : Thread) (others : Others) where
   case_neighbours : {frames : List Frame} {body : List Stmt} {next : NextStatement} {s : Status} {o : Transition} → IsPlaced script frames body next
       → TransitionCase passes body shared t others false next s o → AreNeighbours (reverse o.events)
-  case_neighbours place (point_begun frame index required) =
+  case_neighbours place (point_begun frame index required unasked) =
       record { calls = ap (λ (same : Bool). (not same || false) && true) (is_other_point script frame index (statement_placed place)); hand_ons = refl }
-  case_neighbours place (signal_handed_on next c m u enabled among) = record { calls = refl; hand_ons = ap (λ (same : Bool). same && true) (eq-eqb c c refl) }
+  case_neighbours place (signal_handed_on next c m u delivered among) = record { calls = refl; hand_ons = ap (λ (same : Bool). same && true) (eq-eqb c c refl) }
   case_neighbours place (fork_handler_called next at call is) =
       of_each_phase (λ (w : What). AreNeighbours (w ∷ [])) call.func (record { calls = refl; hand_ons = refl }) (record { calls = refl; hand_ons = refl }) (record { calls = refl; hand_ons = refl }) at.phase
   case_neighbours {o = o} place _ = record { calls = refl; hand_ons = refl }

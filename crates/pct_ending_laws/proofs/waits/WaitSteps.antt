@@ -100,16 +100,16 @@ module _ (script : Script) (passes : ℕ) (shared : SharedState) (t : Thread) (o
       → TransitionCase passes body shared t others false next s o → WaitKept s k → KeepsWait (own s frames) k o
   unfolding thread_at thread_after
   case_keeps k place (rests next s alive) is = record { own = is; lawful = refl }
-  case_keeps {frames} k place (point_begun frame index required) is =
+  case_keeps {frames} k place (point_begun frame index required unasked) is =
       at_stage (own status.Running frames) _ NoWait is
       (record { own = ap (λ (same : Bool). cond same AtCall NoWait) (is_other_point script frame index (statement_placed place)); lawful = refl })
   case_keeps {frames} k place (wait_ended frame cond mutex c m why stays free) is =
       at_stage (own (status.Reacquire c m why) frames) _ (InWait m) (blocked c m why k stays is) (record { own = refl; lawful = ap (λ (same : Bool). (same || false) && true) (eq-eqb m m refl) })
-  case_keeps {frames} k place (canceled_in_wait next c m enabled) is =
+  case_keeps {frames} k place (canceled_in_wait next c m delivered) is =
       at_stage (own (status.Waiting c m) frames) _ (InWait m) is (record { own = same_pair c m; lawful = refl })
-  case_keeps {frames} k place (canceled_after_wait next c m why stays enabled) is =
+  case_keeps {frames} k place (canceled_after_wait next c m why stays delivered) is =
       at_stage (own (status.Reacquire c m why) frames) _ (InWait m) (blocked c m why k stays is) (record { own = same_pair c m; lawful = refl })
-  case_keeps {frames} k place (signal_handed_on next c m u enabled among) is =
+  case_keeps {frames} k place (signal_handed_on next c m u delivered among) is =
       at_stage (own (status.Reacquire c m cause.Signalled) frames) _ (InWait m) is (record { own = ap (λ (same : Bool). is_leaving c m (cond same (LeavingSignal c m) NoWait)) (eq-eqb c c refl) ∙ same_pair c m; lawful = ap (λ (same : Bool). same && true) (eq-eqb c c refl) })
   case_keeps k place (ended_in_wait next c m free) is = record { own = wait_is_over c m k is; lawful = ends_wait c m k is }
   case_keeps {frames} k place (fork_handler_called next at call handler) is =

@@ -1,0 +1,136 @@
+#!/usr/bin/env python3
+"""Proves the laws of machines that are wrong, and checks that they are refused.
+
+    bench/wrong_machines.py [NAME ..]
+
+A machine is the definition of a step with one line of it changed, so that it breaks what a law says: a call that does nothing,
+a request that is dropped. In a copy of the crates below pct_ending_laws each machine is made in turn, and `rt check` then has to
+prove the laws of it. It is refused if the check does not prove them, and if an error is in a certain file: that of the proof of
+the law, or of a part of the invariant which this law needs. Where other laws need it, their files have errors, too.
+
+With names only these machines are tried. A machine takes one to three minutes. `rt` has to be in the PATH. The last line is
+`N passed, M failed`. The status is 1 if M is not 0 or N is 0.
+"""
+import dataclasses
+import pathlib
+import re
+import shutil
+import subprocess
+import sys
+import tempfile
+
+ROOT = pathlib.Path(__file__).resolve().parent.parent
+CRATES = ("pct_io", "pct_model", "pct_jumps", "pct_transition_cases", "pct_ending_laws")
+SPECS = "crates/pct_model/specs"
+PROOFS = "crates/pct_ending_laws/proofs"
+SECONDS = 1800
+
+
+@dataclasses.dataclass(frozen=True)
+class Machine:
+    name: str
+    # The law that it breaks, and the file in which the proof of this law has to fail.
+    law: str
+    proof: str
+    # The file of the definitions, its line, and the line in its place.
+    file: str
+    line: str
+    wrong: str
+
+
+MACHINES = (
+    Machine("a_call_does_nothing", "Calls", "steps/CalledFunctions", "Actions",
+            "thread_after (action.CallAlone f a kind) t = record t { status = Running; frames = new_frame f a kind ∷ [] }",
+            "thread_after (action.CallAlone f a kind) t = t"),
+    Machine("a_value_stays_as_its_destructor_is_called", "Calls", "steps/CalledFunctions", "Actions",
+            "thread_after (action.TakeKey k) t = record t { specific = without_value (key_place k) t.specific }",
+            "thread_after (action.TakeKey k) t = t"),
+    Machine("an_exit_function_stays_registered", "Calls", "steps/CalledFunctions", "Actions",
+            "shared_after action.TakeExit s = record s { exit_functions = without_first s.exit_functions }",
+            "shared_after action.TakeExit s = s"),
+    Machine("a_deleted_key_stays", "Calls", "keys/KeyEvents", "Actions",
+            "shared_after (action.DeleteKey k) s = record s { keys = without_key (key_place k) s.keys }",
+            "shared_after (action.DeleteKey k) s = s"),
+    Machine("no_key_is_due", "Ends", "steps/EndStages", "ThreadEnds",
+            "due_keys keys t = length (due_places keys t.specific)",
+            "due_keys keys t = 0"),
+    Machine("a_pass_takes_no_key", "Ends", "steps/EndStages", "Actions",
+            "thread_after action.BeginPass t = record t { pass = suc t.pass; specific = with_pass t.specific }",
+            "thread_after action.BeginPass t = record t { pass = suc t.pass }"),
+    Machine("a_request_is_dropped", "CancelLaw", "requests/PendingRequests", "Actions",
+            "named_after (action.Request id) t = if is_live_thread id t && not t.ended then record t { pending = true } else t",
+            "named_after (action.Request id) t = t"),
+    Machine("a_child_inherits_the_request", "CancelLaw", "requests/PendingRequests", "Actions",
+            "mode = t.mode; pending = false; handlers = t.handlers;",
+            "mode = t.mode; pending = t.pending; handlers = t.handlers;"),
+    Machine("cancelability_is_not_set", "CancelLaw", "requests/CancelStates", "Actions",
+            "thread_after (action.SetState state) t = record t { state = state }",
+            "thread_after (action.SetState state) t = t"),
+    Machine("an_ended_thread_ends_again", "AfterEnd", "ends/AfterTheEnd", "Actions",
+            "thread_after (action.EndThread v) t = record t { status = Ended v; ended = true }",
+            "thread_after (action.EndThread v) t = record t { status = Ending; ended = true }"),
+    Machine("the_threads_of_an_ended_process_go_on", "ProcessLaw", "processes/EndedProcesses", "Actions",
+            "is_live_process pid p = nat_eq p.pid pid && not (has_ended p)",
+            "is_live_process pid p = nat_eq p.pid pid"),
+    Machine("the_status_of_a_process_is_lost", "ProcessLaw", "processes/ReapedChildren", "Actions",
+            "process_after (action.EndProcess n) p = record p { ended = Some (record { status = n; reaped = nat_eq p.parent 0 }) }",
+            "process_after (action.EndProcess n) p = record p { ended = Some (record { status = 0; reaped = nat_eq p.parent 0 }) }"),
+)
+
+
+def errors(folder):
+    """The proof files with errors when the laws are proved in the folder, or None if they are proved."""
+    ran = subprocess.run(["rt", "check"], cwd=folder / "crates/pct_ending_laws", stdout=subprocess.PIPE, stderr=subprocess.STDOUT, timeout=SECONDS)
+    log = ran.stdout.decode(errors="replace")
+    if ran.returncode == 0:
+        return None
+    return sorted(set(re.findall(r"^(?:\./)?proofs/(\S+?)\.antt:\d+:\d+: error", log, re.M))), log
+
+
+def tried(machine, folder):
+    """Why the machine is not refused as it should be, or None, and the files in which its proofs fail."""
+    path = folder / SPECS / f"{machine.file}.antt"
+    text = path.read_text()
+    if text.count(machine.line) != 1:
+        return f"{machine.file}.antt has no such line, or more than one", []
+    path.write_text(text.replace(machine.line, machine.wrong))
+    try:
+        found = errors(folder)
+    finally:
+        path.write_text(text)
+    if found is None:
+        return "its laws are proved", []
+    files, log = found
+    if machine.proof not in files:
+        return f"no error in {PROOFS}/{machine.proof}.antt\n{log[-2000:]}", files
+    return None, files
+
+
+def main():
+    names = sys.argv[1:] or [machine.name for machine in MACHINES]
+    unknown = set(names) - {machine.name for machine in MACHINES}
+    if unknown:
+        sys.exit(f"there is no machine {', '.join(sorted(unknown))}")
+    passed = failed = 0
+    with tempfile.TemporaryDirectory() as name:
+        folder = pathlib.Path(name)
+        shutil.copy(ROOT / "HANDLES", folder)
+        (folder / "crates.txt").write_text("".join(
+            line for line in (ROOT / "crates.txt").read_text().splitlines(keepends=True) if line.split(":")[0] in CRATES))
+        for crate in CRATES:
+            shutil.copytree(ROOT / "crates" / crate, folder / "crates" / crate)
+        for machine in MACHINES:
+            if machine.name not in names:
+                continue
+            why, files = tried(machine, folder)
+            if why is None:
+                passed += 1
+                print(f"refused {machine.name} ({machine.law}): {', '.join(files)}", flush=True)
+            else:
+                failed += 1
+                print(f"not refused {machine.name} ({machine.law}): {why}", flush=True)
+    print(f"{passed} passed, {failed} failed")
+    sys.exit(1 if failed or not passed else 0)
+
+
+main()

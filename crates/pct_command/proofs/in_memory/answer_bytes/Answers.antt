@@ -1,0 +1,24 @@
+use Rattle.std.proofs.Common.{◌≡◌, true, map, rules}
+use Rattle.std.specs.Prelude.{string_bytes}
+use Rattle.std.proofs.lemmas.Bool.{false≢true, false_from_ne_true}
+use Rattle.pct_model.specs.declared.keyword.Keyword.TheVariants as keyword
+use Rattle.pct_model.specs.Outcome.{is_asked, is_accepted}
+use Rattle.pct_command.proofs.AskedWords.{NeedsInput, has_input}
+use Rattle.pct_command.proofs.Outcomes.{words-answer, points-answer}
+use Rattle.pct_command.proofs.in_memory.answer_bytes.Goals as goal
+
+pub returns-in-Err : goal.returns-in-Err
+returns-in-Err c =
+    let words = map string_bytes c.args.words.now in
+    words-answer words c.args.input.now (false_from_ne_true (is_accepted words) (λ accepted. false≢true (c.in-Err.ensures.accepted.1 accepted)))
+
+pub returns-in-Ok-Points : goal.returns-in-Ok-Points
+returns-in-Ok-Points c =
+    let words = map string_bytes c.args.words.now in
+    let asked : is_asked keyword.Points words ≡ true = rw c.in-Ok-Points.field-0-is at c.in-Ok-Points.ensures.job in
+    points-answer words c.args.input.now asked
+
+pub answer_text-requires : goal.answer_text-requires
+answer_text-requires c =
+    let needs : NeedsInput c.in-Ok.job = search rules in
+    has_input (map string_bytes c.args.words.now) c.in-Ok.job c.in-Ok.ensures.job needs

@@ -1,0 +1,58 @@
+//! The answer to an input in memory.
+
+ghost use Rattle.std.specs.Prelude.{◌≡◌, ◌<◌, ℕ, List, true, map, string_bytes, IfOk};
+ghost use Rattle.pct_model.specs.Outcome.{is_accepted};
+ghost use Rattle.pct_command.specs.Answer.{Answered};
+ghost use Rattle.pct_command.specs.Command.{IsAnswer, IsValid};
+ghost use Rattle.pct_command.specs.Status.{code_of};
+ghost use Rattle.pct_command.specs.Words.{Asks, HasInput};
+
+use crate::answer_writer::write_answer;
+use crate::answering::answer_of;
+use crate::answers::{Answer, Refusal};
+use crate::status::Status;
+use crate::text_sink::TextSink;
+use crate::words::{Job, Usage, read_words};
+use pct_io::{Failed, NoMemory};
+use pct_model::MAX_INPUT;
+use std::alloc::Global;
+
+/// The answer of [`command`](crate::command) to the words and an input in memory: the status, and the text that is written. The
+/// words are those of `command`, and so are the statuses, but `ReadFault`, `WriteFault` and `NoMemory`, which are no answers. The
+/// text is held whole, while `command` writes it piece by piece. `NoMemory` is returned if memory runs out.
+pub fn answer(alloc: Global, words: &[String], input: &[u8]) -> Result<(Status, Vec<u8>), NoMemory>
+    ensures answer { IfOk result (λ given. IsAnswer (map string_bytes words.now) input.now (code_of given.0) given.1.items) }
+
+    // With accepted words a valid input is not refused.
+    ensures complete { is_accepted (map string_bytes words.now) ≡ true → IsValid (map string_bytes words.now) input.now → IfOk result (λ given. code_of given.0 < 5) }
+{
+    let answer = answer_bytes(alloc, words, input)?;
+    let mut text = TextSink::new(alloc);
+    match write_answer(&answer, &mut text) {
+        Ok(()) => Ok((answer.status(), text.into_bytes())),
+        Err(Failed) => Err(NoMemory),
+    }
+}
+
+// The answer to the words and an input, before it is written.
+fn answer_bytes(alloc: Global, words: &[String], input: &[u8]) -> Result<Answer, NoMemory>
+    ensures { Answered (map string_bytes words.now) input.now result }
+{
+    match read_words(words) {
+        Err(Usage) => Ok(Answer::Refused(Refusal::Words)),
+        Ok(Job::Points) => Ok(Answer::Points),
+        Ok(job) => answer_text(alloc, job, input),
+    }
+}
+
+// The answer of a job to an input.
+fn answer_text(alloc: Global, job: Job, input: &[u8]) -> Result<Answer, NoMemory>
+    requires { HasInput job }
+    ensures { (words : List (List ℕ)) → Asks words job → Answered words input.now result }
+{
+    if input.len() > MAX_INPUT as usize {
+        Ok(Answer::Refused(Refusal::Input))
+    } else {
+        answer_of(alloc, job, input)
+    }
+}

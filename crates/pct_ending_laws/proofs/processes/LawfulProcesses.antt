@@ -1,0 +1,152 @@
+-- The law of processes holds of the events of every run.
+use Rattle.std.proofs.Common.{◌≡◌, ℕ, ◌%◌, ◌<◌, true, false, ◌&&◌, List, [], ◌∷◌, ◌++◌, map, reverse, Some, refl, arith}
+use Rattle.std.specs.List.{list_any}
+use Rattle.std.proofs.lemmas.Bool.{false≢true, or_parts, or_from, and_right}
+use Rattle.std.proofs.lemmas.Nat.{mod_below}
+use Rattle.pct_model.specs.declared.event.Event.{Event}
+use Rattle.pct_model.specs.declared.event.What.{What}
+use Rattle.pct_model.specs.declared.event.What.TheVariants as what
+use Rattle.pct_model.specs.declared.process.Child.{Child}
+use Rattle.pct_model.specs.declared.schedule.Config.{Config}
+use Rattle.pct_model.specs.declared.schedule.Entry.{Entry}
+use Rattle.pct_model.specs.declared.script.Script.{Script}
+use Rattle.pct_model.specs.declared.state.Status.{Status}
+use Rattle.pct_model.specs.declared.state.Status.TheVariants as status
+use Rattle.pct_model.specs.declared.statement.Stmt.{Stmt}
+use Rattle.pct_model.specs.declared.transition.Transition.{Transition}
+use Rattle.pct_model.specs.Actions.{without_first}
+use Rattle.pct_model.specs.AfterEnd.{begins_exit}
+use Rattle.pct_model.specs.KnownThreads.{is_in, has_own}
+use Rattle.pct_model.specs.LineKinds.{syntax_of}
+use Rattle.pct_model.specs.NextStatement.{NextStatement, next_of, body_at}
+use Rattle.pct_model.specs.OtherThreads.{Others, others_of}
+use Rattle.pct_model.specs.ProcessLaw.{ends_process, exits_with, is_stop, has_in, was_made, JoinsKnown, MayChange, ProcessLaw}
+use Rattle.pct_model.specs.Run.{Run, event_of, run}
+use Rattle.pct_model.specs.Statements.{encode}
+use Rattle.pct_model.specs.TransitionTable.{transition_by}
+use Rattle.pct_model.specs.World.{Thread, SharedState, Process, value_of}
+use Rattle.pct_transition_cases.proofs.CaseOfTransition.{case_of}
+use Rattle.pct_transition_cases.proofs.TransitionCases.{TransitionCase, main_returned, join_ended, fork_handler_called, process_forked, child_reaped, last_ended, last_ended_with_keys, process_exited, process_ended_now, process_ended}
+use Rattle.pct_ending_laws.proofs.exits.PlainFunctions.{is_plain_next}
+use Rattle.pct_ending_laws.proofs.lift.CreatedThreads.{gives_next}
+use Rattle.pct_ending_laws.proofs.lift.HandlerEvents.{of_each_phase}
+use Rattle.pct_ending_laws.proofs.lift.TakenSteps.{IsTaken, with_step, AfterEveryRun, every_run}
+use Rattle.pct_ending_laws.proofs.processes.EndedProcesses.{live_of_run}
+use Rattle.pct_ending_laws.proofs.processes.EndStatuses.{status_of_exit, exits_plain}
+use Rattle.pct_ending_laws.proofs.processes.ExitValues.{ExitsOnce, begins_with, own_weaker}
+use Rattle.pct_ending_laws.proofs.processes.ExitedOnce.{exits_once_of_run, once_later}
+use Rattle.pct_ending_laws.proofs.processes.JoinedThreads.{joins_known}
+use Rattle.pct_ending_laws.proofs.processes.MadeProcesses.{next_unmade, known_by}
+use Rattle.pct_ending_laws.proofs.processes.ReapedChildren.{reaps_child}
+use Rattle.pct_ending_laws.proofs.processes.StoppedRuns.{none_later, is_closing, closes_last, running_of_run}
+
+-- ---- what the law asks of an event by its kind
+
+-- each event of a run may change what it changes, by those before it
+abbrev pub ChangesLaw : List Event → Type 0
+ChangesLaw [] = Unit {0}
+ChangesLaw (e ∷ earlier) = MayChange e.what e.pid e.tid earlier × ChangesLaw earlier
+
+module _ (passes : ℕ) (body : List Stmt) (shared : SharedState) (t : Thread) (others : Others) (e : Entry) (earlier : List Event) where
+  -- what is known of a thread with a status, at a statement, and of the events before its transition
+  record IsReady (next : NextStatement) (s : Status) : Type 0 where
+    -- the next process was not made, and has no event
+    forks : (new : ℕ) → others.family.new_pid ≡ Some new → (was_made new earlier ≡ false) × (list_any (is_in new) earlier ≡ false)
+    -- a thread that is joined is known, and another one
+    joins : (id : ℕ) (target : Thread) → s ≡ status.Joining id → others.named id ≡ Some target → JoinsKnown e.pid e.tid id earlier
+    -- a child that has ended may be reaped
+    reaps : (pid n : ℕ) (child : Child) → others.family.child pid ≡ Some child → child.ended ≡ Some n → MayChange (what.Reaped pid n) e.pid e.tid earlier
+    -- the exit value of the process is that of the thread, if it exits
+    exit_status : (v : ℕ) → shared.exit_value ≡ Some v → (u : ℕ) → has_own (exits_with u) e.pid e.tid earlier ≡ true → v % 256 ≡ u % 256
+    -- a thread that exits runs plain functions alone
+    plain : s ≡ status.Running → (u : ℕ) → has_own (exits_with u) e.pid e.tid earlier ≡ true → is_plain_next next ≡ true
+
+  -- a status has eight bits
+  below_256 : (n : ℕ) → n % 256 < 256
+  below_256 n = mod_below n 256 (omega arith)
+
+  -- the events of a transition, where exit begins at most once
+  case_changes : {next : NextStatement} {s : Status} {o : Transition} → TransitionCase passes body shared t others true next s o → IsReady next s
+      → ExitsOnce (map (event_of e) (reverse o.events) ++ earlier) → ChangesLaw earlier → ChangesLaw (map (event_of e) (reverse o.events) ++ earlier)
+  unfolding encode syntax_of
+  case_changes (main_returned frame s v returns is none) ready once law = (once.0, law)
+  case_changes (process_exited frame v none) ready once law = (once.0, law)
+  case_changes (last_ended next no_handlers is_last no_keys left) ready once law = (once.0, (tt, law))
+  case_changes (last_ended_with_keys next n no_handlers is_last some limit due left) ready once law = (once.0, (tt, (tt, law)))
+  case_changes (process_forked next index count answer new is) ready once law = (ready.forks new is, law)
+  case_changes (join_ended frame operand d id v target is ended) ready once law = (ready.joins id target refl is, law)
+  case_changes (child_reaped frame result d operand pid n child is ended) ready once law = (ready.reaps pid n child is ended, law)
+  case_changes (process_ended_now frame v) ready once law = ((below_256 (value_of shared.globals frame v), λ u exits. absurd (false≢true (ready.plain refl u exits))), law)
+  case_changes (process_ended next v is none) ready once law = ((below_256 v, ready.exit_status v is), law)
+  case_changes (fork_handler_called next at call is) ready once law = of_each_phase (λ (w : What). ChangesLaw (event_of e w ∷ earlier)) call.func (tt, law) (tt, law) (tt, law) at.phase
+  case_changes _ ready once law = assumption
+
+-- ---- the events of a step
+
+-- events of which none closes have neither a stop nor the end of the process
+none_stops : (added : List What) → list_any is_closing added ≡ false → list_any is_stop added ≡ false
+none_stops [] none = refl
+none_stops (w ∷ added) none =
+    let parts = or_parts (is_closing w) (list_any is_closing added) none in
+    or_from (is_stop w) (list_any is_stop added) (or_parts (is_stop w) (ends_process w) parts.0).0 (none_stops added parts.1)
+
+-- and where the process had no end before, it has none after them
+none_ends : (e : Entry) (earlier : List Event) → has_in ends_process e.pid earlier ≡ false → (added : List What) → list_any is_closing added ≡ false → has_in ends_process e.pid (map (event_of e) added ++ earlier) ≡ false
+none_ends e earlier live [] none = live
+none_ends e earlier live (w ∷ added) none =
+    let parts = or_parts (is_closing w) (list_any is_closing added) none in
+    or_from (is_in e.pid (event_of e w) && ends_process w) (has_in ends_process e.pid (map (event_of e) added ++ earlier))
+    (and_right (is_in e.pid (event_of e w)) (ends_process w) (or_parts (is_stop w) (ends_process w) parts.0).1) (none_ends e earlier live added parts.1)
+
+-- nor has all but the newest of them
+but_newest : (added : List What) → list_any is_closing added ≡ false → list_any is_closing (without_first added) ≡ false
+but_newest [] none = refl
+but_newest (w ∷ added) none = (or_parts (is_closing w) (list_any is_closing added) none).1
+
+module _ (script : Script) (config : Config) where
+  module _ (before : List Entry) (r : Run) (is : run script config before ≡ Some r) (e : Entry) (p : Process) (t : Thread) (taken : IsTaken script config r.world e p t) where
+    abbrev o : Transition
+    o = transition_by script config r.world p t e.alt
+
+    -- all this is known of the thread of an entry
+    is_ready : IsReady config.passes (body_at script t.frames) p.shared t (others_of config.slots r.world p t.id) e r.events (next_of script t.frames) t.status
+    unfolding others_of
+    is_ready = record {
+      forks = λ new next. next_unmade script config before r is e p t taken new (gives_next script config r.world p t e.alt taken.offered new next);
+      joins = λ id target s named. joins_known script config before r is e p t taken id target s named;
+      reaps = λ pid n child found ended. reaps_child script config before r is e p t taken pid n child found ended;
+      exit_status = λ v value u exits. status_of_exit script config before r is e p t taken v value u exits;
+      plain = λ runs u exits. exits_plain script config before r is e p t taken runs (own_weaker (exits_with u) begins_exit (begins_with u) e.pid e.tid r.events exits);
+    }
+
+    -- each event of a step may change what it changes
+    changes_later : ChangesLaw r.events → ChangesLaw (with_step e o r).events
+    changes_later law =
+        let others : Others = others_of config.slots r.world p t.id in
+        case_changes config.passes (body_at script t.frames) p.shared t others e r.events
+        (case_of config.passes (body_at script t.frames) p.shared t others true e.alt (next_of script t.frames) t.status (λ known. taken.offered))
+        is_ready (once_later script config before r is e p t taken (exits_once_of_run script config before r is)) law
+
+    -- the law after the events of a step
+    law_later : (added : List What) → list_any is_closing (without_first added) ≡ false → ChangesLaw (map (event_of e) added ++ r.events) → ProcessLaw r.events → ProcessLaw (map (event_of e) added ++ r.events)
+    law_later [] none changes law = law
+    law_later (w ∷ added) none changes law = (
+      record {
+        running = none_later is_stop e added r.events (none_stops added none) (running_of_run script config before r is taken.running);
+        live = none_ends e r.events (live_of_run script config before r is e p t taken) added none;
+        known = known_by script config before r is e p t taken added;
+        change = changes.0;
+      },
+      law_later added (but_newest added none) changes.1 law,
+    )
+
+  -- ---- every run
+
+  -- each event may change what it changes
+  pub changes_of_run : AfterEveryRun script config (λ r. ChangesLaw r.events)
+  changes_of_run = every_run script config (λ r. ChangesLaw r.events) (λ before r is e p t taken law. changes_later before r is e p t taken law) (λ some. tt)
+
+  -- the law of processes
+  pub processes_of_run : AfterEveryRun script config (λ r. ProcessLaw r.events)
+  processes_of_run = every_run script config (λ r. ProcessLaw r.events) (λ before r is e p t taken law.
+      law_later before r is e p t taken (reverse (transition_by script config r.world p t e.alt).events) (closes_last script config r.world p t e.alt) (changes_later before r is e p t taken (changes_of_run before r is)) law) (λ some. tt)

@@ -1,0 +1,85 @@
+-- A thread that is to call a function that shall be a cancellation point, with a request to act upon, acts upon it, or the call is a stop.
+use Rattle.std.proofs.Common.{◌≡◌, ℕ, true, false, List, Option, Some, None, refl, sym, ◌∙◌, subst}
+use Rattle.std.proofs.lemmas.Bool.{false≢true, true≢false}
+use Rattle.pct_model.specs.declared.schedule.Alt.{Alt}
+use Rattle.pct_model.specs.declared.schedule.Alt.TheVariants as alt
+use Rattle.pct_model.specs.declared.schedule.Config.{Config}
+use Rattle.pct_model.specs.declared.schedule.Entry.{Entry}
+use Rattle.pct_model.specs.declared.script.Script.{Script}
+use Rattle.pct_model.specs.declared.frame.Frame.{Frame}
+use Rattle.pct_model.specs.declared.state.Status.{Status}
+use Rattle.pct_model.specs.declared.state.Status.TheVariants as status
+use Rattle.pct_model.specs.declared.statement.Stmt.{Stmt}
+use Rattle.pct_model.specs.declared.statement.Stmt.TheVariants as statement
+use Rattle.pct_model.specs.declared.stop.Why.{Why}
+use Rattle.pct_model.specs.Cancelability.{is_deliverable}
+use Rattle.pct_model.specs.CancelCalls.{called_kind, is_required, acts_on_request}
+use Rattle.pct_model.specs.CancelLaw.{calls_required_point, acts_or_stops, ActsAtCalls}
+use Rattle.pct_model.specs.ChoiceTable.{choices_at, offers}
+use Rattle.pct_model.specs.NextStatement.{NextStatement, NoStatement, StatementIn, next_of, body_at}
+use Rattle.pct_model.specs.OtherThreads.{Others, others_of}
+use Rattle.pct_model.specs.Run.{Run, run}
+use Rattle.pct_model.specs.StopTable.{is_allowed_asynchronously, stop_at}
+use Rattle.pct_model.specs.TransitionTable.{stops_or, runs, transition_at, acts_or}
+use Rattle.pct_model.specs.World.{Thread, Process, SharedState}
+use Rattle.pct_transition_cases.proofs.CaseOfTransition.{no_stops}
+use Rattle.pct_transition_cases.proofs.OfferedChoices.{is_acting, gone_on_at_required}
+use Rattle.pct_ending_laws.proofs.lift.TakenSteps.{IsTaken}
+use Rattle.pct_ending_laws.proofs.requests.ActingThreads.{mover_acts}
+use Rattle.pct_ending_laws.proofs.steps.MovedThreads.{EveryStep, step_of, every_step}
+
+-- a function that shall be a cancellation point is not async-cancel-safe
+required_unsafe : (s : Stmt) → is_required (called_kind s) ≡ true → is_allowed_asynchronously s ≡ false
+unfolding called_kind
+required_unsafe (statement.Emit v) required = absurd (false≢true required)
+required_unsafe (statement.Set d v) required = absurd (false≢true required)
+required_unsafe (statement.Add d v) required = absurd (false≢true required)
+required_unsafe statement.Nop required = absurd (false≢true required)
+required_unsafe (statement.If v) required = absurd (false≢true required)
+required_unsafe statement.Else required = absurd (false≢true required)
+required_unsafe (statement.While v) required = absurd (false≢true required)
+required_unsafe statement.End required = absurd (false≢true required)
+required_unsafe (statement.Do f v) required = absurd (false≢true required)
+required_unsafe (statement.Return v) required = absurd (false≢true required)
+required_unsafe (statement.CancelThread id) required = absurd (false≢true required)
+required_unsafe (statement.SetState enable old) required = absurd (false≢true required)
+required_unsafe (statement.SetMode asynchronous old) required = absurd (false≢true required)
+required_unsafe _ required = refl
+
+module _ (passes : ℕ) (body : List Stmt) (shared : SharedState) (t : Thread) (others : Others) where
+  -- a call that goes on is a stop, as without one the thread would have no request to act upon
+  goes_stopped : (choice : Alt) (frame : Frame) (s : Stmt) (stop : Option Why) → (stop ≡ None → ⊥) → acts_or_stops (stops_or stop (runs passes body shared t others choice frame s)).events ≡ true
+  goes_stopped choice frame s (Some why) stopped = refl
+  goes_stopped choice frame s None stopped = absurd (stopped refl)
+
+  -- a thread that goes on at such a call
+  goes_on_at_call : (choice : Alt) (frame : Frame) (s : Stmt) → is_required (called_kind s) ≡ true → is_deliverable t.state t.pending ≡ true → offers (choices_at body shared t others (StatementIn frame s) status.Running) choice ≡ true → is_acting choice ≡ false
+      → acts_or_stops (transition_at passes body shared t others choice (StatementIn frame s) status.Running).events ≡ true
+  unfolding transition_at
+  goes_on_at_call choice frame s required asked offered goes =
+      goes_stopped choice frame s (stop_at body shared t others frame s)
+      (λ none.
+      let allowed = no_stops body shared t others frame s none in
+      true≢false (sym asked ∙ gone_on_at_required body shared t others choice frame s required (required_unsafe s required) allowed.0 allowed.1.0 offered goes))
+
+  -- the transition of a thread at such a call
+  at_call : (choice : Alt) (next : NextStatement) → calls_required_point next ≡ true → is_deliverable t.state t.pending ≡ true → offers (choices_at body shared t others next status.Running) choice ≡ true
+      → acts_or_stops (acts_or choice status.Running (transition_at passes body shared t others choice next status.Running)).events ≡ true
+  unfolding acts_on_request
+  at_call choice NoStatement required asked offered = absurd (false≢true required)
+  at_call (alt.Act n) next required asked offered = refl
+  at_call choice (StatementIn frame s) required asked offered = goes_on_at_call choice frame s required asked offered refl
+
+module _ (script : Script) (config : Config) where
+  -- so it is of the step of an entry that moves a thread
+  acts_at_call : (before : List Entry) (r : Run) → run script config before ≡ Some r → (e : Entry) (p : Process) (t : Thread) → IsTaken script config r.world e p t → ActsAtCalls script (step_of script config r p e t)
+  acts_at_call before r is e p t taken running required acts =
+      let body : List Stmt = body_at script t.frames in
+      let others : Others = others_of config.slots r.world p t.id in
+      let next : NextStatement = next_of script t.frames in
+      subst (λ (s : Status). offers (choices_at body p.shared t others next s) e.alt ≡ true → acts_or_stops (acts_or e.alt s (transition_at config.passes body p.shared t others e.alt next s)).events ≡ true) (sym running)
+      (at_call config.passes body p.shared t others e.alt next required (sym (mover_acts script config before r is e p t taken) ∙ acts)) taken.offered
+
+  -- each step of every run acts at such a call, or is a stop
+  pub acts_at_calls_of_run : EveryStep script config (ActsAtCalls script)
+  acts_at_calls_of_run = every_step script config (ActsAtCalls script) acts_at_call

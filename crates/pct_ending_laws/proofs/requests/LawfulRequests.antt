@@ -1,0 +1,270 @@
+-- The events of every run keep the law of cancellation: a thread is canceled only by a request that came, with its cancelability enabled,
+-- a thread that has to act upon a request calls no cancellation point, a thread returns from one after its call, and one that has begun to
+-- end does not enable its cancelability.
+use Rattle.std.proofs.Common.{◌≡◌, ℕ, Bool, true, false, not, ◌&&◌, ◌||◌, cond, List, [], ◌∷◌, ◌++◌, map, reverse, nat_eq, Some, refl, sym, ap, ap₂, ◌∙◌, subst, eq-eqb, eqb-true}
+use Rattle.std.specs.List.{list_all}
+use Rattle.std.proofs.lemmas.Bool.{false≢true, true≢false, and_parts, and_from}
+use Rattle.pct_model.specs.declared.event.Caller.TheVariants as caller
+use Rattle.pct_model.specs.declared.event.Event.{Event}
+use Rattle.pct_model.specs.declared.event.What.{What}
+use Rattle.pct_model.specs.declared.event.What.TheVariants as what
+use Rattle.pct_model.specs.declared.frame.Frame.{Frame}
+use Rattle.pct_model.specs.declared.schedule.Config.{Config}
+use Rattle.pct_model.specs.declared.schedule.Entry.{Entry}
+use Rattle.pct_model.specs.declared.script.Script.{Script}
+use Rattle.pct_model.specs.declared.state.Cause.{Cause}
+use Rattle.pct_model.specs.declared.state.Cause.TheVariants as cause
+use Rattle.pct_model.specs.declared.state.State.TheVariants.{Enable, Disable}
+use Rattle.pct_model.specs.declared.state.Status.{Status}
+use Rattle.pct_model.specs.declared.state.Status.TheVariants as status
+use Rattle.pct_model.specs.declared.statement.Stmt.{Stmt}
+use Rattle.pct_model.specs.declared.statement.Stmt.TheVariants as statement
+use Rattle.pct_model.specs.declared.transition.Transition.{Transition}
+use Rattle.pct_model.specs.Actions.{thread_at, thread_after, moved}
+use Rattle.pct_model.specs.Cancelability.{is_deliverable}
+use Rattle.pct_model.specs.CancelCalls.{testcancel_point, point_kind, is_required}
+use Rattle.pct_model.specs.CancelEvents.{is_requested, is_enabled_last, has_to_act}
+use Rattle.pct_model.specs.CancelLaw.{MayAct, is_in_wait, is_called_before, MayReturn, MayCancel, RequestsLaw}
+use Rattle.pct_model.specs.CondCalls.{cond_wait_point}
+use Rattle.pct_model.specs.ForkCalls.{waitpid_point}
+use Rattle.pct_model.specs.Kept.{is_call_of, has_left_wait, is_leaving, WaitKept}
+use Rattle.pct_model.specs.KnownThreads.{is_own, newest_event}
+use Rattle.pct_model.specs.NextStatement.{NextStatement, StatementIn, next_of}
+use Rattle.pct_model.specs.OtherThreads.{others_of}
+use Rattle.pct_model.specs.Run.{Run, event_of, run}
+use Rattle.pct_model.specs.SemCalls.{sem_wait_point}
+use Rattle.pct_model.specs.StopTable.{has_begun_to_end}
+use Rattle.pct_model.specs.ThreadSummary.{ThreadSummary, summary_of}
+use Rattle.pct_model.specs.TransitionTable.{transition_by}
+use Rattle.pct_model.specs.WaitStages.{WaitStage, InWait, ToReturn, Leaving, LeavingSignal, ToEnd, stage_after, wait_stage}
+use Rattle.pct_model.specs.World.{Thread, Process, statement_at, made_thread}
+use Rattle.pct_transition_cases.proofs.PlacedStatements.{IsPlaced, is_placed, statement_placed}
+use Rattle.pct_transition_cases.proofs.TransitionCases.{TransitionCase, join_begun, state_set, cancel_tested, point_begun, point_done, point_passed, canceled, canceled_at_point, canceled_in_join, canceled_in_sem_wait, canceled_in_waitpid, wait_begun, wait_ended, canceled_in_wait, canceled_after_wait, signal_handed_on, ended_in_wait, sem_wait_begun, sem_taken, fork_handler_called, waitpid_begun, child_reaped, no_child_found, child_lost}
+use Rattle.pct_ending_laws.proofs.ThreadsOfRun.{thread_rule, processes_fit, threads_fit, threads_kept}
+use Rattle.pct_ending_laws.proofs.lift.EveryProcess.{moves_of_run}
+use Rattle.pct_ending_laws.proofs.lift.EveryThread.{of_made_thread}
+use Rattle.pct_ending_laws.proofs.lift.HandlerEvents.{of_each_phase}
+use Rattle.pct_ending_laws.proofs.lift.ReportedBy.{after_all}
+use Rattle.pct_ending_laws.proofs.lift.TakenSteps.{IsTaken, AfterEveryRun, every_run}
+use Rattle.pct_ending_laws.proofs.requests.ActingThreads.{may_act, mover_process, mover_live, mover_made, mover_acts}
+use Rattle.pct_ending_laws.proofs.requests.CancelStates.{not_begun}
+use Rattle.pct_ending_laws.proofs.requests.LeftWaits.{left_waits_of_run}
+use Rattle.pct_ending_laws.proofs.requests.SuspendedCalls.{call_event, newest_call_of_run}
+use Rattle.pct_ending_laws.proofs.steps.MovedThreads.{case_of_step}
+use Rattle.pct_ending_laws.proofs.thread.ThreadRule.{summary, summary_reading, FitsAny}
+use Rattle.pct_ending_laws.proofs.waits.GenericPoints.{is_other_point, is_no_test}
+use Rattle.pct_ending_laws.proofs.waits.WaitsOfRun.{waits_kept_of_run}
+
+-- ---- events of which the law asks nothing
+
+-- the law asks nothing of the event
+abbrev is_free : What → Bool
+is_free what.EndingCanceled = false
+is_free (what.WaitCanceled c) = false
+is_free (what.EndingInWait c m) = false
+is_free (what.Called index) = false
+is_free (what.Done index) = false
+is_free (what.Taken s) = false
+is_free (what.Reaped q n) = false
+is_free (what.Answer caller.WaitPid n) = false
+is_free (what.StateSet enable) = not enable
+is_free _ = true
+
+-- such an event may come
+free_may : (w : What) → is_free w ≡ true → (pid tid : ℕ) (earlier : List Event) → MayCancel w pid tid earlier
+free_may what.EndingCanceled free pid tid earlier = absurd (false≢true free)
+free_may (what.WaitCanceled c) free pid tid earlier = absurd (false≢true free)
+free_may (what.EndingInWait c m) free pid tid earlier = absurd (false≢true free)
+free_may (what.Called index) free pid tid earlier = absurd (false≢true free)
+free_may (what.Done index) free pid tid earlier = absurd (false≢true free)
+free_may (what.Taken s) free pid tid earlier = absurd (false≢true free)
+free_may (what.Reaped q n) free pid tid earlier = absurd (false≢true free)
+free_may (what.Answer caller.WaitPid n) free pid tid earlier = absurd (false≢true free)
+free_may (what.StateSet true) free pid tid earlier = absurd (false≢true free)
+free_may (what.StateSet false) free pid tid earlier = tt
+free_may _ free pid tid earlier = tt
+
+-- such events keep the law
+free_lawful : (e : Entry) (added : List What) → list_all is_free added ≡ true → (earlier : List Event) → RequestsLaw earlier → RequestsLaw (map (event_of e) added ++ earlier)
+free_lawful e [] all earlier law = law
+free_lawful e (w ∷ added) all earlier law =
+    let parts = and_parts (is_free w) (list_all is_free added) all in
+    (free_may w parts.0 e.pid e.tid (map (event_of e) added ++ earlier), free_lawful e added parts.1 earlier law)
+
+-- that a thread acquires a mutex does not change whether it has to act upon a request
+acts_after : (e : Entry) (m : ℕ) (earlier : List Event) → has_to_act e.pid e.tid (event_of e (what.Acquired m) ∷ earlier) ≡ has_to_act e.pid e.tid earlier
+acts_after e m earlier = by (nat_eq e.pid e.pid) (nat_eq e.tid e.tid) (is_requested e.pid e.tid earlier) (is_enabled_last e.pid e.tid earlier) (summary_of e.pid e.tid earlier)
+  where
+    by : (in_process of_thread requested enabled : Bool) (s : ThreadSummary)
+        → (((in_process && false) || requested) && (cond (in_process && of_thread) enabled (cond (of_thread && false) enabled enabled) && not_begun (cond (in_process && of_thread) s (cond (of_thread && false) s s)))) ≡ (requested && (enabled && not_begun s))
+    by true true requested enabled s = refl
+    by true false requested enabled s = refl
+    by false true requested enabled s = refl
+    by false false requested enabled s = refl
+
+-- ---- the stage of a wait
+
+-- an event of an entry is one of the thread of the entry
+is_its_own : (e : Entry) (w : What) → is_own e.pid e.tid (event_of e w) ≡ true
+is_its_own e w = and_from (nat_eq e.pid e.pid) (nat_eq e.tid e.tid) (eq-eqb e.pid e.pid refl) (eq-eqb e.tid e.tid refl)
+
+-- so it leads to the next stage of the wait of this thread
+next_stage : (e : Entry) (w : What) (earlier : List Event) → wait_stage e.pid e.tid (event_of e w ∷ earlier) ≡ stage_after w (wait_stage e.pid e.tid earlier)
+next_stage e w earlier = ap (λ (own : Bool). cond own (stage_after w (wait_stage e.pid e.tid earlier)) (wait_stage e.pid e.tid earlier)) (is_its_own e w)
+
+-- the stage of a thread that was unblocked by a signal or a broadcast
+unblocked_stage : (c m : ℕ) (why : Cause) (stage : WaitStage) → has_left_wait (status.Reacquire c m why) ≡ false → WaitKept (status.Reacquire c m why) stage → stage ≡ InWait m
+unblocked_stage c m cause.Signalled stage stays is = is
+unblocked_stage c m cause.Broadcast stage stays is = is
+unblocked_stage c m cause.Canceled stage leaves is = absurd (false≢true (sym leaves))
+
+-- a thread that leaves its wait, and owns its mutex again, begins to end next
+owned_again : (c m : ℕ) (stage : WaitStage) → is_leaving c m stage ≡ true → stage_after (what.Acquired m) stage ≡ ToEnd c m
+owned_again c m (Leaving cond mutex) is =
+    let parts = and_parts (nat_eq cond c) (nat_eq mutex m) is in
+    ap₂ (λ (d n : ℕ). ToEnd d n) (eqb-true cond c parts.0) (eqb-true mutex m parts.1)
+owned_again c m (LeavingSignal cond mutex) is =
+    let parts = and_parts (nat_eq cond c) (nat_eq mutex m) is in
+    ap₂ (λ (d n : ℕ). ToEnd d n) (eqb-true cond c parts.0) (eqb-true mutex m parts.1)
+owned_again c m _ is = absurd (false≢true is)
+
+-- ---- the return from a cancellation point
+
+-- the call and the return of a generic point that is not required are one event
+not_called_before : (index : ℕ) → is_required (point_kind index) ≡ false → is_called_before index ≡ true → ⊥
+not_called_before index optional called =
+    let generic = and_parts (is_required (point_kind index) && not (nat_eq index testcancel_point)) (not (nat_eq index cond_wait_point)) called in
+    true≢false (sym (and_parts (is_required (point_kind index)) (not (nat_eq index testcancel_point)) generic.0).0 ∙ optional)
+
+-- pthread_testcancel is no generic point
+test_not_called : is_called_before testcancel_point ≡ true → ⊥
+test_not_called called =
+    let generic = and_parts (is_required (point_kind testcancel_point) && false) true called in
+    false≢true (and_parts (is_required (point_kind testcancel_point)) false generic.0).1
+
+-- and neither is pthread_cond_wait
+wait_not_called : is_called_before cond_wait_point ≡ true → ⊥
+wait_not_called called = false≢true (and_parts (is_required (point_kind cond_wait_point) && true) false called).1
+
+-- ---- a thread that has begun to end
+
+-- cancelability that is enabled is not disabled
+not_disabled : Enable ≡ Disable → ⊥
+not_disabled same = cc
+
+-- a thread with its cancelability enabled has neither begun to end nor begun to exit its process, if it would be disabled then
+unbegun : (begun exits : Bool) → ((begun || exits) ≡ true → Enable ≡ Disable) → not begun && not exits ≡ true
+unbegun false false disabled = refl
+unbegun true exits disabled = absurd (not_disabled (disabled refl))
+unbegun false true disabled = absurd (not_disabled (disabled refl))
+
+-- ---- a step
+
+module _ (script : Script) (config : Config) (before : List Entry) (r : Run) (is : run script config before ≡ Some r) (e : Entry) (p : Process) (t : Thread) (taken : IsTaken script config r.world e p t) (law : RequestsLaw r.events) where
+  -- the thread was made
+  it_made : made_thread e.pid e.tid r.world ≡ Some t
+  it_made = mover_made script config before r is e p t taken
+
+  -- and is not gone
+  here : t.gone ≡ false
+  here = (mover_live script config before r is e p t taken).here
+
+  -- the thread has to act, by its events, if it has a request and its cancelability is enabled
+  acts : has_to_act e.pid e.tid r.events ≡ is_deliverable t.state t.pending
+  acts = mover_acts script config before r is e p t taken
+
+  -- it has a request and acts upon it
+  cancels : (true ≡ true → is_deliverable t.state t.pending ≡ true) → MayAct e.pid e.tid r.events
+  cancels asked = may_act e.pid e.tid r.events (acts ∙ asked refl)
+
+  -- it has none, and calls a cancellation point
+  calls : (true ≡ true → is_deliverable t.state t.pending ≡ false) → has_to_act e.pid e.tid r.events ≡ false
+  calls unasked = acts ∙ unasked refl
+
+  -- the stage of its wait is as its status is
+  in_wait : {s : Status} → t.status ≡ s → WaitKept s (wait_stage e.pid e.tid r.events)
+  in_wait status_is = subst (λ (s : Status). WaitKept s (wait_stage e.pid e.tid r.events)) status_is (waits_kept_of_run script config before r is e.pid e.tid t it_made here)
+
+  -- it left its wait by a request, and owns its mutex again
+  ends_in_wait : (m : ℕ) → has_left_wait t.status ≡ true → MayAct e.pid e.tid (event_of e (what.Acquired m) ∷ r.events)
+  ends_in_wait m left =
+      may_act e.pid e.tid (event_of e (what.Acquired m) ∷ r.events) (acts_after e m r.events ∙ acts ∙ left_waits_of_run script config before r is e.pid e.tid t it_made here left)
+
+  -- the newest event of a thread that is suspended in a call
+  called : {s : Status} (w : What) → t.status ≡ s → call_event s ≡ Some w → newest_event e.pid e.tid r.events ≡ Some w
+  called w status_is in_call = newest_call_of_run script config before r is e.pid e.tid t it_made here w (ap call_event status_is ∙ in_call)
+
+  -- the point at which it is suspended is that of its statement
+  same_point : (index i : ℕ) (frame : Frame) → next_of script t.frames ≡ StatementIn frame (statement.PointCall i) → t.status ≡ status.AtPoint index → i ≡ index
+  same_point index i frame next_is status_is =
+      let kept = threads_kept script config before r is e.pid e.tid p t (mover_process script config before r is e p t taken) (mover_live script config before r is e p t taken).found here in
+      eqb-true i index (and_parts (nat_eq i index) (is_required (point_kind index)) (ap (is_call_of index) (sym next_is) ∙ kept.at_point index status_is)).0
+
+  -- a statement of the script calls a generic point, from which the thread may return
+  may_return : (index : ℕ) (frame : Frame) → statement_at script frame ≡ Some (statement.PointCall index) → (is_called_before index ≡ true → newest_event e.pid e.tid r.events ≡ Some (what.Called index)) → MayReturn index e.pid e.tid r.events
+  may_return index frame at called_is = record {
+    tested = λ same. absurd (true≢false (sym same ∙ is_no_test script frame index at));
+    waited = λ same. absurd (true≢false (sym same ∙ is_other_point script frame index at));
+    called = called_is;
+  }
+
+  -- the events of a transition keep the law
+  case_lawful : {body : List Stmt} {next : NextStatement} {s : Status} {o : Transition} → IsPlaced script t.frames body next → next_of script t.frames ≡ next → t.status ≡ s
+      → FitsAny script config.passes (moved o t) (after_all summary (reverse o.events) (summary_of e.pid e.tid r.events))
+      → TransitionCase config.passes body p.shared t (others_of config.slots r.world p t.id) true next s o → RequestsLaw (map (event_of e) (reverse o.events) ++ r.events)
+  unfolding thread_at thread_after
+  case_lawful place next_is status_is fits (canceled next asked where_it_may) = (cancels asked, law)
+  case_lawful place next_is status_is fits (canceled_at_point next index asked) = (cancels asked, law)
+  case_lawful place next_is status_is fits (canceled_in_join next id asked) = (cancels asked, law)
+  case_lawful place next_is status_is fits (canceled_in_sem_wait next sem asked) = (cancels asked, law)
+  case_lawful place next_is status_is fits (canceled_in_waitpid next pid asked) = (cancels asked, law)
+  case_lawful place next_is status_is fits (canceled_in_wait next c m asked) = ((cancels asked, ap is_in_wait (in_wait status_is)), law)
+  case_lawful place next_is status_is fits (canceled_after_wait next c m why stays asked) = ((cancels asked, ap is_in_wait (unblocked_stage c m why (wait_stage e.pid e.tid r.events) stays (in_wait status_is))), law)
+  case_lawful place next_is status_is fits (signal_handed_on next c m u asked among) = (tt, ((cancels asked, ap is_in_wait (in_wait status_is)), law))
+  case_lawful place next_is status_is fits (ended_in_wait next c m free) =
+      ((ends_in_wait m (ap has_left_wait status_is), next_stage e (what.Acquired m) r.events ∙ owned_again c m (wait_stage e.pid e.tid r.events) (in_wait status_is)), (tt, law))
+  case_lawful place next_is status_is fits (join_begun frame id d target is other joinable alone unasked) = (calls unasked, law)
+  case_lawful place next_is status_is fits (point_begun frame index required unasked) = (calls unasked, law)
+  case_lawful place next_is status_is fits (wait_begun frame c m owner same unasked) = (tt, (calls unasked, law))
+  case_lawful place next_is status_is fits (sem_wait_begun frame sem unasked) = (calls unasked, law)
+  case_lawful place next_is status_is fits (waitpid_begun frame result d pid unasked) = (calls unasked, law)
+  case_lawful place next_is status_is fits (cancel_tested frame unasked) =
+      (record { tested = λ same. calls unasked; waited = λ same. absurd (false≢true same); called = λ before. absurd (test_not_called before) }, law)
+  case_lawful place next_is status_is fits (no_child_found frame result d operand unasked) = (λ asked. absurd (true≢false (sym asked ∙ calls unasked)), law)
+  case_lawful place next_is status_is fits (child_lost frame result d operand pid) = (λ asked. called (what.Called waitpid_point) status_is refl, law)
+  case_lawful place next_is status_is fits (child_reaped frame result d operand pid n child found ended) = (called (what.Called waitpid_point) status_is refl, law)
+  case_lawful place next_is status_is fits (sem_taken frame s sem above) = (called (what.Called sem_wait_point) status_is refl, law)
+  case_lawful place next_is status_is fits (point_done frame index optional) = (may_return index frame (statement_placed place) (λ before. absurd (not_called_before index optional before)), law)
+  case_lawful place next_is status_is fits (point_passed frame index i) =
+      (may_return index frame (statement_placed place ∙ ap (λ (n : ℕ). Some (statement.PointCall n)) (same_point index i frame next_is status_is)) (λ before. called (what.Called index) status_is refl), law)
+  case_lawful place next_is status_is fits (wait_ended frame cond mutex c m why stays free) =
+      let owned : wait_stage e.pid e.tid (event_of e (what.Acquired m) ∷ r.events) ≡ ToReturn =
+      next_stage e (what.Acquired m) r.events ∙ ap (stage_after (what.Acquired m)) (unblocked_stage c m why (wait_stage e.pid e.tid r.events) stays (in_wait status_is)) in
+      (record { tested = λ same. absurd (false≢true same); waited = λ same. owned; called = λ before. absurd (wait_not_called before) }, (tt, law))
+  case_lawful place next_is status_is fits (state_set frame true old allowed) =
+      let reported : ThreadSummary = summary_of e.pid e.tid r.events in
+      (unbegun (has_begun_to_end reported.reason) reported.exiting (λ begun. fits.agrees.disabled (ap (λ why. has_begun_to_end why || reported.exiting) (sym fits.agrees.reason) ∙ begun)), law)
+  case_lawful place next_is status_is fits (state_set frame false old allowed) = (tt, law)
+  case_lawful place next_is status_is fits (fork_handler_called next at call handler) = (of_each_phase (λ (w : What). MayCancel w e.pid e.tid r.events) call.func tt tt tt at.phase, law)
+  case_lawful {o = o} place next_is status_is fits _ = free_lawful e (reverse o.events) refl r.events law
+
+-- ---- every run
+
+module _ (script : Script) (config : Config) where
+  -- the thread that an entry moves fits its events after the step
+  fits_after : (before : List Entry) (r : Run) → run script config before ≡ Some r → (e : Entry) (p : Process) (t : Thread) → IsTaken script config r.world e p t
+      → FitsAny script config.passes (moved (transition_by script config r.world p t e.alt) t) (after_all summary (reverse (transition_by script config r.world p t e.alt).events) (summary_of e.pid e.tid r.events))
+  fits_after before r is e p t taken =
+      let made : made_thread e.pid e.tid r.world ≡ Some t = mover_made script config before r is e p t taken in
+      let fits : FitsAny script config.passes t (summary_of e.pid e.tid r.events) = subst (FitsAny script config.passes t) (sym (summary_reading e.tid e.pid r.events))
+      (of_made_thread summary (FitsAny script config.passes) r (threads_fit script config before r is) e.pid e.tid t made (mover_live script config before r is e p t taken).here) in
+      (thread_rule script config).kept r.world p t (summary_of e.pid e.tid r.events) e.alt (processes_fit script config before r is e.pid p (mover_process script config before r is e p t taken)) taken.offered fits
+
+  -- the law of cancellation, of the events of every run
+  pub requests_of_run : AfterEveryRun script config (λ r. RequestsLaw r.events)
+  requests_of_run =
+      every_run script config (λ r. RequestsLaw r.events)
+      (λ before r is e p t taken law.
+      case_lawful script config before r is e p t taken law (is_placed script t.frames) refl refl (fits_after before r is e p t taken)
+      (case_of_step script config r.world p e t (moves_of_run script config before r is e p t taken)))
+      (λ some. tt)

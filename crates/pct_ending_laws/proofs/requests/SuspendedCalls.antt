@@ -1,0 +1,67 @@
+-- The newest event of a thread that is suspended at a generic cancellation point, in sem_wait or in waitpid is that of the call.
+use Rattle.std.proofs.Common.{◌≡◌, ℕ, true, List, reverse, Option, Some, None, refl, sym, ap, ◌∙◌}
+use Rattle.std.proofs.lemmas.Option.{none-some}
+use Rattle.pct_model.specs.declared.event.What.{What}
+use Rattle.pct_model.specs.declared.event.What.TheVariants.{Called}
+use Rattle.pct_model.specs.declared.schedule.Config.{Config}
+use Rattle.pct_model.specs.declared.script.Script.{Script}
+use Rattle.pct_model.specs.declared.state.Status.{Status}
+use Rattle.pct_model.specs.declared.state.Status.TheVariants as status
+use Rattle.pct_model.specs.declared.statement.Stmt.{Stmt}
+use Rattle.pct_model.specs.declared.transition.Transition.{Transition}
+use Rattle.pct_model.specs.Actions.{thread_at, thread_after, in_child, moved}
+use Rattle.pct_model.specs.ForkCalls.{waitpid_point}
+use Rattle.pct_model.specs.Kept.{EachThread}
+use Rattle.pct_model.specs.KnownThreads.{newest_event}
+use Rattle.pct_model.specs.NextStatement.{NextStatement, next_of, body_at}
+use Rattle.pct_model.specs.OtherThreads.{Others, others_of}
+use Rattle.pct_model.specs.SemCalls.{sem_wait_point}
+use Rattle.pct_model.specs.World.{Thread, SharedState}
+use Rattle.pct_transition_cases.proofs.CaseOfTransition.{case_of}
+use Rattle.pct_transition_cases.proofs.TransitionCases.{TransitionCase, rests, point_begun, sem_wait_begun, waitpid_begun}
+use Rattle.pct_ending_laws.proofs.joins.NewestEvents.{newest, newest_reading}
+use Rattle.pct_ending_laws.proofs.lift.ChangedThreads.{same_settled, named_keeps}
+use Rattle.pct_ending_laws.proofs.lift.TakenSteps.{AfterEveryRun}
+use Rattle.pct_ending_laws.proofs.lift.ReportedBy.{after_all}
+use Rattle.pct_ending_laws.proofs.lift.EveryThread.{of_made_thread, IsThreadRule, every_thread}
+
+-- the event of the call in which a thread with this status is suspended, if that is of a generic point, of sem_wait or of waitpid
+abbrev pub call_event : Status → Option What
+call_event (status.AtPoint index) = Some (Called index)
+call_event (status.InSem s) = Some (Called sem_wait_point)
+call_event (status.InWaitPid pid) = Some (Called waitpid_point)
+call_event _ = None
+
+-- the newest event of a thread in such a call is that of the call
+abbrev NewestIsCall : Thread → Option What → Type 0
+NewestIsCall t k = (w : What) → call_event t.status ≡ Some w → k ≡ Some w
+
+module _ (passes : ℕ) (body : List Stmt) (shared : SharedState) (t : Thread) (others : Others) where
+  -- the thread after a transition
+  case_newest : {next : NextStatement} {s : Status} {o : Transition} (k : Option What) → TransitionCase passes body shared t others true next s o → NewestIsCall (record t { status = s }) k
+      → NewestIsCall (moved o (record t { status = s })) (after_all newest (reverse o.events) k)
+  unfolding thread_at thread_after
+  case_newest k (rests next s alive) newest_is = newest_is
+  case_newest k (point_begun frame index required unasked) newest_is = λ w called. called
+  case_newest k (sem_wait_begun frame sem unasked) newest_is = λ w called. called
+  case_newest k (waitpid_begun frame result d pid unasked) newest_is = λ w called. called
+  case_newest k _ newest_is = λ w called. absurd (none-some w called)
+
+module _ (script : Script) (config : Config) where
+  -- each step keeps it
+  newest_rule : IsThreadRule newest NewestIsCall script config (λ p. Unit {0})
+  newest_rule = record {
+    initial = λ w called. absurd (none-some w called);
+    created = λ w p t k choice new known offered newest_is makes event called. absurd (none-some event called);
+    named = λ a t k newest_is w called. newest_is w (sym (named_keeps (λ (u : Thread). call_event u.status) (λ t j p d k s is. same_settled call_event (λ c m why. refl) s t.status is) a t) ∙ called);
+    kept = λ w p t k choice known offered newest_is.
+        let others : Others = others_of config.slots w p t.id in
+        case_newest config.passes (body_at script t.frames) p.shared t others k (case_of config.passes (body_at script t.frames) p.shared t others true choice (next_of script t.frames) t.status (λ known. offered)) newest_is;
+    replica = λ w p t k index count answer known forks newest_is event called. absurd (none-some event (sym (ap (λ (s : Status). call_event (in_child s)) forks) ∙ called));
+  }
+
+  -- after every run, the newest event of a thread that is suspended in such a call is that of the call
+  pub newest_call_of_run : AfterEveryRun script config (λ r. EachThread r.world (λ pid tid t. (w : What) → call_event t.status ≡ Some w → newest_event pid tid r.events ≡ Some w))
+  newest_call_of_run entries r is pid tid t made here w called =
+      newest_reading tid pid r.events
+      ∙ of_made_thread newest NewestIsCall r (every_thread newest NewestIsCall script config (λ p. Unit {0}) newest_rule (λ entries r is pid p made. tt) entries r is) pid tid t made here w called

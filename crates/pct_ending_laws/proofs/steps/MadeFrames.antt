@@ -1,0 +1,120 @@
+-- The law of calls, of a step: a frame is made by a statement that calls a function, or in a step with an event that says so.
+use Rattle.std.proofs.Common.{◌≡◌, ℕ, ◌≤◌, Bool, true, false, ◌||◌, cond, List, [], ◌∷◌, length, Option, Some, None, refl, sym, ap, ◌∙◌, arith}
+use Rattle.std.specs.List.{list_all, list_any}
+use Rattle.std.proofs.lemmas.Bool.{true≢false, false≢true, and_parts}
+use Rattle.pct_model.specs.declared.event.What.{What}
+use Rattle.pct_model.specs.declared.frame.Frame.{Frame}
+use Rattle.pct_model.specs.declared.schedule.Config.{Config}
+use Rattle.pct_model.specs.declared.schedule.Entry.{Entry}
+use Rattle.pct_model.specs.declared.script.Script.{Script}
+use Rattle.pct_model.specs.declared.state.Status.{Status}
+use Rattle.pct_model.specs.declared.statement.Dest.{Dest}
+use Rattle.pct_model.specs.declared.statement.Dest.TheVariants as destination
+use Rattle.pct_model.specs.declared.statement.Stmt.{Stmt}
+use Rattle.pct_model.specs.declared.transition.Action.{Action}
+use Rattle.pct_model.specs.declared.transition.Action.TheVariants as action
+use Rattle.pct_model.specs.declared.transition.Transition.{Transition}
+use Rattle.pct_model.specs.Actions.{at_pc, without_first, frames_written, thread_at, thread_after, named_after, for_each, moved, thread_moved}
+use Rattle.pct_model.specs.Calls.{says_call, calls_function, SaysCalls}
+use Rattle.pct_model.specs.NextStatement.{NextStatement, next_of, body_at}
+use Rattle.pct_model.specs.OtherThreads.{Others, others_of}
+use Rattle.pct_model.specs.Run.{Run, run}
+use Rattle.pct_model.specs.ThreadSlots.{is_live_thread}
+use Rattle.pct_model.specs.TransitionTable.{transition_by}
+use Rattle.pct_model.specs.World.{Thread, SharedState, Process}
+use Rattle.pct_transition_cases.proofs.TransitionCases.{TransitionCase, fork_handler_called}
+use Rattle.pct_ending_laws.proofs.lift.ChangedThreads.{all_keep, named_keeps}
+use Rattle.pct_ending_laws.proofs.lift.EveryProcess.{moves_of_run}
+use Rattle.pct_ending_laws.proofs.lift.HandlerEvents.{of_each_phase}
+use Rattle.pct_ending_laws.proofs.lift.TakenSteps.{IsTaken}
+use Rattle.pct_ending_laws.proofs.lift.ThreadsAfter.{Moves, mover}
+use Rattle.pct_ending_laws.proofs.steps.MovedThreads.{EveryStep, step_of, case_of_step, every_step}
+
+-- ---- actions
+
+-- the action makes no frame
+abbrev makes_no_frame : Action → Bool
+makes_no_frame (action.Call f a kind) = false
+makes_no_frame (action.CallAlone f a kind) = false
+makes_no_frame _ = true
+
+-- the number of frames of a thread
+abbrev depth : Thread → ℕ
+depth t = length t.frames
+
+-- a value that is written changes no number of frames
+written_depth : (d : Dest) (v : ℕ) (frames : List Frame) → length (frames_written d v frames) ≡ length frames
+written_depth (destination.Local i) v [] = refl
+written_depth (destination.Local i) v (frame ∷ below) = refl
+written_depth _ v frames = refl
+
+-- the frames without the top one are no more
+left_depth : (frames : List Frame) → length (without_first frames) ≤ length frames
+left_depth [] = omega arith
+left_depth (frame ∷ below) = omega arith
+
+-- a new pc of the top frame changes no number of frames
+at_depth : (pc : ℕ) (frames : List Frame) → length (at_pc pc frames) ≡ length frames
+at_depth pc [] = refl
+at_depth pc (frame ∷ below) = refl
+
+-- a thread that goes on, or does not, has as many frames
+start_depth : (next : Option ℕ) (t : Thread) → depth (thread_at next t) ≡ depth t
+unfolding thread_at
+start_depth None t = refl
+start_depth (Some pc) t = at_depth pc t.frames
+
+-- after an action that makes no frame, a thread has no more frames
+no_deeper : (a : Action) → makes_no_frame a ≡ true → (t : Thread) → depth (thread_after a t) ≤ depth t
+unfolding thread_after
+no_deeper (action.Write d v) none t = omega (arith, written_depth d v t.frames)
+no_deeper (action.Call f a kind) none t = absurd (false≢true none)
+no_deeper (action.CallAlone f a kind) none t = absurd (false≢true none)
+no_deeper (action.Leave status) none t = left_depth t.frames
+no_deeper (action.BeginEnd why) none t = omega arith
+no_deeper (action.BeginExit v) none t = omega arith
+no_deeper _ none t = omega arith
+
+-- the same, after some actions
+all_no_deeper : (actions : List Action) → list_all makes_no_frame actions ≡ true → (t : Thread) → depth (for_each thread_after actions t) ≤ depth t
+all_no_deeper [] none t = omega arith
+all_no_deeper (a ∷ actions) none t =
+    let parts : (makes_no_frame a ≡ true) × (list_all makes_no_frame actions ≡ true) = and_parts (makes_no_frame a) (list_all makes_no_frame actions) none in
+    omega (arith, all_no_deeper actions parts.1 (thread_after a t), no_deeper a parts.0 t)
+
+-- ---- a transition
+
+module _ (passes : ℕ) (body : List Stmt) (shared : SharedState) (t : Thread) (others : Others) where
+  -- a transition makes no frame, or an event says that it does, or its statement calls a function
+  case_says : {next : NextStatement} {s : Status} {o : Transition} → TransitionCase passes body shared t others true next s o
+      → (list_all makes_no_frame o.actions || (list_any says_call o.events || calls_function next)) ≡ true
+  case_says (fork_handler_called next at call is) = of_each_phase (λ (w : What). (list_any says_call (w ∷ []) || calls_function next) ≡ true) call.func refl refl refl at.phase
+  case_says _ = refl
+
+-- a transition of a thread which makes no frame leaves it with no more frames
+moved_depth : (tid : ℕ) (o : Transition) (t : Thread) → is_live_thread tid t ≡ true → list_all makes_no_frame o.actions ≡ true → depth (thread_moved tid o t) ≤ depth t
+moved_depth tid o t live none =
+    let named : depth (thread_moved tid o t) ≡ depth (cond (is_live_thread tid t) (moved o t) t) = all_keep depth named_after (named_keeps depth (λ t joined pending detached specific s same. refl)) o.actions (cond (is_live_thread tid t) (moved o t) t) in
+    let own : depth (cond (is_live_thread tid t) (moved o t) t) ≡ depth (moved o t) = ap (λ (b : Bool). depth (cond b (moved o t) t)) live in
+    omega (arith, named, own, all_no_deeper o.actions none (thread_at o.next t), start_depth o.next t)
+
+-- ---- each step of a run
+
+module _ (script : Script) (config : Config) where
+  -- so it is of the step of an entry that moves a thread
+  says_of_step : (before : List Entry) (r : Run) → run script config before ≡ Some r → (e : Entry) (p : Process) (t : Thread) → IsTaken script config r.world e p t → SaysCalls script (step_of script config r p e t)
+  says_of_step before r is e p t taken more no_call =
+      let o : Transition = transition_by script config r.world p t e.alt in
+      let moves : Moves script config r.world p e t = moves_of_run script config before r is e p t taken in
+      by_test (list_all makes_no_frame o.actions) (list_any says_call o.events) (calls_function (next_of script t.frames))
+      (λ none. absurd (omega (arith, more, moved_depth e.tid o t (mover script config r.world p e t moves).live none))) no_call
+      (case_says config.passes (body_at script t.frames) p.shared t (others_of config.slots r.world p t.id) (case_of_step script config r.world p e t moves))
+    where
+      by_test : (none said calls : Bool) → (none ≡ true → said ≡ true) → calls ≡ false → (none || (said || calls)) ≡ true → said ≡ true
+      by_test true said calls if_none no_call one = if_none refl
+      by_test false true calls if_none no_call one = refl
+      by_test false false calls if_none no_call one = absurd (true≢false (sym one ∙ no_call))
+
+  -- a frame is made by a statement that calls a function, or in a step with an event that says so
+  pub says_calls_of_run : EveryStep script config (SaysCalls script)
+  says_calls_of_run = every_step script config (SaysCalls script) says_of_step

@@ -1,0 +1,73 @@
+//! The text of a view.
+
+use pct_io::NoMemory;
+use std::alloc::Global;
+use std::fmt;
+
+/// A text that grows. If there is no memory for a part of it, `finish` says so.
+#[derive(Drop)]
+pub(crate) struct Page {
+    text: String,
+    is_whole: bool,
+}
+
+impl Page {
+    /// An empty page.
+    pub(crate) fn new(alloc: Global) -> Page {
+        Page {
+            text: String::new(alloc),
+            is_whole: true,
+        }
+    }
+
+    /// Makes room for so many bytes.
+    pub(crate) fn reserve(&mut self, count: usize) -> Result<(), NoMemory> {
+        self.text.reserve(count)?;
+        Ok(())
+    }
+
+    /// Adds a text.
+    pub(crate) fn push(&mut self, text: &str) {
+        if self.text.push_str(text).is_err() {
+            self.is_whole = false;
+        }
+    }
+
+    /// Adds a character of a text of SVG. One that is no visible ASCII character is shown as `?`.
+    pub(crate) fn push_escaped(&mut self, character: char) {
+        match character {
+            '&' => self.push("&amp;"),
+            '<' => self.push("&lt;"),
+            '>' => self.push("&gt;"),
+            ' '..='~' => write!(self, "{character}"),
+            _ => self.push("?"),
+        }
+    }
+
+    /// Adds a form. Each `%` in it stands for the next of the values.
+    pub(crate) fn fill(&mut self, form: &str, values: &[usize]) {
+        let mut values = values.iter();
+        for part in form.split('%') {
+            self.push(part);
+            if let Some(value) = values.next() {
+                write!(self, "{value}");
+            }
+        }
+    }
+
+    /// Adds what `write!` formats.
+    pub(crate) fn write_fmt<D: fmt::Display + Drop>(&mut self, formatted: D) {
+        if self.text.write_fmt(formatted).is_err() {
+            self.is_whole = false;
+        }
+    }
+
+    /// The bytes of the text.
+    pub(crate) fn finish(self) -> Result<Vec<u8>, NoMemory> {
+        if self.is_whole {
+            Ok(self.text.into_bytes())
+        } else {
+            Err(NoMemory)
+        }
+    }
+}

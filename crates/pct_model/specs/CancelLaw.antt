@@ -1,0 +1,164 @@
+-- The law of cancellation: a thread is canceled only by a request, and only with cancelability enabled (XSH pthread_cancel, 2.9.5.1,
+-- 2.9.5.3); a thread with cancelability enabled and a request pending returns from no function that it calls then and that shall be a
+-- cancellation point, and is suspended in none: it acts on the request (XSH 2.9.5.2); with cancelability deferred it acts only at a
+-- cancellation point (XSH 2.9.5.1, 2.9.5.2), and in a condition wait by the stages of the wait (XSH pthread_cond_wait); one that was
+-- suspended before is awakened (XSH 2.9.5.2); and a thread that has begun to end enables cancelability no more (XSH 2.9.5.3).
+use Rattle.std.specs.Prelude.{◌≡◌, ℕ, Bool, true, false, not, ◌&&◌, List, [], ◌∷◌, All, Some, is_some, nat_eq}
+use Rattle.std.specs.List.{list_any}
+use Rattle.pct_model.specs.declared.event.Caller.TheVariants as caller
+use Rattle.pct_model.specs.declared.event.Event.{Event}
+use Rattle.pct_model.specs.declared.event.What.{What}
+use Rattle.pct_model.specs.declared.event.What.TheVariants as what
+use Rattle.pct_model.specs.declared.schedule.Alt.{Alt}
+use Rattle.pct_model.specs.declared.schedule.Alt.TheVariants as alt
+use Rattle.pct_model.specs.declared.schedule.Config.{Config}
+use Rattle.pct_model.specs.declared.schedule.Entry.{Entry}
+use Rattle.pct_model.specs.declared.script.Script.{Script}
+use Rattle.pct_model.specs.declared.state.Cause.TheVariants as cause
+use Rattle.pct_model.specs.declared.state.Status.{Status}
+use Rattle.pct_model.specs.declared.state.Status.TheVariants as status
+use Rattle.pct_model.specs.CancelCalls.{called_kind, is_required, point_kind, testcancel_point}
+use Rattle.pct_model.specs.ChoiceTable.{choices_of}
+use Rattle.pct_model.specs.CancelEvents.{is_requested, is_enabled_by, is_asynchronous_last, has_not_begun, has_to_act}
+use Rattle.pct_model.specs.CondCalls.{cond_wait_point}
+use Rattle.pct_model.specs.ForkCalls.{waitpid_point}
+use Rattle.pct_model.specs.KnownThreads.{newest_event}
+use Rattle.pct_model.specs.NextStatement.{NextStatement, NoStatement, StatementIn, next_of}
+use Rattle.pct_model.specs.ThreadSteps.{ThreadStep, EachStep}
+use Rattle.pct_model.specs.Kept.{EachProcess, EachThreadOf}
+use Rattle.pct_model.specs.Run.{Run}
+use Rattle.pct_model.specs.SemCalls.{sem_wait_point}
+use Rattle.pct_model.specs.WaitStages.{WaitStage, InWait, ToReturn, ToEnd, wait_stage}
+use Rattle.pct_model.specs.World.{World}
+
+-- ---- the law of the events
+
+-- thread tid of process pid may act on a request
+pub record MayAct (pid tid : ℕ) (events : List Event) : Type 0 where
+  pub requested : is_requested pid tid events ≡ true
+  pub enabled : is_enabled_by pid tid events ≡ true
+
+-- the condition wait is unfinished, and no request was acted upon in it
+abbrev pub is_in_wait : WaitStage → Bool
+is_in_wait (InWait m) = true
+is_in_wait _ = false
+
+-- the cancellation point is a generic one that shall be one: its call and its return are two events, and no other event comes with them
+abbrev pub is_called_before : ℕ → Bool
+is_called_before index = is_required (point_kind index) && not (nat_eq index testcancel_point) && not (nat_eq index cond_wait_point)
+
+-- thread tid of process pid may return from a cancellation point
+pub record MayReturn (index pid tid : ℕ) (earlier : List Event) : Type 0 where
+  -- pthread_testcancel returns only if there is no request to act upon
+  pub tested : nat_eq index testcancel_point ≡ true → has_to_act pid tid earlier ≡ false
+  -- pthread_cond_wait returns at the end of a wait
+  pub waited : nat_eq index cond_wait_point ≡ true → wait_stage pid tid earlier ≡ ToReturn
+  -- and another point that shall be one only after its call
+  pub called : is_called_before index ≡ true → newest_event pid tid earlier ≡ Some (what.Called index)
+
+-- what the law asks of an event of thread tid of process pid, by those before it
+abbrev pub MayCancel : What → ℕ → ℕ → List Event → Type 0
+-- a thread acts on a request that came, with cancelability enabled
+MayCancel what.EndingCanceled pid tid earlier = MayAct pid tid earlier
+-- it does so in a condition wait, and begins to end as the wait is left with its mutex owned
+MayCancel (what.WaitCanceled c) pid tid earlier = MayAct pid tid earlier × (is_in_wait (wait_stage pid tid earlier) ≡ true)
+MayCancel (what.EndingInWait c m) pid tid earlier = MayAct pid tid earlier × (wait_stage pid tid earlier ≡ ToEnd c m)
+-- it calls no function that shall be a cancellation point, but acts on the request
+MayCancel (what.Called index) pid tid earlier = has_to_act pid tid earlier ≡ false
+-- it returns from such a function only if it called it before
+MayCancel (what.Done index) pid tid earlier = MayReturn index pid tid earlier
+MayCancel (what.Taken s) pid tid earlier = newest_event pid tid earlier ≡ Some (what.Called sem_wait_point)
+MayCancel (what.Reaped q n) pid tid earlier = newest_event pid tid earlier ≡ Some (what.Called waitpid_point)
+-- it returns from waitpid without a child only if it called waitpid before
+MayCancel (what.Answer caller.WaitPid n) pid tid earlier = has_to_act pid tid earlier ≡ true → newest_event pid tid earlier ≡ Some (what.Called waitpid_point)
+-- it enables its cancelability only before it begins to end
+MayCancel (what.StateSet true) pid tid earlier = has_not_begun pid tid earlier ≡ true
+-- the law asks nothing of the other events
+MayCancel _ pid tid earlier = Unit {0}
+
+-- each event of a run may come after those before it
+abbrev pub RequestsLaw : List Event → Type 0
+RequestsLaw [] = Unit {0}
+RequestsLaw (e ∷ earlier) = MayCancel e.what e.pid e.tid earlier × RequestsLaw earlier
+
+-- ---- the law of a step
+
+-- the next statement calls a function that is a cancellation point
+abbrev pub calls_cancellation_point : NextStatement → Bool
+calls_cancellation_point NoStatement = false
+calls_cancellation_point (StatementIn frame s) = is_some (called_kind s)
+
+-- a thread with this status and next statement is at a cancellation point: it calls one, or is suspended in one
+abbrev pub is_at_cancellation_point : NextStatement → Status → Bool
+is_at_cancellation_point next status.Running = calls_cancellation_point next
+is_at_cancellation_point next (status.AtPoint index) = true
+is_at_cancellation_point next (status.Joining id) = true
+is_at_cancellation_point next (status.InSem s) = true
+is_at_cancellation_point next (status.InWaitPid pid) = true
+is_at_cancellation_point next (status.Waiting c m) = true
+is_at_cancellation_point next (status.Reacquire c m why) = true
+is_at_cancellation_point next _ = false
+
+-- a thread acts where it may: at a cancellation point, or anywhere if it set its cancelability asynchronous last
+abbrev pub ActsWhereItMay : Script → ThreadStep → Type 0
+ActsWhereItMay script s = is_at_cancellation_point (next_of script s.before.frames) s.before.status ≡ false → is_asynchronous_last s.pid s.tid s.earlier ≡ true
+
+-- what a step with an event begins with
+abbrev pub ActsAt : Script → What → ThreadStep → Type 0
+ActsAt script what.EndingCanceled s = ActsWhereItMay script s
+ActsAt script (what.WaitCanceled c) s = ActsWhereItMay script s
+-- the law asks nothing at the other events
+ActsAt script _ s = Unit {0}
+
+-- each event of a step may come in it
+abbrev pub EachMayAct : Script → ThreadStep → Type 0
+EachMayAct script s = All (λ w. ActsAt script w s) s.events
+
+-- the next statement calls a function that shall be a cancellation point
+abbrev pub calls_required_point : NextStatement → Bool
+calls_required_point NoStatement = false
+calls_required_point (StatementIn frame s) = is_required (called_kind s)
+
+-- the events of a step are that the thread is canceled, or a stop
+abbrev pub acts_or_stops : List What → Bool
+acts_or_stops (what.EndingCanceled ∷ []) = true
+acts_or_stops (what.Stopped why ∷ []) = true
+acts_or_stops _ = false
+
+-- a thread that is to call a function that shall be a cancellation point, with a request to act upon, acts, unless the call is a misuse
+-- that stops the run (XSH 2.9.5.2)
+abbrev pub ActsAtCalls : Script → ThreadStep → Type 0
+ActsAtCalls script s = s.before.status ≡ status.Running → calls_required_point (next_of script s.before.frames) ≡ true → has_to_act s.pid s.tid s.earlier ≡ true → acts_or_stops s.events ≡ true
+
+-- ---- the law of a state
+
+-- a thread with this status is suspended in a cancellation point, and has acted upon no request there
+abbrev pub is_suspended : Status → Bool
+is_suspended (status.AtPoint index) = true
+is_suspended (status.Joining id) = true
+is_suspended (status.InSem s) = true
+is_suspended (status.InWaitPid pid) = true
+is_suspended (status.Waiting c m) = true
+is_suspended (status.Reacquire c m cause.Signalled) = true
+is_suspended (status.Reacquire c m cause.Broadcast) = true
+is_suspended _ = false
+
+-- the choice is to act upon a request
+abbrev pub is_to_act : Alt → Bool
+is_to_act (alt.Act n) = true
+is_to_act _ = false
+
+-- a thread that is suspended in a cancellation point, with cancelability enabled and a request pending, is awakened: it may act upon the
+-- request (XSH 2.9.5.2)
+abbrev pub Awakened : Script → Config → World → List Event → Type 0
+Awakened script config w events =
+    EachProcess w (λ pid p. EachThreadOf p (λ tid t. is_suspended t.status ≡ true → has_to_act pid tid events ≡ true → list_any is_to_act (choices_of script config w p t) ≡ true))
+
+-- ---- the law
+
+-- the law of cancellation, of the run of a schedule
+pub record CancelLaw (script : Script) (config : Config) (entries : List Entry) (r : Run) : Type 0 where
+  pub requests : RequestsLaw r.events
+  pub acts : EachStep script config entries (EachMayAct script)
+  pub at_calls : EachStep script config entries (ActsAtCalls script)
+  pub awakened : Awakened script config r.world r.events
