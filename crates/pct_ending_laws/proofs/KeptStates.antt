@@ -6,7 +6,7 @@ use Rattle.pct_model.specs.declared.script.Script.{Script}
 use Rattle.pct_model.specs.declared.schedule.Config.{Config}
 use Rattle.pct_model.specs.declared.schedule.Entry.{Entry}
 use Rattle.pct_model.specs.declared.state.Status.TheVariants as status
-use Rattle.pct_model.specs.Calls.{EachIsCalled, SaysCalls, KeepsExitFunctions}
+use Rattle.pct_model.specs.Calls.{EachIsCalled, SaysCalls, KeepsExitFunctions, KeepsKeys}
 use Rattle.pct_model.specs.CancelLaw.{EachMayAct, ActsAtCalls}
 use Rattle.pct_model.specs.Ends.{EachMayBegin, KeepsValues}
 use Rattle.pct_model.specs.Kept.{IsPlainFunction, IsSuspendedInJoin}
@@ -40,6 +40,7 @@ use Rattle.pct_ending_laws.proofs.slots.LawfulCreations.{slots_of_run}
 use Rattle.pct_ending_laws.proofs.steps.CalledFunctions.{each_is_called_of_run}
 use Rattle.pct_ending_laws.proofs.steps.EndStages.{each_may_begin_of_run}
 use Rattle.pct_ending_laws.proofs.steps.KeptExitFunctions.{keeps_exit_functions_of_run}
+use Rattle.pct_ending_laws.proofs.steps.KeptKeys.{keeps_keys_of_run}
 use Rattle.pct_ending_laws.proofs.steps.KeptValues.{keeps_values_of_run}
 use Rattle.pct_ending_laws.proofs.steps.MadeFrames.{says_calls_of_run}
 use Rattle.pct_ending_laws.proofs.steps.MovedThreads.{each_step}
@@ -73,6 +74,7 @@ every_run_keeps_laws script config entries r is = record {
     called = each_step script config (EachIsCalled script) (each_is_called_of_run script config) entries;
     said = each_step script config (SaysCalls script) (says_calls_of_run script config) entries;
     exits = each_step script config (KeepsExitFunctions script) (keeps_exit_functions_of_run script config) entries;
+    made_keys = each_step script config KeepsKeys (keeps_keys_of_run script config) entries;
     keys = keys_law_of_run script config entries r is;
   };
   ends = record {

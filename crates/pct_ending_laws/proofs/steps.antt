@@ -3,5 +3,6 @@ pub mod MovedThreads
 pub mod MadeFrames
 pub mod CalledFunctions
 pub mod KeptExitFunctions
+pub mod KeptKeys
 pub mod EndStages
 pub mod KeptValues

@@ -1,10 +1,10 @@
 -- The law of calls: each event which says that a function is called comes with its call, which is a frame of the function with its
 -- argument (XSH 2.9.5.3, pthread_exit, pthread_cleanup_pop, pthread_key_create, exit, pthread_atfork), and a thread gets no frame more
--- without such an event, but by a statement `do`. A pop calls its handler exactly if its argument is not 0 (XSH pthread_cleanup_pop). The
--- destructor of a key is called with the thread's value of the key, which is not NULL, and is NULL then, for a key that was made and not
--- deleted (XSH pthread_key_create, pthread_key_delete). Of the functions that were registered with atexit, an exit calls the newest that is
--- left, and none is left as it ends the process (XSH atexit, exit).
-use Rattle.std.specs.Prelude.{◌≡◌, ◌≢◌, ◌⊎◌, ℕ, suc, ◌<◌, ◌%◌, Bool, true, false, not, List, [], ◌∷◌, length, Some, All, slice_index, nat_eq}
+-- without such an event, but by a statement `do`. A pop calls its handler exactly if its argument is not 0 (XSH pthread_cleanup_pop). A
+-- destructor is that of the pthread_key_create of its key, which was not deleted since; it is called with the thread's value of the key,
+-- which is not NULL, and is NULL then (XSH pthread_key_create, pthread_key_delete). Of the functions that were registered with atexit, an
+-- exit calls the newest that is left, and none is left as it ends the process (XSH atexit, exit).
+use Rattle.std.specs.Prelude.{◌≡◌, ◌≢◌, ◌⊎◌, ℕ, suc, ◌<◌, ◌%◌, Bool, true, false, not, List, [], ◌∷◌, length, Option, Some, None, All, slice_index, nat_eq}
 use Rattle.std.specs.List.{list_any}
 use Rattle.pct_model.specs.declared.event.Event.{Event}
 use Rattle.pct_model.specs.declared.event.What.{What}
@@ -16,6 +16,7 @@ use Rattle.pct_model.specs.declared.script.Script.{Script}
 use Rattle.pct_model.specs.declared.state.FrameKind.{FrameKind}
 use Rattle.pct_model.specs.declared.state.FrameKind.TheVariants as kind
 use Rattle.pct_model.specs.declared.state.Status.TheVariants.{Running, Exiting}
+use Rattle.pct_model.specs.declared.statement.Dest.{Dest}
 use Rattle.pct_model.specs.declared.statement.Operand.{Operand}
 use Rattle.pct_model.specs.declared.statement.Stmt.TheVariants as statement
 use Rattle.pct_model.specs.Actions.{without_first}
@@ -89,6 +90,39 @@ pub data EndsProcess (script : Script) (n : ℕ) (s : ThreadStep) : Type 0 where
   by_exit : s.before.status ≡ Exiting → s.process.shared.exit_functions ≡ [] → EndsProcess script n s
   by_call : (frame : Frame) (v : Operand) → next_of script s.before.frames ≡ StatementIn frame (statement.ProcExitNow v) → n ≡ value_of s.process.shared.globals frame v % 256 → EndsProcess script n s
 
+-- ---- keys
+
+-- a key is made in a step, at the call of pthread_key_create, whose destructor it has
+pub record MakesKey (script : Script) (number : ℕ) (s : ThreadStep) : Type 0 where
+  pub frame : Frame
+  pub result : Dest
+  pub key : Dest
+  pub destructor : Option ℕ
+  pub next : next_of script s.before.frames ≡ StatementIn frame (statement.KeyCreate result key destructor)
+  pub free : key_at s.process.shared.keys (key_place number) ≡ None
+  pub made : key_at s.process_after.shared.keys (key_place number) ≡ Some (record { number = number; destructor = destructor })
+
+-- a key is deleted in a step, at the call of pthread_key_delete with its number: it was on its place, and no key is there then
+pub record DeletesKey (script : Script) (number : ℕ) (s : ThreadStep) : Type 0 where
+  pub frame : Frame
+  pub key : Operand
+  pub next : next_of script s.before.frames ≡ StatementIn frame (statement.KeyDelete key)
+  pub named : number ≡ value_of s.process.shared.globals frame key
+  pub deleted : Key
+  pub was : key_at s.process.shared.keys (key_place number) ≡ Some deleted
+  pub is_number : deleted.number ≡ number
+  pub gone : key_at s.process_after.shared.keys (key_place number) ≡ None
+
+-- the event changes the key on a place
+abbrev pub changes_key : ℕ → What → Bool
+changes_key place (what.KeyMade key) = nat_eq (key_place key) place
+changes_key place (what.KeyGone key) = nat_eq (key_place key) place
+changes_key place _ = false
+
+-- a step without such an event keeps the key on a place
+abbrev pub KeepsKeys : ThreadStep → Type 0
+KeepsKeys s = (place : ℕ) → list_any (changes_key place) s.events ≡ false → key_at s.process_after.shared.keys place ≡ key_at s.process.shared.keys place
+
 -- ---- the law of a step
 
 -- what a step with an event does
@@ -96,6 +130,8 @@ abbrev pub IsCalled : Script → What → ThreadStep → Type 0
 IsCalled script (what.HandlerRun f a) s = RunsOnly f a kind.Handler s.after
 IsCalled script (what.Popped f a run) s = PopsHandler script f a run s
 IsCalled script (what.DtorRun pass key f v) s = CallsDestructor key f v s
+IsCalled script (what.KeyMade number) s = MakesKey script number s
+IsCalled script (what.KeyGone number) s = DeletesKey script number s
 IsCalled script (what.ExitRun f) s = CallsExitFunction f s
 IsCalled script (what.PrepareRun f) s = RunsAbove f 0 kind.ForkFn s.before.frames s.after
 IsCalled script (what.ParentRun f) s = RunsAbove f 0 kind.ForkFn s.before.frames s.after
@@ -167,4 +203,5 @@ pub record Calls (script : Script) (config : Config) (entries : List Entry) (eve
   pub called : EachStep script config entries (EachIsCalled script)
   pub said : EachStep script config entries (SaysCalls script)
   pub exits : EachStep script config entries (KeepsExitFunctions script)
+  pub made_keys : EachStep script config entries KeepsKeys
   pub keys : KeysLaw events

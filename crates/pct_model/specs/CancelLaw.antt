@@ -3,7 +3,7 @@
 -- cancellation point, and is suspended in none: it acts on the request (XSH 2.9.5.2); with cancelability deferred it acts only at a
 -- cancellation point (XSH 2.9.5.1, 2.9.5.2), and in a condition wait by the stages of the wait (XSH pthread_cond_wait); one that was
 -- suspended before is awakened (XSH 2.9.5.2); and a thread that has begun to end enables cancelability no more (XSH 2.9.5.3).
-use Rattle.std.specs.Prelude.{◌≡◌, ℕ, Bool, true, false, not, ◌&&◌, List, [], ◌∷◌, All, Some, is_some, nat_eq}
+use Rattle.std.specs.Prelude.{◌≡◌, ℕ, Bool, true, false, not, ◌&&◌, ◌||◌, List, [], ◌∷◌, All, Some, is_some, nat_eq}
 use Rattle.std.specs.List.{list_any}
 use Rattle.pct_model.specs.declared.event.Caller.TheVariants as caller
 use Rattle.pct_model.specs.declared.event.Event.{Event}
@@ -28,6 +28,7 @@ use Rattle.pct_model.specs.ThreadSteps.{ThreadStep, EachStep}
 use Rattle.pct_model.specs.Kept.{EachProcess, EachThreadOf}
 use Rattle.pct_model.specs.Run.{Run}
 use Rattle.pct_model.specs.SemCalls.{sem_wait_point}
+use Rattle.pct_model.specs.ThreadCalls.{join_point}
 use Rattle.pct_model.specs.WaitStages.{WaitStage, InWait, ToReturn, ToEnd, wait_stage}
 use Rattle.pct_model.specs.World.{World}
 
@@ -47,8 +48,14 @@ is_in_wait _ = false
 abbrev pub is_called_before : ℕ → Bool
 is_called_before index = is_required (point_kind index) && not (nat_eq index testcancel_point) && not (nat_eq index cond_wait_point)
 
+-- the cancellation point returns by an event of its own, and so by no `done`: pthread_join, sem_wait or waitpid
+abbrev pub has_own_return : ℕ → Bool
+has_own_return index = nat_eq index join_point || nat_eq index sem_wait_point || nat_eq index waitpid_point
+
 -- thread tid of process pid may return from a cancellation point
 pub record MayReturn (index pid tid : ℕ) (earlier : List Event) : Type 0 where
+  -- the return is no other event
+  pub is_done : has_own_return index ≡ false
   -- pthread_testcancel returns only if there is no request to act upon
   pub tested : nat_eq index testcancel_point ≡ true → has_to_act pid tid earlier ≡ false
   -- pthread_cond_wait returns at the end of a wait

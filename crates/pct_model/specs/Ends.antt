@@ -1,8 +1,8 @@
 -- The law of the stages of an end: each function that a thread calls as it ends has returned before its next stage; destructors are called
 -- when no cleanup handler is left; a pass over the destructors begins with all keys that are due and goes on until none is left in it, and
 -- the next one begins only if keys are due; a thread ends only if none is due or all passes were made, and then reports how many are due;
--- and the last thread of a process exits it as it ends (XSH 2.9.5.3, pthread_exit, pthread_key_create). A step changes the values of its
--- own thread only at pthread_setspecific, with pthread_key_delete, with the call of a destructor, or as a pass begins.
+-- and the last thread of a process exits it as it ends (XSH 2.9.5.3, pthread_exit, pthread_key_create). A step changes the
+-- value of a key of its own thread only at pthread_setspecific of this key, as its destructor is called, or as it is deleted.
 use Rattle.std.specs.Prelude.{◌≡◌, ◌≢◌, ℕ, suc, ◌<◌, ◌≤◌, Bool, true, false, List, [], ◌∷◌, length, filter, Option, Some, None, All, slice_get, nat_eq}
 use Rattle.std.specs.List.{range_with_len, list_any}
 use Rattle.std.specs.Option.{IsSomeAnd}
@@ -16,11 +16,11 @@ use Rattle.pct_model.specs.declared.script.Script.{Script}
 use Rattle.pct_model.specs.declared.state.Status.TheVariants.{Ending}
 use Rattle.pct_model.specs.declared.statement.Stmt.TheVariants as statement
 use Rattle.pct_model.specs.AfterEnd.{begins_exit_with_0}
-use Rattle.pct_model.specs.Keys.{KeyPlace, is_due}
+use Rattle.pct_model.specs.Keys.{KeyPlace, key_place, is_due, value_at}
 use Rattle.pct_model.specs.KnownThreads.{reports_end}
 use Rattle.pct_model.specs.NextStatement.{NextStatement, StatementIn, next_of}
 use Rattle.pct_model.specs.ThreadSteps.{ThreadStep, EachStep}
-use Rattle.pct_model.specs.World.{Thread, thread_with}
+use Rattle.pct_model.specs.World.{Thread, thread_with, value_of}
 
 -- ---- keys
 
@@ -87,21 +87,32 @@ module _ (passes : ℕ) where
 
 -- ---- the law of values
 
--- with the event the values of a thread change, or the keys that are left in its pass
-abbrev pub changes_values : What → Bool
-changes_values (what.PassBegun n) = true
-changes_values (what.DtorRun pass key f v) = true
-changes_values (what.KeyGone key) = true
-changes_values _ = false
+-- the event changes the value at a place: the destructor of its key is called, or its key is deleted
+abbrev pub changes_value : ℕ → What → Bool
+changes_value place (what.DtorRun pass key f v) = nat_eq (key_place key) place
+changes_value place (what.KeyGone key) = nat_eq (key_place key) place
+changes_value place _ = false
 
--- the next statement is pthread_setspecific
-abbrev pub sets_value : NextStatement → Bool
-sets_value (StatementIn frame (statement.SetSpecific key v)) = true
-sets_value _ = false
+-- the event changes whether a place is in the pass: a pass begins, or the event changes its value
+abbrev pub changes_pass : ℕ → What → Bool
+changes_pass place (what.PassBegun n) = true
+changes_pass place w = changes_value place w
 
--- any other step keeps the values of its thread, and the keys that are left in its pass (XSH pthread_setspecific, pthread_key_create)
+-- the next statement is pthread_setspecific of the key on a place, where the globals have these values
+abbrev pub sets_value : List ℕ → ℕ → NextStatement → Bool
+sets_value globals place (StatementIn frame (statement.SetSpecific key v)) = nat_eq (key_place (value_of globals frame key)) place
+sets_value globals place _ = false
+
+-- what a step keeps of the values of its thread, at a place (XSH pthread_setspecific, pthread_key_create, pthread_key_delete)
+pub record KeepsValue (script : Script) (place : ℕ) (s : ThreadStep) : Type 0 where
+  -- the value at the place stays, but for pthread_setspecific of its key, the call of its destructor, and its deletion
+  pub value : list_any (changes_value place) s.events ≡ false → sets_value s.process.shared.globals place (next_of script s.before.frames) ≡ false → value_at place s.after.specific ≡ value_at place s.before.specific
+  -- whether it is left in the pass stays, but for the beginning of a pass, the call of its destructor, and its deletion
+  pub in_pass : list_any (changes_pass place) s.events ≡ false → slice_get s.after.specific.in_pass place ≡ slice_get s.before.specific.in_pass place
+
+-- so it is at each place
 abbrev pub KeepsValues : Script → ThreadStep → Type 0
-KeepsValues script s = list_any changes_values s.events ≡ false → sets_value (next_of script s.before.frames) ≡ false → s.after.specific ≡ s.before.specific
+KeepsValues script s = (place : ℕ) → KeepsValue script place s
 
 -- ---- the law of the events
 

@@ -36,7 +36,7 @@ pub record Laws (script : Script) (config : Config) (entries : List Entry) (r : 
   -- request or detach names a thread outside the lifetime of its id
   pub joins : JoinLaw r.events
   -- a mutex is acquired while no thread owns it, and released by its owner; a condition wait ends with its mutex owned again, also if a
-  -- request ends it; and a signal is handed on as a thread leaves its wait by a request
+  -- request ends it; and a signal is handed on only as a thread leaves its wait by a request
   pub conds : CondLaw r.events
   -- a new thread gets an id that no known thread of its process has had, and each known thread on its slot has ended and was joined or is
   -- detached

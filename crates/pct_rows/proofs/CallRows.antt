@@ -1,7 +1,7 @@
 -- The law of calls. Lists of events that keep its law of keys, and lists that do not, each with the name of the sentence that it breaks; they
 -- are listed newest first. And made steps that keep the law of a step, and made steps that do not. In these each step that does not differs
 -- from one that does in one thing.
-use Rattle.std.proofs.Common.{◌≡◌, ℕ, suc, ◌+◌, ◌<◌, ◌%◌, Bool, true, false, not, List, [], ◌∷◌, length, slice_index, nat_eq, Option, Some, is_some, refl, sym, ap, ◌∙◌, inl, inr, arith}
+use Rattle.std.proofs.Common.{◌≡◌, ℕ, zero, suc, ◌+◌, ◌<◌, ◌%◌, Bool, true, false, not, List, [], ◌∷◌, length, slice_index, nat_eq, Option, Some, None, is_some, refl, sym, ap, ◌∙◌, inl, inr, arith}
 use Rattle.std.specs.Prelude.{IsTrue, codes}
 use Rattle.std.specs.List.{AllByRecursion}
 use Rattle.std.specs.Option.{option_map_or}
@@ -24,7 +24,7 @@ use Rattle.pct_model.specs.declared.statement.Operand.TheVariants as operand
 use Rattle.pct_model.specs.declared.statement.Stmt.{Stmt}
 use Rattle.pct_model.specs.declared.statement.Stmt.TheVariants as statement
 use Rattle.pct_model.specs.Actions.{without_first}
-use Rattle.pct_model.specs.Calls.{IsCall, RunsAbove, EndsProcess, by_exit, by_call, IsCalled, EachIsCalled, SaysCalls, KeepsExitFunctions, KeysLaw}
+use Rattle.pct_model.specs.Calls.{IsCall, RunsAbove, by_exit, by_call, IsCalled, EachIsCalled, SaysCalls, KeepsExitFunctions, KeepsKeys, KeysLaw}
 use Rattle.pct_model.specs.Keys.{Key, KeyPlace}
 use Rattle.pct_model.specs.NextStatement.{NextStatement, StatementIn}
 use Rattle.pct_model.specs.Static.{is_static}
@@ -98,7 +98,7 @@ a_parent_has_no_key_of_its_child law = absurd (false≢true law.0.1)
 -- ---- a script
 
 -- function 2 pushes and pops a handler that is called, and one that is not; it calls function 0, registers it with atexit, calls _exit with
--- 257, and emits 5
+-- 257, emits 5, makes a key with the destructor 0, and deletes key 1
 abbrev statements : List Stmt
 statements =
     statement.Push 0 (operand.Num 30)
@@ -109,6 +109,8 @@ statements =
     ∷ statement.AtExit destination.Drop 0
     ∷ statement.ProcExitNow (operand.Num 257)
     ∷ statement.Emit (operand.Num 5)
+    ∷ statement.KeyCreate destination.Drop destination.Drop (Some 0)
+    ∷ statement.KeyDelete (operand.Num 1)
     ∷ statement.End
     ∷ []
 
@@ -127,12 +129,19 @@ script = record { globals = []; mutexes = []; conds = []; sems = []; funcs = fun
 
 -- ---- steps
 
--- a process where key 1 has the destructor 4, and where these functions are registered with atexit, the newest first
+-- a process with these keys, where these functions are registered with atexit, the newest first; key 1 has the destructor 4, where nothing
+-- else is said
+abbrev key : ℕ → ℕ → KeyPlace
+key number destructor = record { made = 1; key = Some (record { number = number; destructor = Some destructor }) }
+
 abbrev keys : List KeyPlace
-keys = record { made = 1; key = Some (record { number = 1; destructor = Some 4 }) } ∷ []
+keys = key 1 4 ∷ []
+
+abbrev process_with : List KeyPlace → List ℕ → Process
+process_with keys functions = record (first_process script) { shared = record (new_shared script) { keys = keys; exit_functions = functions } }
 
 abbrev process : List ℕ → Process
-process functions = record (first_process script) { shared = record (new_shared script) { keys = keys; exit_functions = functions } }
+process functions = process_with keys functions
 
 -- a thread with these frames, and this value of key 1
 abbrev thread : List Frame → ℕ → Thread
@@ -377,6 +386,112 @@ and_is_of_the_destructor law = let n : ◌≡◌ {A = ℕ} 5 4 = ap (λ frames. 
 
 and_of_its_kind : destructor_runs destroys ending (thread (new_frame 4 7 kind.Handler ∷ []) 0) → ⊥
 and_of_its_kind law = absurd (false≢true (ap (λ frames. is_of_destructor (top frames).kind) (asked law).runs.frames ∙ ap is_of_destructor (asked law).runs.call.made_for))
+
+-- ---- keys that are made and deleted
+
+-- function 2 makes a step at a statement, from these keys to those
+abbrev key_step : List KeyPlace → ℕ → List What → List KeyPlace → ThreadStep
+key_step before pc events after = record (step_from two two (thread (popping pc ∷ main ∷ []) 0) events (thread (popping (suc pc) ∷ main ∷ []) 0)) { process = process_with before two; process_after = process_with after two }
+
+-- the law of such a step with one event, and what it asks of the event
+abbrev may_change : List KeyPlace → ℕ → What → List KeyPlace → Type 0
+may_change before pc w after = EachIsCalled script (key_step before pc (w ∷ []) after)
+
+asked_of_keys : {before after : List KeyPlace} → {pc : ℕ} → {w : What} → may_change before pc w after → IsCalled script w (key_step before pc (w ∷ []) after)
+asked_of_keys {w = w} law = law 0 w (omega arith)
+
+-- the place of keys 1 and 129 without a key
+abbrev without_it : List KeyPlace
+without_it = record { made = 1; key = None } ∷ []
+
+-- the next statement is pthread_key_create or pthread_key_delete; its destructor, and its key
+abbrev is_create : NextStatement → Bool
+is_create (StatementIn frame (statement.KeyCreate result key destructor)) = true
+is_create _ = false
+
+abbrev is_delete : NextStatement → Bool
+is_delete (StatementIn frame (statement.KeyDelete key)) = true
+is_delete _ = false
+
+abbrev created_with : NextStatement → ℕ
+created_with (StatementIn frame (statement.KeyCreate result key destructor)) = index_of destructor
+created_with _ = 0
+
+abbrev deleted_by : NextStatement → ℕ
+deleted_by (StatementIn frame (statement.KeyDelete key)) = value_of [] frame key
+deleted_by _ = 0
+
+made : may_change keys 8 (what.KeyMade 2) (key 1 4 ∷ key 2 0 ∷ [])
+unfolding runs_on_literals
+made =
+    called (key_step keys 8 (what.KeyMade 2 ∷ []) (key 1 4 ∷ key 2 0 ∷ []))
+    (record { frame = popping 8; result = destination.Drop; key = destination.Drop; destructor = Some 0; next = refl; free = refl; made = refl }, tt)
+
+a_key_is_made_at_its_call : may_change keys 7 (what.KeyMade 2) (key 1 4 ∷ key 2 0 ∷ []) → ⊥
+unfolding runs_on_literals
+a_key_is_made_at_its_call law = absurd (false≢true (ap is_create (asked_of_keys law).next))
+
+on_a_place_without_a_key : may_change keys 8 (what.KeyMade 129) (key 129 0 ∷ []) → ⊥
+on_a_place_without_a_key law = absurd (false≢true (sym (ap is_some (asked_of_keys law).free)))
+
+it_is_there_then : may_change keys 8 (what.KeyMade 2) keys → ⊥
+it_is_there_then law = absurd (false≢true (ap is_some (asked_of_keys law).made))
+
+with_its_number : may_change keys 8 (what.KeyMade 2) (key 1 4 ∷ key 130 0 ∷ []) → ⊥
+with_its_number law = let n : ◌≡◌ {A = ℕ} 130 2 = ap key_number (asked_of_keys law).made in omega arith
+
+and_the_destructor_of_its_call : may_change keys 8 (what.KeyMade 2) (key 1 4 ∷ key 2 4 ∷ []) → ⊥
+unfolding runs_on_literals
+and_the_destructor_of_its_call law =
+    let called_with : 1 ≡ index_of (asked_of_keys law).destructor = ap created_with (asked_of_keys law).next in
+    let has : 5 ≡ index_of (asked_of_keys law).destructor = ap destructor_of (asked_of_keys law).made in
+    omega arith
+
+deleted : may_change keys 9 deletes without_it
+unfolding runs_on_literals
+deleted = called (key_step keys 9 (deletes ∷ []) without_it) (record { frame = popping 9; key = operand.Num 1; next = refl; named = refl; deleted = record { number = 1; destructor = Some 4 }; was = refl; is_number = refl; gone = refl }, tt)
+
+a_key_is_deleted_at_its_call : may_change keys 7 deletes without_it → ⊥
+unfolding runs_on_literals
+a_key_is_deleted_at_its_call law = absurd (false≢true (ap is_delete (asked_of_keys law).next))
+
+that_names_it : may_change (key 1 4 ∷ key 2 4 ∷ []) 9 (what.KeyGone 2) keys → ⊥
+unfolding runs_on_literals
+that_names_it law =
+    let of_call : 1 ≡ value_of [] (asked_of_keys law).frame (asked_of_keys law).key = ap deleted_by (asked_of_keys law).next in
+    let of_event : 2 ≡ value_of [] (asked_of_keys law).frame (asked_of_keys law).key = (asked_of_keys law).named in
+    omega arith
+
+it_was_there : may_change without_it 9 deletes without_it → ⊥
+it_was_there law = absurd (false≢true (ap is_some (asked_of_keys law).was))
+
+with_this_number : may_change (key 129 4 ∷ []) 9 deletes without_it → ⊥
+with_this_number law = let n : ◌≡◌ {A = ℕ} 129 1 = ap key_number (asked_of_keys law).was ∙ (asked_of_keys law).is_number in omega arith
+
+and_does_not_stay : may_change keys 9 deletes keys → ⊥
+and_does_not_stay law = absurd (false≢true (sym (ap is_some (asked_of_keys law).gone)))
+
+-- a step keeps the keys on places without an event
+keys_kept_at_emit : KeepsKeys (key_step keys 7 (what.Emit 5 ∷ []) keys)
+keys_kept_at_emit place quiet = refl
+
+other_keys_kept_as_one_is_made : KeepsKeys (key_step keys 8 (what.KeyMade 2 ∷ []) (key 1 4 ∷ key 2 0 ∷ []))
+other_keys_kept_as_one_is_made zero quiet = refl
+other_keys_kept_as_one_is_made (suc zero) quiet = absurd (false≢true (sym quiet))
+other_keys_kept_as_one_is_made (suc (suc place)) quiet = refl
+
+and_as_one_is_deleted : KeepsKeys (key_step keys 9 (deletes ∷ []) without_it)
+and_as_one_is_deleted zero quiet = absurd (false≢true (sym quiet))
+and_as_one_is_deleted (suc place) quiet = refl
+
+no_key_changes_without_an_event : KeepsKeys (key_step keys 7 (what.Emit 5 ∷ []) (key 1 5 ∷ [])) → ⊥
+no_key_changes_without_an_event law = let n : ◌≡◌ {A = ℕ} 6 5 = ap destructor_of (law 0 refl) in omega arith
+
+nor_as_another_is_made : KeepsKeys (key_step keys 8 (what.KeyMade 2 ∷ []) (key 1 5 ∷ key 2 0 ∷ [])) → ⊥
+nor_as_another_is_made law = let n : ◌≡◌ {A = ℕ} 6 5 = ap destructor_of (law 0 refl) in omega arith
+
+nor_as_another_is_deleted : KeepsKeys (key_step (key 1 4 ∷ key 2 4 ∷ []) 9 (deletes ∷ []) []) → ⊥
+nor_as_another_is_deleted law = absurd (false≢true (ap is_some (law 1 refl)))
 
 -- ---- exit functions
 

@@ -23,7 +23,9 @@ use Rattle.pct_model.specs.Once.{Once}
 use Rattle.pct_model.specs.Points.{points}
 use Rattle.pct_model.specs.ProcessLaw.{ProcessLaw}
 use Rattle.pct_model.specs.RanAll.{RanAll}
+use Rattle.pct_model.specs.SemCalls.{sem_wait_point}
 use Rattle.pct_model.specs.SlotLaw.{SlotLaw}
+use Rattle.pct_model.specs.ThreadCalls.{join_point}
 use Rattle.pct_rows.proofs.LawTests.{each, once_test, once_kept, ran_test, ran_kept, after_test, after_kept, keys_test, keys_kept, left_test, left_kept, requests_test, requests_kept, joins_test, joins_kept, conds_test, conds_kept, slots_test, slots_kept, processes_test, processes_kept}
 
 -- ---- the laws
@@ -229,6 +231,13 @@ returned_without_a_call = only refl (λ law. absurd (cc (law.0.called refl)))
 -- it returns from pthread_cond_wait without a wait
 waited_without_a_wait : OnlyRefuses Requests (event (what.Done cond_wait_point) ∷ [])
 waited_without_a_wait = only refl (λ law. absurd (cc (law.0.waited refl)))
+
+-- it returns from pthread_join, and joins no thread, and from sem_wait, and takes nothing
+returned_without_a_join : OnlyRefuses Requests (event (what.Done join_point) ∷ event (what.Called join_point) ∷ [])
+returned_without_a_join = only refl (λ law. absurd (false≢true (sym law.0.is_done)))
+
+returned_without_a_take : OnlyRefuses Requests (event (what.Done sem_wait_point) ∷ event (what.Called sem_wait_point) ∷ [])
+returned_without_a_take = only refl (λ law. absurd (false≢true (sym law.0.is_done)))
 
 -- it takes a semaphore without a call of sem_wait
 taken_without_a_call : OnlyRefuses Requests (event (what.Taken 0) ∷ [])

@@ -8,12 +8,13 @@ use Rattle.pct_model.specs.declared.event.What.{What}
 use Rattle.pct_model.specs.declared.event.What.TheVariants as what
 use Rattle.pct_model.specs.CancelCalls.{point_kind, testcancel_point}
 use Rattle.pct_model.specs.CancelEvents.{is_requested, is_enabled_by, is_asynchronous_last, has_to_act}
-use Rattle.pct_model.specs.CancelLaw.{MayAct, MayReturn, RequestsLaw}
+use Rattle.pct_model.specs.CancelLaw.{has_own_return, MayAct, MayReturn, RequestsLaw}
 use Rattle.pct_model.specs.CondCalls.{cond_wait_point}
 use Rattle.pct_model.specs.ForkCalls.{waitpid_point}
 use Rattle.pct_model.specs.KnownThreads.{newest_event}
 use Rattle.pct_model.specs.Points.{points}
 use Rattle.pct_model.specs.SemCalls.{sem_wait_point}
+use Rattle.pct_model.specs.ThreadCalls.{join_point}
 
 -- an event of thread 1 of process 1, of its thread 2, and of the replica of thread 1 in process 2
 abbrev event : What → Event
@@ -187,10 +188,10 @@ with_its_mutex_owned law = absurd (cc law.0.1)
 -- pthread_testcancel may return where there is no request to act upon, and another point after its call
 may_test : {pid tid : ℕ} → {earlier : List Event} → has_to_act pid tid earlier ≡ false → MayReturn testcancel_point pid tid earlier
 unfolding points point_kind
-may_test none = record { tested = λ is. none; waited = λ is. absurd (false≢true is); called = λ is. absurd (false≢true is) }
+may_test none = record { is_done = refl; tested = λ is. none; waited = λ is. absurd (false≢true is); called = λ is. absurd (false≢true is) }
 
-may_return : {index pid tid : ℕ} → {earlier : List Event} → nat_eq index testcancel_point ≡ false → nat_eq index cond_wait_point ≡ false → newest_event pid tid earlier ≡ Some (what.Called index) → MayReturn index pid tid earlier
-may_return no_test no_wait called = record { tested = λ is. absurd (false≢true (sym no_test ∙ is)); waited = λ is. absurd (false≢true (sym no_wait ∙ is)); called = λ is. called }
+may_return : {index pid tid : ℕ} → {earlier : List Event} → has_own_return index ≡ false → nat_eq index testcancel_point ≡ false → nat_eq index cond_wait_point ≡ false → newest_event pid tid earlier ≡ Some (what.Called index) → MayReturn index pid tid earlier
+may_return own no_test no_wait called = record { is_done = own; tested = λ is. absurd (false≢true (sym no_test ∙ is)); waited = λ is. absurd (false≢true (sym no_wait ∙ is)); called = λ is. called }
 
 -- without a request, with cancelability disabled, and by another thread, points are called
 calls : RequestsLaw (event (what.Done testcancel_point) ∷ event (what.Called 25) ∷ [])
@@ -208,7 +209,7 @@ calls_in_the_child = (may_test refl, (refl, (tt, (tt, tt))))
 
 -- a point that was called before the request may return, and so may a function that may be a cancellation point
 returns : RequestsLaw (event (what.Done 25) ∷ request ∷ event (what.Called 25) ∷ [])
-returns = (may_return refl refl refl, (tt, (refl, tt)))
+returns = (may_return refl refl refl refl, (tt, (refl, tt)))
 
 waitpid_returns : RequestsLaw (event (what.Answer caller.WaitPid 3) ∷ request ∷ event (what.Called waitpid_point) ∷ [])
 waitpid_returns = (λ has. refl, (tt, (refl, tt)))
@@ -251,7 +252,7 @@ optional_point = 47
 
 -- read, sem_wait, waitpid and pthread_cond_wait return after their calls
 returned : RequestsLaw (event (what.Done read_point) ∷ event (what.Called read_point) ∷ [])
-returned = (may_return refl refl refl, (refl, tt))
+returned = (may_return refl refl refl refl, (refl, tt))
 
 taken : RequestsLaw (event (what.Taken 0) ∷ event (what.Called sem_wait_point) ∷ [])
 taken = (refl, (refl, tt))
@@ -261,12 +262,12 @@ reaped = (refl, (tt, (refl, (tt, tt))))
 
 waited : RequestsLaw (event (what.Done cond_wait_point) ∷ event (what.Acquired 0) ∷ in_a_wait)
 unfolding points point_kind
-waited = (record { tested = λ is. absurd (false≢true is); waited = λ is. refl; called = λ is. absurd (false≢true is) }, (tt, (tt, (refl, tt))))
+waited = (record { is_done = refl; tested = λ is. absurd (false≢true is); waited = λ is. refl; called = λ is. absurd (false≢true is) }, (tt, (tt, (refl, tt))))
 
 -- a function that may be a cancellation point has no event of its call
 may_be_a_point : RequestsLaw (event (what.Done optional_point) ∷ [])
 unfolding points point_kind
-may_be_a_point = (record { tested = λ is. absurd (false≢true is); waited = λ is. absurd (false≢true is); called = λ is. absurd (false≢true is) }, tt)
+may_be_a_point = (record { is_done = refl; tested = λ is. absurd (false≢true is); waited = λ is. absurd (false≢true is); called = λ is. absurd (false≢true is) }, tt)
 
 read_returns_after_its_call : RequestsLaw (event (what.Done read_point) ∷ []) → ⊥
 unfolding points point_kind
@@ -291,6 +292,16 @@ pthread_cond_wait_returns_with_its_mutex law = absurd (cc (law.0.waited refl))
 
 and_after_its_call : RequestsLaw (event (what.Done cond_wait_point) ∷ event (what.Acquired 0) ∷ []) → ⊥
 and_after_its_call law = absurd (cc (law.0.waited refl))
+
+-- pthread_join, sem_wait and waitpid return by a join, a take and a reap alone
+a_join_is_no_other_return : RequestsLaw (event (what.Done join_point) ∷ event (what.Called join_point) ∷ []) → ⊥
+a_join_is_no_other_return law = absurd (false≢true (sym law.0.is_done))
+
+nor_is_a_take : RequestsLaw (event (what.Done sem_wait_point) ∷ event (what.Called sem_wait_point) ∷ []) → ⊥
+nor_is_a_take law = absurd (false≢true (sym law.0.is_done))
+
+nor_is_a_reap : RequestsLaw (event (what.Done waitpid_point) ∷ event (what.Called waitpid_point) ∷ []) → ⊥
+nor_is_a_reap law = absurd (false≢true (sym law.0.is_done))
 
 -- ---- types, as the events report them
 

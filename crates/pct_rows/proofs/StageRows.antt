@@ -18,8 +18,8 @@ use Rattle.pct_model.specs.declared.state.Status.TheVariants as status
 use Rattle.pct_model.specs.declared.statement.Operand.TheVariants as operand
 use Rattle.pct_model.specs.declared.statement.Stmt.{Stmt}
 use Rattle.pct_model.specs.declared.statement.Stmt.TheVariants as statement
-use Rattle.pct_model.specs.Ends.{count_due, HasRunHandlers, MayBegin, EachMayBegin, KeepsValues}
-use Rattle.pct_model.specs.Keys.{KeyPlace, KeyValues, is_due, value_at}
+use Rattle.pct_model.specs.Ends.{count_due, HasRunHandlers, MayBegin, EachMayBegin, KeepsValue, KeepsValues}
+use Rattle.pct_model.specs.Keys.{KeyPlace, is_due, value_at}
 use Rattle.pct_model.specs.Static.{is_static}
 use Rattle.pct_model.specs.ThreadSteps.{ThreadStep}
 use Rattle.pct_model.specs.World.{Thread, Process, thread_with, new_frame, new_thread, new_shared, first_process}
@@ -325,34 +325,60 @@ passes = refl
 abbrev script : Script
 script = record { globals = []; mutexes = []; conds = []; sems = []; funcs = funcs; passes_checks = passes }
 
--- a running thread at a statement of `main`, with this value of key 1
-abbrev at : ℕ → ℕ → Thread
-at pc value = record (new_thread 1 false (new_frame 0 0 kind.Main)) { frames = record (new_frame 0 0 kind.Main) { pc = pc } ∷ []; specific = record { values = value ∷ []; in_pass = [] } }
+-- a running thread at a statement of `main`, with these values
+abbrev at : ℕ → List ℕ → Thread
+at pc values = record (new_thread 1 false (new_frame 0 0 kind.Main)) { frames = record (new_frame 0 0 kind.Main) { pc = pc } ∷ []; specific = record { values = values; in_pass = false ∷ true ∷ [] } }
 
-emits : KeepsValues script (step_to (another 2) (at 0 7) (at 1 7) (what.Emit 5 ∷ []))
-emits quiet sets = refl
+-- the law of a step at a place, where the place stays as it is
+stays : {s : ThreadStep} → {place : ℕ} → value_at place s.after.specific ≡ value_at place s.before.specific → slice_get s.after.specific.in_pass place ≡ slice_get s.before.specific.in_pass place → KeepsValue script place s
+stays same_value same_pass = record { value = λ quiet sets. same_value; in_pass = λ quiet. same_pass }
+
+emits : KeepsValues script (step_to (another 2) (at 0 (7 ∷ 7 ∷ [])) (at 1 (7 ∷ 7 ∷ [])) (what.Emit 5 ∷ []))
+emits place = stays refl refl
 
 -- pthread_setspecific, pthread_key_delete, the call of a destructor and a pass change them
-sets_it : KeepsValues script (step_to (another 2) (at 1 7) (at 2 8) [])
+sets_it : KeepsValues script (step_to (another 2) (at 1 (7 ∷ 7 ∷ [])) (at 2 (8 ∷ 7 ∷ [])) [])
 unfolding runs_on_literals
-sets_it quiet sets = absurd (false≢true (sym sets))
+sets_it zero = record { value = λ quiet sets. absurd (false≢true (sym sets)); in_pass = λ quiet. refl }
+sets_it (suc place) = stays refl refl
 
-deletes_its_key : KeepsValues script (step_to (another 2) (at 2 7) (at 3 0) (what.KeyGone 1 ∷ []))
-deletes_its_key quiet sets = absurd (false≢true (sym quiet))
+deletes_its_key : KeepsValues script (step_to (another 2) (at 2 (7 ∷ 7 ∷ [])) (at 3 (0 ∷ 7 ∷ [])) (what.KeyGone 1 ∷ []))
+deletes_its_key zero = record { value = λ quiet sets. absurd (false≢true (sym quiet)); in_pass = λ quiet. refl }
+deletes_its_key (suc place) = stays refl refl
 
-destroys_it : KeepsValues script (step_to (another 2) in_a_pass (ending 1 (7 ∷ 0 ∷ 0 ∷ []) []) (what.DtorRun 1 3 4 7 ∷ []))
-destroys_it quiet sets = absurd (false≢true (sym quiet))
+-- the destructor of key 3 is called, with these values and this pass then
+abbrev destroys : List ℕ → List Bool → ThreadStep
+destroys values left = step_to (another 2) (in_pass 1) (ending 1 values left) (what.DtorRun 1 3 4 7 ∷ [])
+
+destroys_it : KeepsValues script (destroys (7 ∷ 0 ∷ 0 ∷ []) (true ∷ false ∷ false ∷ []))
+destroys_it zero = stays refl refl
+destroys_it (suc zero) = stays refl refl
+destroys_it (suc (suc zero)) = record { value = λ quiet sets. absurd (false≢true (sym quiet)); in_pass = λ quiet. absurd (false≢true (sym quiet)) }
+destroys_it (suc (suc (suc place))) = stays refl refl
 
 takes_its_keys : KeepsValues script (pass_begins 1 before_passes)
-takes_its_keys quiet sets = absurd (false≢true (sym quiet))
+takes_its_keys place = record { value = λ quiet sets. refl; in_pass = λ quiet. absurd (false≢true (sym quiet)) }
 
-no_value_vanishes_at_emit : KeepsValues script (step_to (another 2) (at 0 7) (at 1 0) (what.Emit 5 ∷ [])) → ⊥
+no_value_changes_at_emit : KeepsValues script (step_to (another 2) (at 0 (7 ∷ 7 ∷ [])) (at 1 (8 ∷ 7 ∷ [])) (what.Emit 5 ∷ [])) → ⊥
 unfolding runs_on_literals
-no_value_vanishes_at_emit law = let n : ◌≡◌ {A = ℕ} 0 7 = ap (λ (s : KeyValues). value_at 0 s) (law refl refl) in omega arith
+no_value_changes_at_emit law = let n : ◌≡◌ {A = ℕ} 8 7 = (law 0).value refl refl in omega arith
 
-nor_changes : KeepsValues script (step_to (another 2) (at 0 7) (at 1 8) (what.Emit 5 ∷ [])) → ⊥
+nor_that_of_another_key_at_pthread_setspecific : KeepsValues script (step_to (another 2) (at 1 (7 ∷ 7 ∷ [])) (at 2 (8 ∷ 8 ∷ [])) []) → ⊥
 unfolding runs_on_literals
-nor_changes law = let n : ◌≡◌ {A = ℕ} 8 7 = ap (λ (s : KeyValues). value_at 0 s) (law refl refl) in omega arith
+nor_that_of_another_key_at_pthread_setspecific law = let n : ◌≡◌ {A = ℕ} 8 7 = (law 1).value refl refl in omega arith
 
-nor_is_a_key_left_in_a_pass_no_more : KeepsValues script (step_to (another 2) in_a_pass (ending 1 (7 ∷ 0 ∷ 7 ∷ []) []) []) → ⊥
-nor_is_a_key_left_in_a_pass_no_more law = let n : ◌≡◌ {A = ℕ} 0 3 = ap (λ (s : KeyValues). length s.in_pass) (law refl refl) in omega arith
+nor_as_a_key_is_deleted : KeepsValues script (step_to (another 2) (at 2 (7 ∷ 7 ∷ [])) (at 3 (0 ∷ 0 ∷ [])) (what.KeyGone 1 ∷ [])) → ⊥
+unfolding runs_on_literals
+nor_as_a_key_is_deleted law = let n : ◌≡◌ {A = ℕ} 0 7 = (law 1).value refl refl in omega arith
+
+nor_as_a_destructor_is_called : KeepsValues script (destroys (0 ∷ 0 ∷ 0 ∷ []) (true ∷ false ∷ false ∷ [])) → ⊥
+nor_as_a_destructor_is_called law = let n : ◌≡◌ {A = ℕ} 0 7 = (law 0).value refl refl in omega arith
+
+no_value_changes_as_a_pass_begins : KeepsValues script (step_to (another 2) before_passes (ending 1 (7 ∷ 0 ∷ 0 ∷ []) (true ∷ false ∷ true ∷ [])) (what.PassBegun 1 ∷ [])) → ⊥
+no_value_changes_as_a_pass_begins law = let n : ◌≡◌ {A = ℕ} 0 7 = (law 2).value refl refl in omega arith
+
+no_key_leaves_the_pass_without_an_event : KeepsValues script (step_to (another 2) in_a_pass (ending 1 (7 ∷ 0 ∷ 7 ∷ []) []) []) → ⊥
+no_key_leaves_the_pass_without_an_event law = absurd (none-some true ((law 2).in_pass refl))
+
+nor_as_the_destructor_of_another_is_called : KeepsValues script (destroys (7 ∷ 0 ∷ 0 ∷ []) (false ∷ false ∷ false ∷ [])) → ⊥
+nor_as_the_destructor_of_another_is_called law = absurd (false≢true (ap (λ (o : Option Bool). option_map_or (λ b. b) o true) ((law 0).in_pass refl)))

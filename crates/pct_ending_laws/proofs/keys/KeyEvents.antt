@@ -4,7 +4,7 @@ use mathlib.Core.Bool.{or-false}
 use Rattle.std.proofs.Common.{◌≡◌, ◌≢◌, ℕ, zero, suc, ◌+◌, ◌<◌, Bool, true, false, not, ◌&&◌, ◌||◌, cond, List, [], ◌∷◌, ◌++◌, length, map, reverse, nat_eq, set, replicate, slice_get, is_none, is_some, Option, Some, None, option_and_then, refl, sym, ap, ◌∙◌, subst, eqb-true, ne_eqb, arith}
 use Rattle.std.specs.List.{list_any}
 use Rattle.std.specs.Option.{option_map_or}
-use Rattle.std.proofs.lemmas.Bool.{true≢false, false≢true, eqb-false}
+use Rattle.std.proofs.lemmas.Bool.{true≢false, false≢true, eqb-false, eq-eqb}
 use Rattle.std.proofs.lemmas.Option.{none-some, slice_get-get_or, slice_get_within}
 use Rattle.pct_model.specs.declared.event.Event.{Event}
 use Rattle.pct_model.specs.declared.event.What.{What}
@@ -60,7 +60,7 @@ key_set_same [] i q within = absurd (omega (arith, within))
 key_set_same (p ∷ keys) zero q within = refl
 key_set_same (p ∷ keys) (suc i) q within = key_set_same keys i q (omega (arith, within))
 
-key_set_other : (keys : List KeyPlace) (i j : ℕ) (q : KeyPlace) → i ≢ j → key_at (set keys i q) j ≡ key_at keys j
+pub key_set_other : (keys : List KeyPlace) (i j : ℕ) (q : KeyPlace) → i ≢ j → key_at (set keys i q) j ≡ key_at keys j
 key_set_other [] i j q differs = refl
 key_set_other (p ∷ keys) zero zero q differs = absurd (differs refl)
 key_set_other (p ∷ keys) zero (suc j) q differs = refl
@@ -91,6 +91,31 @@ key_deleted_at keys i j key at = by_found (slice_get keys i) refl at
     by_found None is on = absurd (none-some key on)
     by_found (Some p) is on = key_set keys i j (record p { key = None }) (slice_get_within keys i p is)
 
+-- ---- a new key
+
+module _ (script : Script) (keys : List KeyPlace) (kept : KeysKept script keys) (k : ℕ) (among : list_any (nat_eq k) (new_keys keys) ≡ true) where
+  -- the number is that of the next key on a place without a key
+  abbrev of : IsNumberOf (next_key keys) (λ place. is_none (key_at keys place)) MAX_KEYS k
+  of = new_key_of keys k among
+
+  -- this place is that of the number
+  new_place : key_place k ≡ of.item
+  new_place = ap key_place of.is ∙ place_of_next of.item (option_map_or (λ p. p.made) (slice_get keys of.item) 0) of.low
+
+  -- no key is on it
+  pub new_place_free : is_none (key_at keys (key_place k)) ≡ true
+  new_place_free = ap (λ (i : ℕ). is_none (key_at keys i)) new_place ∙ of.passes
+
+  -- it is one of the places
+  new_place_within : key_place k < length keys
+  new_place_within = subst (λ (i : ℕ). i < length keys) (sym new_place) (subst (λ (m : ℕ). of.item < m) (sym kept.places) of.low)
+
+  -- after a key was made with the number, it is on the place of the number
+  pub key_made_on_place : (destructor : Option ℕ) → key_at (with_key (key_place k) k destructor keys) (key_place k) ≡ Some (record { number = k; destructor = destructor })
+  key_made_on_place destructor =
+      let made : Option Key = Some (record { number = k; destructor = destructor }) in
+      key_made_at keys (key_place k) k destructor (key_place k) new_place_within ∙ ap (λ (same : Bool). cond same made (key_at keys (key_place k))) (eq-eqb (key_place k) (key_place k) refl)
+
 -- ---- one number
 
 -- a key is found by its number
@@ -102,13 +127,18 @@ by_number n key = by_test (nat_eq key.number n)
     by_test false = refl
 
 -- where a key is found by a number, it is on its place
-found_on : (n : ℕ) (found : Option Key) → is_none (if_number n found) ≡ false → (key : Key) × (found ≡ Some key) × (key.number ≡ n)
+pub found_on : (n : ℕ) (found : Option Key) → is_none (if_number n found) ≡ false → (key : Key) × (found ≡ Some key) × (key.number ≡ n)
 found_on n None some = absurd (true≢false some)
 found_on n (Some key) some = by_test (nat_eq key.number n) refl some
   where
     by_test : (same : Bool) → nat_eq key.number n ≡ same → is_none (cond same (Some key) None) ≡ false → (found : Key) × (Some key ≡ Some found) × (found.number ≡ n)
     by_test true same some = (key, refl, eqb-true key.number n same)
     by_test false differs some = absurd (true≢false some)
+
+-- after the key with a number was deleted, no key is on the place of the number
+pub no_key_on_place : (n : ℕ) (keys : List KeyPlace) (key : Key) → key_at keys (key_place n) ≡ Some key → key_at (without_key (key_place n) keys) (key_place n) ≡ None
+no_key_on_place n keys key at =
+    key_deleted_at keys (key_place n) (key_place n) key at ∙ ap (λ (same : Bool). cond same None (key_at keys (key_place n))) (eq-eqb (key_place n) (key_place n) refl)
 
 -- a number, after a key was made on a place where none was
 number_made : (k n : ℕ) (destructor : Option ℕ) (found : Option Key) (same : Bool) → (same ≡ true → is_none found ≡ true) → (same ≡ false → nat_eq k n ≡ false)
@@ -140,12 +170,9 @@ module _ (keys : List KeyPlace) (reported : ℕ → Bool) (fits : AreReported ke
   made_reported : (script : Script) → KeysKept script keys → (k : ℕ) (destructor : Option ℕ) → list_any (nat_eq k) (new_keys keys) ≡ true → AreReported (with_key (key_place k) k destructor keys) (λ n. nat_eq k n || reported n)
   unfolding key_with
   made_reported script kept k destructor among n =
-      let of : IsNumberOf (next_key keys) (λ place. is_none (key_at keys place)) MAX_KEYS k = new_key_of keys k among in
-      let place_is : key_place k ≡ of.item = ap key_place of.is ∙ place_of_next of.item (option_map_or (λ p. p.made) (slice_get keys of.item) 0) of.low in
-      let within : key_place k < length keys = subst (λ (i : ℕ). i < length keys) (sym place_is) (subst (λ (m : ℕ). of.item < m) (sym kept.places) of.low) in
-      ap (λ (o : Option Key). is_some (if_number n o)) (key_made_at keys (key_place k) k destructor (key_place n) within)
+      ap (λ (o : Option Key). is_some (if_number n o)) (key_made_at keys (key_place k) k destructor (key_place n) (new_place_within script keys kept k among))
       ∙ number_made k n destructor (key_at keys (key_place n)) (nat_eq (key_place k) (key_place n))
-      (λ same. ap (λ (i : ℕ). is_none (key_at keys i)) (sym (eqb-true (key_place k) (key_place n) same) ∙ place_is) ∙ of.passes) (other_number k n)
+      (λ same. ap (λ (i : ℕ). is_none (key_at keys i)) (sym (eqb-true (key_place k) (key_place n) same)) ∙ new_place_free script keys kept k among) (other_number k n)
       ∙ ap (λ (b : Bool). nat_eq k n || b) (fits n)
 
   -- a key was deleted

@@ -52,7 +52,7 @@ use Rattle.pct_ending_laws.proofs.requests.LeftWaits.{left_waits_of_run}
 use Rattle.pct_ending_laws.proofs.requests.SuspendedCalls.{call_event, newest_call_of_run}
 use Rattle.pct_ending_laws.proofs.steps.MovedThreads.{case_of_step}
 use Rattle.pct_ending_laws.proofs.thread.ThreadRule.{summary, summary_reading, FitsAny}
-use Rattle.pct_ending_laws.proofs.waits.GenericPoints.{is_other_point, is_no_test}
+use Rattle.pct_ending_laws.proofs.waits.GenericPoints.{is_other_point, is_no_test, has_no_own_return}
 use Rattle.pct_ending_laws.proofs.waits.WaitsOfRun.{waits_kept_of_run}
 
 -- ---- events of which the law asks nothing
@@ -203,6 +203,7 @@ module _ (script : Script) (config : Config) (before : List Entry) (r : Run) (is
   -- a statement of the script calls a generic point, from which the thread may return
   may_return : (index : ℕ) (frame : Frame) → statement_at script frame ≡ Some (statement.PointCall index) → (is_called_before index ≡ true → newest_event e.pid e.tid r.events ≡ Some (what.Called index)) → MayReturn index e.pid e.tid r.events
   may_return index frame at called_is = record {
+    is_done = has_no_own_return script frame index at;
     tested = λ same. absurd (true≢false (sym same ∙ is_no_test script frame index at));
     waited = λ same. absurd (true≢false (sym same ∙ is_other_point script frame index at));
     called = called_is;
@@ -229,7 +230,7 @@ module _ (script : Script) (config : Config) (before : List Entry) (r : Run) (is
   case_lawful place next_is status_is fits (sem_wait_begun frame sem unasked) = (calls unasked, law)
   case_lawful place next_is status_is fits (waitpid_begun frame result d pid unasked) = (calls unasked, law)
   case_lawful place next_is status_is fits (cancel_tested frame unasked) =
-      (record { tested = λ same. calls unasked; waited = λ same. absurd (false≢true same); called = λ before. absurd (test_not_called before) }, law)
+      (record { is_done = refl; tested = λ same. calls unasked; waited = λ same. absurd (false≢true same); called = λ before. absurd (test_not_called before) }, law)
   case_lawful place next_is status_is fits (no_child_found frame result d operand unasked) = (λ asked. absurd (true≢false (sym asked ∙ calls unasked)), law)
   case_lawful place next_is status_is fits (child_lost frame result d operand pid) = (λ asked. called (what.Called waitpid_point) status_is refl, law)
   case_lawful place next_is status_is fits (child_reaped frame result d operand pid n child found ended) = (called (what.Called waitpid_point) status_is refl, law)
@@ -240,7 +241,7 @@ module _ (script : Script) (config : Config) (before : List Entry) (r : Run) (is
   case_lawful place next_is status_is fits (wait_ended frame cond mutex c m why stays free) =
       let owned : wait_stage e.pid e.tid (event_of e (what.Acquired m) ∷ r.events) ≡ ToReturn =
       next_stage e (what.Acquired m) r.events ∙ ap (stage_after (what.Acquired m)) (unblocked_stage c m why (wait_stage e.pid e.tid r.events) stays (in_wait status_is)) in
-      (record { tested = λ same. absurd (false≢true same); waited = λ same. owned; called = λ before. absurd (wait_not_called before) }, (tt, law))
+      (record { is_done = refl; tested = λ same. absurd (false≢true same); waited = λ same. owned; called = λ before. absurd (wait_not_called before) }, (tt, law))
   case_lawful place next_is status_is fits (state_set frame true old allowed) =
       let reported : ThreadSummary = summary_of e.pid e.tid r.events in
       (unbegun (has_begun_to_end reported.reason) reported.exiting (λ begun. fits.agrees.disabled (ap (λ why. has_begun_to_end why || reported.exiting) (sym fits.agrees.reason) ∙ begun)), law)

@@ -1,5 +1,5 @@
 -- The law of calls, of a step: each event which says that a function is called comes with its call.
-use Rattle.std.proofs.Common.{◌≡◌, ◌≢◌, ℕ, Bool, true, false, not, cond, List, [], ◌∷◌, nat_eq, is_some, suc, Option, Some, None, refl, sym, ap, ◌∙◌, subst, eqb-true}
+use Rattle.std.proofs.Common.{◌≡◌, ◌≢◌, ℕ, Bool, true, false, not, cond, List, [], ◌∷◌, nat_eq, is_none, is_some, suc, Option, Some, None, refl, sym, ap, ◌∙◌, subst, eqb-true}
 use Rattle.std.specs.List.{AllByRecursion}
 use Rattle.std.specs.Option.{option_map_or}
 use Rattle.std.proofs.lemmas.Bool.{false≢true, and_parts, not-true, eqb-false}
@@ -28,14 +28,15 @@ use Rattle.pct_model.specs.Run.{Run, run}
 use Rattle.pct_model.specs.ThreadSlots.{is_live_thread}
 use Rattle.pct_model.specs.ThreadSteps.{ThreadStep}
 use Rattle.pct_model.specs.TransitionTable.{transition_by}
-use Rattle.pct_model.specs.World.{Thread, Process, new_frame}
+use Rattle.pct_model.specs.World.{Thread, Process, value_of, new_frame}
 use Rattle.pct_transition_cases.proofs.PlacedStatements.{IsPlaced, on_top, is_placed}
-use Rattle.pct_transition_cases.proofs.TransitionCases.{TransitionCase, fork_handler_called, handler_popped, handler_called, handler_run, destructor_called, process_ended_now, exit_function_called, process_ended}
+use Rattle.pct_transition_cases.proofs.TransitionCases.{TransitionCase, fork_handler_called, handler_popped, handler_called, handler_run, destructor_called, key_made, key_deleted, process_ended_now, exit_function_called, process_ended}
 use Rattle.pct_ending_laws.proofs.lift.EveryProcess.{process_taken, moves_of_run}
 use Rattle.pct_ending_laws.proofs.lift.HandlerEvents.{of_each_phase}
 use Rattle.pct_ending_laws.proofs.lift.OfferedNumbers.{left_key_of}
 use Rattle.pct_ending_laws.proofs.lift.TakenSteps.{IsTaken}
 use Rattle.pct_ending_laws.proofs.lift.ThreadsAfter.{Moves, mover}
+use Rattle.pct_ending_laws.proofs.keys.KeyEvents.{new_place_free, key_made_on_place, found_on, no_key_on_place}
 use Rattle.pct_ending_laws.proofs.keys.KeyPlaces.{default_set}
 use Rattle.pct_ending_laws.proofs.keys.KeysOfProcesses.{keys_of_run}
 use Rattle.pct_ending_laws.proofs.keys.LeftKeys.{left_is_due}
@@ -70,6 +71,11 @@ named_key n (Some k) key is = by_test (nat_eq k.number n) refl is
 due_not_null : (keys : List KeyPlace) (own : KeyValues) (place : ℕ) → is_due keys own place ≡ true → value_at place own ≢ 0
 due_not_null keys own place due = eqb-false (value_at place own) 0 (not-true (nat_eq (value_at place own) 0) (and_parts (option_map_or (λ key. is_some key.destructor) (key_at keys place) false) (not (nat_eq (value_at place own) 0)) due).1)
 
+-- a place without a key
+no_key : (found : Option Key) → is_none found ≡ true → found ≡ None
+no_key None none = refl
+no_key (Some key) none = absurd (false≢true none)
+
 -- ---- events of which the law asks nothing
 
 -- whether the law asks nothing at the event
@@ -77,6 +83,8 @@ abbrev asks_nothing : What → Bool
 asks_nothing (what.HandlerRun f a) = false
 asks_nothing (what.Popped f a run) = false
 asks_nothing (what.DtorRun pass key f v) = false
+asks_nothing (what.KeyMade number) = false
+asks_nothing (what.KeyGone number) = false
 asks_nothing (what.ExitRun f) = false
 asks_nothing (what.PrepareRun f) = false
 asks_nothing (what.ParentRun f) = false
@@ -89,6 +97,8 @@ quiet_called : (script : Script) (s : ThreadStep) (w : What) → asks_nothing w 
 quiet_called script s (what.HandlerRun f a) quiet = absurd (false≢true quiet)
 quiet_called script s (what.Popped f a run) quiet = absurd (false≢true quiet)
 quiet_called script s (what.DtorRun pass key f v) quiet = absurd (false≢true quiet)
+quiet_called script s (what.KeyMade number) quiet = absurd (false≢true quiet)
+quiet_called script s (what.KeyGone number) quiet = absurd (false≢true quiet)
 quiet_called script s (what.ExitRun f) quiet = absurd (false≢true quiet)
 quiet_called script s (what.PrepareRun f) quiet = absurd (false≢true quiet)
 quiet_called script s (what.ParentRun f) quiet = absurd (false≢true quiet)
@@ -125,6 +135,33 @@ module _ (script : Script) (passes pid tid : ℕ) (earlier : List Event) (p : Pr
           not_null = due_not_null p.shared.keys own (key_place k) (left_is_due script p.shared.keys kept own k (left_key_of p.shared.keys own k (among refl)));
           null = default_set own.values (key_place k) 0;
           runs = runs_only f value kind.Destructor _ refl refl;
+        },
+        tt,
+      )
+  case_called frames_are status_is place (key_made frame result key destructor k among) = (
+    record {
+      frame = frame;
+      result = result;
+      key = key;
+      destructor = destructor;
+      next = next_is frames_are place;
+      free = no_key (key_at p.shared.keys (key_place k)) (new_place_free script p.shared.keys kept k (among refl));
+      made = key_made_on_place script p.shared.keys kept k (among refl) destructor;
+    },
+    tt,
+  )
+  case_called frames_are status_is place (key_deleted frame key some) =
+      let k : ℕ = value_of p.shared.globals frame key in
+      let on = found_on k (key_at p.shared.keys (key_place k)) some in (
+        record {
+          frame = frame;
+          key = key;
+          next = next_is frames_are place;
+          named = refl;
+          deleted = on.0;
+          was = on.1;
+          is_number = on.2;
+          gone = no_key_on_place k p.shared.keys on.0 on.1;
         },
         tt,
       )

@@ -1,8 +1,9 @@
--- The law of values, of a step: only pthread_setspecific, pthread_key_delete, the begin of a pass and the call of a destructor change the
--- thread-specific data of the thread that makes the step.
-use Rattle.std.proofs.Common.{◌≡◌, ℕ, Bool, true, false, not, ◌||◌, cond, List, Some, refl, sym, ap, ap₂, ◌∙◌}
-use Rattle.std.specs.List.{list_all, list_any}
-use Rattle.std.proofs.lemmas.Bool.{false≢true, true≢false, false_from_ne_true}
+-- The law of values, of a step: at each place only pthread_setspecific of its key, the call of its destructor and its deletion change the
+-- value of the thread that makes the step; and only the begin of a pass and these two events change whether the place is left in its pass.
+use Rattle.std.proofs.Common.{◌≡◌, ◌≢◌, ℕ, zero, suc, Bool, true, false, cond, List, [], ◌∷◌, nat_eq, set, get_or-set_other, slice_get, Some, refl, sym, ap, ◌∙◌}
+use Rattle.std.specs.List.{list_any}
+use Rattle.std.proofs.Math.Bool.{or-false}
+use Rattle.std.proofs.lemmas.Bool.{true≢false, eqb-false}
 use Rattle.pct_model.specs.declared.schedule.Config.{Config}
 use Rattle.pct_model.specs.declared.schedule.Entry.{Entry}
 use Rattle.pct_model.specs.declared.script.Script.{Script}
@@ -11,64 +12,111 @@ use Rattle.pct_model.specs.declared.statement.Stmt.{Stmt}
 use Rattle.pct_model.specs.declared.transition.Action.{Action}
 use Rattle.pct_model.specs.declared.transition.Action.TheVariants as action
 use Rattle.pct_model.specs.declared.transition.Transition.{Transition}
-use Rattle.pct_model.specs.Actions.{without_first}
-use Rattle.pct_model.specs.Ends.{changes_values, sets_value, KeepsValues}
-use Rattle.pct_model.specs.Keys.{KeyValues}
+use Rattle.pct_model.specs.Actions.{thread_moved}
+use Rattle.pct_model.specs.Ends.{changes_value, changes_pass, sets_value, KeepsValues}
+use Rattle.pct_model.specs.Keys.{KeyValues, key_place, value_at}
 use Rattle.pct_model.specs.NextStatement.{NextStatement, next_of}
 use Rattle.pct_model.specs.OtherThreads.{Others}
 use Rattle.pct_model.specs.Run.{Run, run}
 use Rattle.pct_model.specs.TransitionTable.{transition_by}
 use Rattle.pct_model.specs.World.{Thread, SharedState, Process}
-use Rattle.pct_transition_cases.proofs.TransitionCases.{TransitionCase, specific_set}
+use Rattle.pct_transition_cases.proofs.TransitionCases.{TransitionCase, key_deleted, specific_set, destructor_called, pass_begun}
 use Rattle.pct_ending_laws.proofs.keys.KeptKeys.{own_data, named_data}
-use Rattle.pct_ending_laws.proofs.keys.KeyActions.{is_keyless, first_of, key_actions}
+use Rattle.pct_ending_laws.proofs.keys.KeyActions.{first_of, key_actions}
 use Rattle.pct_ending_laws.proofs.keys.KeysOfProcesses.{data_moved}
 use Rattle.pct_ending_laws.proofs.lift.EveryProcess.{moves_of_run}
 use Rattle.pct_ending_laws.proofs.lift.TakenSteps.{IsTaken}
 use Rattle.pct_ending_laws.proofs.lift.ThreadsAfter.{Moves, mover}
 use Rattle.pct_ending_laws.proofs.steps.MovedThreads.{EveryStep, step_of, case_of_step, every_step}
 
+-- ---- lists by place
+
+-- an item stays as another place is written
+other_item : {A : Type 0} (xs : List A) (i j : ℕ) (y : A) → j ≢ i → slice_get (set xs i y) j ≡ slice_get xs j
+other_item [] i j y other = refl
+other_item (x ∷ xs) zero zero y other = absurd (other refl)
+other_item (x ∷ xs) zero (suc j) y other = refl
+other_item (x ∷ xs) (suc i) zero y other = refl
+other_item (x ∷ xs) (suc i) (suc j) y other = other_item xs i j y (λ same. other (ap suc same))
+
 -- ---- one action
 
--- the action may change the data of the thread that acts
-abbrev changes_data : Action → Bool
-changes_data (action.SetSpecific k v) = true
-changes_data action.BeginPass = true
-changes_data (action.TakeKey k) = true
-changes_data (action.DeleteKey k) = true
-changes_data _ = false
+module _ (place : ℕ) where
+  -- the action may change the value at the place, of the thread that acts
+  abbrev writes_value : Action → Bool
+  writes_value (action.SetSpecific k v) = nat_eq (key_place k) place
+  writes_value (action.TakeKey k) = nat_eq (key_place k) place
+  writes_value (action.DeleteKey k) = nat_eq (key_place k) place
+  writes_value _ = false
 
--- any other action keeps them
-data_kept : (a : Action) → changes_data a ≡ false → (own : KeyValues) → named_data a (own_data a own) ≡ own
-data_kept (action.SetSpecific k v) other own = absurd (true≢false other)
-data_kept action.BeginPass other own = absurd (true≢false other)
-data_kept (action.TakeKey k) other own = absurd (true≢false other)
-data_kept (action.DeleteKey k) other own = absurd (true≢false other)
-data_kept _ other own = refl
+  -- the action may change whether the place is left in the pass of the thread that acts
+  abbrev writes_pass : Action → Bool
+  writes_pass action.BeginPass = true
+  writes_pass (action.TakeKey k) = nat_eq (key_place k) place
+  writes_pass (action.DeleteKey k) = nat_eq (key_place k) place
+  writes_pass _ = false
 
--- ---- a transition
+  -- the place of a key is not this one
+  elsewhere : (k : ℕ) → nat_eq (key_place k) place ≡ false → place ≢ key_place k
+  elsewhere k other same = eqb-false (key_place k) place other (sym same)
 
--- an action that may change them comes with an event that says so, or the statement is pthread_setspecific
-case_changes : {passes : ℕ} {shared : SharedState} {t : Thread} {others : Others} {body : List Stmt} {next : NextStatement} {s : Status} {o : Transition} → TransitionCase passes body shared t others true next s o
-    → (not (changes_data (first_of o.actions)) || (list_any changes_values o.events || sets_value next)) ≡ true
-case_changes (specific_set frame key v named) = refl
-case_changes _ = refl
+  -- any other action keeps the value
+  value_kept : (a : Action) → writes_value a ≡ false → (own : KeyValues) → value_at place (named_data a (own_data a own)) ≡ value_at place own
+  value_kept (action.SetSpecific k v) other own = get_or-set_other own.values (key_place k) place v 0 (elsewhere k other)
+  value_kept (action.TakeKey k) other own = get_or-set_other own.values (key_place k) place 0 0 (elsewhere k other)
+  value_kept (action.DeleteKey k) other own = get_or-set_other own.values (key_place k) place 0 0 (elsewhere k other)
+  value_kept _ other own = refl
+
+  -- any other action keeps the place in the pass, or out of it
+  pass_kept : (a : Action) → writes_pass a ≡ false → (own : KeyValues) → slice_get (named_data a (own_data a own)).in_pass place ≡ slice_get own.in_pass place
+  pass_kept action.BeginPass other own = absurd (true≢false other)
+  pass_kept (action.TakeKey k) other own = other_item own.in_pass (key_place k) place false (elsewhere k other)
+  pass_kept (action.DeleteKey k) other own = other_item own.in_pass (key_place k) place false (elsewhere k other)
+  pass_kept _ other own = refl
+
+  -- ---- a transition
+
+  -- where no event changes the value, and the statement does not set it, the first action does not write it
+  case_value : {passes : ℕ} {shared : SharedState} {t : Thread} {others : Others} {body : List Stmt} {next : NextStatement} {s : Status} {o : Transition} → TransitionCase passes body shared t others true next s o
+      → list_any (changes_value place) o.events ≡ false → sets_value shared.globals place next ≡ false → writes_value (first_of o.actions) ≡ false
+  case_value (specific_set frame key v named) none unset = unset
+  case_value (key_deleted frame key named) none unset = sym (or-false _) ∙ none
+  case_value (destructor_called next k f key no_handlers is named among) none unset = sym (or-false _) ∙ none
+  case_value _ none unset = refl
+
+  -- where no event changes the pass at the place, the first action does not write it
+  case_pass : {passes : ℕ} {shared : SharedState} {t : Thread} {others : Others} {body : List Stmt} {next : NextStatement} {s : Status} {o : Transition} → TransitionCase passes body shared t others true next s o
+      → list_any (changes_pass place) o.events ≡ false → writes_pass (first_of o.actions) ≡ false
+  case_pass (pass_begun next no_handlers below due none_left) none = none
+  case_pass (key_deleted frame key named) none = sym (or-false _) ∙ none
+  case_pass (destructor_called next k f key no_handlers is named among) none = sym (or-false _) ∙ none
+  case_pass _ none = refl
 
 -- ---- each step of a run
 
 module _ (script : Script) (config : Config) where
-  -- the data are kept in the step of an entry that moves a thread
-  values_of_step : (before : List Entry) (r : Run) → run script config before ≡ Some r → (e : Entry) (p : Process) (t : Thread) → IsTaken script config r.world e p t → KeepsValues script (step_of script config r p e t)
-  values_of_step before r is e p t taken none sets_none =
-      let o : Transition = transition_by script config r.world p t e.alt in
-      let moves : Moves script config r.world p e t = moves_of_run script config before r is e p t taken in
-      let rest : list_all is_keyless (without_first o.actions) ≡ true = (key_actions script config r.world p t e.alt moves.offered).rest in
-      let says : (not (changes_data (first_of o.actions)) || (list_any changes_values o.events || sets_value (next_of script t.frames))) ≡ true = case_changes (case_of_step script config r.world p e t moves) in
-      let keeps : changes_data (first_of o.actions) ≡ false = false_from_ne_true (changes_data (first_of o.actions)) (λ changes.
-      false≢true (sym (ap (λ (b : Bool). not b || (list_any changes_values o.events || sets_value (next_of script t.frames))) changes ∙ ap₂ (λ (a b : Bool). a || b) none sets_none) ∙ says)) in
-      data_moved e.tid o rest t ∙ ap (λ (live : Bool). named_data (first_of o.actions) (cond live (own_data (first_of o.actions) t.specific) t.specific)) (mover script config r.world p e t moves).live
-      ∙ data_kept (first_of o.actions) keeps t.specific
+  module _ (before : List Entry) (r : Run) (is : run script config before ≡ Some r) (e : Entry) (p : Process) (t : Thread) (taken : IsTaken script config r.world e p t) where
+    abbrev o : Transition
+    o = transition_by script config r.world p t e.alt
 
-  -- each step keeps the data, but at pthread_setspecific or with an event that says so
+    moves : Moves script config r.world p e t
+    moves = moves_of_run script config before r is e p t taken
+
+    -- the data after the step are those after its first action
+    data_after : (thread_moved e.tid o t).specific ≡ named_data (first_of o.actions) (own_data (first_of o.actions) t.specific)
+    data_after =
+        data_moved e.tid o (key_actions script config r.world p t e.alt moves.offered).rest t
+        ∙ ap (λ (live : Bool). named_data (first_of o.actions) (cond live (own_data (first_of o.actions) t.specific) t.specific)) (mover script config r.world p e t moves).live
+
+    -- what the step of an entry that moves a thread keeps at each place
+    values_of_step : KeepsValues script (step_of script config r p e t)
+    values_of_step place =
+        let case : TransitionCase config.passes _ p.shared t _ true (next_of script t.frames) t.status o = case_of_step script config r.world p e t moves in
+        record {
+          value = λ none unset. ap (value_at place) data_after ∙ value_kept place (first_of o.actions) (case_value place case none unset) t.specific;
+          in_pass = λ none. ap (λ (own : KeyValues). slice_get own.in_pass place) data_after ∙ pass_kept place (first_of o.actions) (case_pass place case none) t.specific;
+        }
+
+  -- each step keeps the value at each place, but at pthread_setspecific of its key or with an event that says so; and so with the pass
   pub keeps_values_of_run : EveryStep script config (KeepsValues script)
   keeps_values_of_run = every_step script config (KeepsValues script) values_of_step

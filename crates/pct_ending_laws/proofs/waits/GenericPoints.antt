@@ -1,15 +1,19 @@
--- A statement that calls a generic cancellation point does not call pthread_cond_wait or pthread_testcancel, which have statements of
--- their own.
-use Rattle.std.proofs.Common.{◌≡◌, ℕ, Bool, true, false, List, Some, nat_eq, refl, sym, ap, ◌∙◌, eqb-true}
+-- A statement that calls a generic cancellation point does not call pthread_cond_wait, pthread_testcancel, pthread_join, sem_wait or
+-- waitpid, which have statements of their own.
+use Rattle.std.proofs.Common.{◌≡◌, ℕ, Bool, true, false, ◌||◌, List, Some, nat_eq, refl, sym, ap, ◌∙◌, eqb-true}
 use Rattle.pct_model.specs.declared.frame.Frame.{Frame}
 use Rattle.pct_model.specs.declared.script.Script.{Script}
 use Rattle.pct_model.specs.declared.statement.Stmt.TheVariants as statement
 use Rattle.pct_model.specs.CancelCalls.{testcancel_point}
+use Rattle.pct_model.specs.CancelLaw.{has_own_return}
 use Rattle.pct_model.specs.CondCalls.{cond_wait_point}
+use Rattle.pct_model.specs.ForkCalls.{waitpid_point}
 use Rattle.pct_model.specs.LineKinds.{point_statement}
 use Rattle.pct_model.specs.Points.{points, point_name, point_of}
+use Rattle.pct_model.specs.SemCalls.{sem_wait_point}
 use Rattle.pct_model.specs.Statements.{encode}
 use Rattle.pct_model.specs.Static.{has_first_word, has_line}
+use Rattle.pct_model.specs.ThreadCalls.{join_point}
 use Rattle.pct_model.specs.World.{statement_at}
 use Rattle.pct_ending_laws.proofs.thread.NamedFunctions.{contents, line_of}
 
@@ -35,9 +39,29 @@ module _ (script : Script) where
   unfolding has_line has_first_word encode point_statement points point_of point_name
   test_never locals = refl
 
+  -- so are pthread_join, sem_wait and waitpid
+  join_never : NeverSpelled join_point
+  unfolding has_line has_first_word encode point_statement points point_of point_name
+  join_never locals = refl
+
+  sem_wait_never : NeverSpelled sem_wait_point
+  unfolding has_line has_first_word encode point_statement points point_of point_name
+  sem_wait_never locals = refl
+
+  waitpid_never : NeverSpelled waitpid_point
+  unfolding has_line has_first_word encode point_statement points point_of point_name
+  waitpid_never locals = refl
+
   -- the point of a statement of the script that calls a generic point
   pub is_other_point : (frame : Frame) (index : ℕ) → statement_at script frame ≡ Some (statement.PointCall index) → nat_eq index cond_wait_point ≡ false
   is_other_point frame index at = by_index cond_wait_point wait_never frame index at (nat_eq index cond_wait_point) refl
 
   pub is_no_test : (frame : Frame) (index : ℕ) → statement_at script frame ≡ Some (statement.PointCall index) → nat_eq index testcancel_point ≡ false
   is_no_test frame index at = by_index testcancel_point test_never frame index at (nat_eq index testcancel_point) refl
+
+  -- such a point returns by no event of its own
+  pub has_no_own_return : (frame : Frame) (index : ℕ) → statement_at script frame ≡ Some (statement.PointCall index) → has_own_return index ≡ false
+  has_no_own_return frame index at =
+      ap (λ (b : Bool). b || nat_eq index sem_wait_point || nat_eq index waitpid_point) (by_index join_point join_never frame index at (nat_eq index join_point) refl)
+      ∙ ap (λ (b : Bool). b || nat_eq index waitpid_point) (by_index sem_wait_point sem_wait_never frame index at (nat_eq index sem_wait_point) refl)
+      ∙ by_index waitpid_point waitpid_never frame index at (nat_eq index waitpid_point) refl

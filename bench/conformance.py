@@ -1,0 +1,340 @@
+#!/usr/bin/env python3
+"""Makes the folders of conformance/ from conformance/vectors.txt, compares them, or runs them.
+
+    bench/conformance.py
+    bench/conformance.py --check
+    bench/conformance.py --run COMMAND
+
+Without a word it writes what comes from conformance/vectors.txt: a folder for each vector, the tables of
+conformance/README.md, and the cases at the end of crates/pct_cases/stdin, with their lines in crates/pct_cases/stdout.
+How vectors.txt is written is explained at its top.
+
+--check writes nothing. It compares all of these with vectors.txt, and looks for folders that have no vector. It also
+compares vectors.txt with docs/POSIX.md: each row of its tables of rules belongs to a vector, or to the rules that have
+none; and the sections of docs/LIBRARIES.md that vectors.txt names exist.
+
+--run gives each vector to COMMAND, which is split into words as a shell does: script.pct, a line %% and schedule.txt on
+its standard input. What COMMAND writes to standard output must be the bytes of report.txt, and its status that of
+status.txt, or 0 where there is no such file. It reads the folders, and nothing else of this repository.
+
+The last line is `N passed, M failed`. The status is 1 if M is not 0 or N is 0.
+"""
+import dataclasses
+import pathlib
+import re
+import shlex
+import shutil
+import subprocess
+import sys
+
+ROOT = pathlib.Path(__file__).resolve().parent.parent
+TOP = ROOT / "conformance"
+SOURCE = TOP / "vectors.txt"
+README = TOP / "README.md"
+POSIX = ROOT / "docs/POSIX.md"
+LIBRARIES = ROOT / "docs/LIBRARIES.md"
+CASES = ROOT / "crates/pct_cases/stdin"
+PASSED = ROOT / "crates/pct_cases/stdout"
+MARK = "# Conformance vectors\n"
+MADE = "# bench/conformance.py makes these cases from conformance/vectors.txt.\n\n"
+TABLES = "## The vectors\n"
+RULES = "| Rule | Source | Shown by | Libraries |"
+# The status of a run, by the first words of its verdict or refusal.
+STATUSES = {
+    "verdict complete": 0, "verdict deadlock": 1, "verdict budget": 2, "verdict undefined": 3, "verdict profile": 3,
+    "verdict open": 4, "refused script": 6, "refused schedule": 7, "refused entry": 7,
+}
+SECONDS = 60
+
+
+@dataclasses.dataclass
+class Vector:
+    section: str
+    name: str
+    rule: str = ""
+    source: str = ""
+    libraries: str = ""
+    rows: list = dataclasses.field(default_factory=list)
+    script: list = dataclasses.field(default_factory=list)
+    header: str = ""
+    steps: list = dataclasses.field(default_factory=list)
+    verdict: str = ""
+
+    def entries(self):
+        return [f"1 {process} {thread} {choice}" for process, thread, choice, _ in self.steps]
+
+    def events(self):
+        return [f"{process}.{thread} {event}" for process, thread, _, events in self.steps for event in events]
+
+    def schedule(self):
+        return [self.header, *self.entries(), f"end {len(self.steps)}"]
+
+    def report(self):
+        is_refused = self.verdict.startswith("refused")
+        return [self.verdict] if is_refused else ["report 1", *self.events(), self.verdict, *self.schedule()]
+
+    def status(self):
+        return STATUSES.get(" ".join(self.verdict.split()[:2]))
+
+    def files(self):
+        """The text of each file of the folder, by its name."""
+        texts = {"script.pct": self.script, "schedule.txt": self.schedule(), "report.txt": self.report()}
+        if self.status():
+            texts["status.txt"] = [str(self.status())]
+        return {name: text_of(lines) for name, lines in texts.items()}
+
+    def case(self):
+        """The vector as a case of pct_cases."""
+        call = [f"case {self.case_name()}", "words replay", *self.script, "%%", *self.schedule()]
+        return text_of([*call, f"exits {self.status()}", *self.report(), ""])
+
+    def case_name(self):
+        return f"conformance/{self.name}"
+
+
+def text_of(lines):
+    return "".join(f"{line}\n" for line in lines)
+
+
+# ---- the source
+
+
+def fail(number, why):
+    sys.exit(f"{SOURCE.relative_to(ROOT)}:{number}: {why}")
+
+
+def expanded(lines):
+    """The numbered lines, with those between `repeat N` and `repeated` written N times; \\# is the number of the round."""
+    block, times = None, 0
+    for number, line in lines:
+        word, _, rest = line.strip().partition(" ")
+        if word == "repeat" and rest.isdigit():
+            block, times = [], int(rest)
+        elif word == "repeated":
+            for round_number in range(1, times + 1):
+                yield from ((at, text.replace("\\#", str(round_number))) for at, text in block)
+            block = None
+        elif block is not None:
+            block.append((number, line))
+        else:
+            yield number, line
+
+
+def step_of(number, line):
+    """The process, the thread, the choice and the events of a line `P.T CHOICE | EVENT; EVENT`."""
+    entry, _, events = line.partition("|")
+    found = re.fullmatch(r"(\d+)\.(\d+) ((?:act|new|pick|dtor) \d+|go)", entry.strip())
+    if not found:
+        fail(number, "this is no step")
+    return (*found.groups(), [event.strip() for event in events.split(";") if event.strip()])
+
+
+def read_source():
+    """The vectors, and the rules that have none: the section, the first words of the row, what it is about, and why."""
+    vectors, without, section, vector = [], [], "", None
+    # What the line before was in: nothing, the head of a vector, its script, or its steps.
+    place = "nothing"
+    for number, line in expanded(enumerate(SOURCE.read_text().splitlines(), 1)):
+        word, _, rest = line.partition(" ")
+        if place == "script":
+            if word == "schedule":
+                vector.header, place = line, "steps"
+            else:
+                vector.script.append(line)
+        elif place == "steps":
+            if word in ("verdict", "refused"):
+                vector.verdict, place = line, "nothing"
+                if vector.status() is None or not (vector.rule and vector.source):
+                    fail(number, "the vector is not complete")
+            else:
+                vector.steps.append(step_of(number, line))
+        elif place == "head" and word in ("rule", "source", "libraries"):
+            setattr(vector, word, rest)
+        elif place == "head" and word == "row":
+            vector.rows.append(rest)
+        elif place == "head" and line == "script":
+            place = "script"
+        elif place == "nothing" and word == "section":
+            section = rest
+        elif place == "nothing" and word == "vector":
+            vector, place = Vector(section, rest), "head"
+            if not re.fullmatch("[a-z][a-z0-9_]*", rest) or rest in [other.name for other in vectors]:
+                fail(number, "the name is no plain name, or a second one")
+            vectors.append(vector)
+        elif place == "nothing" and word == "without" and rest.count(" | ") == 2:
+            without.append((section, *rest.split(" | ")))
+        elif place != "nothing" or (line and word != "#"):
+            fail(number, "this line is not expected here")
+    return vectors, without
+
+
+# ---- what is made of it
+
+
+def libraries_of(vector):
+    """The cell of a table: `WORDS | SECTION` of the source as a link."""
+    if not vector.libraries:
+        return ""
+    words, anchor = vector.libraries.split(" | ")
+    return f"[{words}](../docs/LIBRARIES.md#{anchor})"
+
+
+def tables(vectors, without):
+    """The text of README.md from the heading of the tables on."""
+    lines = [TABLES.rstrip(), "", f"{len(vectors)} vectors. The sections are those of [docs/POSIX.md](../docs/POSIX.md)."]
+    for section in dict.fromkeys(vector.section for vector in vectors):
+        lines += ["", f"### {section}", "", "| Rule | Source | Vector | Real libraries |", "|---|---|---|---|"]
+        for vector in vectors:
+            if vector.section == section:
+                folder = f"[{vector.name}]({vector.name})"
+                lines.append(f"| {vector.rule} | {vector.source} | {folder} | {libraries_of(vector)} |")
+    lines += ["", "## Rules without a vector", "", "| Section | Rule | Why there is none |", "|---|---|---|"]
+    lines += [f"| {section} | {rule} | {why} |" for section, _, rule, why in without]
+    return text_of(lines)
+
+
+def made(vectors, without):
+    """For each file that is made: its path and its text."""
+    for vector in vectors:
+        for name, text in vector.files().items():
+            yield TOP / vector.name / name, text
+    yield README, README.read_text().partition(TABLES)[0] + tables(vectors, without)
+    yield CASES, CASES.read_text().partition(MARK)[0] + MARK + MADE + "".join(vector.case() for vector in vectors)
+    before = [line for line in PASSED.read_text().splitlines() if not line.startswith("passed conformance/")]
+    yield PASSED, text_of([*before, *(f"passed {vector.case_name()}" for vector in vectors)])
+
+
+def stray(vectors):
+    """What is in conformance/ and does not come from the source."""
+    known = {README, SOURCE, *(TOP / vector.name for vector in vectors)}
+    known |= {TOP / vector.name / name for vector in vectors for name in vector.files()}
+    return sorted(path for path in TOP.rglob("*") if path not in known)
+
+
+def other_cases():
+    """The cases after the mark that are no vectors; there should be none, since all after the mark is made."""
+    names = re.findall(r"^case (.*)$", CASES.read_text().partition(MARK)[2], re.M)
+    return [name for name in names if not name.startswith("conformance/")]
+
+
+def write():
+    vectors, without = read_source()
+    if other_cases():
+        sys.exit(f"{CASES.relative_to(ROOT)} has other cases after the vectors: {', '.join(other_cases())}")
+    for path, text in list(made(vectors, without)):
+        path.parent.mkdir(exist_ok=True)
+        path.write_text(text)
+    for path in stray(vectors):
+        shutil.rmtree(path) if path.is_dir() else path.unlink(missing_ok=True)
+    print(f"{len(vectors)} vectors")
+
+
+# ---- checks
+
+
+def rows_of_rules():
+    """The heading and the first cell of each row in the tables of rules of docs/POSIX.md."""
+    heading, is_rules = "", False
+    for line in POSIX.read_text().splitlines():
+        if line.startswith("#"):
+            heading = line.lstrip("# ")
+        if not line.startswith("|"):
+            is_rules = False
+        elif line == RULES:
+            is_rules = True
+        elif is_rules and not line.startswith("|---"):
+            yield heading, line.split("|")[1].strip()
+
+
+def rows_of(words, section, rows):
+    """The rows that begin with these words: those below the heading of the section, or if there are none, all."""
+    found = [row for row in rows if row[1].startswith(words)]
+    return [row for row in found if row[0] == section] or found
+
+
+def anchors(page):
+    """The anchors of a page's headings."""
+    for line in page.read_text().splitlines():
+        if line.startswith("#"):
+            yield re.sub(r"[^a-z0-9_ -]", "", line.lstrip("# ").lower()).replace(" ", "-")
+
+
+def checks():
+    """For each check: what is wrong, or nothing."""
+    vectors, without = read_source()
+    for path, text in made(vectors, without):
+        has = path.read_text() if path.is_file() else None
+        yield None if has == text else f"{path.relative_to(ROOT)} is not what conformance/vectors.txt says"
+    for path in stray(vectors):
+        yield f"{path.relative_to(ROOT)} is in no vector"
+    known = set(anchors(LIBRARIES))
+    for vector in vectors:
+        if vector.libraries:
+            anchor = vector.libraries.split(" | ")[1]
+            yield None if anchor in known else f"{vector.name}: docs/LIBRARIES.md has no section {anchor}"
+    rows = list(rows_of_rules())
+    named = [(vector.name, vector.section, row) for vector in vectors for row in vector.rows]
+    named += [("without", section, row) for section, row, _, _ in without]
+    shown = []
+    for name, section, words in named:
+        found = rows_of(words, section, rows)
+        shown += found
+        yield None if len(found) == 1 else f"{name}: {len(found)} rows of docs/POSIX.md begin with: {words}"
+    for heading, text in rows:
+        yield None if (heading, text) in shown else f"{heading}: no vector, and no reason for having none, for: {text}"
+
+
+def difference(wanted, written):
+    """The first line that differs."""
+    pairs = zip(wanted.split(b"\n") + [b"(no line)"], written.split(b"\n") + [b"(no line)"])
+    for number, (one, other) in enumerate(pairs, 1):
+        if one != other:
+            return f"line {number}: expected {one.decode()!r}, written {other.decode(errors='replace')!r}"
+    return "one is longer"
+
+
+def answer(command, given):
+    """What the command writes for this input, and its status."""
+    try:
+        ran = subprocess.run(command, input=given, stdout=subprocess.PIPE, timeout=SECONDS)
+    except subprocess.TimeoutExpired:
+        return b"(no answer in time)", None
+    except OSError as error:
+        sys.exit(f"{command[0]} cannot be run: {error.strerror}")
+    return ran.stdout, ran.returncode
+
+
+def runs(command):
+    """For each folder: what is wrong with the answer of the command, or nothing."""
+    for folder in sorted(path.parent for path in TOP.glob("*/script.pct")):
+        texts = {path.name: path.read_bytes() for path in folder.iterdir()}
+        written, ended = answer(command, texts["script.pct"] + b"%%\n" + texts["schedule.txt"])
+        status = int(texts.get("status.txt", b"0"))
+        if written != texts["report.txt"]:
+            yield f"{folder.name}: {difference(texts['report.txt'], written)}"
+        elif ended != status:
+            yield f"{folder.name}: expected status {status}, ended with {ended}"
+        else:
+            yield None
+
+
+def main():
+    words = sys.argv[1:]
+    if not words:
+        write()
+        return
+    if words == ["--check"]:
+        found = list(checks())
+    elif len(words) == 2 and words[0] == "--run" and shlex.split(words[1]):
+        found = list(runs(shlex.split(words[1])))
+    else:
+        sys.exit(__doc__)
+    wrongs = [wrong for wrong in found if wrong]
+    for wrong in wrongs:
+        print(wrong)
+    passed = len(found) - len(wrongs)
+    print(f"{passed} passed, {len(wrongs)} failed")
+    sys.exit(1 if wrongs or not passed else 0)
+
+
+main()
