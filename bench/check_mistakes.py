@@ -360,6 +360,9 @@ CALLS = [
         ["pct: nowhere.pct is no file that can be read\n"],
     ),
     Case("points with a file", "./pct points a.pct", 5, "refused words\n", [USAGE], {"a.pct": SMALLEST}),
+    Case("demo without a number", "./pct demo", 5, "refused words\n", [USAGE, "pct demo N"]),
+    Case("demo with a file", "./pct demo a.pct", 5, "refused words\n", [USAGE], {"a.pct": SMALLEST}),
+    Case("demo reads nothing", "{ ./pct demo 0 | head -n 1; cat; } < a.pct", 0, "demo 0\n" + SMALLEST, [], {"a.pct": SMALLEST}),
     Case("a command in upper case", "./pct RUN a.pct", 5, "refused words\n", [USAGE], {"a.pct": SMALLEST}),
     Case("build with a word more", "./pct build now", 5, "refused words\n", [USAGE]),
     Case(

@@ -1,21 +1,23 @@
 -- What the words of the program ask for, and which part of an input is the script's.
 use Rattle.std.proofs.Common.{◌≡◌, ℕ, Bool, true, false, ◌||◌, if◌then◌else◌, cond, List, [], ◌∷◌, Option, Some, None, length, take, refl, sym, ap, ◌∙◌, le_refl}
-use Rattle.std.specs.Prelude.{bytes_eq, is_some}
+use Rattle.std.specs.Prelude.{bytes_eq, is_some, option_map}
 use Rattle.std.specs.Option.{option_map_or}
 use Rattle.std.proofs.lemmas.Option.{none-some}
 use Rattle.std.proofs.lemmas.List.{take_all}
-use Rattle.std.proofs.lemmas.Bool.{false≢true}
+use Rattle.std.proofs.lemmas.Bool.{false≢true, true≢false, or_parts}
 use Rattle.pct_model.specs.declared.keyword.Keyword.{Keyword}
 use Rattle.pct_model.specs.declared.keyword.Keyword.TheVariants as keyword
 use Rattle.pct_model.specs.declared.run_options.RunOptions.{RunOptions}
 use Rattle.pct_model.specs.Keywords.{keyword_text}
-use Rattle.pct_model.specs.Outcome.{is_asked, is_accepted, needs_input, script_part}
+use Rattle.pct_model.specs.LineParsing.{numeral}
+use Rattle.pct_model.specs.Demo.{demo_number}
+use Rattle.pct_model.specs.Outcome.{is_asked, is_accepted, asks_demo, needs_input, script_part}
 use Rattle.pct_model.specs.RunOptions.{run_options}
 use Rattle.pct_model.proofs.Bytes.{same_bytes}
 use Rattle.pct_options.proofs.Configs.{run_is_within}
 use Rattle.pct_command.specs.declared.words.Job.{Job}
-use Rattle.pct_command.specs.declared.words.Job.TheVariants.{Run, Replay, Check, Points}
-use Rattle.pct_command.specs.Words.{Asks, HasInput, job_asked, parts_of_job}
+use Rattle.pct_command.specs.declared.words.Job.TheVariants.{Run, Replay, Check, Points, Demo}
+use Rattle.pct_command.specs.Words.{Asks, HasInput, job_asked, parts_of_job, takes_memory}
 
 asked_is : (k : Keyword) (words : List (List ℕ)) → is_asked k words ≡ true → words ≡ keyword_text k ∷ []
 unfolding is_asked
@@ -40,14 +42,65 @@ run_is_no_replay [] options asked = absurd (none-some options asked)
 run_is_no_replay (command ∷ words) options asked =
     not_replay command words (same_bytes command (keyword_text keyword.Run) (is_chosen (bytes_eq command (keyword_text keyword.Run)) _ options asked))
 
+-- ---- `demo` and a number
+
+-- the words are `demo` and a text of this number
+pub record AsksDemo (words : List (List ℕ)) (number : ℕ) : Type 0 where
+  pub text : List ℕ
+  pub are : words ≡ keyword_text keyword.Demo ∷ text ∷ []
+  pub value : numeral text ≡ Some number
+
+demo_by : (command text : List ℕ) (number : ℕ) (b : Bool) → bytes_eq command (keyword_text keyword.Demo) ≡ b → cond b (numeral text) None ≡ Some number → AsksDemo (command ∷ text ∷ []) number
+demo_by command text number true same is = record { text = text; are = ap (λ (w : List ℕ). w ∷ text ∷ []) (same_bytes command (keyword_text keyword.Demo) same); value = is }
+demo_by command text number false same is = absurd (none-some number is)
+
+pub demo_words : (words : List (List ℕ)) (number : ℕ) → demo_number words ≡ Some number → AsksDemo words number
+unfolding demo_number
+demo_words [] number is = absurd (none-some number is)
+demo_words (command ∷ []) number is = absurd (none-some number is)
+demo_words (command ∷ text ∷ []) number is = demo_by command text number (bytes_eq command (keyword_text keyword.Demo)) refl is
+demo_words (command ∷ text ∷ next ∷ words) number is = absurd (none-some number is)
+
+-- words with a number
+number_asked : {A : Type 0} (o : Option A) → is_some o ≡ true → (x : A) × (o ≡ Some x)
+number_asked None asked = absurd (false≢true asked)
+number_asked (Some x) asked = (x, refl)
+
+pub demo_asked : (words : List (List ℕ)) → asks_demo words ≡ true → (number : ℕ) × (demo_number words ≡ Some number)
+demo_asked words asked = number_asked (demo_number words) asked
+
+-- `demo` needs no input
+pub demo_needs_none : (words : List (List ℕ)) (number : ℕ) → demo_number words ≡ Some number → needs_input words ≡ false
+unfolding run_options is_asked keyword_text
+demo_needs_none words number asked = ap needs_input (demo_words words number asked).are
+
+-- and it is not `points`
+pub demo_is_no_points : (words : List (List ℕ)) (number : ℕ) → demo_number words ≡ Some number → is_asked keyword.Points words ≡ false
+unfolding is_asked
+demo_is_no_points words number asked = ap (is_asked keyword.Points) (demo_words words number asked).are
+
+-- words that need an input are not `demo`
+pub input_is_no_demo : (words : List (List ℕ)) → needs_input words ≡ true → asks_demo words ≡ true → ⊥
+input_is_no_demo words needs asked =
+    let number = demo_asked words asked in
+    true≢false (sym needs ∙ demo_needs_none words number.0 number.1)
+
+-- and it takes memory
+pub demo_takes_memory : (words : List (List ℕ)) (number : ℕ) → demo_number words ≡ Some number → takes_memory words ≡ true
+demo_takes_memory words number asked =
+    ap (λ (b : Bool). b || asks_demo words) (demo_needs_none words number asked) ∙ ap (λ (o : Option ℕ). is_some o) asked
+
 -- words that name a job name no other
 pub names_job : (words : List (List ℕ)) (job : Job) → Asks words job → job_asked words ≡ Some job
-unfolding run_options is_asked keyword_text
+unfolding run_options is_asked demo_number keyword_text
 names_job words (Run options) asks =
-    ap (λ (o : Option RunOptions). option_map_or (λ numbers. Some (Run numbers)) o (if is_asked keyword.Replay words then Some Replay else if is_asked keyword.Check words then Some Check else if is_asked keyword.Points words then Some Points else None)) asks
+    ap (λ (o : Option RunOptions). option_map_or (λ numbers. Some (Run numbers)) o (if is_asked keyword.Replay words then Some Replay else if is_asked keyword.Check words then Some Check else if is_asked keyword.Points words then Some Points else option_map (λ number. Demo number) (demo_number words))) asks
 names_job words Replay asks = ap job_asked (asked_is keyword.Replay words asks)
 names_job words Check asks = ap job_asked (asked_is keyword.Check words asks)
 names_job words Points asks = ap job_asked (asked_is keyword.Points words asks)
+names_job words (Demo number) asks =
+    let parts = demo_words words number asks in
+    ap job_asked parts.are ∙ ap (λ (o : Option ℕ). option_map (λ n. Demo n) o) parts.value
 
 -- the job reads the input
 abbrev pub NeedsInput : Job → Type 0
@@ -55,6 +108,7 @@ NeedsInput (Run options) = Unit {0}
 NeedsInput Replay = Unit {0}
 NeedsInput Check = Unit {0}
 NeedsInput Points = ⊥
+NeedsInput (Demo number) = ⊥
 
 -- the options that words give have a configuration within the limits
 pub has_input : (words : List (List ℕ)) (job : Job) → Asks words job → NeedsInput job → HasInput job
@@ -62,6 +116,7 @@ has_input words (Run options) asks needs = run_is_within words options asks
 has_input words Replay asks needs = tt
 has_input words Check asks needs = tt
 has_input words Points asks needs = needs
+has_input words (Demo number) asks needs = needs
 
 -- words that name a job with an input need one
 pub job_needs_input : (words : List (List ℕ)) (job : Job) → Asks words job → HasInput job → needs_input words ≡ true
@@ -70,15 +125,40 @@ job_needs_input words (Run options) asks has = ap (λ (o : Option RunOptions). i
 job_needs_input words Replay asks has = ap needs_input (asked_is keyword.Replay words asks)
 job_needs_input words Check asks has = ap needs_input (asked_is keyword.Check words asks)
 job_needs_input words Points asks has = absurd has
+job_needs_input words (Demo number) asks has = absurd has
 
 -- `points` needs none, and is accepted
 pub points_need_none : (words : List (List ℕ)) → is_asked keyword.Points words ≡ true → needs_input words ≡ false
 unfolding run_options is_asked keyword_text
 points_need_none words asked = ap needs_input (asked_is keyword.Points words asked)
 
+pub points_are_no_demo : (words : List (List ℕ)) → is_asked keyword.Points words ≡ true → asks_demo words ≡ false
+unfolding demo_number
+points_are_no_demo words asked = ap asks_demo (asked_is keyword.Points words asked)
+
 pub points_are_accepted : (words : List (List ℕ)) → is_asked keyword.Points words ≡ true → is_accepted words ≡ true
 unfolding run_options is_asked keyword_text
 points_are_accepted words asked = ap is_accepted (asked_is keyword.Points words asked)
+
+-- what the second of two asks
+or_right : (a b : Bool) → b ≡ true → a || b ≡ true
+or_right true b is = refl
+or_right false b is = is
+
+pub demo_is_accepted : (words : List (List ℕ)) → asks_demo words ≡ true → is_accepted words ≡ true
+demo_is_accepted words asked = or_right (needs_input words || is_asked keyword.Points words) (asks_demo words) asked
+
+-- the parts of words that are not accepted
+pub record IsNone (words : List (List ℕ)) : Type 0 where
+  pub needs_none : needs_input words ≡ false
+  pub no_points : is_asked keyword.Points words ≡ false
+  pub no_demo : asks_demo words ≡ false
+
+pub none_asked : (words : List (List ℕ)) → is_accepted words ≡ false → IsNone words
+none_asked words refused =
+    let first = or_parts (needs_input words || is_asked keyword.Points words) (asks_demo words) refused in
+    let second = or_parts (needs_input words) (is_asked keyword.Points words) first.0 in
+    record { needs_none = second.0; no_points = second.1; no_demo = first.1 }
 
 pub replay_asks_replay : is_asked keyword.Replay (keyword_text keyword.Replay ∷ []) ≡ true
 unfolding is_asked keyword_text
@@ -99,6 +179,11 @@ pub part_of_points : (words : List (List ℕ)) (input : List ℕ) → is_asked k
 unfolding script_part is_asked keyword_text
 part_of_points words input asked = ap (λ (w : List (List ℕ)). script_part w input) (asked_is keyword.Points words asked)
 
+-- and of one of `demo`
+pub part_of_demo : (words : List (List ℕ)) (input : List ℕ) (number : ℕ) → demo_number words ≡ Some number → script_part words input ≡ input
+unfolding script_part is_asked
+part_of_demo words input number asked = ap (λ (w : List (List ℕ)). script_part w input) (demo_words words number asked).are
+
 -- the script's part of the input of a job
 pub part_of_job : (words : List (List ℕ)) (job : Job) (input : List ℕ) → Asks words job → script_part words input ≡ take (parts_of_job job input).0 input
 unfolding script_part is_asked keyword_text
@@ -106,6 +191,7 @@ part_of_job words (Run options) input asks = part_of_run words input options ask
 part_of_job words Replay input asks = ap (λ (w : List (List ℕ)). script_part w input) (asked_is keyword.Replay words asks)
 part_of_job words Check input asks = part_of_check words input asks ∙ sym (take_all (length input) input (le_refl _))
 part_of_job words Points input asks = part_of_points words input asks ∙ sym (take_all (length input) input (le_refl _))
+part_of_job words (Demo number) input asks = part_of_demo words input number asks ∙ sym (take_all (length input) input (le_refl _))
 
 -- what ends where the input was split is the script's part
 pub is_part : (words : List (List ℕ)) (job : Job) (input : List ℕ) (parts : ℕ × ℕ) → Asks words job → parts ≡ parts_of_job job input → take parts.0 input ≡ script_part words input

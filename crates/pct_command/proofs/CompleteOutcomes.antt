@@ -71,6 +71,7 @@ not_refused words input schedule code text accepted valid (outcome.Replayed repl
 not_refused words input schedule code text accepted valid (outcome.Ran runs) = rw runs.code_is (verdict_code _)
 not_refused words input schedule code text accepted valid (outcome.Checked checks) = omega (arith, checks.code_is)
 not_refused words input schedule code text accepted valid (outcome.PointsWritten written) = omega (arith, written.code_is)
+not_refused words input schedule code text accepted valid (outcome.Demonstrated written) = omega (arith, written.code_is)
 
 -- ---- all that a source had left
 
@@ -96,8 +97,8 @@ complete words before after a read wrote = λ input has no_read_fault no_write_f
 -- ---- what is promised of a status
 
 -- what holds of an answer that was written whole is what its status promises
-pub decides : (needs : Bool) (is_answer : List ℕ → ℕ → List ℕ → Type 0) (before after : Outside) (s : Status) → IsAnswered s → Decides needs is_answer before after (code_of s) → Answers needs is_answer before after s
-decides needs is_answer before after status.ReadFault answered whole = absurd (answered.no_read_fault refl)
-decides needs is_answer before after status.WriteFault answered whole = absurd (answered.no_write_fault refl)
-decides needs is_answer before after status.NoMemory answered whole = absurd (answered.some_memory refl)
-decides needs is_answer before after _ answered whole = whole
+pub decides : (needs allocates : Bool) (is_answer : List ℕ → ℕ → List ℕ → Type 0) (before after : Outside) (s : Status) → IsAnswered s → Decides needs is_answer before after (code_of s) → Answers needs allocates is_answer before after s
+decides needs allocates is_answer before after status.ReadFault answered whole = absurd (answered.no_read_fault refl)
+decides needs allocates is_answer before after status.WriteFault answered whole = absurd (answered.no_write_fault refl)
+decides needs allocates is_answer before after status.NoMemory answered whole = absurd (answered.some_memory refl)
+decides needs allocates is_answer before after _ answered whole = whole

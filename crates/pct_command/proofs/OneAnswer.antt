@@ -28,34 +28,10 @@ use Rattle.pct_command.specs.declared.words.Job.TheVariants as job
 use Rattle.pct_command.specs.SeedSchedule.{word_at, stream_of, IsContinuedBy, SeedSchedule}
 use Rattle.pct_command.specs.Command.{IsReportOf, AnswersAreOne}
 use Rattle.pct_command.specs.Words.{job_asked}
-use Rattle.pct_command.proofs.OneOutcome.{by_run, run_of, by_job, Found, Decided, Spelled, found}
-
--- ---- the first entries of a run
-
--- a step, and the first entries after it
-first_step : (script : Script) (config : Config) (end : Run) (before after : List Entry) → ((next : Run) → run_from script config next (before ++ after) ≡ Some end → (x : Run) × (run_from script config next before ≡ Some x))
-    → (o : Option Run) → option_and_then (λ next. run_from script config next (before ++ after)) o ≡ Some end → (x : Run) × (option_and_then (λ next. run_from script config next before) o ≡ Some x)
-first_step script config end before after first None ran = absurd (none-some end ran)
-first_step script config end before after first (Some next) ran = first next ran
-
--- the first entries of a run are a run
-first_from : (script : Script) (config : Config) (r end : Run) (before after : List Entry) → run_from script config r (before ++ after) ≡ Some end → (x : Run) × (run_from script config r before ≡ Some x)
-unfolding run_from
-first_from script config r end [] after ran = (r, refl)
-first_from script config r end (e ∷ before) after ran = first_step script config end before after (λ next. first_from script config next end before after) (run_step script config r e) ran
-
-first_run : (script : Script) (config : Config) (entries : List Entry) (end : Run) (k : ℕ) → run script config entries ≡ Some end → k ≤ length entries → (x : Run) × (run script config (take k entries) ≡ Some x)
-first_run script config entries end k ran within =
-    let parts = run_parts script config entries end ran in
-    let split : run_from script config (record { world = opening script; events = [] }) (take k entries ++ drop k entries) ≡ Some end = ap (run_from script config (record { world = opening script; events = [] })) (take-append-drop k entries) ∙ parts.ran in
-    let first = first_from script config (record { world = opening script; events = [] }) end (take k entries) (drop k entries) split in
-    (first.0, run_within script config (take k entries) parts.limits (omega (arith, parts.within, length-take-le k entries within, within)) ∙ first.1)
+use Rattle.pct_demo.proofs.ChosenRuns.{IsChosenRun, chosen_is_one}
+use Rattle.pct_command.proofs.OneOutcome.{by_run, run_of, by_job, Found, Decided, Counted, Spelled, found, no_script, demonstrated_once}
 
 -- ---- one schedule
-
--- any entry, for the lists that have one
-abbrev any_entry : Entry
-any_entry = record { worker = 0; pid = 0; tid = 0; alt = Go }
 
 -- the choice of the entry at an index of a run whose entries are all chosen
 choice_of : (words : Lcg) (script : Script) (config : Config) (entries : List Entry) → IsContinuedBy words script config [] entries → (k : ℕ) (before : Run) → k < length entries → run script config (take k entries) ≡ Some before
@@ -64,48 +40,14 @@ choice_of words script config entries by k before within is =
     ap (slice_get entries) (sym (zero-add k))
     ∙ by.choices k before (omega (arith, within)) (ap (λ (m : ℕ). run script config (take m entries)) (zero-add k) ∙ is)
 
-module _ (words : Lcg) (script : Script) (config : Config) (one other : List Entry) (chosen_one : IsContinuedBy words script config [] one) (chosen_other : IsContinuedBy words script config [] other) where
-  -- the entries at an index, after the same entries
-  same_next : (k : ℕ) → k < length one → k < length other → take k one ≡ take k other → get_or one k any_entry ≡ get_or other k any_entry
-  same_next k in_one in_other same =
-      let before = first_run script config one chosen_one.after k chosen_one.is_run (omega (arith, in_one)) in
-      same_Some _ _
-      (sym (slice_get-get_or one k any_entry in_one)
-      ∙ choice_of words script config one chosen_one k before.0 in_one before.1
-      ∙ sym (choice_of words script config other chosen_other k before.0 in_other (ap (run script config) (sym same) ∙ before.1))
-      ∙ slice_get-get_or other k any_entry in_other)
-
-  same_first : (k : ℕ) → k ≤ length one → k ≤ length other → take k one ≡ take k other
-  same_first zero in_one in_other = refl
-  same_first (suc k) in_one in_other =
-      let same = same_first k (omega (arith, in_one)) (omega (arith, in_other)) in
-      take-suc one k any_entry (omega (arith, in_one))
-      ∙ ap (λ (xs : List Entry). xs ++ get_or one k any_entry ∷ []) same
-      ∙ ap (λ (e : Entry). take k other ++ e ∷ []) (same_next k (omega (arith, in_one)) (omega (arith, in_other)) same)
-      ∙ sym (take-suc other k any_entry (omega (arith, in_other)))
-
-  -- a schedule whose run is closed has no longer one beside it
-  no_longer : length one < length other → ⊥
-  no_longer shorter =
-      let n = length one in
-      let e = get_or other n any_entry in
-      let more = first_run script config other chosen_other.after (suc n) chosen_other.is_run (omega (arith, shorter)) in
-      let first : one ≡ take n other = sym (take-length one) ∙ same_first n (omega arith) (omega (arith, shorter)) in
-      let ran : run script config (one ++ e ∷ []) ≡ Some more.0 = ap (λ (xs : List Entry). run script config (xs ++ e ∷ [])) first ∙ ap (run script config) (sym (take-suc other n any_entry shorter)) ∙ more.1 in
-      chosen_one.is_closed ((goes_on_while_open script config one chosen_one.after e chosen_one.is_run).0 (ap is_some ran)).0
+-- a generator chooses each entry by two of its words
+words_choose : (words : Lcg) (script : Script) (config : Config) (entries : List Entry) → IsContinuedBy words script config [] entries → IsChosenRun 1 (λ k. word_at words (2 * k)) (λ k. word_at words (2 * k + 1)) script config entries
+words_choose words script config entries by = record { after = by.after; is_run = by.is_run; is_closed = by.is_closed; choices = choice_of words script config entries by }
 
 -- a generator has one schedule at the most
 schedule_is_one : (words : Lcg) (script : Script) (config : Config) (one other : List Entry) → IsContinuedBy words script config [] one → IsContinuedBy words script config [] other → one ≡ other
 schedule_is_one words script config one other a b =
-    elim (cases_order (length one) (length other)) [
-      | inl same ↦
-          sym (take-length one)
-          ∙ same_first words script config one other a b (length one) (omega arith) (omega (arith, same))
-          ∙ ap (λ (n : ℕ). take n other) same
-          ∙ take-length other
-      | inr (inl shorter) ↦ absurd (no_longer words script config one other a b shorter)
-      | inr (inr longer) ↦ absurd (no_longer words script config other one b a longer)
-    ]
+    chosen_is_one 1 (λ k. word_at words (2 * k)) (λ k. word_at words (2 * k + 1)) script config one other (words_choose words script config one a) (words_choose words script config other b)
 
 -- ---- one answer
 
@@ -139,6 +81,7 @@ module _ (words : List (List ℕ)) (input : List ℕ) (script : Script) (spelled
       → (code ≡ other_code) × (text ≡ other_text)
   answer_of_job None one other code other_code text other_text a b reports other_reports = absurd (none-some (code, text) a)
   answer_of_job (Some job.Points) one other code other_code text other_text a b reports other_reports = absurd (none-some (code, text) a)
+  answer_of_job (Some (job.Demo number)) one other code other_code text other_text a b reports other_reports = absurd (none-some (code, text) a)
   answer_of_job (Some job.Replay) one other code other_code text other_text a b reports other_reports = some_pair_parts code other_code text other_text (sym a ∙ b)
   answer_of_job (Some job.Check) one other code other_code text other_text a b reports other_reports = some_pair_parts code other_code text other_text (sym a ∙ b)
   answer_of_job (Some (job.Run options)) one other code other_code text other_text a b reports other_reports =
@@ -151,6 +94,11 @@ found_answers : (words : List (List ℕ)) (input : List ℕ) (one other : List E
     → (code ≡ other_code) × (text ≡ other_text)
 found_answers words input one other code other_code text other_text (Decided a) (Decided b) reports other_reports = some_pair_parts code other_code text other_text (sym a ∙ b)
 found_answers words input one other code other_code text other_text (Decided a) (Spelled none script spells b) reports other_reports = absurd (none-some (code, text) (sym none ∙ a))
+found_answers words input one other code other_code text other_text (Decided a) (Counted none d) reports other_reports = absurd (none-some (code, text) (sym none ∙ a))
+found_answers words input one other code other_code text other_text (Counted none d) (Decided b) reports other_reports = absurd (none-some (other_code, other_text) (sym none ∙ b))
+found_answers words input one other code other_code text other_text (Counted none d) (Counted _ e) reports other_reports = demonstrated_once words code other_code text other_text d e
+found_answers words input one other code other_code text other_text (Counted none d) (Spelled _ script spells b) reports other_reports = absurd (no_script words input other script code other_code text other_text d b)
+found_answers words input one other code other_code text other_text (Spelled none script spells a) (Counted _ e) reports other_reports = absurd (no_script words input one script other_code code other_text text e a)
 found_answers words input one other code other_code text other_text (Spelled none script spells a) (Decided b) reports other_reports = absurd (none-some (other_code, other_text) (sym none ∙ b))
 found_answers words input one other code other_code text other_text (Spelled none script spells a) (Spelled _ another also b) reports other_reports =
     answer_of_job words input script spells (job_asked words) one other code other_code text other_text

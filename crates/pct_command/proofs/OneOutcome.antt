@@ -1,9 +1,9 @@
 -- Words, an input and a schedule have one outcome at the most.
 use Rattle.std.proofs.Common.{◌≡◌, ℕ, suc, ◌≤◌, Bool, true, false, ◌&&◌, cond, List, [], ◌∷◌, length, Option, Some, None, Ok, Err, refl, sym, ap, ◌∙◌, subst}
-use Rattle.std.specs.Prelude.{nat_le, nat_lt, option_and_then, option_map}
+use Rattle.std.specs.Prelude.{nat_le, nat_lt, is_some, option_and_then, option_map}
 use Rattle.std.specs.Option.{option_map_or}
-use Rattle.std.proofs.lemmas.Bool.{le-ltb, lt-ltb, or_parts}
-use Rattle.std.proofs.lemmas.Option.{none-some, some_pair_parts}
+use Rattle.std.proofs.lemmas.Bool.{le-ltb, lt-ltb}
+use Rattle.std.proofs.lemmas.Option.{none-some, same_Some, some_pair_parts}
 use Rattle.pct_model.specs.declared.script.Script.{Script}
 use Rattle.pct_model.specs.declared.schedule.Config.{Config}
 use Rattle.pct_model.specs.declared.schedule.Entry.{Entry}
@@ -18,14 +18,19 @@ use Rattle.pct_model.specs.Spelling.{Fault}
 use Rattle.pct_model.specs.Checks.{first_fault}
 use Rattle.pct_model.specs.Spells.{Spells}
 use Rattle.pct_model.specs.Canon.{canon}
-use Rattle.pct_model.specs.Outcome.{is_asked, needs_input, script_part, schedule_part, refused_words, refused_input, refused_script, refused_schedule, refused_entry, code_of_verdict, Outcome}
+use Rattle.pct_model.specs.RunOptions.{default_config}
+use Rattle.pct_model.specs.GeneratedScript.{generated_text}
+use Rattle.pct_model.specs.Demo.{IsCountedRun, summary_of}
+use Rattle.pct_model.specs.Outcome.{is_asked, asks_demo, needs_input, script_part, schedule_part, refused_words, refused_input, refused_script, refused_schedule, refused_entry, code_of_verdict, Demonstrates, Outcome}
 use Rattle.pct_model.specs.Outcome as outcome
 use Rattle.pct_options.proofs.Configs.{run_is_within}
 use Rattle.pct_grammar.proofs.Scripts.{spelled_is_faultless, spells_one_script}
+use Rattle.pct_grammar.proofs.CanonSpells.{canon_spells}
 use Rattle.pct_command.specs.declared.words.Job.{Job}
 use Rattle.pct_command.specs.declared.words.Job.TheVariants as job
 use Rattle.pct_command.specs.Words.{Asks, HasInput, job_asked}
-use Rattle.pct_command.proofs.AskedWords.{names_job, job_needs_input, points_need_none, part_of_run, part_of_check}
+use Rattle.pct_command.proofs.AskedWords.{names_job, job_needs_input, points_need_none, demo_needs_none, demo_is_no_points, none_asked, part_of_run, part_of_check}
+use Rattle.pct_demo.proofs.ChosenRuns.{IsChosenRun, chosen_is_one}
 
 -- ---- legal runs
 
@@ -51,19 +56,20 @@ run_is_legal script config after entries ran = legal_run script config (record {
 
 -- ---- the code and the text, by the order of the checks
 
--- of words without an input
-abbrev pub by_words : Bool → ℕ × List ℕ
-by_words true = (0, points_text)
-by_words false = (5, line_text refused_words)
+-- of words without an input: `points`, `demo`, or neither
+abbrev pub by_words : Bool → Bool → Option (ℕ × List ℕ)
+by_words true demo = Some (0, points_text)
+by_words false true = None
+by_words false false = Some (5, line_text refused_words)
 
 -- before the script is known
-abbrev pub by_checks : Bool → Bool → Bool → Option Fault → Option (ℕ × List ℕ)
-by_checks false points too_long fault = Some (by_words points)
-by_checks true points true fault = Some (8, line_text refused_input)
-by_checks true points false fault = option_map (λ f. (6, line_text (refused_script f.0 f.1))) fault
+abbrev pub by_checks : Bool → Bool → Bool → Bool → Option Fault → Option (ℕ × List ℕ)
+by_checks false points demo too_long fault = by_words points demo
+by_checks true points demo true fault = Some (8, line_text refused_input)
+by_checks true points demo false fault = option_map (λ f. (6, line_text (refused_script f.0 f.1))) fault
 
 abbrev pub decided_of : List (List ℕ) → List ℕ → Option (ℕ × List ℕ)
-decided_of words input = by_checks (needs_input words) (is_asked keyword.Points words) (nat_lt 16777216 (length input)) (first_fault (script_part words input))
+decided_of words input = by_checks (needs_input words) (is_asked keyword.Points words) (asks_demo words) (nat_lt 16777216 (length input)) (first_fault (script_part words input))
 
 -- of a run
 abbrev pub by_run : Script → Config → List Entry → Option Run → Option (List ℕ) → Option (ℕ × List ℕ)
@@ -89,11 +95,13 @@ by_job (Some (job.Run options)) input schedule script = run_of script options.co
 by_job (Some job.Replay) input schedule script = by_schedule script (sched_of (schedule_part input))
 by_job (Some job.Check) input schedule script = Some (0, canon script)
 by_job (Some job.Points) input schedule script = None
+by_job (Some (job.Demo number)) input schedule script = None
 by_job None input schedule script = None
 
 -- the code and the text are these
 pub data Found (words : List (List ℕ)) (input : List ℕ) (schedule : List Entry) (code : ℕ) (text : List ℕ) : Type 0 where
   Decided : decided_of words input ≡ Some (code, text) → Found words input schedule code text
+  Counted : decided_of words input ≡ None → Demonstrates words code text → Found words input schedule code text
   Spelled : decided_of words input ≡ None → (script : Script) → Spells (script_part words input) script → by_job (job_asked words) input schedule script ≡ Some (code, text) → Found words input schedule code text
 
 -- ---- every outcome is found
@@ -102,22 +110,23 @@ these : (c code : ℕ) (t text : List ℕ) → code ≡ c → text ≡ t → ◌
 these c code t text code_is text_is = ap (λ (x : ℕ). Some (x, t)) (sym code_is) ∙ ap (λ (x : List ℕ). Some (code, x)) (sym text_is)
 
 -- words without an input
-without_input : (words : List (List ℕ)) (input : List ℕ) (points : Bool) → needs_input words ≡ false → is_asked keyword.Points words ≡ points → decided_of words input ≡ Some (by_words points)
-without_input words input points none asked =
-    ap (λ (b : Bool). by_checks b (is_asked keyword.Points words) (nat_lt 16777216 (length input)) (first_fault (script_part words input))) none
-    ∙ ap (λ (b : Bool). Some (by_words b)) asked
+without_input : (words : List (List ℕ)) (input : List ℕ) (points demo : Bool) → needs_input words ≡ false → is_asked keyword.Points words ≡ points → asks_demo words ≡ demo → decided_of words input ≡ by_words points demo
+without_input words input points demo none asked asked_demo =
+    ap (λ (b : Bool). by_checks b (is_asked keyword.Points words) (asks_demo words) (nat_lt 16777216 (length input)) (first_fault (script_part words input))) none
+    ∙ ap (λ (b : Bool). by_words b (asks_demo words)) asked
+    ∙ ap (by_words points) asked_demo
 
 -- words with an input
-with_input : (words : List (List ℕ)) (input : List ℕ) (too_long : Bool) → needs_input words ≡ true → nat_lt 16777216 (length input) ≡ too_long → decided_of words input ≡ by_checks true (is_asked keyword.Points words) too_long (first_fault (script_part words input))
+with_input : (words : List (List ℕ)) (input : List ℕ) (too_long : Bool) → needs_input words ≡ true → nat_lt 16777216 (length input) ≡ too_long → decided_of words input ≡ by_checks true (is_asked keyword.Points words) (asks_demo words) too_long (first_fault (script_part words input))
 with_input words input too_long needs long =
-    ap (λ (b : Bool). by_checks b (is_asked keyword.Points words) (nat_lt 16777216 (length input)) (first_fault (script_part words input))) needs
-    ∙ ap (λ (b : Bool). by_checks true (is_asked keyword.Points words) b (first_fault (script_part words input))) long
+    ap (λ (b : Bool). by_checks b (is_asked keyword.Points words) (asks_demo words) (nat_lt 16777216 (length input)) (first_fault (script_part words input))) needs
+    ∙ ap (λ (b : Bool). by_checks true (is_asked keyword.Points words) (asks_demo words) b (first_fault (script_part words input))) long
 
 -- an input within the limit is refused for its script alone
-fitting : (words : List (List ℕ)) (input : List ℕ) (fault : Option Fault) → needs_input words ≡ true → length input ≤ 16777216 → first_fault (script_part words input) ≡ fault → decided_of words input ≡ by_checks true (is_asked keyword.Points words) false fault
+fitting : (words : List (List ℕ)) (input : List ℕ) (fault : Option Fault) → needs_input words ≡ true → length input ≤ 16777216 → first_fault (script_part words input) ≡ fault → decided_of words input ≡ by_checks true (is_asked keyword.Points words) (asks_demo words) false fault
 fitting words input fault needs fits first =
     with_input words input false needs (le-ltb 16777216 (length input) fits)
-    ∙ ap (λ (f : Option Fault). by_checks true (is_asked keyword.Points words) false f) first
+    ∙ ap (λ (f : Option Fault). by_checks true (is_asked keyword.Points words) (asks_demo words) false f) first
 
 spelled : (words : List (List ℕ)) (named : Job) (input : List ℕ) (schedule : List Entry) (script : Script) (code : ℕ) (text : List ℕ)
     → Asks words named → HasInput named → length input ≤ 16777216 → Spells (script_part words input) script → by_job (Some named) input schedule script ≡ Some (code, text) → Found words input schedule code text
@@ -134,10 +143,12 @@ ran script config entries after code text is_run text_is code_is =
 
 pub found : (words : List (List ℕ)) (input : List ℕ) (schedule : List Entry) (code : ℕ) (text : List ℕ) → Outcome words input schedule code text → Found words input schedule code text
 found words input schedule code text (outcome.WordsRefused o) =
-    let neither = or_parts (needs_input words) (is_asked keyword.Points words) o.refused in
-    Decided (without_input words input false neither.0 neither.1 ∙ these 5 code _ text o.code_is o.text_is)
+    let none = none_asked words o.refused in
+    Decided (without_input words input false false none.needs_none none.no_points none.no_demo ∙ these 5 code _ text o.code_is o.text_is)
 found words input schedule code text (outcome.PointsWritten o) =
-    Decided (without_input words input true (points_need_none words o.accepted) o.accepted ∙ these 0 code _ text o.code_is o.text_is)
+    Decided (without_input words input true (asks_demo words) (points_need_none words o.accepted) o.accepted refl ∙ these 0 code _ text o.code_is o.text_is)
+found words input schedule code text (outcome.Demonstrated o) =
+    Counted (without_input words input false true (demo_needs_none words o.number o.accepted) (demo_is_no_points words o.number o.accepted) (ap (λ (n : Option ℕ). is_some n) o.accepted)) o
 found words input schedule code text (outcome.InputRefused o) =
     Decided (with_input words input true o.accepted (lt-ltb 16777216 (length input) o.too_long) ∙ these 8 code _ text o.code_is o.text_is)
 found words input schedule code text (outcome.ScriptRefused o) =
@@ -165,8 +176,62 @@ found words input schedule code text (outcome.Checked o) =
 
 -- ---- and only one
 
+-- the number of `demo` has one script, that has one run, and that has one summary
+record IsDemo (number : ℕ) (code : ℕ) (text : List ℕ) : Type 0 where
+  script : Script
+  generated : canon script ≡ generated_text number
+  entries : List Entry
+  after : Run
+  is_run : IsCountedRun script default_config entries after
+  code_is : code ≡ 0
+  text_is : text ≡ summary_of number script default_config entries after
+
+demo_of : (words : List (List ℕ)) (number code : ℕ) (text : List ℕ) (d : Demonstrates words code text) → d.number ≡ number → IsDemo number code text
+demo_of words number code text d same =
+    subst (λ (n : ℕ). IsDemo n code text) same (record { script = d.script; generated = d.generated; entries = d.entries; after = d.after; is_run = d.is_run; code_is = d.code_is; text_is = d.text_is })
+
+same_demo_script : (number : ℕ) (script other : Script) → canon script ≡ generated_text number → canon other ≡ generated_text number → script ≡ other
+same_demo_script number script other one also =
+    spells_one_script (generated_text number) script other
+    (subst (λ (t : List ℕ). Spells t script) one (canon_spells script))
+    (subst (λ (t : List ℕ). Spells t other) also (canon_spells other))
+
+counted_is_chosen : (script : Script) (config : Config) (entries : List Entry) (after : Run) → IsCountedRun script config entries after → IsChosenRun 0 (λ k. k) (λ k. k) script config entries
+counted_is_chosen script config entries after counted = record { after = after; is_run = counted.is_run; is_closed = counted.is_closed; choices = counted.choices }
+
+demos_agree : (number : ℕ) (script : Script) (entries others : List Entry) (after end : Run) → IsCountedRun script default_config entries after → IsCountedRun script default_config others end
+    → summary_of number script default_config entries after ≡ summary_of number script default_config others end
+demos_agree number script entries others after end one other =
+    let same = chosen_is_one 0 (λ k. k) (λ k. k) script default_config entries others (counted_is_chosen script default_config entries after one) (counted_is_chosen script default_config others end other) in
+    let same_end : after ≡ end = same_Some after end (sym one.is_run ∙ ap (run script default_config) same ∙ other.is_run) in
+    ap (λ (xs : List Entry). summary_of number script default_config xs after) same ∙ ap (λ (r : Run). summary_of number script default_config others r) same_end
+
+demo_once : (number code other : ℕ) (text told : List ℕ) → IsDemo number code text → IsDemo number other told → (code ≡ other) × (text ≡ told)
+demo_once number code other text told a b =
+    let same = same_demo_script number b.script a.script b.generated a.generated in (
+      a.code_is ∙ sym b.code_is,
+      a.text_is
+          ∙ demos_agree number a.script a.entries b.entries a.after b.after a.is_run (subst (λ (s : Script). IsCountedRun s default_config b.entries b.after) same b.is_run)
+          ∙ ap (λ (s : Script). summary_of number s default_config b.entries b.after) (sym same)
+          ∙ sym b.text_is,
+    )
+
+pub demonstrated_once : (words : List (List ℕ)) (code other : ℕ) (text told : List ℕ) → Demonstrates words code text → Demonstrates words other told → (code ≡ other) × (text ≡ told)
+demonstrated_once words code other text told a b =
+    demo_once a.number code other text told (demo_of words a.number code text a refl) (demo_of words a.number other told b (same_Some b.number a.number (sym b.accepted ∙ a.accepted)))
+
+-- words that ask for a demo name no job with a script
+pub no_script : (words : List (List ℕ)) (input : List ℕ) (schedule : List Entry) (script : Script) (code other : ℕ) (text told : List ℕ) → Demonstrates words code text → by_job (job_asked words) input schedule script ≡ Some (other, told) → ⊥
+no_script words input schedule script code other text told d is =
+    none-some (other, told) (sym (ap (λ (o : Option Job). by_job o input schedule script) (names_job words (job.Demo d.number) d.accepted)) ∙ is)
+
 found_once : (words : List (List ℕ)) (input : List ℕ) (schedule : List Entry) (code other : ℕ) (text told : List ℕ) → Found words input schedule code text → Found words input schedule other told → (code ≡ other) × (text ≡ told)
 found_once words input schedule code other text told (Decided a) (Decided b) = some_pair_parts code other text told (sym a ∙ b)
+found_once words input schedule code other text told (Decided a) (Counted none d) = absurd (none-some (code, text) (sym none ∙ a))
+found_once words input schedule code other text told (Counted none d) (Decided b) = absurd (none-some (other, told) (sym none ∙ b))
+found_once words input schedule code other text told (Counted none d) (Counted _ e) = demonstrated_once words code other text told d e
+found_once words input schedule code other text told (Counted none d) (Spelled _ script spells b) = absurd (no_script words input schedule script code other text told d b)
+found_once words input schedule code other text told (Spelled none script spells a) (Counted _ e) = absurd (no_script words input schedule script other code told text e a)
 found_once words input schedule code other text told (Decided a) (Spelled none script spells b) = absurd (none-some (code, text) (sym none ∙ a))
 found_once words input schedule code other text told (Spelled none script spells a) (Decided b) = absurd (none-some (other, told) (sym none ∙ b))
 found_once words input schedule code other text told (Spelled none script spells a) (Spelled _ another also b) =

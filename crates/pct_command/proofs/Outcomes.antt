@@ -18,7 +18,10 @@ use Rattle.pct_model.specs.Spells.{Spells}
 use Rattle.pct_model.specs.Canon.{canon}
 use Rattle.pct_model.specs.Schedule.{sched_of}
 use Rattle.pct_model.specs.Run.{Run, first_illegal, verdict_of}
-use Rattle.pct_model.specs.RunOptions.{run_options}
+use Rattle.pct_model.specs.RunOptions.{run_options, default_config}
+use Rattle.pct_model.specs.GeneratedScript.{generated_text}
+use Rattle.pct_model.specs.Demo.{demo_number, IsCountedRun, summary_of}
+use Rattle.pct_demo.specs.CountedRuns.{IsCountedEngine}
 use Rattle.pct_model.specs.Report.{report_of, report}
 use Rattle.pct_model.specs.Outcome.{is_asked, is_accepted, needs_input, script_part, schedule_part, refused_words, refused_input, refused_script, refused_schedule, refused_entry, code_of_verdict, Outcome}
 use Rattle.pct_model.specs.Outcome as outcome
@@ -28,12 +31,12 @@ use Rattle.pct_engine.specs.EngineStates.{EngineValue, IsRunOf}
 use Rattle.pct_engine.proofs.EngineLaws.{keeps_laws}
 use Rattle.pct_command.specs.declared.answers.Answer.TheVariants as answer
 use Rattle.pct_command.specs.declared.words.Job.{Job}
-use Rattle.pct_command.specs.declared.words.Job.TheVariants.{Run as run_job, Replay, Check, Points}
+use Rattle.pct_command.specs.declared.words.Job.TheVariants.{Run as run_job, Replay, Check, Points, Demo}
 use Rattle.pct_command.specs.SeedSchedule.{SeedSchedule, IsSeededRun}
 use Rattle.pct_command.specs.Status.{code_of}
 use Rattle.pct_command.specs.Words.{Asks, job_asked}
 use Rattle.pct_command.specs.Command.{IsClosedRun, IsReplayed, IsLawful, IsReportOf, IsAnswer}
-use Rattle.pct_command.specs.Answer.{HasScript, status_of_verdict, verdict_of_run, text_of_run, code_of_answer}
+use Rattle.pct_command.specs.Answer.{HasScript, status_of_verdict, verdict_of_run, text_of_run, summary_of_run, code_of_answer}
 use Rattle.pct_command.proofs.AskedWords.{names_job, part_of_run, part_of_check, replay_asks_replay}
 
 -- ---- reports
@@ -203,6 +206,29 @@ points-answer words input asked = record {
   is_outcome = outcome.PointsWritten (record { accepted = asked; code_is = refl; text_is = refl });
   is_report = λ below. of-job words Points input [] _ _ asked tt;
 }
+
+-- a script and a configuration of equal parts
+script_and_config : {a b : Script} {c d : Config} → a ≡ b → c ≡ d → ◌≡◌ {A = Script × Config} (a, c) (b, d)
+script_and_config first second = cc
+
+-- the summary of an engine that has this run
+pub run-summary : (number : ℕ) (engine : EngineValue) (after : Run) → IsRunOf engine after → summary_of_run number engine ≡ summary_of number engine.script engine.config engine.history after
+run-summary number engine after is_run = ap (λ (o : Option Run). option_map_or (summary_of number engine.script engine.config engine.history) o []) is_run
+
+-- the summary of the counted run of the generated script is the answer of `demo`
+pub demo-answer : (words : List (List ℕ)) (input : List ℕ) (number : ℕ) (script : Script) (engine : EngineValue)
+    → demo_number words ≡ Some number → canon script ≡ generated_text number → IsCountedEngine script default_config engine → IsAnswer words input 0 (summary_of_run number engine)
+demo-answer words input number script engine asked generated ran =
+    let counted : IsCountedRun engine.script engine.config engine.history ran.after =
+    subst (λ (x : Script × Config). IsCountedRun x.0 x.1 engine.history ran.after) (script_and_config (sym ran.script_is) (sym ran.config_is)) ran.counted in
+    let same : summary_of_run number engine ≡ summary_of number script default_config engine.history ran.after =
+    run-summary number engine ran.after counted.is_run
+    ∙ ap (λ (x : Script × Config). summary_of number x.0 x.1 engine.history ran.after) (script_and_config ran.script_is ran.config_is) in
+    record {
+      schedule = [];
+      is_outcome = outcome.Demonstrated (record { number = number; accepted = asked; script = script; generated = generated; entries = engine.history; after = ran.after; is_run = ran.counted; code_is = refl; text_is = same });
+      is_report = λ below. of-job words (Demo number) input [] _ _ asked tt;
+    }
 
 -- ---- refusals
 

@@ -1,22 +1,20 @@
 -- Runs that go on as a generator of words chooses, an entry after the other.
 use Rattle.std.proofs.Common.{◌≡◌, ◌⊎◌, inl, inr, ℕ, zero, suc, ◌+◌, ◌*◌, ◌<◌, ◌≤◌, List, [], ◌∷◌, ◌++◌, Some, None, refl, sym, ap, ◌∙◌, subst, arith, length, take, length-append, append-nil}
 use Rattle.std.specs.Prelude.{slice_get}
-use Rattle.std.proofs.Math.Nat.{eq-or-lt_of_le}
-use Rattle.std.proofs.Math.Seq.{take-append_seam, get_or-append_seam}
-use Rattle.std.proofs.lemmas.List.{take-append-le, get_or_append_left, append_assoc}
-use Rattle.std.proofs.lemmas.Option.{none-some, same_Some, slice_get-get_or}
+use Rattle.std.proofs.Math.Seq.{take-append_seam}
+use Rattle.std.proofs.lemmas.List.{take-append-le, append_assoc}
+use Rattle.std.proofs.lemmas.Option.{same_Some}
 use Rattle.rand_pcg.specs.Lcg.{Lcg}
 use Rattle.rand_pcg.specs.Pcg.{pcg32}
 use Rattle.pct_model.specs.declared.script.Script.{Script}
 use Rattle.pct_model.specs.declared.schedule.Config.{Config}
 use Rattle.pct_model.specs.declared.schedule.Entry.{Entry}
-use Rattle.pct_model.specs.declared.stop.Verdict.{Verdict}
-use Rattle.pct_model.specs.declared.stop.Verdict.TheVariants as verdict
 use Rattle.pct_model.specs.Chosen.{chosen}
-use Rattle.pct_model.specs.Run.{Run, run, verdict_of}
-use Rattle.pct_engine.specs.EngineStates.{EngineValue, IsRunWith, IsChoice}
+use Rattle.pct_model.specs.Run.{Run, run}
+use Rattle.pct_engine.specs.EngineStates.{EngineValue, IsChoice}
 use Rattle.pct_engine_laws.proofs.LongerRuns.{run_parts}
 use Rattle.pct_history.proofs.IllegalEntries.{has_value}
+use Rattle.pct_demo.proofs.ChosenEntries.{is_open, chosen-legal, get-before, get-last, earlier_or_last}
 use Rattle.pct_command.specs.SeedSchedule.{word_at, AreChosenBy, IsContinuedBy}
 
 -- pairs of equal parts are equal
@@ -84,46 +82,6 @@ chosen-none words script config begun after is_run = record {
   now_is = refl;
 }
 
-open_or_not : (v : Verdict) → (v ≡ verdict.Open) ⊎ (v ≡ verdict.Open → ⊥)
-open_or_not verdict.Complete = inr (λ same. cc)
-open_or_not verdict.Deadlock = inr (λ same. cc)
-open_or_not verdict.Budget = inr (λ same. cc)
-open_or_not (verdict.Undefined why) = inr (λ same. cc)
-open_or_not verdict.Open = inl refl
-
--- if there is a choice, the verdict is `Open`
-open_by : (engine : EngineValue) (after : Run) (a b : ℕ) (e : Entry) → IsChoice engine after 1 a b (Some e)
-    → (verdict_of engine.script engine.config after.world (length engine.history) ≡ verdict.Open) ⊎ (verdict_of engine.script engine.config after.world (length engine.history) ≡ verdict.Open → ⊥)
-    → verdict_of engine.script engine.config after.world (length engine.history) ≡ verdict.Open
-open_by engine after a b e choice (inl is_open) = is_open
-open_by engine after a b e choice (inr is_closed) = absurd (none-some e (sym (choice.closed is_closed)))
-
-pub is_open : (engine : EngineValue) (after : Run) (a b : ℕ) (e : Entry) → IsChoice engine after 1 a b (Some e) → verdict_of engine.script engine.config after.world (length engine.history) ≡ verdict.Open
-is_open engine after a b e choice = open_by engine after a b e choice (open_or_not (verdict_of engine.script engine.config after.world (length engine.history)))
-
--- the entry that is chosen is legal
-pub chosen-legal : (engine : EngineValue) (after : Run) (a b : ℕ) (e : Entry) → IsChoice engine after 1 a b (Some e) → IsRunWith engine e
-chosen-legal engine after a b e choice = choice.legal (is_open engine after a b e choice)
-
--- the entries before the last one, and the last one
-get-before : (entries : List Entry) (e : Entry) (k : ℕ) → k < length entries → slice_get (entries ++ e ∷ []) k ≡ slice_get entries k
-get-before entries e k within =
-    slice_get-get_or (entries ++ e ∷ []) k e (omega (arith, length-append entries (e ∷ [])))
-    ∙ ap (λ (x : Entry). Some x) (get_or_append_left entries (e ∷ []) e k within)
-    ∙ sym (slice_get-get_or entries k e within)
-
-get-last : (entries : List Entry) (e : Entry) → slice_get (entries ++ e ∷ []) (length entries) ≡ Some e
-get-last entries e =
-    slice_get-get_or (entries ++ e ∷ []) (length entries) e (omega (arith, length-append entries (e ∷ [])))
-    ∙ ap (λ (x : Entry). Some x) (get_or-append_seam entries e [] e)
-
-swapped : {A B : Type 0} → A ⊎ B → B ⊎ A
-swapped (inl a) = inr a
-swapped (inr b) = inl b
-
-earlier_or_last : (k n : ℕ) → k < n + 1 → (k < n) ⊎ (k ≡ n)
-earlier_or_last k n within = swapped (eq-or-lt_of_le {n = k} {m = n} (omega arith))
-
 -- the choice of the entry at an index, where the last entry is the one after `n` chosen ones
 choice_at : (words : Lcg) (script : Script) (config : Config) (first n : ℕ) (entries : List Entry) (e : Entry) (after : Run) → length entries ≡ first + n → run script config entries ≡ Some after → AreChosenBy words script config first entries
     → Some e ≡ chosen script config after.world 1 (word_at words (2 * n)) (word_at words (2 * n + 1))
@@ -156,9 +114,9 @@ pub chosen-more : (words now : Lcg) (begun : List Entry) (engine : EngineValue) 
 chosen-more words now begun engine e so_far choice =
     let n = length so_far.rest in
     let ends : length engine.history ≡ length begun + n = ap (λ (xs : List Entry). length xs) so_far.begins ∙ length-append begun so_far.rest in
-    let more = has_value (run engine.script engine.config (engine.history ++ e ∷ [])) (chosen-legal engine so_far.after (pcg32 now).0 (pcg32 (pcg32 now).1).0 e choice) in
+    let more = has_value (run engine.script engine.config (engine.history ++ e ∷ [])) (chosen-legal engine so_far.after 1 (pcg32 now).0 (pcg32 (pcg32 now).1).0 e choice) in
     let picked =
-    choice.scheduled (is_open engine so_far.after (pcg32 now).0 (pcg32 (pcg32 now).1).0 e choice)
+    choice.scheduled (is_open engine so_far.after 1 (pcg32 now).0 (pcg32 (pcg32 now).1).0 e choice)
     ∙ ap (λ (a : ℕ). chosen engine.script engine.config so_far.after.world 1 a (pcg32 (pcg32 now).1).0) (first_word words now n so_far.now_is)
     ∙ ap (λ (b : ℕ). chosen engine.script engine.config so_far.after.world 1 (word_at words (2 * n)) b) (second_word words now n so_far.now_is) in
     record {

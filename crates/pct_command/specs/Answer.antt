@@ -1,5 +1,5 @@
 -- Answers: their statuses and their texts, and what the functions below `command` promise of them.
-use Rattle.std.specs.Prelude.{◌≡◌, ℕ, ◌≤◌, List, [], length, drop, Option, Some, Result, IfOk, IsErrOf}
+use Rattle.std.specs.Prelude.{◌≡◌, ℕ, ◌≤◌, Bool, true, List, [], length, drop, Option, Some, Result, IfOk, IsErrOf}
 use Rattle.std.specs.Option.{option_map_or}
 use Rattle.std.specs.Io.KnownBytes.{Consumes}
 use Rattle.pct_io.specs.ErrorCounts.{Rose}
@@ -13,6 +13,7 @@ use Rattle.pct_model.specs.Canon.{canon}
 use Rattle.pct_model.specs.Spells.{Spells}
 use Rattle.pct_model.specs.Run.{run, verdict_of}
 use Rattle.pct_model.specs.Report.{report_of}
+use Rattle.pct_model.specs.Demo.{summary_of}
 use Rattle.pct_model.specs.Outcome.{needs_input, script_part, refused_words, refused_input, refused_script, refused_schedule, refused_entry}
 use Rattle.pct_engine.specs.EngineStates.{EngineValue}
 use Rattle.pct_command.specs.declared.answers.Refusal.{Refusal}
@@ -54,12 +55,17 @@ verdict_of_run engine = option_map_or (λ after. verdict_of engine.script engine
 abbrev pub text_of_run : EngineValue → List ℕ
 text_of_run engine = option_map_or (report_of engine.script engine.config engine.history) (run engine.script engine.config engine.history) []
 
+-- the summary of the run of an engine, for a number
+abbrev pub summary_of_run : ℕ → EngineValue → List ℕ
+summary_of_run number engine = option_map_or (summary_of number engine.script engine.config engine.history) (run engine.script engine.config engine.history) []
+
 -- the status of an answer
 abbrev pub status_of_answer : Answer → Status
 status_of_answer (answer.Refused why) = status_of_refusal why
 status_of_answer (answer.Ran engine) = status_of_verdict (verdict_of_run engine)
 status_of_answer (answer.Checked script) = status.Complete
 status_of_answer answer.Points = status.Complete
+status_of_answer (answer.Demonstrated number engine) = status.Complete
 
 -- the code of an answer
 abbrev pub code_of_answer : Answer → ℕ
@@ -73,12 +79,14 @@ line_of_refusal (refusal.Script line why) = refused_script line why
 line_of_refusal (refusal.Schedule line why) = refused_schedule line why
 line_of_refusal (refusal.Entry entry_number) = refused_entry entry_number
 
--- the text of an answer: the line of a refusal, the report of a run, the canonical text of a script, or the table of points
+-- the text of an answer: the line of a refusal, the report of a run, the canonical text of a script, the table of points, or the
+-- summary of a run
 abbrev pub text_of_answer : Answer → List ℕ
 text_of_answer (answer.Refused why) = line_text (line_of_refusal why)
 text_of_answer (answer.Ran engine) = text_of_run engine
 text_of_answer (answer.Checked script) = canon script
 text_of_answer answer.Points = points_text
+text_of_answer (answer.Demonstrated number engine) = summary_of_run number engine
 
 -- ---- the answer to a text
 
@@ -96,6 +104,14 @@ pub record HasParts (words : List (List ℕ)) (job : Job) (input : List ℕ) (sc
 abbrev pub Answered : {E : Type 0} → List (List ℕ) → List ℕ → Result Answer E → Type 0
 Answered words input result = IfOk result (λ a. IsAnswer words input (code_of_answer a) (text_of_answer a))
 
+-- an answer of `demo`, unless memory ran out
+abbrev pub IsDemonstration : Answer → Type 0
+IsDemonstration (answer.Demonstrated number engine) = Unit {0}
+IsDemonstration _ = ⊥
+
+abbrev pub IsDemonstrated : {E : Type 0} → Result Answer E → Type 0
+IsDemonstrated result = IfOk result IsDemonstration
+
 -- ---- the answer to what was read
 
 -- an answer to the words and to the input that was read; if the source reports its bytes, the answer to all that it had left
@@ -105,9 +121,10 @@ pub record AnswersRead (words : List (List ℕ)) (before after : Option (List �
   pub is_answer : IsAnswer words input (code_of_answer a) (text_of_answer a)
   pub of_all : (left : List ℕ) → before ≡ Some left → IsAnswer words left (code_of_answer a) (text_of_answer a)
 
--- how a source was read: `ReadFault` comes if and only if it recorded an error, `NoMemory` only after a byte was read
-pub record ReadsInput {S : Type 0} (left_of : S → Option (List ℕ)) (errors_of : S → ℕ) (old new : S) (result : Result Answer Unanswered) : Type 0 where
+-- how a source was read: `ReadFault` comes if and only if it recorded an error; `NoMemory` comes only after a byte was read, if the
+-- call reads before it takes memory
+pub record ReadsInput {S : Type 0} (left_of : S → Option (List ℕ)) (errors_of : S → ℕ) (reads_first : Bool) (old new : S) (result : Result Answer Unanswered) : Type 0 where
   pub prefix : (taken : List ℕ) × Consumes (left_of old) (left_of new) taken
-  pub memory : IsErrOf result unanswered.NoMemory → HasRead (left_of old) (left_of new)
+  pub memory : reads_first ≡ true → IsErrOf result unanswered.NoMemory → HasRead (left_of old) (left_of new)
   pub cause : IsErrOf result unanswered.ReadFault → Rose (errors_of old) (errors_of new)
   pub no_error : ¬ IsErrOf result unanswered.ReadFault → errors_of new ≡ errors_of old

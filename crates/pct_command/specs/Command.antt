@@ -80,6 +80,7 @@ IsReportOf (Some (job.Run options)) words input schedule code text = IsClosedRun
 IsReportOf (Some job.Replay) words input schedule code text = (sched_of text ≡ sched_of (schedule_part input)) × (IsReplayed words input code text × IsLawful words input text)
 IsReportOf (Some job.Check) words input schedule code text = Unit {0}
 IsReportOf (Some job.Points) words input schedule code text = Unit {0}
+IsReportOf (Some (job.Demo number)) words input schedule code text = Unit {0}
 IsReportOf None words input schedule code text = Unit {0}
 
 -- the code and the text are the outcome of the words and the input, and a report is that of the job that the words name
@@ -102,7 +103,7 @@ pub record WrotePrefix (is_answer : List ℕ → ℕ → List ℕ → Type 0) (i
   pub wrote : AppendsPrefix before after text
   pub cause : Rose errors_before errors_after
 
--- ---- the answers of a call whose words need an input or do not
+-- ---- the answers of a call whose words need an input or do not, and that takes memory or does not
 
 -- what was read is a prefix of what the source had left, and all of it if the words need an input, unless it is too long
 pub record Reads (needs : Bool) (before after : Option (List ℕ)) (input : List ℕ) (code : ℕ) : Type 0 where
@@ -121,24 +122,24 @@ pub record FailsToWrite (needs : Bool) (is_answer : List ℕ → ℕ → List �
   pub output : WrotePrefix is_answer input before.written after.written before.write_errors after.write_errors
   pub read : Reads needs before.left after.left input output.code
 
--- the words need an input, nothing was written, and what was taken is a prefix of what the source had left
-pub record Takes (needs : Bool) (before after : Outside) : Type 0 where
-  pub accepted : needs ≡ true
+-- the call may fail so, nothing was written, and what was taken is a prefix of what the source had left
+pub record Takes (may_fail : Bool) (before after : Outside) : Type 0 where
+  pub accepted : may_fail ≡ true
   pub nothing : Keeps before.written after.written
   pub taken : List ℕ
   pub prefix : Consumes before.left after.left taken
 
--- a read failed: the source recorded the error
+-- a read failed: the words need an input, and the source recorded the error
 pub record FailsToRead (needs : Bool) (before after : Outside) : Type 0 where
   pub takes : Takes needs before after
   pub cause : Rose before.read_errors after.read_errors
 
--- what a call promises of each status; memory runs out before the first byte is written
-abbrev pub Answers : Bool → (List ℕ → ℕ → List ℕ → Type 0) → Outside → Outside → Status → Type 0
-Answers needs is_answer before after status.ReadFault = FailsToRead needs before after
-Answers needs is_answer before after status.WriteFault = FailsToWrite needs is_answer before after
-Answers needs is_answer before after status.NoMemory = Takes needs before after
-Answers needs is_answer before after s = Decides needs is_answer before after (code_of s)
+-- what a call promises of each status; memory runs out before the first byte is written, and only where the call takes some
+abbrev pub Answers : Bool → Bool → (List ℕ → ℕ → List ℕ → Type 0) → Outside → Outside → Status → Type 0
+Answers needs allocates is_answer before after status.ReadFault = FailsToRead needs before after
+Answers needs allocates is_answer before after status.WriteFault = FailsToWrite needs is_answer before after
+Answers needs allocates is_answer before after status.NoMemory = Takes allocates before after
+Answers needs allocates is_answer before after s = Decides needs is_answer before after (code_of s)
 
 -- at least one byte was read
 pub record HasRead (before after : Option (List ℕ)) : Type 0 where

@@ -9,13 +9,14 @@ ghost use Rattle.pct_command.specs.Answer.{line_of_refusal, text_of_answer};
 
 use crate::answers::{Answer, Refusal};
 use pct_cancel::write_points;
+use pct_demo::write_summary;
 use pct_io::{BufferedSink, Failed, Field, Sink, write_line};
 use pct_model::Keyword;
 use pct_printer::print;
 use pct_report::write_report;
 
-/// Writes an answer: the line of a refusal, the report of a run, the canonical text of a script, or the table of cancellation
-/// points.
+/// Writes an answer: the line of a refusal, the report of a run, the canonical text of a script, the table of cancellation points,
+/// or the summary of a run.
 pub(crate) fn write_answer<K: Sink>(answer: &Answer, sink: &mut K) -> Result<(), Failed>
     ensures { Writes K.written K.errors K.inners sink.old sink.new (text_of_answer answer.now) result }
 {
@@ -24,6 +25,7 @@ pub(crate) fn write_answer<K: Sink>(answer: &Answer, sink: &mut K) -> Result<(),
         Answer::Ran(engine) => write_report(engine, sink),
         Answer::Checked(script) => print(script, sink),
         Answer::Points => write_points(sink),
+        Answer::Demonstrated { number, engine } => write_summary(*number, engine, sink),
     }
 }
 

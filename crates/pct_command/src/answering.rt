@@ -58,6 +58,6 @@ fn answer_script(
         Job::Run(options) => run_script(alloc, options, script),
         Job::Replay => replay_script(alloc, script, schedule),
         Job::Check => Ok(Answer::Checked(script)),
-        Job::Points => unreachable!(),
+        Job::Points | Job::Demo(_) => unreachable!(),
     }
 }

@@ -1,4 +1,4 @@
-//! The answers: a refusal, a run, a script, or the table of cancellation points.
+//! The answers: a refusal, a run, a script, the table of cancellation points, or a run of a generated script.
 
 ghost use Rattle.std.specs.Prelude.{◌≡◌};
 ghost use Rattle.pct_command.specs.Answer.{status_of_answer, status_of_refusal};
@@ -34,6 +34,8 @@ pub(crate) enum Answer {
     Checked(Script),
     /// The table of cancellation points.
     Points,
+    /// The summary of the run of the script that is generated from a number.
+    Demonstrated { number: u32, engine: Engine },
 }
 
 /// Why there is no answer to an input.
@@ -69,7 +71,7 @@ impl Answer {
         match self {
             Answer::Refused(refusal) => refusal.status(),
             Answer::Ran(engine) => Status::of_verdict(engine.verdict()),
-            Answer::Checked(_) | Answer::Points => Status::Complete,
+            Answer::Checked(_) | Answer::Points | Answer::Demonstrated { .. } => Status::Complete,
         }
     }
 }

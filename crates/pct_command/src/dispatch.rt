@@ -1,16 +1,17 @@
 //! The top call: which command the words name, the input, and the answer.
 
-ghost use Rattle.std.specs.Prelude.{◌≡◌, ◌⊎◌, List, ℕ, true, false, map, string_bytes, Ok as Gives, IfOk, IfErr};
+ghost use Rattle.std.specs.Prelude.{◌≡◌, ◌⊎◌, List, ℕ, true, false, not, map, string_bytes, Ok as Gives, IfOk, IsErrOf};
 ghost use Rattle.pct_model.specs.declared.keyword.Keyword.TheVariants as keyword;
-ghost use Rattle.pct_model.specs.Outcome.{is_asked, is_accepted, needs_input};
+ghost use Rattle.pct_model.specs.Outcome.{asks_demo, is_asked, is_accepted, needs_input};
 ghost use Rattle.pct_io.specs.Inners.{KeepsInners};
-ghost use Rattle.pct_command.specs.Answer.{AnswersRead, ReadsInput};
+ghost use Rattle.pct_command.specs.Answer.{AnswersRead, IsDemonstrated, ReadsInput};
 ghost use Rattle.pct_command.specs.Command.{Answers, HasRead, IsAnswer, IsComplete, Records};
-ghost use Rattle.pct_command.specs.Words.{Asks, HasInput};
+ghost use Rattle.pct_command.specs.Words.{Asks, HasInput, takes_memory};
 
 use crate::answer_writer::write_answer;
 use crate::answering::answer_of;
 use crate::answers::{Answer, Refusal, Unanswered};
+use crate::demo_command::demonstrate;
 use crate::status::Status;
 use crate::words::{Job, Usage, read_words};
 use pct_io::{Failed, Gate, NoMemory, ReadEnd, Sink, Source, read_all};
@@ -20,16 +21,18 @@ use std::thread::Threads;
 
 /// Performs the command that the words name on the bytes of the source, and writes the answer to the sink.
 ///
-/// The words are `run` and its options (`--budget N`, `--passes N`, `--slots N` and `--seed N`, each also as `--budget=N`), or
-/// `replay`, `check` or `points` alone. `run` reads a script and runs it: worker 1 makes each step, which two words of its random
+/// The words are `run` and its options (`--budget N`, `--passes N`, `--slots N` and `--seed N`, each also as `--budget=N`), `demo`
+/// and a number, or `replay`, `check` or `points` alone. `run` reads a script and runs it: worker 1 makes each step, which two words of its random
 /// stream choose under the seed. `replay` reads a script, a line `%%`, and a schedule or a whole report, and runs the script under
 /// that schedule. Both write a report. `check` reads a script and writes its canonical text. `points` reads nothing and writes the
-/// table of cancellation points (XSH 2.9.5.2). A refusal is one line that names the reason. `rt` and `gate` are not used yet.
+/// table of cancellation points (XSH 2.9.5.2). `demo` reads nothing, runs the script that is generated from the number, where the
+/// number of steps so far chooses each step, and writes a summary of the run. A refusal is one line that names the reason. `rt` and `gate` are not used yet.
 ///
 /// The answer is the first of these that holds, unless it is `ReadFault`, `WriteFault` or `NoMemory`:
 ///
 /// - `Usage`: the words are not accepted; nothing is read.
 /// - `Complete`, from `points`: the table was written; nothing is read.
+/// - `Complete`, from `demo`: the summary was written; nothing is read.
 /// - `TooLong`: more than 16,777,216 bytes were read.
 /// - `ScriptRefused`: the text of the script has a fault.
 /// - `Complete`, from `check`: the canonical text was written.
@@ -43,7 +46,7 @@ use std::thread::Threads;
 /// - `ReadFault` comes only with `run`, `replay` and `check`, and only if the source recorded an error in this call. The sink
 ///   is unchanged.
 /// - `WriteFault` comes only if the sink recorded an error in this call. A prefix of the text was written.
-/// - `NoMemory` comes only with `run`, `replay` and `check`. The sink is unchanged.
+/// - `NoMemory` comes only with `run`, `replay`, `check` and `demo`. The sink is unchanged.
 pub fn command<R: Threads + Sync, S: Source, K: Sink, G: Gate>(
     rt: &R,
     alloc: Global,
@@ -52,7 +55,7 @@ pub fn command<R: Threads + Sync, S: Source, K: Sink, G: Gate>(
     sink: &mut K,
     gate: &G,
 ) -> Status
-    ensures answers { Answers (needs_input (map string_bytes words.now)) (IsAnswer (map string_bytes words.now))
+    ensures answers { Answers (needs_input (map string_bytes words.now)) (takes_memory (map string_bytes words.now)) (IsAnswer (map string_bytes words.now))
         (record { left = S.left source.old; read_errors = S.errors source.old; written = K.written sink.old; write_errors = K.errors sink.old })
         (record { left = S.left source.new; read_errors = S.errors source.new; written = K.written sink.new; write_errors = K.errors sink.new })
         result }
@@ -69,8 +72,11 @@ pub fn command<R: Threads + Sync, S: Source, K: Sink, G: Gate>(
     // With `points` nothing is read.
     ensures points { is_asked keyword.Points (map string_bytes words.now) ≡ true → (source.new ≡ source.old) × ((result ≡ Status.Complete) ⊎ (result ≡ Status.WriteFault)) }
 
-    // Out of memory comes only after a byte was read.
-    ensures memory { result ≡ Status.NoMemory → HasRead (S.left source.old) (S.left source.new) }
+    // With `demo` nothing is read.
+    ensures demo { asks_demo (map string_bytes words.now) ≡ true → (source.new ≡ source.old) × ((result ≡ Status.Complete) ⊎ (result ≡ Status.WriteFault) ⊎ (result ≡ Status.NoMemory)) }
+
+    // With the other commands out of memory comes only after a byte was read.
+    ensures memory { asks_demo (map string_bytes words.now) ≡ false → result ≡ Status.NoMemory → HasRead (S.left source.old) (S.left source.new) }
 
     // A read error and exhausted memory leave the sink as it was.
     ensures untouched { (result ≡ Status.ReadFault) ⊎ (result ≡ Status.NoMemory) → sink.new ≡ sink.old }
@@ -99,14 +105,20 @@ fn answer_words<S: Source>(
     source: &mut S,
 ) -> Result<Answer, Unanswered>
     ensures answer { IfOk result (λ answer. AnswersRead (map string_bytes words.now) (S.left source.old) (S.left source.new) answer) }
-    ensures input { IfErr result (λ _. needs_input (map string_bytes words.now) ≡ true) }
+    ensures read { IsErrOf result Unanswered.ReadFault → needs_input (map string_bytes words.now) ≡ true }
+    ensures memory { IsErrOf result Unanswered.NoMemory → takes_memory (map string_bytes words.now) ≡ true }
     ensures usage { is_accepted (map string_bytes words.now) ≡ false → (source.new ≡ source.old) × (result ≡ Gives (Answer.Refused Refusal.Words)) }
     ensures points { is_asked keyword.Points (map string_bytes words.now) ≡ true → (source.new ≡ source.old) × (result ≡ Gives Answer.Points) }
-    ensures reads { ReadsInput S.left S.errors source.old source.new result }
+    ensures demo { asks_demo (map string_bytes words.now) ≡ true → (source.new ≡ source.old) × IsDemonstrated result }
+    ensures reads { ReadsInput S.left S.errors (not (asks_demo (map string_bytes words.now))) source.old source.new result }
 {
     match read_words(words) {
         Err(Usage) => Ok(Answer::Refused(Refusal::Words)),
         Ok(Job::Points) => Ok(Answer::Points),
+        Ok(Job::Demo(number)) => match demonstrate(alloc, number) {
+            Ok(answer) => Ok(answer),
+            Err(NoMemory) => Err(Unanswered::NoMemory),
+        },
         Ok(job) => answer_input(alloc, job, source),
     }
 }
@@ -115,7 +127,7 @@ fn answer_words<S: Source>(
 fn answer_input<S: Source>(alloc: Global, job: Job, source: &mut S) -> Result<Answer, Unanswered>
     requires { HasInput job }
     ensures answer { (words : List (List ℕ)) → Asks words job → IfOk result (λ answer. AnswersRead words (S.left source.old) (S.left source.new) answer) }
-    ensures reads { ReadsInput S.left S.errors source.old source.new result }
+    ensures reads { ReadsInput S.left S.errors true source.old source.new result }
 {
     match read_all(alloc, source, MAX_INPUT) {
         Ok(text) => match answer_of(alloc, job, &text) {

@@ -10,6 +10,7 @@ ghost use Rattle.pct_command.specs.Words.{Asks, HasInput};
 use crate::answer_writer::write_answer;
 use crate::answering::answer_of;
 use crate::answers::{Answer, Refusal};
+use crate::demo_command::demonstrate;
 use crate::status::Status;
 use crate::text_sink::TextSink;
 use crate::words::{Job, Usage, read_words};
@@ -41,6 +42,7 @@ fn answer_bytes(alloc: Global, words: &[String], input: &[u8]) -> Result<Answer,
     match read_words(words) {
         Err(Usage) => Ok(Answer::Refused(Refusal::Words)),
         Ok(Job::Points) => Ok(Answer::Points),
+        Ok(Job::Demo(number)) => demonstrate(alloc, number),
         Ok(job) => answer_text(alloc, job, input),
     }
 }

@@ -1,11 +1,12 @@
 //! The top call: `command` reads words and an input. It runs the script of the input, replays a schedule of it, or writes
-//! its canonical text. Without an input it writes the table of cancellation points.
+//! its canonical text. Without an input it writes the table of cancellation points, or runs a generated script.
 #![tactic(auto)]
 
 mod answer_writer;
 mod answering;
 mod answers;
 mod arguments;
+mod demo_command;
 mod dispatch;
 mod in_memory;
 mod law;

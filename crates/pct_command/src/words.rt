@@ -1,12 +1,14 @@
 //! The words after the program's name.
 
 ghost use Rattle.std.specs.Prelude.{◌≡◌, map, string_bytes, true, false, IsOk, ◌↔◌, IfOk};
+ghost use Rattle.pct_model.specs.Demo.{demo_number};
 ghost use Rattle.pct_model.specs.Outcome.{is_accepted};
 ghost use Rattle.pct_model.specs.RunOptions.{run_options};
 ghost use Rattle.pct_command.specs.Words.{Asks};
 
 use pct_model::{Keyword, RunOptions};
 use pct_options::read_options;
+use pct_text::numeral;
 
 /// The words are not accepted.
 #[derive(Clone, Copy, Debug, PartialEq, Eq)]
@@ -23,10 +25,12 @@ pub enum Job {
     Check,
     /// Write the table of cancellation points.
     Points,
+    /// Run the script that is generated from this number, and write the summary of the run.
+    Demo(u32),
 }
 
-/// The command that the words name: `run` with its options, or one word, which is `replay`, `check` or `points`. `Usage` comes with
-/// all other words. It allocates no memory.
+/// The command that the words name: `run` with its options, `demo` with a number, or one word, which is `replay`, `check` or
+/// `points`. `Usage` comes with all other words. It allocates no memory.
 #[tactic(auto, unfolding(pct_model::specs::Outcome::is_asked))]
 pub fn read_words(words: &[String]) -> Result<Job, Usage>
     ensures accepted { IsOk result ↔ (is_accepted (map string_bytes words.now) ≡ true) }
@@ -34,6 +38,9 @@ pub fn read_words(words: &[String]) -> Result<Job, Usage>
 {
     if let Some(options) = run_options(words) {
         return Ok(Job::Run(options));
+    }
+    if let Some(number) = demo_number(words) {
+        return Ok(Job::Demo(number));
     }
     match words {
         [word] if word.as_bytes() == Keyword::Replay.text() => Ok(Job::Replay),
@@ -53,5 +60,18 @@ fn run_options(words: &[String]) -> Option<RunOptions>
         read_options(options)
     } else {
         None
+    }
+}
+
+// The number that the words ask for, if they are `demo` and a number.
+#[tactic(auto, unfolding(pct_model::specs::Demo::demo_number))]
+fn demo_number(words: &[String]) -> Option<u32>
+    ensures { result ≡ demo_number (map string_bytes words.now) }
+{
+    match words {
+        [command, number] if command.as_bytes() == Keyword::Demo.text() => numeral(
+            number.as_bytes(),
+        ),
+        _ => None,
     }
 }

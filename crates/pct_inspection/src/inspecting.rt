@@ -52,7 +52,7 @@ pub fn inspect<S: Source, K: Sink>(
     source: &mut S,
     sink: &mut K,
 ) -> Status
-    ensures answers { Answers (is_inspection (map string_bytes words.now)) (IsInspected (map string_bytes words.now))
+    ensures answers { Answers (is_inspection (map string_bytes words.now)) (is_inspection (map string_bytes words.now)) (IsInspected (map string_bytes words.now))
         (record { left = S.left source.old; read_errors = S.errors source.old; written = K.written sink.old; write_errors = K.errors sink.old })
         (record { left = S.left source.new; read_errors = S.errors source.new; written = K.written sink.new; write_errors = K.errors sink.new })
         result }

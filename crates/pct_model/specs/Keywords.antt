@@ -1,4 +1,4 @@
--- The fixed words of scripts, reports, schedules and refusals, and how a list of words is written as a line.
+-- The fixed words of scripts, reports, schedules, summaries and refusals, and how a list of words is written as a line.
 use Rattle.std.specs.Prelude.{ℕ, List, [], ◌∷◌, ◌++◌, codes, flat_map}
 use Rattle.std.specs.List.{join_with_byte}
 use Rattle.pct_model.specs.declared.keyword.Keyword.{Keyword}
@@ -12,6 +12,7 @@ keyword_text keyword.End = codes "end"
 keyword_text keyword.Replay = codes "replay"
 keyword_text keyword.Check = codes "check"
 keyword_text keyword.Points = codes "points"
+keyword_text keyword.Demo = codes "demo"
 keyword_text keyword.Push = codes "push"
 keyword_text keyword.Pop = codes "pop"
 keyword_text keyword.Run = codes "run"
@@ -67,6 +68,10 @@ keyword_text keyword.Act = codes "act"
 keyword_text keyword.New = codes "new"
 keyword_text keyword.Pick = codes "pick"
 keyword_text keyword.Dtor = codes "dtor"
+keyword_text keyword.Threads = codes "threads"
+keyword_text keyword.Rounds = codes "rounds"
+keyword_text keyword.Steps = codes "steps"
+keyword_text keyword.Total = codes "total"
 keyword_text keyword.Undefined = codes "undefined"
 keyword_text keyword.Profile = codes "profile"
 keyword_text keyword.ForkChildCall = codes "fork_child_call"

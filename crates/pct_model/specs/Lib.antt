@@ -67,4 +67,6 @@ pub mod EventTexts
 pub mod Report
 pub mod Schedule
 pub mod RunOptions
+pub mod GeneratedScript
+pub mod Demo
 pub mod Outcome

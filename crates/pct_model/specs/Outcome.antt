@@ -19,7 +19,9 @@ use Rattle.pct_model.specs.Checks.{FirstFault}
 use Rattle.pct_model.specs.Spells.{Spells}
 use Rattle.pct_model.specs.Schedule.{sched_of, replay_parts}
 use Rattle.pct_model.specs.Run.{Run, run, first_illegal, verdict_of}
-use Rattle.pct_model.specs.RunOptions.{run_options}
+use Rattle.pct_model.specs.RunOptions.{run_options, default_config}
+use Rattle.pct_model.specs.GeneratedScript.{generated_text}
+use Rattle.pct_model.specs.Demo.{demo_number, IsCountedRun, summary_of}
 use Rattle.pct_model.specs.Canon.{canon}
 use Rattle.pct_model.specs.Report.{report}
 
@@ -39,9 +41,13 @@ asks_run words = is_some (run_options words)
 abbrev pub needs_input : List (List ℕ) → Bool
 needs_input words = asks_run words || is_asked keyword.Replay words || is_asked keyword.Check words
 
--- the arguments that are accepted: those, or `points` alone
+-- the arguments are `demo` and a number
+abbrev pub asks_demo : List (List ℕ) → Bool
+asks_demo words = is_some (demo_number words)
+
+-- the arguments that are accepted: those, or `points` alone, or `demo` and a number
 abbrev pub is_accepted : List (List ℕ) → Bool
-is_accepted words = needs_input words || is_asked keyword.Points words
+is_accepted words = needs_input words || is_asked keyword.Points words || asks_demo words
 
 -- the script in the input: the part before the line `%%` for `replay`, the whole input for `run` and `check`
 unfoldable pub script_part : List (List ℕ) → List ℕ → List ℕ
@@ -199,6 +205,18 @@ pub record WritesPoints (words : List (List ℕ)) (code : ℕ) (text : List ℕ)
   pub code_is : code ≡ 0
   pub text_is : text ≡ points_text
 
+-- `demo` with a number: the text is the summary of the run of the script of that number, for any input
+pub record Demonstrates (words : List (List ℕ)) (code : ℕ) (text : List ℕ) : Type 0 where
+  pub number : ℕ
+  pub accepted : demo_number words ≡ Some number
+  pub script : Script
+  pub generated : canon script ≡ generated_text number
+  pub entries : List Entry
+  pub after : Run
+  pub is_run : IsCountedRun script default_config entries after
+  pub code_is : code ≡ 0
+  pub text_is : text ≡ summary_of number script default_config entries after
+
 -- the outcome for these arguments and this input, under this schedule. The cases are disjoint, and in the order in
 -- which they are decided; only `run` depends on the schedule.
 pub data Outcome (words : List (List ℕ)) (input : List ℕ) (schedule : List Entry) (code : ℕ) (text : List ℕ) : Type 0 where
@@ -211,3 +229,4 @@ pub data Outcome (words : List (List ℕ)) (input : List ℕ) (schedule : List E
   Ran : Runs words input schedule code text → Outcome words input schedule code text
   Checked : Checks words input code text → Outcome words input schedule code text
   PointsWritten : WritesPoints words code text → Outcome words input schedule code text
+  Demonstrated : Demonstrates words code text → Outcome words input schedule code text

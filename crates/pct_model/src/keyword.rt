@@ -3,7 +3,7 @@
 ghost use Rattle.std.specs.Prelude.{◌≡◌};
 ghost use Rattle.pct_model.specs.Keywords.{keyword_text};
 
-/// A fixed word of a script, a report, a schedule or a refusal.
+/// A fixed word of a script, a report, a schedule, a summary or a refusal.
 #[derive(Clone, Copy)]
 pub enum Keyword {
     // the name of the function in which a script starts
@@ -13,6 +13,7 @@ pub enum Keyword {
     Replay,
     Check,
     Points,
+    Demo,
     // the words of events
     Emit,
     Push,
@@ -71,6 +72,11 @@ pub enum Keyword {
     New,
     Pick,
     Dtor,
+    // the words of summaries
+    Threads,
+    Rounds,
+    Steps,
+    Total,
     // the words of stops
     Undefined,
     Profile,
@@ -132,6 +138,7 @@ impl Keyword {
             Keyword::Replay => b"replay",
             Keyword::Check => b"check",
             Keyword::Points => b"points",
+            Keyword::Demo => b"demo",
             Keyword::Push => b"push",
             Keyword::Pop => b"pop",
             Keyword::Run => b"run",
@@ -187,6 +194,10 @@ impl Keyword {
             Keyword::New => b"new",
             Keyword::Pick => b"pick",
             Keyword::Dtor => b"dtor",
+            Keyword::Threads => b"threads",
+            Keyword::Rounds => b"rounds",
+            Keyword::Steps => b"steps",
+            Keyword::Total => b"total",
             Keyword::Undefined => b"undefined",
             Keyword::Profile => b"profile",
             Keyword::ForkChildCall => b"fork_child_call",

@@ -1,10 +1,13 @@
-use Rattle.std.proofs.Common.{◌≡◌, Bool, true, false, [], Result, Ok, Err, refl, sym, ◌∙◌, map, rules}
-use Rattle.std.specs.Prelude.{string_bytes, IfErr}
-use Rattle.std.proofs.lemmas.Bool.{false≢true, true≢false, or_parts}
+use Rattle.std.proofs.Common.{◌≡◌, ℕ, Bool, true, false, ◌||◌, List, [], Some, refl, sym, ap, ◌∙◌, map, rules}
+use Rattle.std.specs.Prelude.{string_bytes}
+use Rattle.std.proofs.lemmas.Bool.{false≢true, true≢false}
 use Rattle.std.proofs.KnownBytes.{Consumes-nil}
 use Rattle.pct_model.specs.declared.keyword.Keyword.TheVariants as keyword
-use Rattle.pct_model.specs.Outcome.{is_asked, is_accepted, needs_input}
-use Rattle.pct_command.proofs.AskedWords.{NeedsInput, has_input, job_needs_input, points_need_none}
+use Rattle.pct_model.specs.Demo.{demo_number}
+use Rattle.pct_model.specs.Outcome.{asks_demo, is_asked, is_accepted, needs_input}
+use Rattle.pct_command.specs.declared.words.Job.{Job}
+use Rattle.pct_command.specs.Words.{Asks}
+use Rattle.pct_command.proofs.AskedWords.{NeedsInput, has_input, job_needs_input, points_need_none, points_are_no_demo, demo_needs_none, demo_is_no_points, input_is_no_demo, none_asked}
 use Rattle.pct_command.proofs.Outcomes.{words-answer, points-answer}
 use Rattle.pct_command.proofs.dispatch.answer_words.Goals as goal
 
@@ -19,7 +22,7 @@ returns-in-Err-clause-answer g c =
     let not_accepted : is_accepted words ≡ false = refused (is_accepted words) (λ accepted. false≢true (c.in-Err.ensures.accepted.1 accepted)) in
     record {
       input = [];
-      read = record { prefix = Consumes-nil _; to_end = λ needs _. absurd (true≢false (sym needs ∙ (or_parts (needs_input words) (is_asked keyword.Points words) not_accepted).0)) };
+      read = record { prefix = Consumes-nil _; to_end = λ needs _. absurd (true≢false (sym needs ∙ (none_asked words not_accepted).needs_none)) };
       is_answer = words-answer words [] not_accepted;
       of_all = λ left _. words-answer words left not_accepted;
     }
@@ -42,19 +45,64 @@ answer_input-requires g c =
     let needs : NeedsInput c.in-Ok.job = search rules in
     has_input (map string_bytes c.args.words.now) c.in-Ok.job c.in-Ok.ensures.job needs
 
--- an answer to an input comes only with words that need one
-if_err : {T E P : Type 0} (r : Result T E) → P → IfErr r (λ _. P)
-if_err (Ok x) p = tt
-if_err (Err e) p = p
-
-pub returns-in-Ok-clause-input : goal.returns-in-Ok-clause-input
-returns-in-Ok-clause-input g c =
-    let words = map string_bytes c.args.words.now in
-    let needs : NeedsInput c.in-Ok.job = search rules in
-    if_err c.answer_input.result (job_needs_input words c.in-Ok.job c.in-Ok.ensures.job (has_input words c.in-Ok.job c.in-Ok.ensures.job needs))
+-- the words of the other jobs need an input
+words_need_input : (words : List (List ℕ)) (job : Job) → Asks words job → NeedsInput job → needs_input words ≡ true
+words_need_input words job asks needs = job_needs_input words job asks (has_input words job asks needs)
 
 pub returns-in-Ok-clause-points : goal.returns-in-Ok-clause-points
 returns-in-Ok-clause-points g c = λ asked.
     let words = map string_bytes c.args.words.now in
     let needs : NeedsInput c.in-Ok.job = search rules in
     absurd (true≢false (sym (job_needs_input words c.in-Ok.job c.in-Ok.ensures.job (has_input words c.in-Ok.job c.in-Ok.ensures.job needs)) ∙ points_need_none words asked))
+
+pub returns-in-Ok-clause-read : goal.returns-in-Ok-clause-read
+returns-in-Ok-clause-read g c = λ _.
+    let needs : NeedsInput c.in-Ok.job = search rules in
+    words_need_input (map string_bytes c.args.words.now) c.in-Ok.job c.in-Ok.ensures.job needs
+
+pub returns-in-Ok-clause-memory : goal.returns-in-Ok-clause-memory
+returns-in-Ok-clause-memory g c = λ _.
+    let words = map string_bytes c.args.words.now in
+    let needs : NeedsInput c.in-Ok.job = search rules in
+    ap (λ (b : Bool). b || asks_demo words) (words_need_input words c.in-Ok.job c.in-Ok.ensures.job needs)
+
+pub returns-in-Ok-clause-demo : goal.returns-in-Ok-clause-demo
+returns-in-Ok-clause-demo g c = λ asked.
+    let words = map string_bytes c.args.words.now in
+    let needs : NeedsInput c.in-Ok.job = search rules in
+    absurd (input_is_no_demo words (words_need_input words c.in-Ok.job c.in-Ok.ensures.job needs) asked)
+
+pub returns-in-Ok-clause-reads : goal.returns-in-Ok-clause-reads
+returns-in-Ok-clause-reads g c =
+    let reads = c.answer_input.ensures.reads in
+    record { prefix = reads.prefix; memory = λ _. reads.memory refl; cause = reads.cause; no_error = reads.no_error }
+
+pub returns-in-Ok-Points-clause-demo : goal.returns-in-Ok-Points-clause-demo
+returns-in-Ok-Points-clause-demo g c = λ demo.
+    let words = map string_bytes c.args.words.now in
+    let asked : is_asked keyword.Points words ≡ true = rw c.in-Ok-Points.field-0-is at c.in-Ok-Points.ensures.job in
+    absurd (true≢false (sym demo ∙ points_are_no_demo words asked))
+
+-- `demo` reads nothing
+pub returns-in-Ok-demonstrate-clause-answer : goal.returns-in-Ok-demonstrate-clause-answer
+returns-in-Ok-demonstrate-clause-answer g c =
+    let words = map string_bytes c.args.words.now in
+    let asked : demo_number words ≡ Some c.in-Ok-Demo.number = rw c.in-Ok-Demo.field-0-is at c.in-Ok-Demo.ensures.job in
+    record {
+      input = [];
+      read = record { prefix = Consumes-nil _; to_end = λ needs _. absurd (true≢false (sym needs ∙ demo_needs_none words c.in-Ok-Demo.number asked)) };
+      is_answer = c.in-Ok-demonstrate.ensures.answer words [] asked;
+      of_all = λ left _. c.in-Ok-demonstrate.ensures.answer words left asked;
+    }
+
+pub returns-in-Ok-demonstrate-clause-points : goal.returns-in-Ok-demonstrate-clause-points
+returns-in-Ok-demonstrate-clause-points g c = λ points.
+    let words = map string_bytes c.args.words.now in
+    let asked : demo_number words ≡ Some c.in-Ok-Demo.number = rw c.in-Ok-Demo.field-0-is at c.in-Ok-Demo.ensures.job in
+    absurd (true≢false (sym points ∙ demo_is_no_points words c.in-Ok-Demo.number asked))
+
+pub returns-in-Err-demonstrate-clause-points : goal.returns-in-Err-demonstrate-clause-points
+returns-in-Err-demonstrate-clause-points g c = λ points.
+    let words = map string_bytes c.args.words.now in
+    let asked : demo_number words ≡ Some c.in-Ok-Demo.number = rw c.in-Ok-Demo.field-0-is at c.in-Ok-Demo.ensures.job in
+    absurd (true≢false (sym points ∙ demo_is_no_points words c.in-Ok-Demo.number asked))

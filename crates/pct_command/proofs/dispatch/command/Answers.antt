@@ -1,9 +1,14 @@
-use Rattle.std.proofs.Common.{map}
+use Rattle.std.proofs.Common.{◌≡◌, inl, inr, refl, ◌∙◌, map}
 use Rattle.std.specs.Prelude.{string_bytes}
 use Rattle.pct_io.proofs.Unchanged.{KeepsInners-refl}
 use Rattle.pct_model.specs.Outcome.{needs_input}
 use Rattle.pct_command.specs.Command.{Outside, IsAnswer, Decides}
-use Rattle.pct_command.specs.Answer.{code_of_answer, text_of_answer}
+use Rattle.pct_command.specs.Words.{takes_memory}
+use Rattle.pct_command.specs.declared.answers.Answer.{Answer}
+use Rattle.pct_command.specs.declared.answers.Answer.TheVariants as answer
+use Rattle.pct_command.specs.declared.status.Status.TheVariants as status
+use Rattle.pct_command.specs.Answer.{IsDemonstration, status_of_answer, code_of_answer, text_of_answer}
+use Rattle.pct_command.proofs.AskedWords.{input_is_no_demo}
 use Rattle.pct_command.proofs.CompleteOutcomes.{complete, decides}
 use Rattle.pct_command.proofs.dispatch.command.Goals as goal
 
@@ -18,7 +23,7 @@ returns-in-Ok-write_answer-clause-answers g c =
       read = read.read;
       output = record { text = text_of_answer c.in-Ok.answer; answer = read.is_answer; wrote = c.in-Ok-write_answer.ensures.ok };
     } in
-    decides (needs_input words) (IsAnswer words) before after c.status.result c.status.ensures.answered (rw c.status.ensures.status whole)
+    decides (needs_input words) (takes_memory words) (IsAnswer words) before after c.status.result c.status.ensures.answered (rw c.status.ensures.status whole)
 
 pub returns-in-Ok-write_answer-clause-complete : goal.returns-in-Ok-write_answer-clause-complete
 returns-in-Ok-write_answer-clause-complete g c =
@@ -40,3 +45,32 @@ returns-in-Err-ReadFault-clause-inners g c = KeepsInners-refl _
 
 pub returns-clause-inners : goal.returns-clause-inners
 returns-clause-inners g c = KeepsInners-refl _
+
+-- the status of a demonstration
+demonstration-status : (a : Answer) → IsDemonstration a → status_of_answer a ≡ status.Complete
+demonstration-status (answer.Refused why) is = absurd is
+demonstration-status (answer.Ran engine) is = absurd is
+demonstration-status (answer.Checked script) is = absurd is
+demonstration-status answer.Points is = absurd is
+demonstration-status (answer.Demonstrated number engine) is = refl
+
+pub returns-in-Ok-write_answer-clause-demo : goal.returns-in-Ok-write_answer-clause-demo
+returns-in-Ok-write_answer-clause-demo g c = λ asked.
+    let demo = c.in-Ok.ensures.demo asked in
+    (demo.0, inl (c.status.ensures.status ∙ demonstration-status c.in-Ok.answer demo.1))
+
+pub returns-in-Ok-clause-untouched : goal.returns-in-Ok-clause-untouched
+returns-in-Ok-clause-untouched g c = λ either. elim either [
+  | inl is ↦ absurd cc
+  | inr is ↦ absurd cc
+]
+
+pub returns-in-Ok-clause-read_errors : goal.returns-in-Ok-clause-read_errors
+returns-in-Ok-clause-read_errors g c = record { error = λ is. absurd cc; no_error = λ _. c.in-Ok.ensures.reads.no_error (λ is. absurd cc) }
+
+pub returns-in-Ok-clause-write_errors : goal.returns-in-Ok-clause-write_errors
+returns-in-Ok-clause-write_errors g c = record { error = λ _. c.in-Err.ensures.cause; no_error = λ other. absurd (other refl) }
+
+pub returns-in-Err-ReadFault-clause-demo : goal.returns-in-Err-ReadFault-clause-demo
+returns-in-Err-ReadFault-clause-demo g c = λ asked.
+    absurd (input_is_no_demo (map string_bytes c.args.words.now) (c.in-Err-ReadFault.ensures.read (rw c.in-Err-ReadFault.field-0-is refl)) asked)

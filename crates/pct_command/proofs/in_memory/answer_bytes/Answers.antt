@@ -22,3 +22,8 @@ pub answer_text-requires : goal.answer_text-requires
 answer_text-requires c =
     let needs : NeedsInput c.in-Ok.job = search rules in
     has_input (map string_bytes c.args.words.now) c.in-Ok.job c.in-Ok.ensures.job needs
+
+pub returns-in-Ok-Demo : goal.returns-in-Ok-Demo
+returns-in-Ok-Demo c =
+    let words = map string_bytes c.args.words.now in
+    c.demonstrate.ensures.answer words c.args.input.now (rw c.in-Ok-Demo.field-0-is at c.in-Ok-Demo.ensures.job)

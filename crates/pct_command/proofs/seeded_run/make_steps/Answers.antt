@@ -1,7 +1,8 @@
 use Rattle.std.proofs.Common.{◌≡◌, ◌+◌, ◌≤◌, ◌++◌, ◌∷◌, [], refl, sym, ap, ◌∙◌, subst, arith, length, length-append}
 use Rattle.pct_engine.specs.EngineStates.{EngineValue}
 use Rattle.pct_command.specs.SeedSchedule.{IsContinuedBy}
-use Rattle.pct_command.proofs.SeededRuns.{IsChosenSoFar, chosen-none, chosen-legal, chosen-next, chosen-within, chosen-all}
+use Rattle.pct_demo.proofs.ChosenEntries.{chosen-legal}
+use Rattle.pct_command.proofs.SeededRuns.{IsChosenSoFar, chosen-none, chosen-next, chosen-within, chosen-all}
 use Rattle.pct_command.proofs.seeded_run.make_steps.Goals as goal
 
 pub loop-entry-init : goal.loop-entry-init
@@ -13,7 +14,7 @@ loop-entry-init c = record {
 pub unwrap-requires : goal.unwrap-requires
 unwrap-requires c =
     let so_far = c.loop-entry.invariant.so_far in
-    c.step.ensures.legal.1 (chosen-legal c.loop-entry.engine so_far.after _ _ c.in-Some.entry (c.in-Some.ensures.chosen so_far.after so_far.is_run))
+    c.step.ensures.legal.1 (chosen-legal c.loop-entry.engine so_far.after 1 _ _ c.in-Some.entry (c.in-Some.ensures.chosen so_far.after so_far.is_run))
 
 -- what the step made
 made : (c : goal.After-unwrap) → c.step.new.self ≡ record c.loop-entry.engine { history = c.loop-entry.engine.history ++ c.in-Some.entry ∷ [] }

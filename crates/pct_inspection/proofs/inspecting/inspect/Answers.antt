@@ -20,7 +20,7 @@ returns-in-Ok-write_answer-clause-answers g c =
       read = read.read;
       output = record { text = text_of_answer c.in-Ok.answer; answer = read.is_answer; wrote = c.in-Ok-write_answer.ensures.ok };
     } in
-    decides (is_inspection words) (IsInspected words) before after c.status.result c.status.ensures.answered (rw c.status.ensures.status whole)
+    decides (is_inspection words) (is_inspection words) (IsInspected words) before after c.status.result c.status.ensures.answered (rw c.status.ensures.status whole)
 
 pub returns-in-Ok-write_answer-clause-complete : goal.returns-in-Ok-write_answer-clause-complete
 returns-in-Ok-write_answer-clause-complete g c =

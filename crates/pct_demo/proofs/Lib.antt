@@ -1,0 +1,4 @@
+pub mod ChosenRuns
+pub mod ChosenEntries
+pub mod CountedRuns
+pub mod Summaries

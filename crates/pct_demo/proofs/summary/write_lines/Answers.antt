@@ -1,0 +1,14 @@
+use Rattle.std.proofs.Common.{rules}
+use Rattle.std.proofs.lemmas.Result.{err_from_is_err_and}
+use Rattle.pct_io.proofs.BufferedWrites.{Writes-kept, Writes-through}
+use Rattle.pct_demo.proofs.summary.write_lines.Goals as goal
+
+pub returns-in_err-write_parts : goal.returns-in_err-write_parts
+returns-in_err-write_parts g c =
+    let p = err_from_is_err_and c.from_residual.result c.from_residual.ensures.1 in
+    rw p.1 (Writes-through _ c.new-out.ensures.sink (search rules) c.new-out.ensures.buffer tt c.in_err-write_parts.ensures)
+
+pub returns : goal.returns
+returns g c =
+    Writes-through c.flush.result c.new-out.ensures.sink (search rules) c.new-out.ensures.buffer c.flush.ensures.buffer
+    (Writes-kept c.flush.result c.in_ok-write_parts.ensures c.flush.ensures.kept)

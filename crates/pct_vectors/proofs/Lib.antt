@@ -1,0 +1,5 @@
+pub mod Numbered
+pub mod ThreadNames
+pub mod StaticScripts
+pub mod GeneratedTexts
+pub mod Worked

@@ -1,0 +1,29 @@
+use Rattle.std.proofs.Common.{◌≡◌, ◌+◌, ◌/◌, ◌%◌, ℕ, true, List, [], ◌∷◌, codes, refl, ap, sym, ◌∙◌, subst, arith}
+use Rattle.pct_model.specs.declared.script.Func.{Func}
+use Rattle.pct_model.specs.declared.script.SemDecl.{SemDecl}
+use Rattle.pct_model.specs.Keywords.{text_of}
+use Rattle.pct_model.specs.Contents.{Contents}
+use Rattle.pct_model.specs.Canon.{script_lines}
+use Rattle.pct_model.specs.Static.{is_static}
+use Rattle.pct_model.specs.GeneratedScript.{threads_of, rounds_of, generated_text}
+use Rattle.pct_vectors.specs.GeneratedContents.{global_names, generated_functions, generated_contents}
+use Rattle.pct_vectors.proofs.StaticScripts.{generated_is_static}
+use Rattle.pct_vectors.proofs.GeneratedTexts.{generated_canon}
+use Rattle.pct_vectors.proofs.script.generate.Goals as goal
+
+-- the declarations of equal parts
+same_contents : (threads rounds : ℕ) (globals mutexes conds : List (List ℕ)) (sems none : List SemDecl) (funcs : List Func)
+    → globals ≡ global_names threads → mutexes ≡ codes "m" ∷ [] → conds ≡ codes "c" ∷ [] → sems ≡ none → none ≡ [] → funcs ≡ generated_functions threads rounds
+    → ◌≡◌ {A = Contents} (record { globals = globals; mutexes = mutexes; conds = conds; sems = sems; funcs = funcs }) (generated_contents threads rounds)
+same_contents threads rounds globals mutexes conds sems none funcs g m c s n f = rw (g, m, c, s, n, f) refl
+
+pub invariant_of-result : goal.invariant_of-result
+invariant_of-result c = record {
+  passes_checks = subst (λ (x : Contents). is_static x ≡ true) (sym (same_contents _ _ _ _ _ _ _ _ c.in_ok-global_names.ensures c.in_ok-one_name.ensures c.in_ok-one_name-2.ensures c.of.ensures c.new.ensures.items c.in_ok-functions.ensures)) (generated_is_static (threads_of c.args.number) (rounds_of c.args.number) (omega arith) (omega arith) (omega arith));
+}
+
+pub returns : goal.returns
+unfolding generated_text
+returns c =
+    ap (λ (x : Contents). text_of (script_lines x)) (same_contents _ _ _ _ _ _ _ _ c.in_ok-global_names.ensures c.in_ok-one_name.ensures c.in_ok-one_name-2.ensures c.of.ensures c.new.ensures.items c.in_ok-functions.ensures)
+    ∙ generated_canon (threads_of c.args.number) (rounds_of c.args.number) (omega arith)
