@@ -1,5 +1,8 @@
-//! The tests of `command` that cannot be cases of pct_cases: reads and writes that fail, and words that no line has.
+//! The tests of `command` and `answer` that cannot be cases of pct_cases: reads and writes that fail, words that no line has, and
+//! inputs in memory.
 #![tactic(auto)]
 
 #[cfg(test)]
 mod failing_streams;
+#[cfg(test)]
+mod in_memory;
