@@ -14,7 +14,7 @@ use Rattle.pct_model.specs.Demo.{demo_number}
 use Rattle.pct_model.specs.Outcome.{is_asked, is_accepted, asks_demo, needs_input, script_part}
 use Rattle.pct_model.specs.RunOptions.{run_options}
 use Rattle.pct_model.proofs.Bytes.{same_bytes}
-use Rattle.pct_options.proofs.Configs.{run_is_within}
+use Rattle.pct_options.proofs.Configs.{run_has_workers, run_is_within}
 use Rattle.pct_command.specs.declared.words.Job.{Job}
 use Rattle.pct_command.specs.declared.words.Job.TheVariants.{Run, Replay, Check, Points, Demo}
 use Rattle.pct_command.specs.Words.{Asks, HasInput, job_asked, parts_of_job, takes_memory}
@@ -102,6 +102,24 @@ names_job words (Demo number) asks =
     let parts = demo_words words number asks in
     ap job_asked parts.are ∙ ap (λ (o : Option ℕ). option_map (λ n. Demo n) o) parts.value
 
+-- the options of a job, if it is a run
+abbrev options_in : Option Job → Option RunOptions
+options_in (Some (Run options)) = Some options
+options_in _ = None
+
+run_asked_by : (asked : Option RunOptions) (replay check points : Bool) (number : Option ℕ) (options : RunOptions)
+    → option_map_or (λ numbers. Some (Run numbers)) asked (if replay then Some Replay else if check then Some Check else if points then Some Points else option_map (λ n. Demo n) number) ≡ Some (Run options) → asked ≡ Some options
+run_asked_by (Some numbers) replay check points number options is = ap options_in is
+run_asked_by None true check points number options is = ap options_in is
+run_asked_by None false true points number options is = ap options_in is
+run_asked_by None false false true number options is = ap options_in is
+run_asked_by None false false false None options is = ap options_in is
+run_asked_by None false false false (Some n) options is = ap options_in is
+
+-- words that name a run give its options
+pub run_asked : (words : List (List ℕ)) (options : RunOptions) → job_asked words ≡ Some (Run options) → run_options words ≡ Some options
+run_asked words options named = run_asked_by (run_options words) (is_asked keyword.Replay words) (is_asked keyword.Check words) (is_asked keyword.Points words) (demo_number words) options named
+
 -- the job reads the input
 abbrev pub NeedsInput : Job → Type 0
 NeedsInput (Run options) = Unit {0}
@@ -110,9 +128,9 @@ NeedsInput Check = Unit {0}
 NeedsInput Points = ⊥
 NeedsInput (Demo number) = ⊥
 
--- the options that words give have a configuration within the limits
+-- the options that words give have a configuration, workers and turns within the limits
 pub has_input : (words : List (List ℕ)) (job : Job) → Asks words job → NeedsInput job → HasInput job
-has_input words (Run options) asks needs = run_is_within words options asks
+has_input words (Run options) asks needs = (run_is_within words options asks, run_has_workers words options asks)
 has_input words Replay asks needs = tt
 has_input words Check asks needs = tt
 has_input words Points asks needs = needs

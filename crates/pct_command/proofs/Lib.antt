@@ -1,6 +1,5 @@
 pub mod AskedWords
 pub mod Scripts
-pub mod SeededRuns
 pub mod Outcomes
 pub mod CompleteOutcomes
 pub mod OneOutcome

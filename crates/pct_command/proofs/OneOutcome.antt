@@ -23,13 +23,12 @@ use Rattle.pct_model.specs.GeneratedScript.{generated_text}
 use Rattle.pct_model.specs.Demo.{IsCountedRun, summary_of}
 use Rattle.pct_model.specs.Outcome.{is_asked, asks_demo, needs_input, script_part, schedule_part, refused_words, refused_input, refused_script, refused_schedule, refused_entry, code_of_verdict, Demonstrates, Outcome}
 use Rattle.pct_model.specs.Outcome as outcome
-use Rattle.pct_options.proofs.Configs.{run_is_within}
 use Rattle.pct_grammar.proofs.Scripts.{spelled_is_faultless, spells_one_script}
 use Rattle.pct_grammar.proofs.CanonSpells.{canon_spells}
 use Rattle.pct_command.specs.declared.words.Job.{Job}
 use Rattle.pct_command.specs.declared.words.Job.TheVariants as job
 use Rattle.pct_command.specs.Words.{Asks, HasInput, job_asked}
-use Rattle.pct_command.proofs.AskedWords.{names_job, job_needs_input, points_need_none, demo_needs_none, demo_is_no_points, none_asked, part_of_run, part_of_check}
+use Rattle.pct_command.proofs.AskedWords.{has_input, names_job, job_needs_input, points_need_none, demo_needs_none, demo_is_no_points, none_asked, part_of_run, part_of_check}
 use Rattle.pct_demo.proofs.ChosenRuns.{IsChosenRun, chosen_is_one}
 
 -- ---- legal runs
@@ -166,7 +165,7 @@ found words input schedule code text (outcome.Replayed o) =
     ∙ ap (λ (n : Option ℕ). by_illegal n (run_of o.script o.config o.entries)) (run_is_legal o.script o.config o.after o.entries o.is_run)
     ∙ ran o.script o.config o.entries o.after code text o.is_run o.text_is o.code_is)
 found words input schedule code text (outcome.Ran o) =
-    spelled words (job.Run o.options) input schedule o.script code text o.accepted (run_is_within words o.options o.accepted) o.fits
+    spelled words (job.Run o.options) input schedule o.script code text o.accepted (has_input words (job.Run o.options) o.accepted tt) o.fits
     (subst (λ (part : List ℕ). Spells part o.script) (sym (part_of_run words input o.options o.accepted)) o.spelled)
     (ran o.script o.options.config schedule o.after code text o.is_run o.text_is o.code_is)
 found words input schedule code text (outcome.Checked o) =

@@ -29,10 +29,10 @@ use Rattle.pct_schedule_laws.proofs.ReadBack.{report_is_read_back}
 use Rattle.pct_grammar.proofs.Scripts.{spells_one_script}
 use Rattle.pct_engine.specs.EngineStates.{EngineValue, IsRunOf}
 use Rattle.pct_engine.proofs.EngineLaws.{keeps_laws}
+use Rattle.pct_shared.specs.Schedules.{WorkersSchedule}
 use Rattle.pct_command.specs.declared.answers.Answer.TheVariants as answer
 use Rattle.pct_command.specs.declared.words.Job.{Job}
 use Rattle.pct_command.specs.declared.words.Job.TheVariants.{Run as run_job, Replay, Check, Points, Demo}
-use Rattle.pct_command.specs.SeedSchedule.{SeedSchedule, IsSeededRun}
 use Rattle.pct_command.specs.Status.{code_of}
 use Rattle.pct_command.specs.Words.{Asks, job_asked}
 use Rattle.pct_command.specs.Command.{IsClosedRun, IsReplayed, IsLawful, IsReportOf, IsAnswer}
@@ -149,28 +149,33 @@ closed_code (verdict.Undefined why) closed e = absurd (omega (arith, e))
 closed_code verdict.Open closed e = closed refl
 
 run-with_options : (words : List (List ℕ)) (input : List ℕ) (options : RunOptions) (script : Script) (entries : List Entry)
-    → run_options words ≡ Some options → HasScript words input script → SeedSchedule script options.config options.seed entries
+    → run_options words ≡ Some options → HasScript words input script → WorkersSchedule script options entries
     → IsAnswer words input (code_of_answer (answer.Ran (with_options options script entries))) (text_of_run (with_options options script entries))
-run-with_options words input options script entries asked has seeded =
+run-with_options words input options script entries asked has worked =
     let engine : EngineValue = with_options options script entries in
-    let read_back = read-back engine seeded.after seeded.is_run in
-    let closed : ¬ (verdict_of_run engine ≡ verdict.Open) = λ is_open. seeded.is_closed (sym (run-verdict engine seeded.after seeded.is_run) ∙ is_open) in
-    let closed_run : IsClosedRun options words input entries (code_of_answer (answer.Ran engine)) (text_of_run engine) = record { read_back = read_back; script = script; spelled = has.spelled; seeded = seeded; closed = closed_code (verdict_of_run engine) closed } in
+    let whole = worked.whole in
+    let read_back = read-back engine whole.after whole.is_run in
+    let closed : ¬ (verdict_of_run engine ≡ verdict.Open) = λ is_open. whole.is_closed (sym (run-verdict engine whole.after whole.is_run) ∙ is_open) in
+    let closed_run : IsClosedRun options words input entries (code_of_answer (answer.Ran engine)) (text_of_run engine) = record { read_back = read_back; script = script; spelled = has.spelled; worked = worked; closed = closed_code (verdict_of_run engine) closed } in
     record {
       schedule = entries;
-      is_outcome = run-outcome words input options script entries seeded.after asked has seeded.is_run;
-      is_report = λ below. of-job words (run_job options) input entries _ _ asked (closed_run, (is-replayed words input engine seeded.after has read_back seeded.is_run, is-lawful words input engine seeded.after has seeded.is_run));
+      is_outcome = run-outcome words input options script entries whole.after asked has whole.is_run;
+      is_report = λ below. of-job words (run_job options) input entries _ _ asked (closed_run, (is-replayed words input engine whole.after has read_back whole.is_run, is-lawful words input engine whole.after has whole.is_run));
     }
 
-pub run-answer : (words : List (List ℕ)) (input : List ℕ) (script : Script) (options : RunOptions) (engine : EngineValue)
-    → run_options words ≡ Some options → HasScript words input script → IsSeededRun script options.config options.seed engine
+-- a run that the workers made from an engine of the script without entries is the answer of `run`
+pub run-answer : (words : List (List ℕ)) (input : List ℕ) (script : Script) (options : RunOptions) (opened engine : EngineValue)
+    → run_options words ≡ Some options → HasScript words input script → opened ≡ with_options options script []
+    → (engine.script ≡ opened.script) × (engine.config ≡ opened.config) × WorkersSchedule opened.script options engine.history
     → IsAnswer words input (code_of_answer (answer.Ran engine)) (text_of_run engine)
-run-answer words input script options engine asked has ran =
+run-answer words input script options opened engine asked has opened_is made =
+    let script_is : engine.script ≡ script = made.0 ∙ ap (λ (e : EngineValue). e.script) opened_is in
+    let config_is : engine.config ≡ options.config = made.1 ∙ ap (λ (e : EngineValue). e.config) opened_is in
     let same : with_options options script engine.history ≡ engine =
-    ap (λ (s : Script). record engine { script = s; config = options.config }) (sym ran.script_is)
-    ∙ ap (λ (c : Config). record engine { config = c }) (sym ran.config_is) in
+    ap (λ (s : Script). record engine { script = s; config = options.config }) (sym script_is)
+    ∙ ap (λ (c : Config). record engine { config = c }) (sym config_is) in
     subst (λ (e : EngineValue). IsAnswer words input (code_of_answer (answer.Ran e)) (text_of_run e)) same
-    (run-with_options words input options script engine.history asked has ran.schedule_is)
+    (run-with_options words input options script engine.history asked has (subst (λ (e : EngineValue). WorkersSchedule e.script options engine.history) opened_is made.2))
 
 replay-read : (words : List (List ℕ)) (input : List ℕ) (engine : EngineValue) (after : Run)
     → is_asked keyword.Replay words ≡ true → HasScript words input engine.script → sched_of (schedule_part input) ≡ Ok (engine.config, engine.history) → IsRunOf engine after

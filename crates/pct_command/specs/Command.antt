@@ -16,12 +16,13 @@ use Rattle.pct_model.specs.Kept.{Kept}
 use Rattle.pct_model.specs.Laws.{Laws}
 use Rattle.pct_model.specs.Report.{report}
 use Rattle.pct_model.specs.Run.{Run, first_illegal, run}
+use Rattle.pct_model.specs.RunOptions.{run_options}
 use Rattle.pct_model.specs.Outcome.{is_asked, is_accepted, script_part, schedule_part, Outcome}
+use Rattle.pct_shared.specs.Schedules.{WorkersSchedule}
 use Rattle.pct_command.specs.declared.status.Status.{Status}
 use Rattle.pct_command.specs.declared.status.Status.TheVariants as status
 use Rattle.pct_command.specs.declared.words.Job.{Job}
 use Rattle.pct_command.specs.declared.words.Job.TheVariants as job
-use Rattle.pct_command.specs.SeedSchedule.{SeedSchedule}
 use Rattle.pct_command.specs.Status.{code_of}
 use Rattle.pct_command.specs.Words.{job_asked}
 
@@ -40,13 +41,13 @@ pub record Records (failed s : Status) (before after : ℕ) : Type 0 where
 
 -- ---- what is written
 
--- the report of a `run` with these options: its configuration and its schedule are read back from the text, the schedule is that of the
--- seed for the script of the input, and the verdict is not `Open`
+-- the report of a `run` with these options: its configuration and its schedule are read back from the text, its schedule is one that the
+-- workers may make for the script of the input, and the verdict is not `Open`
 pub record IsClosedRun (options : RunOptions) (words : List (List ℕ)) (input : List ℕ) (schedule : List Entry) (code : ℕ) (text : List ℕ) : Type 0 where
   pub read_back : sched_of text ≡ Ok (options.config, schedule)
   pub script : Script
   pub spelled : Spells (script_part words input) script
-  pub seeded : SeedSchedule script options.config options.seed schedule
+  pub worked : WorkersSchedule script options schedule
   pub closed : code ≢ 4
 
 -- `replay` of any input with the same script and the schedule of the text has this outcome
@@ -177,8 +178,12 @@ OutcomesAreOne =
     (words : List (List ℕ)) (input : List ℕ) (schedule : List Entry) (code other_code : ℕ) (text other_text : List ℕ)
     → Outcome words input schedule code text → Outcome words input schedule other_code other_text → (code ≡ other_code) × (text ≡ other_text)
 
--- words and an input have at most one answer, whatever schedule it was found under
+-- the words do not ask for more than one worker
+abbrev pub HasOneWorker : List (List ℕ) → Type 0
+HasOneWorker words = (options : RunOptions) → run_options words ≡ Some options → options.workers ≡ 1
+
+-- words that do not ask for more than one worker and an input have at most one answer, whatever schedule it was found under
 abbrev pub AnswersAreOne : Type 0
 AnswersAreOne =
     (words : List (List ℕ)) (input : List ℕ) (code other_code : ℕ) (text other_text : List ℕ)
-    → IsAnswer words input code text → IsAnswer words input other_code other_text → (code ≡ other_code) × (text ≡ other_text)
+    → HasOneWorker words → IsAnswer words input code text → IsAnswer words input other_code other_text → (code ≡ other_code) × (text ≡ other_text)

@@ -1,12 +1,12 @@
 -- The command that the words of the program name.
-use Rattle.std.specs.Prelude.{◌≡◌, ℕ, true, if◌then◌else◌, Bool, ◌||◌, List, length, Option, Some, None, option_map}
+use Rattle.std.specs.Prelude.{◌≡◌, ℕ, true, if◌then◌else◌, Bool, ◌||◌, List, length, Option, Some, option_map}
 use Rattle.std.specs.Option.{option_map_or}
 use Rattle.pct_model.specs.declared.keyword.Keyword.TheVariants as keyword
 use Rattle.pct_model.specs.Schedule.{replay_parts}
 use Rattle.pct_model.specs.Demo.{demo_number}
 use Rattle.pct_model.specs.Outcome.{is_asked, needs_input, asks_demo}
 use Rattle.pct_model.specs.Run.{is_config}
-use Rattle.pct_model.specs.RunOptions.{run_options}
+use Rattle.pct_model.specs.RunOptions.{HasWorkers, run_options}
 use Rattle.pct_command.specs.declared.words.Job.{Job}
 use Rattle.pct_command.specs.declared.words.Job.TheVariants.{Run, Replay, Check, Points, Demo}
 
@@ -28,9 +28,9 @@ job_asked words =
     else option_map (λ number. Demo number) (demo_number words)
     )
 
--- the job reads the input, and the configuration of a run is within the limits
+-- the job reads the input, and the configuration of a run, its workers and their turns are within the limits
 abbrev pub HasInput : Job → Type 0
-HasInput (Run options) = is_config options.config ≡ true
+HasInput (Run options) = (is_config options.config ≡ true) × HasWorkers options
 HasInput Replay = Unit {0}
 HasInput Check = Unit {0}
 HasInput Points = ⊥

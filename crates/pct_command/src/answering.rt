@@ -10,21 +10,26 @@ use crate::replay_command::replay_script;
 use crate::run_command::run_script;
 use crate::words::Job;
 use pct_history::split_replay;
-use pct_io::NoMemory;
+use pct_io::{Gate, NoMemory};
 use pct_model::Script;
 use pct_script::{ParseFault, parse};
-use std::alloc::Global;
+use pct_shared::Runtime;
+use std::thread::Threads;
 
 /// The answer of a job to a text. `NoMemory` comes only with a text that is not empty.
-pub(crate) fn answer_of(alloc: Global, job: Job, text: &[u8]) -> Result<Answer, NoMemory>
+pub(crate) fn answer_of<R: Threads + Sync, G: Gate>(
+    runtime: &Runtime<'_, R, G>,
+    job: Job,
+    text: &[u8],
+) -> Result<Answer, NoMemory>
     requires fits { length text.now ≤ MAX_INPUT }
     requires input { HasInput job }
     ensures answer { (words : List (List ℕ)) → Asks words job → Answered words text.now result }
     ensures memory { IsErr result → 0 < length text.now }
 {
     let (end, start) = parts_of(job, text);
-    match parse(alloc, &text[..end]) {
-        Ok(script) => answer_script(alloc, job, script, &text[start..]),
+    match parse(runtime.alloc, &text[..end]) {
+        Ok(script) => answer_script(runtime, job, script, &text[start..]),
         Err(ParseFault::Refused { line, why }) => {
             Ok(Answer::Refused(Refusal::Script { line, why }))
         }
@@ -44,8 +49,8 @@ fn parts_of(job: Job, text: &[u8]) -> (usize, usize)
 }
 
 // The answer of a job to a script and the text of a schedule.
-fn answer_script(
-    alloc: Global,
+fn answer_script<R: Threads + Sync, G: Gate>(
+    runtime: &Runtime<'_, R, G>,
     job: Job,
     script: Script,
     schedule: &[u8],
@@ -55,8 +60,8 @@ fn answer_script(
     ensures { (words : List (List ℕ)) (input : List ℕ) → Asks words job → HasParts words job input script schedule.now → Answered words input result }
 {
     match job {
-        Job::Run(options) => run_script(alloc, options, script),
-        Job::Replay => replay_script(alloc, script, schedule),
+        Job::Run(options) => run_script(runtime, options, script),
+        Job::Replay => replay_script(runtime.alloc, script, schedule),
         Job::Check => Ok(Answer::Checked(script)),
         Job::Points | Job::Demo(_) => unreachable!(),
     }

@@ -16,17 +16,24 @@ use crate::status::Status;
 use crate::words::{Job, Usage, read_words};
 use pct_io::{Failed, Gate, NoMemory, ReadEnd, Sink, Source, read_all};
 use pct_model::MAX_INPUT;
+use pct_shared::Runtime;
 use std::alloc::Global;
 use std::thread::Threads;
 
 /// Performs the command that the words name on the bytes of the source, and writes the answer to the sink.
 ///
-/// The words are `run` and its options (`--budget N`, `--passes N`, `--slots N` and `--seed N`, each also as `--budget=N`), `demo`
-/// and a number, or `replay`, `check` or `points` alone. `run` reads a script and runs it: worker 1 makes each step, which two words of its random
-/// stream choose under the seed. `replay` reads a script, a line `%%`, and a schedule or a whole report, and runs the script under
-/// that schedule. Both write a report. `check` reads a script and writes its canonical text. `points` reads nothing and writes the
-/// table of cancellation points (XSH 2.9.5.2). `demo` reads nothing, runs the script that is generated from the number, where the
-/// number of steps so far chooses each step, and writes a summary of the run. A refusal is one line that names the reason. `rt` and `gate` are not used yet.
+/// The words are `run` and its options (`--budget N`, `--passes N`, `--slots N`, `--seed N`, `--workers N` and `--turns N`, each also as
+/// `--budget=N`), `demo` and a number, or `replay`, `check` or `points` alone. `run` reads a script and runs it: 1 to 16 workers take
+/// turns, on threads of their own if threads can be made, and a worker that gets a turn makes one step, which two words of its random
+/// stream choose under the seed. When each worker has taken its turns, number 0 makes the steps that are left, by its own stream. `replay`
+/// reads a script, a line `%%`, and a schedule or a whole report, and runs the script under that schedule. Both write a report. `check`
+/// reads a script and writes its canonical text. `points` reads nothing and writes the table of cancellation points (XSH 2.9.5.2). `demo`
+/// reads nothing, runs the script that is generated from the number, where the number of steps so far chooses each step, and writes a
+/// summary of the run. A refusal is one line that names the reason.
+///
+/// With one worker the report is that of the seed. With several workers it depends on how their threads run, and which one it is, is not
+/// promised; it names the worker of each step. The gate is called before each turn of a worker. It can delay the worker, and has no other
+/// effect.
 ///
 /// The answer is the first of these that holds, unless it is `ReadFault`, `WriteFault` or `NoMemory`:
 ///
@@ -88,7 +95,8 @@ pub fn command<R: Threads + Sync, S: Source, K: Sink, G: Gate>(
     // The sink still writes through the same sinks, and each of them has only grown.
     ensures inners { KeepsInners (K.inners sink.old) (K.inners sink.new) }
 {
-    match answer_words(alloc, words, source) {
+    let runtime = Runtime { rt, alloc, gate };
+    match answer_words(&runtime, words, source) {
         Ok(answer) => match write_answer(&answer, sink) {
             Ok(()) => answer.status(),
             Err(Failed) => Status::WriteFault,
@@ -99,8 +107,8 @@ pub fn command<R: Threads + Sync, S: Source, K: Sink, G: Gate>(
 }
 
 // The answer to the words, and to the bytes of the source if the words name a command that reads them.
-fn answer_words<S: Source>(
-    alloc: Global,
+fn answer_words<R: Threads + Sync, S: Source, G: Gate>(
+    runtime: &Runtime<'_, R, G>,
     words: &[String],
     source: &mut S,
 ) -> Result<Answer, Unanswered>
@@ -115,22 +123,26 @@ fn answer_words<S: Source>(
     match read_words(words) {
         Err(Usage) => Ok(Answer::Refused(Refusal::Words)),
         Ok(Job::Points) => Ok(Answer::Points),
-        Ok(Job::Demo(number)) => match demonstrate(alloc, number) {
+        Ok(Job::Demo(number)) => match demonstrate(runtime.alloc, number) {
             Ok(answer) => Ok(answer),
             Err(NoMemory) => Err(Unanswered::NoMemory),
         },
-        Ok(job) => answer_input(alloc, job, source),
+        Ok(job) => answer_input(runtime, job, source),
     }
 }
 
 // The answer of a job to the bytes of the source.
-fn answer_input<S: Source>(alloc: Global, job: Job, source: &mut S) -> Result<Answer, Unanswered>
+fn answer_input<R: Threads + Sync, S: Source, G: Gate>(
+    runtime: &Runtime<'_, R, G>,
+    job: Job,
+    source: &mut S,
+) -> Result<Answer, Unanswered>
     requires { HasInput job }
     ensures answer { (words : List (List ℕ)) → Asks words job → IfOk result (λ answer. AnswersRead words (S.left source.old) (S.left source.new) answer) }
     ensures reads { ReadsInput S.left S.errors true source.old source.new result }
 {
-    match read_all(alloc, source, MAX_INPUT) {
-        Ok(text) => match answer_of(alloc, job, &text) {
+    match read_all(runtime.alloc, source, MAX_INPUT) {
+        Ok(text) => match answer_of(runtime, job, &text) {
             Ok(answer) => Ok(answer),
             Err(NoMemory) => Err(Unanswered::NoMemory),
         },

@@ -14,20 +14,32 @@ use crate::demo_command::demonstrate;
 use crate::status::Status;
 use crate::text_sink::TextSink;
 use crate::words::{Job, Usage, read_words};
-use pct_io::{Failed, NoMemory};
+use pct_io::{Failed, Gate, NoGate, NoMemory};
 use pct_model::MAX_INPUT;
+use pct_shared::Runtime;
 use std::alloc::Global;
+use std::thread::Threads;
 
 /// The answer of [`command`](crate::command) to the words and an input in memory: the status, and the text that is written. The
 /// words are those of `command`, and so are the statuses, but `ReadFault`, `WriteFault` and `NoMemory`, which are no answers. The
-/// text is held whole, while `command` writes it piece by piece. `NoMemory` is returned if memory runs out.
-pub fn answer(alloc: Global, words: &[String], input: &[u8]) -> Result<(Status, Vec<u8>), NoMemory>
+/// text is held whole, while `command` writes it piece by piece. No gate is called. `NoMemory` is returned if memory runs out.
+pub fn answer<R: Threads + Sync>(
+    rt: &R,
+    alloc: Global,
+    words: &[String],
+    input: &[u8],
+) -> Result<(Status, Vec<u8>), NoMemory>
     ensures answer { IfOk result (λ given. IsAnswer (map string_bytes words.now) input.now (code_of given.0) given.1.items) }
 
     // With accepted words a valid input is not refused.
     ensures complete { is_accepted (map string_bytes words.now) ≡ true → IsValid (map string_bytes words.now) input.now → IfOk result (λ given. code_of given.0 < 5) }
 {
-    let answer = answer_bytes(alloc, words, input)?;
+    let runtime = Runtime {
+        rt,
+        alloc,
+        gate: &NoGate,
+    };
+    let answer = answer_bytes(&runtime, words, input)?;
     let mut text = TextSink::new(alloc);
     match write_answer(&answer, &mut text) {
         Ok(()) => Ok((answer.status(), text.into_bytes())),
@@ -36,25 +48,33 @@ pub fn answer(alloc: Global, words: &[String], input: &[u8]) -> Result<(Status, 
 }
 
 // The answer to the words and an input, before it is written.
-fn answer_bytes(alloc: Global, words: &[String], input: &[u8]) -> Result<Answer, NoMemory>
+fn answer_bytes<R: Threads + Sync, G: Gate>(
+    runtime: &Runtime<'_, R, G>,
+    words: &[String],
+    input: &[u8],
+) -> Result<Answer, NoMemory>
     ensures { Answered (map string_bytes words.now) input.now result }
 {
     match read_words(words) {
         Err(Usage) => Ok(Answer::Refused(Refusal::Words)),
         Ok(Job::Points) => Ok(Answer::Points),
-        Ok(Job::Demo(number)) => demonstrate(alloc, number),
-        Ok(job) => answer_text(alloc, job, input),
+        Ok(Job::Demo(number)) => demonstrate(runtime.alloc, number),
+        Ok(job) => answer_text(runtime, job, input),
     }
 }
 
 // The answer of a job to an input.
-fn answer_text(alloc: Global, job: Job, input: &[u8]) -> Result<Answer, NoMemory>
+fn answer_text<R: Threads + Sync, G: Gate>(
+    runtime: &Runtime<'_, R, G>,
+    job: Job,
+    input: &[u8],
+) -> Result<Answer, NoMemory>
     requires { HasInput job }
     ensures { (words : List (List ℕ)) → Asks words job → Answered words input.now result }
 {
     if input.len() > MAX_INPUT as usize {
         Ok(Answer::Refused(Refusal::Input))
     } else {
-        answer_of(alloc, job, input)
+        answer_of(runtime, job, input)
     }
 }

@@ -28,7 +28,7 @@ fn an_input_in_memory_is_answered(rt: HostRuntime) -> Result<(), Fail> {
         let (word, input, (code, expected)) = CALLS[row_number];
         let mut words = Vec::new(alloc);
         words.push(String::from_str(alloc, word)?)?;
-        let (status, text) = answer(alloc, &words, input)?;
+        let (status, text) = answer(&rt, alloc, &words, input)?;
         assert!(rt; status.code() == code, "row {row_number}");
         assert!(rt; text.as_slice() == expected, "row {row_number}");
     }

@@ -1,8 +1,10 @@
-//! The tests of `command` and `answer` that cannot be cases of pct_cases: reads and writes that fail, words that no line has, and
-//! inputs in memory.
+//! The tests of `command` and `answer` that cannot be cases of pct_cases: reads and writes that fail, words that no line has,
+//! inputs in memory, and several workers.
 #![tactic(auto)]
 
 #[cfg(test)]
 mod failing_streams;
 #[cfg(test)]
 mod in_memory;
+#[cfg(test)]
+mod workers;

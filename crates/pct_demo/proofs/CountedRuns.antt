@@ -15,7 +15,7 @@ use Rattle.pct_engine_laws.proofs.LongerRuns.{run_parts}
 use Rattle.pct_history.proofs.IllegalEntries.{has_value}
 use Rattle.pct_model.specs.Demo.{IsCountedRun}
 use Rattle.pct_demo.specs.CountedRuns.{IsCountedSoFar, IsCountedEngine}
-use Rattle.pct_demo.proofs.ChosenEntries.{is_open, chosen-legal, get-before, get-last, earlier_or_last}
+use Rattle.pct_engine.proofs.ChosenEntries.{is_open, chosen-legal, get-before, get-last, earlier_or_last}
 
 -- a run of which no entry is chosen yet
 pub counted-none : (engine : EngineValue) (after : Run) → engine.history ≡ [] → run engine.script engine.config engine.history ≡ Some after → IsCountedSoFar engine.script engine.config engine.history

@@ -1,4 +1,3 @@
 pub mod ChosenRuns
-pub mod ChosenEntries
 pub mod CountedRuns
 pub mod Summaries

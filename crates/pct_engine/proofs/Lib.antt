@@ -4,3 +4,4 @@ mod OpenChoices
 mod EngineRuns
 mod EngineChoices
 pub mod EngineLaws
+pub mod ChosenEntries

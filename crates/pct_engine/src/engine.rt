@@ -79,7 +79,9 @@ impl Engine {
     /// not `Open`.
     pub fn choose(&self, worker: u32, a: u32, b: u32) -> Option<Entry>
         requires { worker ≤ MAX_WORKER }
-        ensures { (after : Run) → IsRunOf self.now after → IsChoice self.now after worker a b result }
+        ensures choice { (after : Run) → IsRunOf self.now after → IsChoice self.now after worker a b result }
+        // The run of the entries is defined, for every engine.
+        ensures runs { (after : Run) × IsRunOf self.now after }
     {
         if !self.trace.has_room() {
             return None;

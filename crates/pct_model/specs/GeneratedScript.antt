@@ -1,6 +1,6 @@
 -- The generated scripts: a script for each number, given by its canonical text. Main creates threads that wait for a
 -- condition variable, signals it once in each round, and then cancels and joins the threads. Each of them adds its
--- number to the total in a destructor.
+-- argument to the total in a destructor.
 use Rattle.std.specs.Prelude.{ℕ, ◌+◌, ◌/◌, ◌%◌, List, [], ◌∷◌, ◌++◌, map, flat_map, codes, decimal}
 use Rattle.std.specs.List.{range_with_len}
 

@@ -1,16 +1,17 @@
 -- The arguments of the command `run`: which words give options, and the numbers of the run.
-use Rattle.std.specs.Prelude.{ℕ, suc, Bool, not, ◌&&◌, if◌then◌else◌, List, [], ◌∷◌, length, take, drop, map, filter, position, Option, Some, None, option_map, option_and_then, nat_eq, nat_le, bytes_eq, codes}
+use Rattle.std.specs.Prelude.{ℕ, ◌≤◌, suc, Bool, not, ◌&&◌, if◌then◌else◌, List, [], ◌∷◌, length, take, drop, map, filter, position, Option, Some, None, option_map, option_and_then, nat_eq, nat_le, bytes_eq, codes}
 use Rattle.std.specs.List.{list_all, list_any}
 use Rattle.std.specs.Option.{option_map_or}
 use Rattle.std.specs.Str.Parse.{digits_value}
 use Rattle.pct_model.specs.declared.keyword.Keyword.TheVariants as keyword
-use Rattle.pct_model.specs.declared.limits.TheConstants.{MAX_BUDGET, MIN_PASSES, MAX_PASSES, MAX_SLOTS}
+use Rattle.pct_model.specs.declared.limits.TheConstants.{MAX_BUDGET, MIN_PASSES, MAX_PASSES, MAX_SLOTS, MAX_WORKER, DEFAULT_BUDGET, DEFAULT_PASSES, DEFAULT_SLOTS, DEFAULT_SEED, DEFAULT_WORKERS}
 use Rattle.pct_model.specs.declared.run_options.RunOption.{RunOption}
 use Rattle.pct_model.specs.declared.run_options.RunOption.TheVariants as option
 use Rattle.pct_model.specs.declared.run_options.RunOptions.{RunOptions}
 use Rattle.pct_model.specs.declared.schedule.Config.{Config}
 use Rattle.pct_model.specs.Keywords.{keyword_text}
 use Rattle.pct_model.specs.LineParsing.{is_empty}
+use Rattle.pct_model.specs.Lines.{◌>>=◌}
 use Rattle.pct_model.specs.Names.{is_digit}
 
 -- ---- the options
@@ -21,6 +22,8 @@ option_name option.Budget = codes "--budget"
 option_name option.Passes = codes "--passes"
 option_name option.Slots = codes "--slots"
 option_name option.Seed = codes "--seed"
+option_name option.Workers = codes "--workers"
+option_name option.Turns = codes "--turns"
 
 -- its least value
 abbrev pub least_value : RunOption → ℕ
@@ -28,6 +31,8 @@ least_value option.Budget = 1
 least_value option.Passes = MIN_PASSES
 least_value option.Slots = 1
 least_value option.Seed = 0
+least_value option.Workers = 1
+least_value option.Turns = 1
 
 -- its greatest value
 abbrev pub greatest_value : RunOption → ℕ
@@ -35,17 +40,12 @@ greatest_value option.Budget = MAX_BUDGET
 greatest_value option.Passes = MAX_PASSES
 greatest_value option.Slots = MAX_SLOTS
 greatest_value option.Seed = 18446744073709551615
-
--- its value if it is not given
-abbrev pub default_value : RunOption → ℕ
-default_value option.Budget = 10000
-default_value option.Passes = 4
-default_value option.Slots = 64
-default_value option.Seed = 1
+greatest_value option.Workers = MAX_WORKER
+greatest_value option.Turns = MAX_BUDGET
 
 -- all options
 abbrev pub all_options : List RunOption
-all_options = option.Budget ∷ option.Passes ∷ option.Slots ∷ option.Seed ∷ []
+all_options = option.Budget ∷ option.Passes ∷ option.Slots ∷ option.Seed ∷ option.Workers ∷ option.Turns ∷ []
 
 -- ---- as they are given
 
@@ -75,30 +75,32 @@ is_named name o = bytes_eq name (option_name o)
 abbrev pub values_given : RunOption → List GivenOption → List (List ℕ)
 values_given o given = map (λ g. g.value) (filter (λ g. is_named g.name o) given)
 
--- the number of an option for which these values are given: there is at most one
-abbrev pub number_by : RunOption → List (List ℕ) → Option ℕ
-number_by o [] = Some (default_value o)
-number_by o (text ∷ []) = if is_value o text then Some (digits_value 10 text) else None
-number_by o (text ∷ next ∷ texts) = None
+-- the number of an option for which these values are given: there is at most one, and the option has this default if there is none
+abbrev pub number_by : RunOption → ℕ → List (List ℕ) → Option ℕ
+number_by o default [] = Some default
+number_by o default (text ∷ []) = if is_value o text then Some (digits_value 10 text) else None
+number_by o default (text ∷ next ∷ texts) = None
 
--- the number of an option
-abbrev pub number_given : RunOption → List GivenOption → Option ℕ
-number_given o given = number_by o (values_given o given)
+-- the number of an option with this default
+abbrev pub number_given : RunOption → ℕ → List GivenOption → Option ℕ
+number_given o default given = number_by o default (values_given o given)
 
 -- ---- the numbers of a run
 
--- the numbers of a run with these values of the options, if each has one. There is one worker, and it has as many turns as the budget
--- allows
-abbrev pub numbers_of : Option ℕ → Option ℕ → Option ℕ → Option ℕ → Option RunOptions
-numbers_of (Some budget) (Some passes) (Some slots) (Some seed) = Some (record { config = record { budget = budget; passes = passes; slots = slots }; seed = seed; workers = 1; turns = budget })
-numbers_of _ _ _ _ = None
+-- the numbers of a run with these options: none is given twice. The default of `--turns` is the budget of the run, be it given or not
+abbrev pub numbers_given : List GivenOption → Option RunOptions
+numbers_given given =
+    number_given option.Budget DEFAULT_BUDGET given >>= λ budget.
+    number_given option.Passes DEFAULT_PASSES given >>= λ passes.
+    number_given option.Slots DEFAULT_SLOTS given >>= λ slots.
+    number_given option.Seed DEFAULT_SEED given >>= λ seed.
+    number_given option.Workers DEFAULT_WORKERS given >>= λ workers.
+    number_given option.Turns budget given >>= λ turns.
+    Some (record { config = record { budget = budget; passes = passes; slots = slots }; seed = seed; workers = workers; turns = turns })
 
--- the numbers of a run with these options: each name is that of an option, and no option is given twice
+-- the numbers of a run with these options: each name is that of an option, and none is given twice
 unfoldable pub options_of : List GivenOption → Option RunOptions
-options_of given =
-    if list_all (λ g. list_any (is_named g.name) all_options) given
-    then numbers_of (number_given option.Budget given) (number_given option.Passes given) (number_given option.Slots given) (number_given option.Seed given)
-    else None
+options_of given = if list_all (λ g. list_any (is_named g.name) all_options) given then numbers_given given else None
 
 -- the numbers of the run that the arguments ask for: `run`, and then options in any order
 unfoldable pub run_options : List (List ℕ) → Option RunOptions
@@ -107,4 +109,11 @@ run_options (command ∷ words) = if bytes_eq command (keyword_text keyword.Run)
 
 -- the configuration of a run without options
 abbrev pub default_config : Config
-default_config = record { budget = default_value option.Budget; passes = default_value option.Passes; slots = default_value option.Slots }
+default_config = record { budget = DEFAULT_BUDGET; passes = DEFAULT_PASSES; slots = DEFAULT_SLOTS }
+
+-- a run with these numbers has 1 to MAX_WORKER workers, and the most turns of each are 1 to MAX_BUDGET
+pub record HasWorkers (options : RunOptions) : Type 0 where
+  pub some_workers : 1 ≤ options.workers
+  pub few_workers : options.workers ≤ MAX_WORKER
+  pub some_turns : 1 ≤ options.turns
+  pub few_turns : options.turns ≤ MAX_BUDGET

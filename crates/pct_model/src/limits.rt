@@ -1,4 +1,5 @@
-//! The limits of a script and of a run. Each constant is the greatest value that is allowed, but for `MIN_PASSES`.
+//! The limits of a script and of a run, and the numbers of a run that is given no options. Each limit is the greatest value that is
+//! allowed, but for `MIN_PASSES`.
 
 /// Bytes of the program's input.
 pub const MAX_INPUT: u32 = 16_777_216;
@@ -24,9 +25,9 @@ pub const MAX_FORK_HANDLERS: usize = 16;
 pub const MAX_PROCESSES: usize = 8;
 /// Initial count of a semaphore.
 pub const MAX_COUNT: u32 = 32_767;
-/// Number of a worker.
+/// Workers of a run, and the number of a worker.
 pub const MAX_WORKER: u32 = 16;
-/// Budget of a run: its number of steps.
+/// Budget of a run: its number of steps; and turns of a worker.
 pub const MAX_BUDGET: u32 = 200_000;
 /// The least limit on the passes over the destructors of a thread that ends.
 pub const MIN_PASSES: u32 = 4;
@@ -34,3 +35,14 @@ pub const MIN_PASSES: u32 = 4;
 pub const MAX_PASSES: u32 = 16;
 /// Thread slots of a process.
 pub const MAX_SLOTS: u32 = 64;
+
+/// The budget of a run that is given none.
+pub const DEFAULT_BUDGET: u32 = 10_000;
+/// The limit on the passes over the destructors of a thread that ends, in a run that is given none.
+pub const DEFAULT_PASSES: u32 = 4;
+/// The thread slots of a process, in a run that is given no number of them.
+pub const DEFAULT_SLOTS: u32 = 64;
+/// The seed of a run that is given none.
+pub const DEFAULT_SEED: u64 = 1;
+/// The workers of a run that is given no number of them.
+pub const DEFAULT_WORKERS: u32 = 1;

@@ -1,9 +1,9 @@
 //! The options of the command `run`.
 
 ghost use Rattle.std.specs.Prelude.{◌≡◌};
-ghost use Rattle.pct_model.specs.RunOptions.{option_name, least_value, greatest_value, default_value};
+ghost use Rattle.pct_model.specs.RunOptions.{option_name, least_value, greatest_value};
 
-use crate::limits::{MAX_BUDGET, MAX_PASSES, MAX_SLOTS, MIN_PASSES};
+use crate::limits::{MAX_BUDGET, MAX_PASSES, MAX_SLOTS, MAX_WORKER, MIN_PASSES};
 use crate::schedule::Config;
 
 /// An option of `run`.
@@ -17,6 +17,10 @@ pub enum RunOption {
     Slots,
     /// `--seed`: the seed of the choices.
     Seed,
+    /// `--workers`: the number of workers.
+    Workers,
+    /// `--turns`: the most turns of a worker.
+    Turns,
 }
 
 impl RunOption {
@@ -29,6 +33,8 @@ impl RunOption {
             RunOption::Passes => b"--passes",
             RunOption::Slots => b"--slots",
             RunOption::Seed => b"--seed",
+            RunOption::Workers => b"--workers",
+            RunOption::Turns => b"--turns",
         }
     }
 
@@ -37,7 +43,7 @@ impl RunOption {
         ensures { result ≡ least_value self }
     {
         match self {
-            RunOption::Budget | RunOption::Slots => 1,
+            RunOption::Budget | RunOption::Slots | RunOption::Workers | RunOption::Turns => 1,
             RunOption::Passes => MIN_PASSES as u64,
             RunOption::Seed => 0,
         }
@@ -48,22 +54,11 @@ impl RunOption {
         ensures { result ≡ greatest_value self }
     {
         match self {
-            RunOption::Budget => MAX_BUDGET as u64,
+            RunOption::Budget | RunOption::Turns => MAX_BUDGET as u64,
             RunOption::Passes => MAX_PASSES as u64,
             RunOption::Slots => MAX_SLOTS as u64,
             RunOption::Seed => u64::MAX,
-        }
-    }
-
-    /// The value of an option that is not given.
-    pub fn default(self) -> u64
-        ensures { result ≡ default_value self }
-    {
-        match self {
-            RunOption::Budget => 10_000,
-            RunOption::Passes => 4,
-            RunOption::Slots => 64,
-            RunOption::Seed => 1,
+            RunOption::Workers => MAX_WORKER as u64,
         }
     }
 }
@@ -74,8 +69,8 @@ pub struct RunOptions {
     pub config: Config,
     /// The seed of the choices.
     pub seed: u64,
-    /// The number of workers: 1, which no option changes yet.
+    /// The number of workers, 1 to 16.
     pub workers: u32,
-    /// The most turns of a worker: as many as the budget, since no option sets their number yet.
+    /// The most turns of a worker.
     pub turns: u32,
 }

@@ -1,5 +1,7 @@
 //! Schedules: the configuration of a run, and its steps in order.
 
+use crate::limits::{DEFAULT_BUDGET, DEFAULT_PASSES, DEFAULT_SLOTS};
+
 /// The configuration of a run.
 #[derive(Clone, Copy, Debug, PartialEq, Eq)]
 pub struct Config {
@@ -14,9 +16,9 @@ pub struct Config {
 impl Config {
     /// The configuration of the command `run`.
     pub const DEFAULT: Config = Config {
-        budget: 10_000,
-        passes: 4,
-        slots: 64,
+        budget: DEFAULT_BUDGET,
+        passes: DEFAULT_PASSES,
+        slots: DEFAULT_SLOTS,
     };
 }
 

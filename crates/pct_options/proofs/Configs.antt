@@ -1,17 +1,19 @@
--- The configuration of a run that words ask for is within the limits.
-use Rattle.std.proofs.Common.{◌≡◌, ℕ, ◌≤◌, Bool, true, false, ◌&&◌, cond, List, [], ◌∷◌, Option, Some, None, refl, subst, arith, nat_le, leb-true, le-leb}
-use Rattle.std.specs.Prelude.{bytes_eq, option_and_then}
+-- The configuration of a run that words ask for is within the limits, and so are its workers and their turns.
+use Rattle.std.proofs.Common.{◌≡◌, ℕ, ◌≤◌, Bool, true, false, ◌&&◌, cond, List, [], ◌∷◌, Option, Some, None, refl, sym, subst, arith, nat_le, leb-true, le-leb}
+use Rattle.std.specs.Prelude.{IfSome, bytes_eq, option_and_then}
 use Rattle.std.specs.List.{list_all, list_any}
 use Rattle.std.specs.Str.Parse.{digits_value}
 use Rattle.std.proofs.lemmas.Bool.{and_parts}
 use Rattle.std.proofs.lemmas.Option.{none-some, same_Some, cond_some}
 use Rattle.pct_model.specs.declared.keyword.Keyword.TheVariants as keyword
+use Rattle.pct_model.specs.declared.limits.TheConstants.{DEFAULT_BUDGET, DEFAULT_PASSES, DEFAULT_SLOTS, DEFAULT_SEED, DEFAULT_WORKERS}
 use Rattle.pct_model.specs.declared.run_options.RunOption.{RunOption}
 use Rattle.pct_model.specs.declared.run_options.RunOption.TheVariants as option
 use Rattle.pct_model.specs.declared.run_options.RunOptions.{RunOptions}
 use Rattle.pct_model.specs.Keywords.{keyword_text}
 use Rattle.pct_model.specs.Run.{is_config}
-use Rattle.pct_model.specs.RunOptions.{GivenOption, all_options, default_value, given_after, greatest_value, is_named, is_value, least_value, number_by, number_given, numbers_of, options_of, run_options, values_given}
+use Rattle.pct_model.specs.Lines.{◌>>=◌}
+use Rattle.pct_model.specs.RunOptions.{GivenOption, HasWorkers, all_options, given_after, greatest_value, is_named, is_value, least_value, number_by, number_given, numbers_given, options_of, run_options, values_given}
 
 -- a value comes only from the branch that has one
 of_true : {A : Type 0} (b : Bool) (o : Option A) (x : A) → cond b o None ≡ Some x → o ≡ Some x
@@ -25,55 +27,81 @@ record IsWithin (o : RunOption) (n : ℕ) : Type 0 where
   least : least_value o ≤ n
   greatest : n ≤ greatest_value o
 
-default_within : (o : RunOption) → IsWithin o (default_value o)
-default_within option.Budget = record { least = omega arith; greatest = omega arith }
-default_within option.Passes = record { least = omega arith; greatest = omega arith }
-default_within option.Slots = record { least = omega arith; greatest = omega arith }
-default_within option.Seed = record { least = omega arith; greatest = omega arith }
-
 value_within : (o : RunOption) (n : ℕ) (written : Bool) → (written && nat_le (least_value o) n && nat_le n (greatest_value o)) ≡ true → IsWithin o n
 value_within o n written is =
     let high = and_parts (written && nat_le (least_value o) n) (nat_le n (greatest_value o)) is in
     record { least = leb-true (least_value o) n (and_parts written (nat_le (least_value o) n) high.0).1; greatest = leb-true n (greatest_value o) high.1 }
 
--- the number of an option is within its range
-number_within : (o : RunOption) (texts : List (List ℕ)) (n : ℕ) → number_by o texts ≡ Some n → IsWithin o n
-number_within o [] n is = subst (IsWithin o) (same_Some (default_value o) n is) (default_within o)
-number_within o (text ∷ []) n is =
+-- the number of an option is within its range, if the default is
+number_within : (o : RunOption) (default : ℕ) → IsWithin o default → (texts : List (List ℕ)) (n : ℕ) → number_by o default texts ≡ Some n → IsWithin o n
+number_within o default within [] n is = subst (IsWithin o) (same_Some default n is) within
+number_within o default within (text ∷ []) n is =
     let found = cond_some (is_value o text) (digits_value 10 text) n is in
     subst (IsWithin o) found.1 (value_within o (digits_value 10 text) _ found.0)
-number_within o (text ∷ next ∷ texts) n is = absurd (none-some n is)
+number_within o default within (text ∷ next ∷ texts) n is = absurd (none-some n is)
 
--- ---- the configuration of a run
+-- the same of the options that words give
+given_number_within : (o : RunOption) (default : ℕ) (given : List GivenOption) → IsWithin o default → (n : ℕ) → number_given o default given ≡ Some n → IsWithin o n
+given_number_within o default given within n is = number_within o default within (values_given o given) n is
+
+-- ---- the numbers of a run
+
+-- the numbers of a run are within the limits
+record AreWithin (options : RunOptions) : Type 0 where
+  config : is_config options.config ≡ true
+  workers : HasWorkers options
 
 config_within : (budget passes slots : ℕ) → IsWithin option.Budget budget → IsWithin option.Passes passes → IsWithin option.Slots slots → is_config (record { budget = budget; passes = passes; slots = slots }) ≡ true
 config_within budget passes slots b p s =
     rw (le-leb 1 budget b.least, le-leb budget 200000 b.greatest, le-leb 4 passes p.least, le-leb passes 16 p.greatest, le-leb 1 slots s.least, le-leb slots 64 s.greatest) refl
 
-numbers_within : (budget passes slots seed : Option ℕ) (options : RunOptions) → numbers_of budget passes slots seed ≡ Some options
-    → ((n : ℕ) → budget ≡ Some n → IsWithin option.Budget n) → ((n : ℕ) → passes ≡ Some n → IsWithin option.Passes n) → ((n : ℕ) → slots ≡ Some n → IsWithin option.Slots n)
-    → is_config options.config ≡ true
-numbers_within None passes slots seed options is b p s = absurd (none-some options is)
-numbers_within (Some budget) None slots seed options is b p s = absurd (none-some options is)
-numbers_within (Some budget) (Some passes) None seed options is b p s = absurd (none-some options is)
-numbers_within (Some budget) (Some passes) (Some slots) None options is b p s = absurd (none-some options is)
-numbers_within (Some budget) (Some passes) (Some slots) (Some seed) options is b p s =
-    subst (λ (o : RunOptions). is_config o.config ≡ true) (same_Some _ options is)
-    (config_within budget passes slots (b budget refl) (p passes refl) (s slots refl))
+-- numbers that are each within the range of its option
+each_within : (budget passes slots seed workers turns : ℕ) → IsWithin option.Budget budget → IsWithin option.Passes passes → IsWithin option.Slots slots → IsWithin option.Workers workers → IsWithin option.Turns turns
+    → AreWithin (record { config = record { budget = budget; passes = passes; slots = slots }; seed = seed; workers = workers; turns = turns })
+each_within budget passes slots seed workers turns b p s w t = record {
+  config = config_within budget passes slots b p s;
+  workers = record { some_workers = w.least; few_workers = w.greatest; some_turns = t.least; few_turns = t.greatest };
+}
 
-options_within : (given : List GivenOption) (options : RunOptions) → options_of given ≡ Some options → is_config options.config ≡ true
+-- a value that is found by two steps
+both : {A B : Type 0} (o : Option A) (f : A → Option B) (y : B) → (o >>= f) ≡ Some y → (x : A) × (o ≡ Some x) × (f x ≡ Some y)
+both None f y is = absurd (none-some y is)
+both (Some x) f y is = (x, refl, is)
+
+numbers_within : (given : List GivenOption) (options : RunOptions) → numbers_given given ≡ Some options → AreWithin options
+numbers_within given options is =
+    let budget = both (number_given option.Budget DEFAULT_BUDGET given) _ options is in
+    let passes = both (number_given option.Passes DEFAULT_PASSES given) _ options budget.2 in
+    let slots = both (number_given option.Slots DEFAULT_SLOTS given) _ options passes.2 in
+    let seed = both (number_given option.Seed DEFAULT_SEED given) _ options slots.2 in
+    let workers = both (number_given option.Workers DEFAULT_WORKERS given) _ options seed.2 in
+    let turns = both (number_given option.Turns budget.0 given) _ options workers.2 in
+    let b = given_number_within option.Budget DEFAULT_BUDGET given (record { least = omega arith; greatest = omega arith }) budget.0 budget.1 in
+    subst AreWithin (same_Some _ options turns.2) (each_within budget.0 passes.0 slots.0 seed.0 workers.0 turns.0 b
+    (given_number_within option.Passes DEFAULT_PASSES given (record { least = omega arith; greatest = omega arith }) passes.0 passes.1)
+    (given_number_within option.Slots DEFAULT_SLOTS given (record { least = omega arith; greatest = omega arith }) slots.0 slots.1)
+    (given_number_within option.Workers DEFAULT_WORKERS given (record { least = omega arith; greatest = omega arith }) workers.0 workers.1)
+    (given_number_within option.Turns budget.0 given (record { least = b.least; greatest = b.greatest }) turns.0 turns.1))
+
+options_within : (given : Option (List GivenOption)) (options : RunOptions) → option_and_then options_of given ≡ Some options → AreWithin options
 unfolding options_of
-options_within given options is =
-    numbers_within (number_given option.Budget given) (number_given option.Passes given) (number_given option.Slots given) (number_given option.Seed given) options
-    (of_true (list_all (λ g. list_any (is_named g.name) all_options) given) _ options is)
-    (number_within option.Budget (values_given option.Budget given)) (number_within option.Passes (values_given option.Passes given)) (number_within option.Slots (values_given option.Slots given))
+options_within None options is = absurd (none-some options is)
+options_within (Some given) options is = numbers_within given options (of_true (list_all (λ g. list_any (is_named g.name) all_options) given) _ options is)
 
-given_within : (given : Option (List GivenOption)) (options : RunOptions) → option_and_then options_of given ≡ Some options → is_config options.config ≡ true
-given_within None options is = absurd (none-some options is)
-given_within (Some given) options is = options_within given options is
+words_within : (words : List (List ℕ)) (options : RunOptions) → run_options words ≡ Some options → AreWithin options
+unfolding run_options
+words_within [] options is = absurd (none-some options is)
+words_within (command ∷ words) options is = options_within (given_after None words) options (of_true (bytes_eq command (keyword_text keyword.Run)) _ options is)
 
 -- the configuration of the run that the words ask for
 pub run_is_within : (words : List (List ℕ)) (options : RunOptions) → run_options words ≡ Some options → is_config options.config ≡ true
-unfolding run_options
-run_is_within [] options is = absurd (none-some options is)
-run_is_within (command ∷ words) options is = given_within (given_after None words) options (of_true (bytes_eq command (keyword_text keyword.Run)) _ options is)
+run_is_within words options is = (words_within words options is).config
+
+-- the workers of the run that the words ask for, and their turns
+pub run_has_workers : (words : List (List ℕ)) (options : RunOptions) → run_options words ≡ Some options → HasWorkers options
+run_has_workers words options is = (words_within words options is).workers
+
+-- the same of options alone
+pub options_have_workers : (given : Option (List GivenOption)) (run : Option RunOptions) → run ≡ option_and_then options_of given → IfSome run (λ options. HasWorkers options)
+options_have_workers given None is = tt
+options_have_workers given (Some options) is = (options_within given options (sym is)).workers

@@ -4,10 +4,12 @@ use Rattle.std.specs.Prelude.{find, is_some, option_and_then, unwrap_or}
 use Rattle.std.specs.List.{list_all, list_any}
 use Rattle.std.specs.Str.Parse.{digits_value}
 use Rattle.std.proofs.lemmas.Option.{none-some, same_Some}
+use Rattle.pct_model.specs.declared.limits.TheConstants.{DEFAULT_BUDGET, DEFAULT_PASSES, DEFAULT_SLOTS, DEFAULT_SEED, DEFAULT_WORKERS}
 use Rattle.pct_model.specs.declared.run_options.RunOption.{RunOption}
 use Rattle.pct_model.specs.declared.run_options.RunOption.TheVariants as option
 use Rattle.pct_model.specs.declared.run_options.RunOptions.{RunOptions}
-use Rattle.pct_model.specs.RunOptions.{GivenOption, all_options, default_value, given_after, is_named, is_value, number_by, numbers_of, option_name, options_of, values_given}
+use Rattle.pct_model.specs.Lines.{◌>>=◌}
+use Rattle.pct_model.specs.RunOptions.{GivenOption, all_options, given_after, is_named, is_value, number_by, option_name, options_of, values_given}
 use Rattle.pct_model.proofs.Bytes.{same_bytes}
 use Rattle.pct_options.specs.declared.given_values.GivenValues.{GivenValues}
 use Rattle.pct_options.specs.FirstOption.{first_option}
@@ -16,39 +18,73 @@ use Rattle.pct_options.specs.OptionTexts.{value_of}
 use Rattle.pct_options.proofs.FirstOptions.{given_first, given_none}
 use Rattle.pct_options.proofs.OptionTexts.{value_as_read}
 
--- the number of an option that may have one, and is given these values
-abbrev number_with : Option ℕ → RunOption → List (List ℕ) → Option ℕ
-number_with None o texts = number_by o texts
-number_with (Some n) o [] = Some n
-number_with (Some n) o (text ∷ texts) = None
+-- a number, if no value is given
+abbrev alone : ℕ → List (List ℕ) → Option ℕ
+alone n [] = Some n
+alone n (text ∷ texts) = None
+
+-- the number of an option with this default that may have one, and is given these values
+abbrev number_with : Option ℕ → RunOption → ℕ → List (List ℕ) → Option ℕ
+number_with None o default texts = number_by o default texts
+number_with (Some n) o default texts = alone n texts
+
+-- the numbers of a run with these values of the options, if each has one; the value of the turns is told by the budget
+abbrev numbers_of : Option ℕ → Option ℕ → Option ℕ → Option ℕ → Option ℕ → (ℕ → Option ℕ) → Option RunOptions
+numbers_of budget passes slots seed workers turns =
+    budget >>= λ b. passes >>= λ p. slots >>= λ s. seed >>= λ d. workers >>= λ w. turns b >>= λ t.
+    Some (record { config = record { budget = b; passes = p; slots = s }; seed = d; workers = w; turns = t })
 
 -- each name is that of an option
 abbrev are_named : List GivenOption → Bool
 are_named given = list_all (λ g. list_any (is_named g.name) all_options) given
 
+-- the number of each option with these values and these options
+abbrev budget_with : GivenValues → List GivenOption → Option ℕ
+budget_with held given = number_with held.budget option.Budget DEFAULT_BUDGET (values_given option.Budget given)
+
+abbrev passes_with : GivenValues → List GivenOption → Option ℕ
+passes_with held given = number_with held.passes option.Passes DEFAULT_PASSES (values_given option.Passes given)
+
+abbrev slots_with : GivenValues → List GivenOption → Option ℕ
+slots_with held given = number_with held.slots option.Slots DEFAULT_SLOTS (values_given option.Slots given)
+
+abbrev seed_with : GivenValues → List GivenOption → Option ℕ
+seed_with held given = number_with held.seed option.Seed DEFAULT_SEED (values_given option.Seed given)
+
+abbrev workers_with : GivenValues → List GivenOption → Option ℕ
+workers_with held given = number_with held.workers option.Workers DEFAULT_WORKERS (values_given option.Workers given)
+
+-- that of the turns is told by the budget
+abbrev turns_with : GivenValues → List GivenOption → ℕ → Option ℕ
+turns_with held given budget = number_with held.turns option.Turns budget (values_given option.Turns given)
+
 -- the numbers of a run with these values and these options
 abbrev pub options_with : GivenValues → List GivenOption → Option RunOptions
 options_with held given =
     cond (are_named given)
-    (numbers_of (number_with held.budget option.Budget (values_given option.Budget given)) (number_with held.passes option.Passes (values_given option.Passes given)) (number_with held.slots option.Slots (values_given option.Slots given)) (number_with held.seed option.Seed (values_given option.Seed given)))
+    (numbers_of (budget_with held given) (passes_with held given) (slots_with held given) (seed_with held given) (workers_with held given) (turns_with held given))
     None
 
 -- ---- one option more
 
 -- a value is the number of an option that has none, if no other is given
-number_more_by : (o : RunOption) (before : Option ℕ) (text : List ℕ) (texts : List (List ℕ)) (b : Bool) → is_value o text ≡ b
-    → number_with before o (text ∷ texts) ≡ option_and_then (λ n. cond (is_some before) None (number_with (Some n) o texts)) (cond b (Some (digits_value 10 text)) None)
-number_more_by o (Some m) text texts true is = refl
-number_more_by o (Some m) text texts false is = refl
-number_more_by o None text [] true is = rw is refl
-number_more_by o None text [] false is = rw is refl
-number_more_by o None text (next ∷ texts) true is = refl
-number_more_by o None text (next ∷ texts) false is = refl
+number_more_by : (o : RunOption) (default : ℕ) (before : Option ℕ) (text : List ℕ) (texts : List (List ℕ)) (b : Bool) → is_value o text ≡ b
+    → number_with before o default (text ∷ texts) ≡ option_and_then (λ n. cond (is_some before) None (alone n texts)) (cond b (Some (digits_value 10 text)) None)
+number_more_by o default (Some m) text texts true is = refl
+number_more_by o default (Some m) text texts false is = refl
+number_more_by o default None text [] true is = rw is refl
+number_more_by o default None text [] false is = rw is refl
+number_more_by o default None text (next ∷ texts) true is = refl
+number_more_by o default None text (next ∷ texts) false is = refl
 
-number_more : (o : RunOption) (before : Option ℕ) (text : List ℕ) (texts : List (List ℕ)) → number_with before o (text ∷ texts) ≡ option_and_then (λ n. cond (is_some before) None (number_with (Some n) o texts)) (value_of o text)
-number_more o before text texts =
-    number_more_by o before text texts (is_value o text) refl
-    ∙ ap (λ (value : Option ℕ). option_and_then (λ n. cond (is_some before) None (number_with (Some n) o texts)) value) (sym (value_as_read o text))
+-- the number of an option whose first value is a text
+abbrev number_first : RunOption → Option ℕ → List ℕ → List (List ℕ) → Option ℕ
+number_first o before text texts = option_and_then (λ n. cond (is_some before) None (alone n texts)) (value_of o text)
+
+number_more : (o : RunOption) (default : ℕ) (before : Option ℕ) (text : List ℕ) (texts : List (List ℕ)) → number_with before o default (text ∷ texts) ≡ number_first o before text texts
+number_more o default before text texts =
+    number_more_by o default before text texts (is_value o text) refl
+    ∙ ap (λ (value : Option ℕ). option_and_then (λ n. cond (is_some before) None (alone n texts)) value) (sym (value_as_read o text))
 
 -- without a number of an option there is no run
 no_run : (named : Bool) (numbers : Option ℕ → Option RunOptions) → numbers None ≡ None → None ≡ cond named (numbers None) None
@@ -64,40 +100,76 @@ one_by given numbers with number before None none is = no_run (are_named given) 
 one_by given numbers with number None (Some n) none is = is n
 one_by given numbers with number (Some m) (Some n) none is = no_run (are_named given) numbers none
 
-no_passes : (budget slots seed : Option ℕ) → numbers_of budget None slots seed ≡ None
-no_passes None slots seed = refl
-no_passes (Some budget) slots seed = refl
+no_passes : (budget slots seed workers : Option ℕ) (turns : ℕ → Option ℕ) → numbers_of budget None slots seed workers turns ≡ None
+no_passes None slots seed workers turns = refl
+no_passes (Some budget) slots seed workers turns = refl
 
-no_slots : (budget passes seed : Option ℕ) → numbers_of budget passes None seed ≡ None
-no_slots None passes seed = refl
-no_slots (Some budget) None seed = refl
-no_slots (Some budget) (Some passes) seed = refl
+no_slots : (budget passes seed workers : Option ℕ) (turns : ℕ → Option ℕ) → numbers_of budget passes None seed workers turns ≡ None
+no_slots None passes seed workers turns = refl
+no_slots (Some budget) None seed workers turns = refl
+no_slots (Some budget) (Some passes) seed workers turns = refl
 
-no_seed : (budget passes slots : Option ℕ) → numbers_of budget passes slots None ≡ None
-no_seed None passes slots = refl
-no_seed (Some budget) None slots = refl
-no_seed (Some budget) (Some passes) None = refl
-no_seed (Some budget) (Some passes) (Some slots) = refl
+no_seed : (budget passes slots workers : Option ℕ) (turns : ℕ → Option ℕ) → numbers_of budget passes slots None workers turns ≡ None
+no_seed None passes slots workers turns = refl
+no_seed (Some budget) None slots workers turns = refl
+no_seed (Some budget) (Some passes) None workers turns = refl
+no_seed (Some budget) (Some passes) (Some slots) workers turns = refl
+
+no_workers : (budget passes slots seed : Option ℕ) (turns : ℕ → Option ℕ) → numbers_of budget passes slots seed None turns ≡ None
+no_workers None passes slots seed turns = refl
+no_workers (Some budget) None slots seed turns = refl
+no_workers (Some budget) (Some passes) None seed turns = refl
+no_workers (Some budget) (Some passes) (Some slots) None turns = refl
+no_workers (Some budget) (Some passes) (Some slots) (Some seed) turns = refl
+
+no_turns : (budget passes slots seed workers : Option ℕ) → numbers_of budget passes slots seed workers (λ b. None) ≡ None
+no_turns None passes slots seed workers = refl
+no_turns (Some budget) None slots seed workers = refl
+no_turns (Some budget) (Some passes) None seed workers = refl
+no_turns (Some budget) (Some passes) (Some slots) None workers = refl
+no_turns (Some budget) (Some passes) (Some slots) (Some seed) None = refl
+no_turns (Some budget) (Some passes) (Some slots) (Some seed) (Some workers) = refl
+
+-- the turns matter at the budget alone
+turns_more : (budget passes slots seed workers : Option ℕ) (turns others : ℕ → Option ℕ) → ((b : ℕ) → turns b ≡ others b) → numbers_of budget passes slots seed workers turns ≡ numbers_of budget passes slots seed workers others
+turns_more None passes slots seed workers turns others same = refl
+turns_more (Some budget) passes slots seed workers turns others same =
+    ap (λ (t : Option ℕ). numbers_of (Some budget) passes slots seed workers (λ b. t)) (same budget)
 
 -- an option and its value
 known_option : (o : RunOption) (held : GivenValues) (text : List ℕ) (given : List GivenOption)
     → option_and_then (λ h. options_with h given) (option_and_then (with_value held o) (value_of o text)) ≡ options_with held (record { name = option_name o; value = text } ∷ given)
 known_option option.Budget held text given =
-    let numbers : Option ℕ → Option RunOptions = λ x. numbers_of x (number_with held.passes option.Passes (values_given option.Passes given)) (number_with held.slots option.Slots (values_given option.Slots given)) (number_with held.seed option.Seed (values_given option.Seed given)) in
-    one_by given numbers (λ n. record held { budget = Some n }) (λ n. number_with (Some n) option.Budget (values_given option.Budget given)) held.budget (value_of option.Budget text) refl (λ n. refl)
-    ∙ ap (λ (x : Option ℕ). cond (are_named given) (numbers x) None) (sym (number_more option.Budget held.budget text (values_given option.Budget given)))
+    let texts = values_given option.Budget given in
+    let numbers : Option ℕ → Option RunOptions = λ x. numbers_of x (passes_with held given) (slots_with held given) (seed_with held given) (workers_with held given) (turns_with held given) in
+    one_by given numbers (λ n. record held { budget = Some n }) (λ n. alone n texts) held.budget (value_of option.Budget text) refl (λ n. refl)
+    ∙ ap (λ (x : Option ℕ). cond (are_named given) (numbers x) None) (sym (number_more option.Budget DEFAULT_BUDGET held.budget text texts))
 known_option option.Passes held text given =
-    let numbers : Option ℕ → Option RunOptions = λ x. numbers_of (number_with held.budget option.Budget (values_given option.Budget given)) x (number_with held.slots option.Slots (values_given option.Slots given)) (number_with held.seed option.Seed (values_given option.Seed given)) in
-    one_by given numbers (λ n. record held { passes = Some n }) (λ n. number_with (Some n) option.Passes (values_given option.Passes given)) held.passes (value_of option.Passes text) (no_passes _ _ _) (λ n. refl)
-    ∙ ap (λ (x : Option ℕ). cond (are_named given) (numbers x) None) (sym (number_more option.Passes held.passes text (values_given option.Passes given)))
+    let texts = values_given option.Passes given in
+    let numbers : Option ℕ → Option RunOptions = λ x. numbers_of (budget_with held given) x (slots_with held given) (seed_with held given) (workers_with held given) (turns_with held given) in
+    one_by given numbers (λ n. record held { passes = Some n }) (λ n. alone n texts) held.passes (value_of option.Passes text) (no_passes (budget_with held given) (slots_with held given) (seed_with held given) (workers_with held given) (turns_with held given)) (λ n. refl)
+    ∙ ap (λ (x : Option ℕ). cond (are_named given) (numbers x) None) (sym (number_more option.Passes DEFAULT_PASSES held.passes text texts))
 known_option option.Slots held text given =
-    let numbers : Option ℕ → Option RunOptions = λ x. numbers_of (number_with held.budget option.Budget (values_given option.Budget given)) (number_with held.passes option.Passes (values_given option.Passes given)) x (number_with held.seed option.Seed (values_given option.Seed given)) in
-    one_by given numbers (λ n. record held { slots = Some n }) (λ n. number_with (Some n) option.Slots (values_given option.Slots given)) held.slots (value_of option.Slots text) (no_slots _ _ _) (λ n. refl)
-    ∙ ap (λ (x : Option ℕ). cond (are_named given) (numbers x) None) (sym (number_more option.Slots held.slots text (values_given option.Slots given)))
+    let texts = values_given option.Slots given in
+    let numbers : Option ℕ → Option RunOptions = λ x. numbers_of (budget_with held given) (passes_with held given) x (seed_with held given) (workers_with held given) (turns_with held given) in
+    one_by given numbers (λ n. record held { slots = Some n }) (λ n. alone n texts) held.slots (value_of option.Slots text) (no_slots (budget_with held given) (passes_with held given) (seed_with held given) (workers_with held given) (turns_with held given)) (λ n. refl)
+    ∙ ap (λ (x : Option ℕ). cond (are_named given) (numbers x) None) (sym (number_more option.Slots DEFAULT_SLOTS held.slots text texts))
 known_option option.Seed held text given =
-    let numbers : Option ℕ → Option RunOptions = λ x. numbers_of (number_with held.budget option.Budget (values_given option.Budget given)) (number_with held.passes option.Passes (values_given option.Passes given)) (number_with held.slots option.Slots (values_given option.Slots given)) x in
-    one_by given numbers (λ n. record held { seed = Some n }) (λ n. number_with (Some n) option.Seed (values_given option.Seed given)) held.seed (value_of option.Seed text) (no_seed _ _ _) (λ n. refl)
-    ∙ ap (λ (x : Option ℕ). cond (are_named given) (numbers x) None) (sym (number_more option.Seed held.seed text (values_given option.Seed given)))
+    let texts = values_given option.Seed given in
+    let numbers : Option ℕ → Option RunOptions = λ x. numbers_of (budget_with held given) (passes_with held given) (slots_with held given) x (workers_with held given) (turns_with held given) in
+    one_by given numbers (λ n. record held { seed = Some n }) (λ n. alone n texts) held.seed (value_of option.Seed text) (no_seed (budget_with held given) (passes_with held given) (slots_with held given) (workers_with held given) (turns_with held given)) (λ n. refl)
+    ∙ ap (λ (x : Option ℕ). cond (are_named given) (numbers x) None) (sym (number_more option.Seed DEFAULT_SEED held.seed text texts))
+known_option option.Workers held text given =
+    let texts = values_given option.Workers given in
+    let numbers : Option ℕ → Option RunOptions = λ x. numbers_of (budget_with held given) (passes_with held given) (slots_with held given) (seed_with held given) x (turns_with held given) in
+    one_by given numbers (λ n. record held { workers = Some n }) (λ n. alone n texts) held.workers (value_of option.Workers text) (no_workers (budget_with held given) (passes_with held given) (slots_with held given) (seed_with held given) (turns_with held given)) (λ n. refl)
+    ∙ ap (λ (x : Option ℕ). cond (are_named given) (numbers x) None) (sym (number_more option.Workers DEFAULT_WORKERS held.workers text texts))
+known_option option.Turns held text given =
+    let texts = values_given option.Turns given in
+    let numbers : (ℕ → Option ℕ) → Option RunOptions = λ x. numbers_of (budget_with held given) (passes_with held given) (slots_with held given) (seed_with held given) (workers_with held given) x in
+    one_by given (λ x. numbers (λ b. x)) (λ n. record held { turns = Some n }) (λ n. alone n texts) held.turns (value_of option.Turns text) (no_turns (budget_with held given) (passes_with held given) (slots_with held given) (seed_with held given) (workers_with held given)) (λ n. refl)
+    ∙ ap (λ (run : Option RunOptions). cond (are_named given) run None)
+    (turns_more (budget_with held given) (passes_with held given) (slots_with held given) (seed_with held given) (workers_with held given) (λ b. number_first option.Turns held.turns text texts) (λ b. number_with held.turns option.Turns b (text ∷ texts)) (λ b. sym (number_more option.Turns b held.turns text texts)))
 
 -- ---- names
 
@@ -159,10 +231,12 @@ pub run_stops : (held : GivenValues) (words : List (List ℕ)) → 0 < length wo
 run_stops held words some none = ap (option_and_then (options_with held)) (given_none words some none)
 
 -- no word is left
-number_is : (o : RunOption) (before : Option ℕ) → number_with before o [] ≡ Some (unwrap_or before (default_value o))
-number_is o None = refl
-number_is o (Some n) = refl
+number_is : (o : RunOption) (default : ℕ) (before : Option ℕ) → number_with before o default [] ≡ Some (unwrap_or before default)
+number_is o default None = refl
+number_is o default (Some n) = refl
 
 pub run_of_none : (held : GivenValues) → run_with held [] ≡ Some (numbers_with held)
 unfolding given_after
-run_of_none held = rw (number_is option.Budget held.budget, number_is option.Passes held.passes, number_is option.Slots held.slots, number_is option.Seed held.seed) refl
+run_of_none held =
+    rw (number_is option.Budget DEFAULT_BUDGET held.budget, number_is option.Passes DEFAULT_PASSES held.passes, number_is option.Slots DEFAULT_SLOTS held.slots, number_is option.Seed DEFAULT_SEED held.seed, number_is option.Workers DEFAULT_WORKERS held.workers, number_is option.Turns (unwrap_or held.budget DEFAULT_BUDGET) held.turns)
+    refl

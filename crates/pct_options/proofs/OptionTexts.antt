@@ -38,6 +38,8 @@ greatest_fits option.Budget = omega arith
 greatest_fits option.Passes = omega arith
 greatest_fits option.Slots = omega arith
 greatest_fits option.Seed = omega arith
+greatest_fits option.Workers = omega arith
+greatest_fits option.Turns = omega arith
 
 value_by : (f : ℕ → Option ℕ) (n : ℕ) (some all short fits low high : Bool) → f n ≡ cond (low && high) (Some n) None → (high ≡ true → fits ≡ true)
     → option_and_then f (cond (short && all) (cond (some && fits) (Some n) None) None) ≡ cond (some && all && short && low && high) (Some n) None

@@ -4,7 +4,10 @@ ghost use Rattle.std.specs.Prelude.{◌≡◌, ◌≤◌};
 ghost use Rattle.pct_model.specs.RunOptions.{greatest_value};
 ghost use Rattle.pct_options.specs.GivenValues.{none_given, numbers_with, with_value};
 
-use pct_model::{Config, RunOption, RunOptions};
+use pct_model::{
+    Config, DEFAULT_BUDGET, DEFAULT_PASSES, DEFAULT_SEED, DEFAULT_SLOTS, DEFAULT_WORKERS,
+    RunOption, RunOptions,
+};
 
 /// The values that options were given, each at most once.
 #[derive(Clone, Copy)]
@@ -13,6 +16,8 @@ pub(crate) struct GivenValues {
     passes: Option<u32>,
     slots: Option<u32>,
     seed: Option<u64>,
+    workers: Option<u32>,
+    turns: Option<u32>,
 }
 
 impl GivenValues {
@@ -25,6 +30,8 @@ impl GivenValues {
             passes: None,
             slots: None,
             seed: None,
+            workers: None,
+            turns: None,
         }
     }
 
@@ -39,24 +46,26 @@ impl GivenValues {
             RunOption::Passes => given.passes.replace(value as u32).is_some(),
             RunOption::Slots => given.slots.replace(value as u32).is_some(),
             RunOption::Seed => given.seed.replace(value).is_some(),
+            RunOption::Workers => given.workers.replace(value as u32).is_some(),
+            RunOption::Turns => given.turns.replace(value as u32).is_some(),
         };
         if had_one { None } else { Some(given) }
     }
 
-    /// The numbers of a run with these values. An option without one has its default.
+    /// The numbers of a run with these values. An option without one has its default, which is the budget for the turns.
     pub(crate) fn numbers(self) -> RunOptions
         ensures { result ≡ numbers_with self }
     {
-        let budget = self.budget.unwrap_or(RunOption::Budget.default() as u32);
+        let budget = self.budget.unwrap_or(DEFAULT_BUDGET);
         RunOptions {
             config: Config {
                 budget,
-                passes: self.passes.unwrap_or(RunOption::Passes.default() as u32),
-                slots: self.slots.unwrap_or(RunOption::Slots.default() as u32),
+                passes: self.passes.unwrap_or(DEFAULT_PASSES),
+                slots: self.slots.unwrap_or(DEFAULT_SLOTS),
             },
-            seed: self.seed.unwrap_or(RunOption::Seed.default()),
-            workers: 1,
-            turns: budget,
+            seed: self.seed.unwrap_or(DEFAULT_SEED),
+            workers: self.workers.unwrap_or(DEFAULT_WORKERS),
+            turns: self.turns.unwrap_or(budget),
         }
     }
 }

@@ -11,11 +11,13 @@ ghost use Rattle.pct_options.specs.OptionTexts.{number_of, value_of};
 use pct_model::RunOption;
 
 /// The options of `run`.
-const OPTIONS: [RunOption; 4] = [
+const OPTIONS: [RunOption; 6] = [
     RunOption::Budget,
     RunOption::Passes,
     RunOption::Slots,
     RunOption::Seed,
+    RunOption::Workers,
+    RunOption::Turns,
 ];
 
 /// The most digits of a value.

@@ -1,7 +1,7 @@
 //! The words of options.
 
-ghost use Rattle.std.specs.Prelude.{◌≡◌, None as Nothing, map, option_and_then, option_map, string_bytes};
-ghost use Rattle.pct_model.specs.RunOptions.{given_after, options_of};
+ghost use Rattle.std.specs.Prelude.{◌≡◌, None as Nothing, IfSome, map, option_and_then, option_map, string_bytes};
+ghost use Rattle.pct_model.specs.RunOptions.{HasWorkers, given_after, options_of};
 ghost use Rattle.pct_options.specs.FirstOption.{first_option, split_name};
 ghost use Rattle.pct_options.specs.GivenValues.{with_option};
 
@@ -9,11 +9,12 @@ use crate::given_values::GivenValues;
 use crate::option_text::{option_named, value_of};
 use pct_model::RunOptions;
 
-/// The numbers of the run that the words after `run` ask for: `--budget N`, `--passes N`, `--slots N` and `--seed N`, each also
-/// as one word `--budget=N`, in any order, and each at most once. It is `None` with any other words, and with a value that its option cannot
-/// have.
+/// The numbers of the run that the words after `run` ask for: `--budget N`, `--passes N`, `--slots N`, `--seed N`, `--workers N` and
+/// `--turns N`, each also as one word `--budget=N`, in any order, and each at most once. Without `--turns` the turns are the budget. It is
+/// `None` with any other words, and with a value that its option cannot have.
 pub fn read_options(words: &[String]) -> Option<RunOptions>
-    ensures { result ≡ option_and_then options_of (given_after Nothing (map string_bytes words.now)) }
+    ensures value { result ≡ option_and_then options_of (given_after Nothing (map string_bytes words.now)) }
+    ensures workers { IfSome result (λ options. HasWorkers options) }
 {
     let mut given = GivenValues::none();
     let mut rest = words;

@@ -40,8 +40,8 @@ returns-in-Ok-Points-clause-answer g c =
     }
 
 -- the other jobs read an input
-pub answer_input-requires : goal.answer_input-requires
-answer_input-requires g c =
+pub answer_input-requires-after_bounds : goal.answer_input-requires-after_bounds
+answer_input-requires-after_bounds g c κs within =
     let needs : NeedsInput c.in-Ok.job = search rules in
     has_input (map string_bytes c.args.words.now) c.in-Ok.job c.in-Ok.ensures.job needs
 

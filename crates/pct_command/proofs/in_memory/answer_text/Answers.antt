@@ -5,4 +5,4 @@ use Rattle.pct_command.proofs.in_memory.answer_text.Goals as goal
 
 -- an input that is too long is refused
 pub returns-then-input : goal.returns-then-input
-returns-then-input c = λ words asks. input-answer words c.args.input.now (job_needs_input words c.args.job asks c.requires) (omega (arith, c.if-input.true))
+returns-then-input g c = λ words asks. input-answer words c.args.input.now (job_needs_input words c.args.job asks c.requires) (omega (arith, c.if-input.true))

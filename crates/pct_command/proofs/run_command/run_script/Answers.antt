@@ -1,6 +1,6 @@
 use Rattle.pct_command.proofs.Outcomes.{run-answer}
 use Rattle.pct_command.proofs.run_command.run_script.Goals as goal
 
-pub returns-in-Ok : goal.returns-in-Ok
-returns-in-Ok c = λ words input asked has.
-    run-answer words input c.args.script c.args.options c.in-Ok.engine asked has c.in-Ok.ensures
+pub returns : goal.returns
+returns g c = λ words input asked has.
+    run-answer words input c.args.script c.args.options c.in_ok-engine.engine c.in_ok-ran.ran asked has c.in_ok-engine.ensures c.in_ok-ran.ensures

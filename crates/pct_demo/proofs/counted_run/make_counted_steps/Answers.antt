@@ -3,7 +3,7 @@ use Rattle.pct_model.specs.declared.schedule.Entry.{Entry}
 use Rattle.pct_engine.specs.EngineStates.{EngineValue}
 use Rattle.pct_demo.specs.CountedRuns.{IsCountedSoFar}
 use Rattle.pct_demo.proofs.CountedRuns.{counted-none, counted-next, counted-within, counted-few, counted-all}
-use Rattle.pct_demo.proofs.ChosenEntries.{chosen-legal}
+use Rattle.pct_engine.proofs.ChosenEntries.{chosen-legal}
 use Rattle.pct_demo.proofs.counted_run.make_counted_steps.Goals as goal
 
 pub loop-entry-init : goal.loop-entry-init
@@ -16,7 +16,7 @@ loop-entry-init c = record {
 pub unwrap-requires : goal.unwrap-requires
 unwrap-requires c =
     let so_far = c.loop-entry.invariant.so_far in
-    c.step.ensures.legal.1 (chosen-legal c.loop-entry.engine so_far.after 0 _ _ c.in-Some.entry (c.in-Some.ensures so_far.after so_far.is_run))
+    c.step.ensures.legal.1 (chosen-legal c.loop-entry.engine so_far.after 0 _ _ c.in-Some.entry (c.in-Some.ensures.choice so_far.after so_far.is_run))
 
 -- what the step made
 made : (c : goal.After-unwrap) → c.step.new.self ≡ record c.loop-entry.engine { history = c.loop-entry.engine.history ++ c.in-Some.entry ∷ [] }
@@ -28,7 +28,7 @@ longer c = ap (λ (engine : EngineValue). length engine.history) (made c) ∙ le
 more : (c : goal.After-unwrap) → IsCountedSoFar c.step.new.self.script c.step.new.self.config c.step.new.self.history
 more c =
     let so_far = c.loop-entry.invariant.so_far in
-    counted-next c.loop-entry.engine c.step.new.self c.in-Some.entry so_far c.loop-entry.made c.loop-entry.invariant.count (c.in-Some.ensures so_far.after so_far.is_run) (made c)
+    counted-next c.loop-entry.engine c.step.new.self c.in-Some.entry so_far c.loop-entry.made c.loop-entry.invariant.count (c.in-Some.ensures.choice so_far.after so_far.is_run) (made c)
 
 pub overflow_add-made : goal.overflow_add-made
 overflow_add-made c =
@@ -56,4 +56,4 @@ loop-entry-smaller c =
 pub returns : goal.returns
 returns c =
     let so_far = c.loop-entry.invariant.so_far in
-    counted-all c.args.engine.now.script c.args.engine.now.config c.loop-entry.engine c.loop-entry.made so_far c.loop-entry.invariant.same (c.in_default.ensures so_far.after so_far.is_run)
+    counted-all c.args.engine.now.script c.args.engine.now.config c.loop-entry.engine c.loop-entry.made so_far c.loop-entry.invariant.same (c.in_default.ensures.choice so_far.after so_far.is_run)

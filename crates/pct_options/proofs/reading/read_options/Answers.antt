@@ -1,13 +1,15 @@
-use Rattle.std.proofs.Common.{◌≡◌, Some, sym, ap, ◌∙◌, map}
+use Rattle.std.proofs.Common.{◌≡◌, None, Some, sym, ap, ◌∙◌, map}
 use Rattle.std.specs.Prelude.{option_and_then, string_bytes}
 use Rattle.pct_model.specs.declared.run_options.RunOptions.{RunOptions}
+use Rattle.pct_model.specs.RunOptions.{given_after}
 use Rattle.pct_options.specs.declared.given_values.GivenValues.{GivenValues}
+use Rattle.pct_options.proofs.Configs.{options_have_workers}
 use Rattle.pct_options.proofs.GivenOptions.{run_with, run_begins, run_goes_on, run_stops}
 use Rattle.pct_options.proofs.WordsLeft.{some_left, fewer_left, run_ends}
 use Rattle.pct_options.proofs.reading.read_options.Goals as goal
 
-pub returns-in_err-name : goal.returns-in_err-name
-returns-in_err-name c =
+pub returns-in_err-name-clause-value : goal.returns-in_err-name-clause-value
+returns-in_err-name-clause-value c =
     let left = map string_bytes c.loop-rest.rest.now in
     c.from_residual.ensures
     ∙ sym (run_stops c.loop-rest.given left (some_left string_bytes c.loop-rest.rest.now c.loop-rest-test.ensures) (sym c.in_err-name.ensures))
@@ -22,8 +24,8 @@ goes_on c =
     ap (λ held. option_and_then (λ (h : GivenValues). run_with h after) held) c.in_ok-given.ensures
     ∙ sym (run_goes_on c.loop-rest.given left after _ (sym c.in_ok-name.ensures))
 
-pub returns-in_err-given : goal.returns-in_err-given
-returns-in_err-given c =
+pub returns-in_err-given-clause-value : goal.returns-in_err-given-clause-value
+returns-in_err-given-clause-value c =
     let left = map string_bytes c.loop-rest.rest.now in
     let after = map string_bytes c.in_ok-name.after.now in
     c.from_residual-in_err-given.ensures
@@ -38,9 +40,12 @@ loop-rest-smaller c = fewer_left string_bytes c.loop-rest.rest.now c.in_ok-name.
 pub loop-rest-preserved : goal.loop-rest-preserved
 loop-rest-preserved c = goes_on c ∙ c.loop-rest.invariant
 
-pub returns : goal.returns
-returns c =
+pub returns-clause-value : goal.returns-clause-value
+returns-clause-value c =
     ap (λ (numbers : RunOptions). Some numbers) c.numbers.ensures
     ∙ sym (run_ends string_bytes c.loop-rest.given c.loop-rest.rest.now c.loop-rest-test.ensures)
     ∙ c.loop-rest.invariant
     ∙ run_begins (map string_bytes c.args.words.now)
+
+pub returns-clause-workers : goal.returns-clause-workers
+returns-clause-workers c = options_have_workers (given_after None (map string_bytes c.args.words.now)) (Some c.numbers.result) (returns-clause-value c)

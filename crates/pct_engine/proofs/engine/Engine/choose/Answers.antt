@@ -6,8 +6,8 @@ use Rattle.pct_engine.proofs.EngineChoices.{full_after, choice_after}
 use Rattle.pct_engine.proofs.ReachedStates.{stands_can_step}
 use Rattle.pct_engine.proofs.engine.Engine.choose.Goals as goal
 
-pub returns-then-not-has_room : goal.returns-then-not-has_room
-returns-then-not-has_room c =
+pub returns-then-not-has_room-clause-choice : goal.returns-then-not-has_room-clause-choice
+returns-then-not-has_room-clause-choice c =
     let e = c.self.inside in
     let full : e.trace.budget ≤ length e.trace.history = ltb-false (length e.trace.history) e.trace.budget (sym c.has_room.ensures ∙ c.if-not-has_room.true) in
     subst (λ (v : EngineValue). (after : Run) → IsRunOf v after → IsChoice v after c.args.worker c.args.a c.args.b None) c.self.view_is
@@ -16,8 +16,8 @@ returns-then-not-has_room c =
 pub chosen-requires : goal.chosen-requires
 chosen-requires c = let e = c.self.inside in stands_can_step e.program e.trace e.machine c.self.invariant
 
-pub returns : goal.returns
-returns c =
+pub returns-clause-choice : goal.returns-clause-choice
+returns-clause-choice c =
     let e = c.self.inside in
     let left : length e.trace.history < e.trace.budget = ltb-true (length e.trace.history) e.trace.budget (sym c.has_room.ensures ∙ c.if-not-has_room.false) in
     subst (λ (v : EngineValue). (after : Run) → IsRunOf v after → IsChoice v after c.args.worker c.args.a c.args.b c.chosen.result) c.self.view_is

@@ -1,0 +1,32 @@
+-- A seed has one schedule.
+use Rattle.std.proofs.Common.{◌≡◌, inl, inr, ℕ, ◌+◌, ◌-◌, ◌<◌, ◌≤◌, List, Some, sym, ◌∙◌, subst, arith, length, take}
+use Rattle.std.specs.Prelude.{slice_get}
+use Rattle.std.proofs.lemmas.Bool.{cases_order}
+use Rattle.pct_model.specs.declared.script.Script.{Script}
+use Rattle.pct_model.specs.declared.schedule.Config.{Config}
+use Rattle.pct_model.specs.declared.schedule.Entry.{Entry}
+use Rattle.pct_model.specs.Run.{Run, run}
+use Rattle.pct_shared.specs.Schedules.{SeedSchedule}
+use Rattle.pct_shared.specs.Streams.{IsChosenAt, stream_of}
+use Rattle.pct_shared.proofs.WholeRuns.{whole_is_one}
+
+-- an entry past the turns of worker 1, by its place
+finished_at : (script : Script) (config : Config) (seed turns : ℕ) (entries : List Entry) (k : ℕ) → SeedSchedule script config seed turns entries → turns ≤ k → k < length entries → IsChosenAt (stream_of seed 0) 0 script config entries k (k - turns)
+finished_at script config seed turns entries k schedule past within =
+    let place : turns + (k - turns) ≡ k = omega (arith, past) in
+    subst (λ (at : ℕ). IsChosenAt (stream_of seed 0) 0 script config entries at (k - turns)) place (schedule.finished (k - turns) (omega (arith, place, within)))
+
+-- two schedules of a seed go on alike
+same_next : (script : Script) (config : Config) (seed turns : ℕ) (one other : List Entry) → SeedSchedule script config seed turns one → SeedSchedule script config seed turns other
+    → (k : ℕ) (before : Run) → k < length one → k < length other → run script config (take k one) ≡ Some before → run script config (take k other) ≡ Some before → slice_get one k ≡ slice_get other k
+same_next script config seed turns one other of_one of_other k before in_one in_other ran_one ran_other =
+    elim (cases_order k turns) [
+      | inl last ↦ finished_at script config seed turns one k of_one (omega (arith, last)) in_one before ran_one ∙ sym (finished_at script config seed turns other k of_other (omega (arith, last)) in_other before ran_other)
+      | inr (inl worked) ↦ of_one.worked k in_one worked before ran_one ∙ sym (of_other.worked k in_other worked before ran_other)
+      | inr (inr past) ↦ finished_at script config seed turns one k of_one (omega (arith, past)) in_one before ran_one ∙ sym (finished_at script config seed turns other k of_other (omega (arith, past)) in_other before ran_other)
+    ]
+
+-- a seed has one schedule for one worker with at most this many turns
+pub seed_schedule_is_one : (script : Script) (config : Config) (seed turns : ℕ) (one other : List Entry) → SeedSchedule script config seed turns one → SeedSchedule script config seed turns other → one ≡ other
+seed_schedule_is_one script config seed turns one other of_one of_other =
+    whole_is_one script config one other of_one.whole of_other.whole (same_next script config seed turns one other of_one of_other)

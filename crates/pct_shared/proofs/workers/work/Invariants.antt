@@ -1,0 +1,13 @@
+use Rattle.std.proofs.Common.{◌-◌, ◌≤◌}
+use Rattle.pct_shared.proofs.Working.{WorkedSoFar}
+use Rattle.pct_shared.proofs.workers.work.Given as goal
+
+-- the turns so far
+abbrev pub invariant-loop-made : goal.invariant-loop-made
+invariant-loop-made g l = record {
+  few : l.made ≤ l.turns;
+  so_far : WorkedSoFar l.initial.worker.pass l.worker.pass l.initial.worker.picks l.worker.picks l.made;
+}
+
+abbrev pub decreases-loop-made : goal.decreases-loop-made
+decreases-loop-made g l = l.turns - l.made

@@ -1,0 +1,7 @@
+pub mod Streams
+pub mod Views
+pub mod TurnRule
+pub mod Passes
+pub mod TurnSteps
+pub mod Hosts
+pub mod Schedules
