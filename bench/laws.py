@@ -13,49 +13,30 @@ passes, or that a thread whose cancelability is deferred acts on a request only 
 and SlotLaw are not said again here. That the last thread of a process exits it in the step of its end, a part of Ends, stands
 in AfterEnd.
 
-- Made lists. Each law has lists that it must refuse. Other lists must be accepted by all six.
+- Forms. A line of each form in the table of events of docs/FORMATS.md must be read, and lines that are spoilt must be
+  refused.
+- Made lists. Each law has lists of which it must refuse one event, and none before it. Other lists must be accepted by all
+  six.
 - Random runs. N runs, 20000 where no number is given, of random scripts with requests, asynchronous cancelability,
   destructors that set values again, condition waits, forks, fork handlers, and exits in handlers, under random seeds,
   numbers of passes and numbers of slots. Each of the six must accept the report of each run. In a deadlock no thread may
   be suspended in a cancellation point with cancelability enabled and a request pending.
 
-Before the last line stand the events that the runs had, by kind. The last line is `N passed, M failed`, of lists and runs.
-The status is 1 if M is not 0.
+Before the last line come the events that the runs had, by kind. The last line is `N passed, M failed`, of forms, lines, lists
+and runs. The status is 1 if M is not 0.
 """
 import argparse
 import collections
-import dataclasses
 import pathlib
 import random
 import subprocess
 import sys
 
+from events import FORMS, NAMES, NUMBERS, NoEvent, event_of, events_of, forms_of
+from law_lists import FINE, NO_EVENTS, WRONG
+
 ROOT = pathlib.Path(__file__).resolve().parent.parent
 SECONDS = 60
-
-
-@dataclasses.dataclass(frozen=True)
-class Event:
-    pid: int
-    tid: int
-    words: tuple
-
-    @property
-    def word(self):
-        return self.words[0]
-
-    def number(self, place):
-        return int(self.words[place])
-
-
-def events_of(lines):
-    """The events of lines `PID.TID WORDS`."""
-    found = []
-    for line in lines:
-        thread, *words = line.split()
-        pid, tid = thread.split(".")
-        found.append(Event(int(pid), int(tid), tuple(words)))
-    return found
 
 
 # ---- what came before an event
@@ -243,26 +224,41 @@ def returns(event, past):
         return False
     point = event.words[1] if event.word == "done" else {"take": "sem_wait", "reap": "waitpid"}.get(event.word)
     if point == "pthread_cond_wait":
-        return past[-3:-2] == [WAIT] and words[-2:] == ["release", "acquire"]
+        return past[-3:-2] == [WAIT] and words[-2:] == ["release", "acquire"] and past[-2][1] == past[-1][1]
     if point is not None and point not in OPTIONAL_POINTS and point != "pthread_testcancel":
         return past[-1:] == [("call", point)]
     if event.word == "cancel_wait":
         return past[-2:-1] == [WAIT] and words[-1:] == ["release"]
+    if event.word == "handon":
+        return past[-1:] == [("cancel_wait", event.words[1])]
     if event.words[:2] == ("ending", "canceled") and len(event.words) == 4:
         cond, mutex = event.words[2:]
-        at = -3 if words[-3:-1] == ["cancel_wait", "handon"] else -2
-        return words[-1:] == ["acquire"] and past[at] == ("cancel_wait", cond) and past[at - 1] == ("release", mutex) and past[at - 2] == WAIT
+        # A signal may have been handed on in the step of the act.
+        stages = past[-5:-2] + past[-1:] if words[-2:-1] == ["handon"] else past[-4:]
+        return stages == [WAIT, ("release", mutex), ("cancel_wait", cond), ("acquire", mutex)]
     return True
+
+
+def unblocked_by(events, pid, tid, end):
+    """The condition variables whose signals unblocked a thread after its newest own event before a place."""
+    for event in reversed(events[:end]):
+        if is_own(event, pid, tid):
+            return
+        if event.pid == pid and event.word in ("signal", "handon") and event.number(2) == tid:
+            yield event.words[1]
 
 
 def cancel_law(events):
     """XSH 2.9.5.1, 2.9.5.2, 2.9.5.3: a thread acts on a request that came, and only with cancelability enabled. With
     cancelability enabled and a request pending, a call of a function that shall be a cancellation point acts on it. A thread
-    that has begun to end does not enable cancelability."""
+    that has begun to end does not enable cancelability. XSH pthread_cond_wait, pthread_cond_signal: a wait ends with the mutex
+    that it released, and a signal unblocks a thread that waits on its condition variable."""
     for place, event in enumerate(events):
         past = [other.words for other in events[:place] if is_own(other, event.pid, event.tid)]
         if not returns(event, past):
             yield place, "a thread returns from a point that it did not call, or leaves a wait that it is not in"
+        if event.word == "cancel_wait" and any(cond != event.words[1] for cond in unblocked_by(events, event.pid, event.tid, place)):
+            yield place, "a thread leaves the wait on another condition variable than that whose signal unblocked it"
         if event.words == ("state", "enable") and had(events, event.pid, event.tid, place, "ending", "exit"):
             yield place, "a thread that has begun to end, or to exit its process, enables cancelability"
         acts = event.words[:2] == ("ending", "canceled") or event.word == "cancel_wait"
@@ -349,133 +345,63 @@ def asleep(events):
 
 # ---- made lists
 
-WRONG = [
-    ("RanAll", "a handler runs twice", "1.1 push h 1; 1.1 ending exit 0; 1.1 handler h 1; 1.1 handler h 1; 1.1 ended 0"),
-    ("RanAll", "a handler never runs", "1.1 push h 1; 1.1 push g 2; 1.1 ending exit 0; 1.1 handler g 2; 1.1 ended 0"),
-    ("RanAll", "the oldest handler runs first", "1.1 push h 1; 1.1 push g 2; 1.1 ending exit 0; 1.1 handler h 1; 1.1 handler g 2; 1.1 ended 0"),
-    ("RanAll", "a handler runs with the argument of another", "1.1 push h 1; 1.1 push h 2; 1.1 ending exit 0; 1.1 handler h 2; 1.1 handler h 2; 1.1 ended 0"),
-    ("RanAll", "a handler runs that a pop removed", "1.1 push h 1; 1.1 pop h 1 run; 1.1 ending exit 0; 1.1 handler h 1; 1.1 ended 0"),
-    ("RanAll", "a handler runs that was pushed after the thread began to end", "1.1 push h 1; 1.1 ending exit 0; 1.1 handler h 1; 1.1 push g 2; 1.1 handler g 2; 1.1 ended 0"),
-    ("RanAll", "the handlers of the thread that forked are not those of the replica", "1.1 push h 1; 1.1 fork 2; 2.1 ending exit 0; 2.1 ended 0"),
-    ("RanAll", "a handler that was pushed after the fork runs in the child", "1.1 fork 2; 1.1 push h 1; 2.1 ending exit 0; 2.1 handler h 1; 2.1 ended 0"),
-    ("RanAll", "a thread ends that did not begin to", "1.1 push h 1; 1.1 handler h 1; 1.1 ended 0"),
-    ("AfterEnd", "a push after the end", "1.1 create 2 joinable; 1.2 ending exit 0; 1.2 ended 0; 1.2 push h 1"),
-    ("AfterEnd", "a second end", "1.1 create 2 joinable; 1.2 ending exit 0; 1.2 ended 0; 1.2 ended 0"),
-    ("AfterEnd", "a second beginning of the end", "1.1 create 2 joinable; 1.2 ending exit 0; 1.2 ended 0; 1.2 ending canceled"),
-    ("AfterEnd", "a destructor after the end", "1.1 key 1; 1.1 create 2 joinable; 1.2 ending exit 0; 1.2 pass 1; 1.2 ended 0; 1.2 dtor 1 1 d 3"),
-    ("AfterEnd", "a pass after the end", "1.1 create 2 joinable; 1.2 ending exit 0; 1.2 ended 0; 1.2 pass 1"),
-    ("AfterEnd", "leftover values after the end", "1.1 create 2 joinable; 1.2 ending exit 0; 1.2 ended 0; 1.2 leftover 1"),
-    ("AfterEnd", "a pop after the end, in the exit of the process", "1.1 push h 1; 1.1 ending exit 0; 1.1 handler h 1; 1.1 ended 0; 1.1 exit 0; 1.1 pop h 1 drop"),
-    ("AfterEnd", "a handler while the thread exits its process", "1.1 push h 1; 1.1 ending exit 0; 1.1 exit 3; 1.1 handler h 1"),
-    ("AfterEnd", "a thread that has ended emits", "1.1 create 2 joinable; 1.2 ending exit 0; 1.2 ended 0; 1.2 emit 1"),
-    ("AfterEnd", "the last thread does not exit the process", "1.1 create 2 joinable; 1.2 ending exit 0; 1.2 ended 0; 1.1 ending exit 0; 1.1 ended 0"),
-    ("AfterEnd", "the last thread exits later than in the step of its end", "1.1 ending exit 0; 1.1 ended 0; 1.1 emit 1; 1.1 exit 0"),
-    ("AfterEnd", "a thread that is not the last one exits the process after its end", "1.1 create 2 joinable; 1.1 ending exit 5; 1.1 ended 5; 1.1 exit 0"),
-    ("AfterEnd", "a thread that exits its process creates a thread", "1.1 exit 3; 1.1 create 2 joinable"),
-    ("AfterEnd", "a thread that exits its process calls read", "1.1 exit 3; 1.1 call read"),
-    ("AfterEnd", "the last thread exits with another value", "1.1 ending exit 3; 1.1 ended 3; 1.1 exit 3"),
-    ("Calls", "a destructor of a key that was never made", "1.1 ending exit 0; 1.1 pass 1; 1.1 dtor 1 1 d 3"),
-    ("Calls", "a destructor of a key that was deleted", "1.1 key 1; 1.1 ending exit 0; 1.1 pass 1; 1.1 key_delete 1; 1.1 dtor 1 1 d 3"),
-    ("Calls", "a destructor of a key that the parent deleted before the fork", "1.1 key 1; 1.1 key_delete 1; 1.1 fork 2; 2.1 ending exit 0; 2.1 pass 1; 2.1 dtor 1 1 d 3"),
-    ("Calls", "a destructor of a key that the parent made after the fork", "1.1 fork 2; 1.1 key 1; 2.1 ending exit 0; 2.1 pass 1; 2.1 dtor 1 1 d 3"),
-    ("Calls", "a destructor of a key that the child deleted", "1.1 key 1; 1.1 fork 2; 2.1 key_delete 1; 2.1 ending exit 0; 2.1 pass 1; 2.1 dtor 1 1 d 3"),
-    ("Calls", "a destructor with 0", "1.1 key 1; 1.1 ending exit 0; 1.1 pass 1; 1.1 dtor 1 1 d 0"),
-    ("Calls", "a destructor of another key", "1.1 key 1; 1.1 ending exit 0; 1.1 pass 1; 1.1 dtor 1 2 d 3"),
-    ("Ends", "leftover values, and no end", "1.1 key 1; 1.1 ending exit 0; 1.1 pass 1; 1.1 leftover 1; 1.1 emit 1; 1.1 ended 0"),
-    ("Ends", "leftover values of another thread before the end", "1.1 key 1; 1.1 create 2 joinable; 1.1 ending exit 0; 1.2 ending exit 0; 1.1 pass 1; 1.1 leftover 1; 1.2 ended 0"),
-    ("Ends", "0 leftover values", "1.1 key 1; 1.1 ending exit 0; 1.1 pass 1; 1.1 leftover 0; 1.1 ended 0"),
-    ("Ends", "leftover values without a pass", "1.1 key 1; 1.1 ending exit 0; 1.1 leftover 1; 1.1 ended 0"),
-    ("Ends", "leftover values as the last event", "1.1 key 1; 1.1 ending exit 0; 1.1 pass 1; 1.1 leftover 2"),
-    ("Ends", "an end with a handler", "1.1 push h 1; 1.1 ending exit 0; 1.1 ended 0"),
-    ("Ends", "an end of the replica with a handler of the thread that forked", "1.1 push h 1; 1.1 fork 2; 2.1 ending exit 0; 2.1 ended 0"),
-    ("CancelLaw", "a cancel with no request", "1.1 create 2 joinable; 1.2 ending canceled"),
-    ("CancelLaw", "a cancel with a request for another thread", "1.1 create 2 joinable; 1.1 create 3 joinable; 1.1 request 3; 1.2 ending canceled"),
-    ("CancelLaw", "a cancel with a later request", "1.1 create 2 joinable; 1.2 ending canceled; 1.1 request 2"),
-    ("CancelLaw", "a child acts on the request of its parent", "1.1 state disable; 1.1 request 1; 1.1 fork 2; 2.1 state enable; 2.1 ending canceled"),
-    ("CancelLaw", "a parent acts on the request of its child", "1.1 fork 2; 2.1 request 1; 1.1 ending canceled"),
-    ("CancelLaw", "a cancel while disabled", "1.1 create 2 joinable; 1.2 state disable; 1.1 request 2; 1.2 ending canceled"),
-    ("CancelLaw", "a cancel while disabled, also before the fork", "1.1 state disable; 1.1 fork 2; 2.1 request 1; 2.1 ending canceled"),
-    ("CancelLaw", "a wait is left while disabled", "1.1 state disable; 1.1 acquire m; 1.1 request 1; 1.1 call pthread_cond_wait; 1.1 release m; 1.1 cancel_wait c"),
-    ("CancelLaw", "a wait is left without a request", "1.1 acquire m; 1.1 call pthread_cond_wait; 1.1 release m; 1.1 cancel_wait c"),
-    ("CancelLaw", "a cancel in the exit of the process", "1.1 request 1; 1.1 exit 0; 1.1 ending canceled"),
-    ("CancelLaw", "a cancel in a handler", "1.1 request 1; 1.1 push h 1; 1.1 ending canceled; 1.1 handler h 1; 1.1 ending canceled"),
-    ("CancelLaw", "a call of a point with a request pending", "1.1 create 2 joinable; 1.1 request 2; 1.2 call read"),
-    ("CancelLaw", "pthread_testcancel returns with a request pending", "1.1 create 2 joinable; 1.1 request 2; 1.2 done pthread_testcancel"),
-    ("CancelLaw", "a call of a point, enabled again, with a request pending", "1.1 state disable; 1.1 request 1; 1.1 state enable; 1.1 call sem_wait"),
-    ("CancelLaw", "waitpid of no child with a request pending", "1.1 request 1; 1.1 answer waitpid 3"),
-    ("CancelLaw", "a point returns that was not called", "1.1 create 2 joinable; 1.1 request 2; 1.2 done read"),
-    ("CancelLaw", "a point returns that is not the one that was called", "1.1 call read; 1.1 done write"),
-    ("CancelLaw", "pthread_join returns without a value", "1.1 create 2 joinable; 1.1 call pthread_join; 1.1 done pthread_join"),
-    ("CancelLaw", "sem_wait takes, and was not called", "1.1 take s"),
-    ("CancelLaw", "waitpid gives a status, and was not called", "1.1 fork 2; 2.1 process_end 0; 1.1 reap 2 0"),
-    ("CancelLaw", "pthread_cond_wait returns without its mutex", "1.1 acquire m; 1.1 call pthread_cond_wait; 1.1 release m; 1.1 done pthread_cond_wait"),
-    ("CancelLaw", "a wait is left that was not begun", "1.1 request 1; 1.1 cancel_wait c"),
-    ("CancelLaw", "a thread ends in a wait that it did not leave", "1.1 request 1; 1.1 ending canceled c m"),
-    ("CancelLaw", "a thread ends in another wait than the one that it left", "1.1 acquire m; 1.1 call pthread_cond_wait; 1.1 release m; 1.1 request 1; 1.1 cancel_wait c; 1.1 acquire m; 1.1 ending canceled d m"),
-    ("CancelLaw", "cancelability is enabled in a handler", "1.1 push h 1; 1.1 ending exit 0; 1.1 handler h 1; 1.1 state enable"),
-    ("ProcessLaw", "an event after the end of the process", "1.1 exit 0; 1.1 process_end 0; 1.1 emit 1"),
-    ("ProcessLaw", "an event of another thread after the end of the process", "1.1 create 2 joinable; 1.1 process_end 0; 1.2 emit 1"),
-    ("ProcessLaw", "two ends of a process", "1.1 create 2 joinable; 1.1 process_end 0; 1.2 process_end 0"),
-    ("ProcessLaw", "two exits", "1.1 create 2 joinable; 1.1 exit 0; 1.2 exit 0"),
-    ("ProcessLaw", "a status that is not the exit value modulo 256", "1.1 exit 257; 1.1 process_end 2"),
-    ("ProcessLaw", "a status of more than 8 bits", "1.1 process_end 256"),
-    ("ProcessLaw", "a child had events before its fork", "2.1 emit 1; 1.1 fork 2"),
-    ("ProcessLaw", "a fork makes the first process", "1.1 fork 1"),
-    ("ProcessLaw", "two forks make one process", "1.1 fork 2; 2.1 process_end 0; 1.1 fork 2"),
-    ("ProcessLaw", "an event of a process that no fork made", "1.1 emit 1; 2.1 emit 2"),
-    ("ProcessLaw", "an event of a thread that a child did not inherit", "1.1 create 2 joinable; 1.1 fork 2; 2.2 emit 2"),
-    ("ProcessLaw", "an event of a thread that was not created", "1.2 emit 2"),
-    ("ProcessLaw", "an event after a stop", "1.1 create 2 joinable; 1.1 undefined thread_id; 1.2 emit 1"),
-    ("ProcessLaw", "waitpid gives another status", "1.1 fork 2; 2.1 process_end 3; 1.1 call waitpid; 1.1 reap 2 4"),
-    ("ProcessLaw", "waitpid gives the status of the parent", "1.1 fork 2; 1.1 process_end 3; 2.1 call waitpid; 2.1 reap 1 3"),
-    ("ProcessLaw", "waitpid gives a status twice", "1.1 fork 2; 2.1 process_end 3; 1.1 call waitpid; 1.1 reap 2 3; 1.1 call waitpid; 1.1 reap 2 3"),
-    ("ProcessLaw", "a join of the thread itself", "1.1 ending exit 4; 1.1 ended 4; 1.1 call pthread_join; 1.1 joined 1 4"),
-    ("ProcessLaw", "a join of a thread that is not known", "1.1 call pthread_join; 1.1 joined 7 0"),
-    ("ProcessLaw", "a join of a thread that a child did not inherit", "1.1 create 2 joinable; 1.2 ending exit 0; 1.2 ended 0; 1.1 fork 2; 2.1 call pthread_join; 2.1 joined 2 0"),
-    ("ProcessLaw", "a join by a thread that has ended", "1.1 create 2 joinable; 1.2 ending exit 4; 1.2 ended 4; 1.1 ending exit 0; 1.1 ended 0; 1.1 call pthread_join; 1.1 joined 2 4"),
-]
-
-FINE = [
-    ("no events", ""),
-    ("the first thread returns from main", "1.1 exit 0; 1.1 process_end 0"),
-    ("handlers, the newest first", "1.1 push h 1; 1.1 push g 2; 1.1 ending exit 5; 1.1 handler g 2; 1.1 handler h 1; 1.1 ended 5; 1.1 exit 0; 1.1 process_end 0"),
-    ("a handler pushes and pops", "1.1 push h 1; 1.1 ending exit 5; 1.1 handler h 1; 1.1 push g 2; 1.1 pop g 2 run; 1.1 ended 5; 1.1 exit 0; 1.1 process_end 0"),
-    ("a popped handler ends the thread", "1.1 push h 1; 1.1 push g 2; 1.1 pop g 2 run; 1.1 ending exit 5; 1.1 handler h 1; 1.1 ended 5; 1.1 exit 0"),
-    ("handlers are left as a thread exits its process in one", "1.1 push h 1; 1.1 push g 2; 1.1 ending exit 5; 1.1 handler g 2; 1.1 exit 300; 1.1 at_exit f; 1.1 emit 0; 1.1 process_end 44"),
-    ("the replica runs the handlers of the thread that forked", "1.1 push h 1; 1.1 fork 2; 1.1 pop h 1 drop; 2.1 ending exit 0; 2.1 handler h 1; 2.1 ended 0; 2.1 exit 0; 2.1 process_end 0; 1.1 emit 1"),
-    ("the last thread runs exit functions after its end", "1.1 ending exit 5; 1.1 ended 5; 1.1 exit 0; 1.1 at_exit f; 1.1 acquire m; 1.1 release m; 1.1 process_end 0"),
-    ("a destructor of a key that the parent deletes after the fork", "1.1 key 1; 1.1 fork 2; 1.1 key_delete 1; 2.1 ending exit 0; 2.1 pass 1; 2.1 dtor 1 1 d 3; 2.1 ended 0; 2.1 exit 0"),
-    ("a key is made after one was deleted", "1.1 key 1; 1.1 key_delete 1; 1.1 key 129; 1.1 ending exit 0; 1.1 pass 1; 1.1 dtor 1 129 d 3; 1.1 ended 0; 1.1 exit 0"),
-    ("values are left", "1.1 key 1; 1.1 ending exit 0; 1.1 pass 1; 1.1 dtor 1 1 d 3; 1.1 leftover 1; 1.1 ended 0; 1.1 exit 0"),
-    ("a request is held while disabled", "1.1 create 2 joinable; 1.2 state disable; 1.1 request 2; 1.2 call read; 1.2 done read; 1.2 done pthread_testcancel; 1.2 state enable; 1.2 ending canceled; 1.2 ended 4294967295"),
-    ("a point that was called before the request returns", "1.1 create 2 joinable; 1.2 call read; 1.1 request 2; 1.2 done read; 1.2 ending canceled"),
-    ("an optional point is passed with a request pending", "1.1 request 1; 1.1 done printf; 1.1 ending canceled"),
-    ("a request is not that of the child", "1.1 state disable; 1.1 request 1; 1.1 fork 2; 2.1 state enable; 2.1 call read; 1.1 state enable; 1.1 ending canceled"),
-    ("the child acts on a request of its own", "1.1 fork 2; 2.1 request 1; 2.1 ending canceled; 2.1 ended 4294967295; 2.1 exit 0; 1.1 call read"),
-    ("a canceled wait", "1.1 create 2 joinable; 1.2 acquire m; 1.2 call pthread_cond_wait; 1.2 release m; 1.1 request 2; 1.2 cancel_wait c; 1.2 acquire m; 1.2 ending canceled c m; 1.2 ended 4294967295"),
-    ("a request while the thread ends", "1.1 create 2 joinable; 1.2 push h 1; 1.2 ending exit 3; 1.1 request 2; 1.2 handler h 1; 1.2 call read; 1.2 done read; 1.2 done pthread_testcancel; 1.2 ended 3"),
-    ("waitpid returns without a child that another thread reaped", "1.1 fork 2; 1.1 create 2 joinable; 2.1 process_end 0; 1.1 call waitpid; 1.2 call waitpid; 1.2 reap 2 0; 1.2 request 1; 1.1 answer waitpid 3"),
-    ("another thread ends the process while one exits it", "1.1 create 2 joinable; 1.1 exit 1; 1.2 process_end 7"),
-    ("a thread goes on while another one exits the process", "1.1 create 2 joinable; 1.1 exit 1; 1.2 push h 1; 1.2 ending exit 2; 1.2 handler h 1; 1.2 ended 2; 1.1 process_end 1"),
-    ("a join", "1.1 create 2 joinable; 1.2 ending exit 4; 1.2 ended 4; 1.1 call pthread_join; 1.1 joined 2 4; 1.1 exit 0; 1.1 process_end 0"),
-    ("fork handlers", "1.1 prepare p; 1.1 fork 2; 1.1 parent q; 2.1 child r; 2.1 process_end 0; 1.1 call waitpid; 1.1 reap 2 0; 1.1 exit 0"),
-    ("a stop", "1.1 create 2 joinable; 1.2 emit 1; 1.1 undefined thread_id"),
-]
+# Marks the event of a list that is to be refused, where it is not the last one.
+MARK = ">"
 
 
 def listed(text):
-    return events_of(line for line in text.split("; ") if line)
+    """The events of a list, and the place of the one that is to be refused: the marked one, or else the last."""
+    lines = [line for line in text.split("; ") if line]
+    marked = [place for place, line in enumerate(lines) if line.startswith(MARK)]
+    return events_of(line.removeprefix(MARK) for line in lines), marked[0] if marked else len(lines) - 1
 
 
 def try_lists(count):
     for law, name, text in WRONG:
-        found = refused(law, listed(text))
-        count(found is not None, f"{law} accepts the list '{name}'")
+        events, place = listed(text)
+        found = refused(law, events)
+        count(found is not None and found[0] == place, f"{law} does not refuse event {place} of the list '{name}': {found}")
     for name, text in FINE:
         for law in LAWS:
-            found = refused(law, listed(text))
+            found = refused(law, listed(text)[0])
             count(found is None, f"{law} refuses the list '{name}': {found}")
 
+
+# ---- lines of events
+
+SAMPLES = {**dict.fromkeys(NUMBERS, "3"), **dict.fromkeys(NAMES, "f_3")}
+
+
+def is_event(line):
+    try:
+        event_of(line)
+    except NoEvent:
+        return False
+    return True
+
+
+def spoilt(form):
+    """Lines that are no events: of the form, but with a word too few, a word too many, or a word that is neither a name nor
+    a number in the place of one of its words."""
+    words = ["1.1", *(SAMPLES.get(field, field) for field in form.split())]
+    yield " ".join(words[:-1])
+    yield " ".join([*words, "3"])
+    for place in range(len(words)):
+        yield " ".join([*words[:place], "-3", *words[place + 1:]])
+
+
+def try_forms(count):
+    """Each form of docs/FORMATS.md is known, and no other one; a line of it is an event, and what is spoilt of it is not."""
+    page = forms_of((ROOT / "docs/FORMATS.md").read_text())
+    for form in sorted({*page, *FORMS}):
+        count(form in FORMS and form in page, f"the form '{form}' is not both in docs/FORMATS.md and in bench/events.py")
+    for form in FORMS:
+        line = " ".join(["1.1", *(SAMPLES.get(field, field) for field in form.split())])
+        count(is_event(line), f"the line '{line}' is refused")
+        for other in spoilt(form):
+            count(not is_event(other), f"the line '{other}' is taken to be an event")
+    for name, line in NO_EVENTS:
+        count(not is_event(line), f"the line {line!r} is taken to be an event: {name}")
 
 # ---- random scripts
 
@@ -737,15 +663,22 @@ RUNS_OF_A_SCRIPT = 10
 
 
 def report_of(program, words, text):
-    ran = subprocess.run([program, "run", *words], input=text.encode(), stdout=subprocess.PIPE, timeout=SECONDS)
-    return ran.stdout.decode()
+    try:
+        ran = subprocess.run([program, "run", *words], input=text.encode(), stdout=subprocess.PIPE, timeout=SECONDS)
+    except subprocess.TimeoutExpired:
+        return "(no answer in time)"
+    except OSError as error:
+        sys.exit(f"{program} cannot be run: {error.strerror}")
+    return ran.stdout.decode(errors="replace")
 
 
 def events_in(report):
-    """The events of a report, and its verdict."""
-    lines = report.split("\n")
-    verdict = next(place for place, line in enumerate(lines) if line.startswith("verdict "))
-    return events_of(lines[1:verdict]), lines[verdict]
+    """The events of a report, and its verdict. A text that is no report is a NoEvent."""
+    title, *lines = report.split("\n")
+    verdicts = [place for place, line in enumerate(lines) if line.startswith("verdict ")]
+    if title != "report 1" or not verdicts:
+        raise NoEvent(f"no report, or one without a verdict: {report.strip()[:200]!r}")
+    return events_of(lines[:verdicts[0]]), lines[verdicts[0]]
 
 
 KINDS_OF_TWO_WORDS = ("call", "done", "answer", "ending", "state", "type", "undefined", "profile")
@@ -766,11 +699,11 @@ def try_runs(program, runs, seed, count):
         text = Scripts(script).text()
         chosen = random.Random(seed * 1_000_003 + number)
         words = ["--seed", str(chosen.randrange(1 << 64)), "--budget", "400", "--passes", str(chosen.choice([4, 4, 4, 5, 16])), "--slots", str(chosen.choice([64, 4, 2, 3]))]
-        report = report_of(program, words, text)
-        if not report.startswith("report 1\n"):
-            count(False, f"script {script} is refused: {report.strip()}")
+        try:
+            events, verdict = events_in(report_of(program, words, text))
+        except NoEvent as error:
+            count(False, f"script {script}, run {' '.join(words)}: {error}")
             continue
-        events, verdict = events_in(report)
         kinds.update(kind(event) for event in events)
         verdicts[verdict.split(" ", 1)[1]] += 1
         found = [(law, refused(law, events)) for law in LAWS]
@@ -796,6 +729,7 @@ def main():
 
     if not pathlib.Path(args.program).is_file():
         sys.exit(f"there is no program {args.program}; ./pct build builds it")
+    try_forms(count)
     try_lists(count)
     kinds, verdicts = try_runs(args.program, args.runs, args.seed, count)
     for name, number in sorted(verdicts.items()):
