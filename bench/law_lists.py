@@ -66,6 +66,7 @@ WRONG = [
     ("CancelLaw", "a thread ends in another wait than the one that it left", "1.1 create 2 joinable; 1.2 acquire m; 1.2 call pthread_cond_wait; 1.2 release m; 1.1 request 2; 1.2 cancel_wait c; 1.2 acquire m; 1.2 ending canceled d m"),
     ("CancelLaw", "a thread ends in a wait with another mutex than that of the wait", "1.1 create 2 joinable; 1.2 acquire m; 1.2 call pthread_cond_wait; 1.2 release m; 1.1 request 2; 1.2 cancel_wait c; 1.2 acquire m; 1.2 ending canceled c n"),
     ("CancelLaw", "a thread ends in a wait, and owns another mutex than that of the wait", "1.1 create 2 joinable; 1.2 acquire m; 1.2 call pthread_cond_wait; 1.2 release m; 1.1 request 2; 1.2 cancel_wait c; 1.2 acquire n; 1.2 ending canceled c m"),
+    ("CancelLaw", "a thread owns and names another mutex than the one that its wait released", "1.1 create 2 joinable; 1.2 acquire m; 1.2 call pthread_cond_wait; 1.2 release m; 1.1 request 2; 1.2 cancel_wait c; 1.2 acquire n; 1.2 ending canceled c n"),
     ("CancelLaw", "a thread ends in a wait without its mutex", "1.1 create 2 joinable; 1.2 acquire m; 1.2 call pthread_cond_wait; 1.2 release m; 1.1 request 2; 1.2 cancel_wait c; 1.2 ending canceled c m"),
     ("CancelLaw", "a thread ends in a wait from which it returned", "1.1 create 2 joinable; 1.2 acquire m; 1.2 call pthread_cond_wait; 1.2 release m; 1.1 request 2; 1.2 acquire m; 1.2 ending canceled c m"),
     ("CancelLaw", "a thread ends in a wait, and owns a mutex and no more", "1.1 create 2 joinable; 1.1 request 2; 1.2 acquire m; 1.2 ending canceled c m"),
