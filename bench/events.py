@@ -1,4 +1,8 @@
-"""The events of a report: how their lines are read, by the forms of docs/FORMATS.md."""
+"""The events of a report: how their lines are read, by the forms of docs/FORMATS.md.
+
+A line of no such form is refused. Other readers should pass over an event that they do not know; here it is a mistake, of the
+program or of the page.
+"""
 import dataclasses
 import re
 
