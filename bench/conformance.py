@@ -422,17 +422,21 @@ def run(options):
     chosen = [folder for folder in folders() if folder.is_chosen(options.filter, options.only)]
     if options.tap:
         print(f"TAP version 14\n1..{len(chosen)}")
+    passed = []
+    for number, (folder, answer) in enumerate(zip(chosen, answers_of(options, chosen)), 1):
+        faults = list(folder.faults(answer, options.events))
+        show_tap(number, folder, faults) if options.tap else show(folder, faults)
+        passed.append(not faults)
+    return passed
+
+
+def answers_of(options, chosen):
+    """The answers of the command to these vectors, in order."""
     with concurrent.futures.ThreadPoolExecutor(options.jobs) as pool:
-        answers = pool.map(lambda folder: answer_of(options.run, folder.given(), options.timeout), chosen)
-        passed = []
         try:
-            for number, (folder, answer) in enumerate(zip(chosen, answers), 1):
-                faults = list(folder.faults(answer, options.events))
-                show_tap(number, folder, faults) if options.tap else show(folder, faults)
-                passed.append(not faults)
+            yield from pool.map(lambda folder: answer_of(options.run, folder.given(), options.timeout), chosen)
         except OSError as error:
             sys.exit(f"{options.run[0]} cannot be run: {error.strerror}")
-    return passed
 
 
 # ---- the command line
