@@ -16,11 +16,10 @@ the table of the section has to have the same words.
   reported as `killed by SIGNAL`, and one with another status than 0 as `status N`.
 - Runs that differ are all printed, with their numbers.
 
-What a program did is compared with the cell of the page in the row of this library: the words in backticks there, or
-`hangs` or `killed by SIGNAL` at its beginning. `as glibc` at its beginning means the cell of glibc. All runs have to give
+What a program did is compared with the cell of the page in the row of this library: the words in backticks there, and
+`hangs` or `killed by SIGNAL` at its beginning or after `then`. `as glibc` at its beginning means the cell of glibc. All runs have to give
 these words, or one of them if the cell says `in N of M runs` and N is less than M. A difference is a failure where the
-library has the version that the page names, on x86-64. Else it is printed, with the row that is nearest: that of the
-same library.
+library has the version that the page names, on x86-64, without --run. Else it is printed, and is no failure.
 
 The last line is `N rows shown, M programs failed to build, K cells differ`, where K counts failures. The status is 1 if a
 program failed to build, a row has no result, or the page differs from a header or from what was measured.
@@ -51,6 +50,7 @@ ROW = re.compile(r"^\| ((?:glibc|musl) [0-9.]+) \| (.*) \|$", re.MULTILINE)
 HOST_ROW = re.compile(r"^\| This host \| (.*) \|$", re.MULTILINE)
 QUOTED = re.compile(r"`([^`]+)`")
 ENDED = re.compile(r"hangs\b|killed by SIG[A-Z0-9]+")
+THEN = re.compile(rf"(?<=`), then ({ENDED.pattern})")
 RARE = re.compile(r"in ([0-9,]+) of ([0-9,]+) runs")
 FAILED = "failed to build"
 SIGNALS = {one.value: one.name for one in signal.Signals}
@@ -176,10 +176,11 @@ def cell_of(section, library):
 
 def difference(cell, counts):
     """How the runs of a program differ from a cell; nothing if they do not."""
-    words = ENDED.match(cell) or QUOTED.search(cell)
-    if not words or len(QUOTED.findall(cell)) > 1:
+    begins = ENDED.match(cell)
+    texts = [*([begins[0]] if begins else []), *QUOTED.findall(cell)]
+    if len(texts) != 1:
         return f"the cell has not one text to compare: {cell}"
-    wanted = words[0].strip("`")
+    wanted = "; ".join([*texts, *THEN.findall(cell)])
     found = RARE.search(cell)
     is_rare = found and int(found[1].replace(",", "")) < int(found[2].replace(",", ""))
     if counts.keys() == {wanted} or is_rare and wanted in counts:
@@ -196,7 +197,7 @@ def compare(section, library, counts):
     differs = difference(cell, counts)
     if differs is None:
         return None
-    is_same = (library.name, library.machine) == (name, "x86-64")
+    is_same = (library.name, library.machine, library.prefix) == (name, "x86-64", [])
     return (differs if is_same else f"{differs} ({name}, x86-64)", is_same)
 
 
