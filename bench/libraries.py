@@ -17,9 +17,10 @@ the table of the section has to have the same words.
 - Runs that differ are all printed, with their numbers.
 
 What a program did is compared with the cell of the page in the row of this library: the words in backticks there, and
-`hangs` or `killed by SIGNAL` at its beginning or after `then`. `as glibc` at its beginning means the cell of glibc. All runs have to give
-these words, or one of them if the cell says `in N of M runs` and N is less than M. A difference is a failure where the
-library has the version that the page names, on x86-64, without --run. Else it is printed, and is no failure.
+`hangs` or `killed by SIGNAL` at its beginning or after `then`. `as glibc` at its beginning means the cell of glibc. All
+runs have to give these words, or one of them if the cell says `in N of M runs` and N is less than M. A difference is a
+failure where the library has the version that the page names, on x86-64, without --run. Else it is printed, and is no
+failure.
 
 The last line is `N rows shown, M programs failed to build, K cells differ`, where K counts failures. The status is 1 if a
 program failed to build, a row has no result, or the page differs from a header or from what was measured.
@@ -103,7 +104,8 @@ def musl_version():
 def run(library, program):
     """Runs a program once, and returns what it did, in words."""
     with subprocess.Popen(
-        [*library.prefix, program], stdin=subprocess.DEVNULL, stdout=subprocess.PIPE, stderr=subprocess.DEVNULL, start_new_session=True
+        [*library.prefix, program], stdin=subprocess.DEVNULL, stdout=subprocess.PIPE, stderr=subprocess.DEVNULL,
+        start_new_session=True
     ) as process:
         try:
             output = process.communicate(timeout=library.seconds)[0]

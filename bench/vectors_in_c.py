@@ -27,13 +27,15 @@ import subprocess
 import sys
 import tempfile
 
+import conformance
+
 ROOT = pathlib.Path(__file__).resolve().parent.parent
-VECTORS = ROOT / "conformance"
 HEADER = ROOT / "bench/vectors_in_c.h"
 OPTIONS = ["-std=c11", "-O1", "-pthread", "-fno-strict-aliasing"]
 SECONDS = 5
 JOBS = 3
-THREADS, KEYS, PROCESSES = 20, 20, 10
+# The sizes of the arrays of vectors_in_c.h.
+NUMBERS, PROCESSES = 20, 10
 
 # ---- the vector
 
@@ -41,9 +43,10 @@ THREADS, KEYS, PROCESSES = 20, 20, 10
 class Step:
     """An entry of the schedule with its events."""
 
-    def __init__(self, process, thread, choice, number):
-        self.process, self.thread, self.choice, self.number = process, thread, choice, number
-        self.events = []
+    def __init__(self, process, thread, choice, events):
+        words = choice.split()
+        self.process, self.thread, self.events = int(process), int(thread), events
+        self.choice, self.number = words[0], int(words[1]) if len(words) > 1 else 0
 
     def who(self):
         return self.process, self.thread
@@ -55,58 +58,6 @@ class Step:
         return self.has("undefined", "profile")
 
 
-def read_vectors():
-    """For each vector: its name, the lines of its script, its steps and its verdict."""
-    lines = (VECTORS / "vectors.txt").read_text().splitlines()
-    for name, script, body, verdict in blocks(lines):
-        yield name, script, [step_of(line) for line in body], verdict
-
-
-def expanded(body):
-    """The lines of a body, with those between `repeat N` and `repeated` written N times."""
-    block, times = None, 0
-    for line in body:
-        word, _, rest = line.strip().partition(" ")
-        if word == "repeat" and rest.isdigit():
-            block, times = [], int(rest)
-        elif word == "repeated":
-            yield from (text.replace("\\#", str(number)) for number in range(1, times + 1) for text in block)
-            block = None
-        elif block is not None:
-            block.append(line)
-        else:
-            yield line
-
-
-def blocks(lines):
-    """The vectors of vectors.txt as four parts."""
-    name, script, body, place = "", [], [], ""
-    for line in expanded(lines):
-        word = line.split(" ")[0]
-        if place == "steps" and word in ("verdict", "refused"):
-            yield name, script, body, line
-            place = ""
-        elif place == "script" and word == "schedule":
-            place = "steps"
-        elif place == "script":
-            script.append(line)
-        elif place == "steps":
-            body.append(line)
-        elif word == "vector":
-            name, script, body = line.split(" ")[1], [], []
-        elif line == "script":
-            place = "script"
-
-
-def step_of(line):
-    entry, _, events = line.partition("|")
-    place, choice, *number = entry.split()
-    process, thread = map(int, place.split("."))
-    step = Step(process, thread, choice, int(number[0]) if number else 0)
-    step.events = [event.strip() for event in events.split(";") if event.strip()]
-    return step
-
-
 # ---- what a program can see
 
 SEEN = set("""emit push pop create joined detach state type done request key key_delete take post fork reap answer handler
@@ -114,7 +65,7 @@ exit at_exit prepare parent child process_end""".split())
 
 
 def seen(step, kind):
-    """The events of a step that the program shows."""
+    """The events of a step that the program shows, as it shows them."""
     if kind not in ("STEP", "CALL", "ACT"):
         return
     is_wait = any(event.endswith("pthread_cond_wait") or event.startswith("ending canceled ") for event in step.events)
@@ -181,18 +132,19 @@ def no_program(script, steps, verdict):
             return f"no C form of {line[0]}"
     if any(event in LIMITS for step in steps for event in step.events):
         return "room of this host for threads, keys or processes"
-    if any(step.thread >= THREADS or step.process >= PROCESSES for step in steps):
-        return "too many threads or processes"
+    numbers = [step.number for step in steps if step.choice == "new"]
+    if max(numbers, default=0) >= NUMBERS or any(step.process >= PROCESSES for step in steps):
+        return "too many threads, keys or processes"
 
 
 class Threads:
     """What is known of the threads of a run, from its events."""
 
     def __init__(self):
-        self.calls, self.since, self.requested, self.disabled = {}, {}, {}, set()
-        self.ended, self.posts, self.unblocked, self.due = {}, {}, {}, {}
+        self.calls, self.requested, self.disabled = {}, {}, set()
+        self.ended, self.posts, self.unblocked = {}, {}, {}
 
-    def why_not(self, number, step):
+    def why_not(self, step):
         """Why the library cannot be made to do this step, or nothing."""
         who, call = step.who(), self.calls.get(step.who())
         others = [other for other in self.calls if other != who and other[0] == step.process]
@@ -243,7 +195,8 @@ class Threads:
             elif word == "signal" and rest[1] != "0":
                 self.unblocked[(who[0], int(rest[1]))] = True
             elif word == "broadcast":
-                self.unblocked.update({other: True for other, call in self.calls.items() if call == "pthread_cond_wait"})
+                waiters = [other for other, call in self.calls.items() if call == "pthread_cond_wait"]
+                self.unblocked.update(dict.fromkeys(waiters, True))
             elif word == "cancel_wait":
                 self.unblocked[who] = True
 
@@ -258,7 +211,7 @@ def not_forced(steps):
                 passes[key] = passes.get(key, 0) + 1
                 if passes[key] > 1:
                     return "which of several destructors is called next"
-        why = threads.why_not(number, step)
+        why = threads.why_not(step)
         if why:
             return f"step {number}: {why}"
         threads.follow(number, step)
@@ -283,26 +236,27 @@ class Writer:
     def place(self, word):
         return "sink" if word == "-" else self.value(word)
 
+    def declarations(self):
+        return (line for line in self.lines if line[0] in DECLARED)
+
     def program(self):
-        for word, name, *rest in (line for line in self.lines if line[0] in ("global", "mutex", "cond", "sem")):
-            kind = {"global": "uint32_t g_", "mutex": "pthread_mutex_t m_", "cond": "pthread_cond_t c_", "sem": "sem_t s_"}
-            self.out.append(f"static {kind[word]}{name};")
+        for word, name, *_ in self.declarations():
+            self.out.append(f"static {DECLARED[word]}{name};")
         self.out.append("static __thread uint32_t sink;")
         for name in self.functions:
             self.out.append(WRAPPERS.replace("NAME", name))
         for line in self.lines:
-            if line[0] not in ("global", "mutex", "cond", "sem"):
+            if line[0] not in DECLARED:
                 self.out.append(getattr(self, f"do_{line[0]}", self.do_call)(*line))
         self.out.append(self.main())
         return "\n".join(self.out)
 
     def main(self):
-        made = ["int main(void)\n{\n    setup();", "    pthread_mutexattr_t type;\n    pthread_mutexattr_init(&type);",
-                "    pthread_mutexattr_settype(&type, PTHREAD_MUTEX_NORMAL);"]
-        for word, name, *rest in (line for line in self.lines if line[0] in ("mutex", "cond", "sem")):
-            made.append({"mutex": f"    pthread_mutex_init(&m_{name}, &type);", "cond": f"    pthread_cond_init(&c_{name}, NULL);",
-                         "sem": f"    sem_init(&s_{name}, 0, {rest[0] if rest else 0});"}[word])
-        return "\n".join([*made, "    return (int)fn_main(MAIN, 0);\n}"])
+        made = ["int main(void)\n{", "setup();", "pthread_mutexattr_t type;", "pthread_mutexattr_init(&type);",
+                "pthread_mutexattr_settype(&type, PTHREAD_MUTEX_NORMAL);"]
+        for word, name, *count in self.declarations():
+            made.append(OPENED[word].format(name, *count))
+        return "\n".join([*made, "return (int)fn_main(MAIN, 0);\n}"])
 
     def do_fn(self, _, name, *variables):
         self.locals, self.blocks = list(variables), ["fn"]
@@ -363,6 +317,11 @@ class Writer:
         return re.sub(r"(dtor|prepare|parent|child)_-", "NULL", text)
 
 
+DECLARED = {"global": "uint32_t g_", "mutex": "pthread_mutex_t m_", "cond": "pthread_cond_t c_", "sem": "sem_t s_"}
+OPENED = {
+    "global": "", "mutex": "pthread_mutex_init(&m_{0}, &type);", "cond": "pthread_cond_init(&c_{0}, NULL);",
+    "sem": "sem_init(&s_{0}, 0, {1});",
+}
 WRAPPERS = """static uint32_t fn_NAME(enum frame frame, uint32_t v);
 static void handler_NAME(void *given)
 {
@@ -394,15 +353,16 @@ STATEMENTS = {
                      "show(\"joined %u %u\", id, (uint32_t)(uintptr_t)value); $2 = (uint32_t)(uintptr_t)value;", "vd"),
     "pthread_detach": ('uint32_t id = $1; show_result(pthread_detach(handles[id]), "detach %u", id);', "v"),
     "pthread_self": ("$1 = own_number();", "d"),
-    "pthread_exit": ('uint32_t value = $1; show("ending exit %u", value); pass(); pthread_exit((void *)(uintptr_t)value);', "v"),
+    "pthread_exit": ('uint32_t value = $1; show("ending exit %u", value); pass(); '
+                     "pthread_exit((void *)(uintptr_t)value);", "v"),
     "pthread_cancel": ('uint32_t id = $1; show_result(pthread_cancel(handles[id]), "request %u", id);', "v"),
     "pthread_testcancel": ('POINT(pthread_testcancel()); show("done pthread_testcancel");', ""),
     "pthread_setcancelstate": ('int old; pthread_setcancelstate(state_$1, &old); show("state $1"); '
                                "$2 = old == PTHREAD_CANCEL_DISABLE;", "nd"),
     "pthread_setcanceltype": ('int old; pthread_setcanceltype(PTHREAD_CANCEL_DEFERRED, &old); show("type $1"); '
                               "$2 = old == PTHREAD_CANCEL_ASYNCHRONOUS;", "nd"),
-    "pthread_key_create": ('uint32_t key = take()->number; show_result(pthread_key_create(&keys[key], dtor_$3), "key %u", key); '
-                           "$1 = 0; $2 = key;", "ddn"),
+    "pthread_key_create": ("uint32_t key = take()->number; int error = pthread_key_create(&keys[key], dtor_$3); "
+                           'show_result(error, "key %u", key); $1 = 0; $2 = key;', "ddn"),
     "pthread_key_delete": ('uint32_t key = $1; show_result(pthread_key_delete(keys[key]), "key_delete %u", key);', "v"),
     "pthread_setspecific": ("pthread_setspecific(keys[$1], (void *)(uintptr_t)$2);", "vv"),
     "pthread_getspecific": ("$1 = (uint32_t)(uintptr_t)pthread_getspecific(keys[$2]);", "dv"),
@@ -423,7 +383,7 @@ STATEMENTS = {
              "$1 = pid < 0; $2 = process_made(pid);", "dd"),
     "waitpid": ("uint32_t id = $2; int status = 0; pid_t pid; POINT(pid = waitpid(pid_of(id), &status, 0)); "
                 'if (pid < 0) { show("answer waitpid 3"); $1 = 3; } '
-                'else { show("reap %u %u", id, (uint32_t)WEXITSTATUS(status)); $1 = 0; $3 = WEXITSTATUS(status); }', "dvd"),
+                'else { uint32_t value = WEXITSTATUS(status); show("reap %u %u", id, value); $1 = 0; $3 = value; }', "dvd"),
 }
 
 
@@ -489,7 +449,8 @@ def fault_of(steps, verdict, wanted, lines, status, is_late):
 
 def result_of(vector, compiler, folder):
     """Whether a vector passed, failed or is not comparable, and why."""
-    name, script, steps, verdict = vector
+    name, script, verdict = vector.name, vector.script, vector.verdict
+    steps = [Step(*step) for step in vector.steps]
     why = no_program(script, steps, verdict) or not_forced(steps)
     if why:
         return "not comparable", why
@@ -518,13 +479,13 @@ def main():
     with tempfile.TemporaryDirectory() as name:
         folder = options.keep or pathlib.Path(name)
         folder.mkdir(parents=True, exist_ok=True)
-        vectors = [vector for vector in read_vectors() if options.filter in vector[0]]
+        vectors = [vector for vector in conformance.read_source()[0] if options.filter in vector.name]
         with concurrent.futures.ThreadPoolExecutor(JOBS) as pool:
             results = pool.map(lambda vector: result_of(vector, options.cc, folder), vectors)
             for vector, (result, why) in zip(vectors, results):
                 counts[result] += 1
                 if why:
-                    print(f"{vector[0]}: {result}: {why}", flush=True)
+                    print(f"{vector.name}: {result}: {why}", flush=True)
     print(", ".join(f"{count} {result}" for result, count in counts.items()))
     sys.exit(0 if counts["passed"] else 1)
 
