@@ -113,22 +113,24 @@ POINTS = {
     "read": "read(pipes[process][thread][0], &byte, 1)", "write": "write(STDERR_FILENO, &byte, 0)", "pause": "pause()",
     "sleep": "sleep(0)", "open": 'open("/dev/null", O_RDONLY)', "close": "close(dup(STDERR_FILENO))",
 }
-CALLS = set("""fn end emit set add nop if else while do return global mutex cond sem
-pthread_create pthread_join pthread_detach pthread_self pthread_exit pthread_cancel pthread_testcancel
-pthread_setcancelstate pthread_setcanceltype pthread_cleanup_push pthread_cleanup_pop pthread_key_create
-pthread_key_delete pthread_setspecific pthread_getspecific pthread_mutex_lock pthread_mutex_unlock pthread_cond_wait
-pthread_cond_signal pthread_cond_broadcast sem_wait sem_post atexit exit _exit fork pthread_atfork waitpid""".split())
+# The words that Writer has a function of its own for, and declarations.
+OWN = set("fn end if else while do return pthread_cleanup_push pthread_cleanup_pop global mutex cond sem".split())
+
+
+def words_of(script):
+    """The words of each line that has any and is no comment."""
+    return [line.split() for line in script if line.split() and not line.lstrip().startswith("#")]
 
 
 def no_program(script, steps, verdict):
     """Why no program is made of a vector, or nothing."""
-    words = [line.split() for line in script if line.split()]
+    words = words_of(script)
     if verdict.startswith("refused"):
         return "a refusal"
     if any("asynchronous" in line[1:2] for line in words):
         return "asynchronous type: a request could act in the code of the baton"
     for line in words:
-        if line[0] not in CALLS and line[0] not in POINTS:
+        if not any(line[0] in known for known in (OWN, POINTS, STATEMENTS)):
             return f"no C form of {line[0]}"
     if any(event in LIMITS for step in steps for event in step.events):
         return "room of this host for threads, keys or processes"
@@ -224,7 +226,7 @@ class Writer:
     """Writes the C program of a script."""
 
     def __init__(self, script):
-        self.lines = [line.split() for line in script if line.split() and not line.lstrip().startswith("#")]
+        self.lines = words_of(script)
         self.functions = [line[1] for line in self.lines if line[0] == "fn"]
         self.locals, self.blocks, self.pushes, self.out = [], [], [], []
 
