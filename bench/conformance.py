@@ -3,7 +3,7 @@
 
     bench/conformance.py
     bench/conformance.py --check
-    bench/conformance.py --run COMMAND
+    bench/conformance.py --run COMMAND [--filter TEXT] [--only S|P] [--events] [--tap] [--timeout SECONDS] [--jobs N]
 
 Without a word it writes what comes from conformance/vectors.txt: a folder for each vector, the tables of
 conformance/README.md, and the cases at the end of crates/pct_cases/stdin, with their lines in crates/pct_cases/stdout.
@@ -15,15 +15,31 @@ none; and the sections of docs/LIBRARIES.md that vectors.txt names exist.
 
 --run gives each vector to COMMAND, which is split into words as a shell does: script.pct, a line %% and schedule.txt on
 its standard input. What COMMAND writes to standard output must be the bytes of report.txt, and its status that of
-status.txt, or 0 where there is no such file. It reads the folders, and nothing else of this repository.
+status.txt, or 0 where there is no such file. It reads the folders, and nothing else of this repository. For a vector
+that fails it prints the first difference, the signal that ended COMMAND or the time after which it was ended, and the
+rule, the mark and the source of the vector from rule.txt.
 
-The last line is `N passed, M failed`. The status is 1 if M is not 0 or N is 0.
+    --filter TEXT      only the vectors whose name, section or source has TEXT
+    --only S, P        only the vectors with this mark
+    --events           compare the events, and the verdict or the refusal; the rest of the report and the status are not
+                       compared
+    --tap              print the results as TAP version 14
+    --timeout SECONDS  end COMMAND after this time, 60 seconds where none is given
+    --jobs N           run up to N vectors at once; the results are printed in order
+
+The last line is `N passed, M failed`, with --tap as a comment. The status is 1 if M is not 0 or N is 0.
 """
+import argparse
+import concurrent.futures
 import dataclasses
+import itertools
+import json
+import os
 import pathlib
 import re
 import shlex
 import shutil
+import signal
 import subprocess
 import sys
 
@@ -44,7 +60,12 @@ STATUSES = {
     "verdict complete": 0, "verdict deadlock": 1, "verdict budget": 2, "verdict undefined": 3, "verdict profile": 3,
     "verdict open": 4, "refused script": 6, "refused schedule": 7, "refused entry": 7,
 }
+# A source with one of these words names a case in which the standard does not say what happens.
+OPEN = ("undefined", "unspecified", "a choice of the schedule")
+RULE_FIELDS = ("rule", "mark", "source", "section")
 SECONDS = 60
+# The lines of a report that --events compares.
+COMPARED = re.compile(rb"\d+\.\d+ |verdict |refused ")
 
 
 @dataclasses.dataclass
@@ -76,9 +97,18 @@ class Vector:
     def status(self):
         return STATUSES.get(" ".join(self.verdict.split()[:2]))
 
+    def mark(self):
+        """S if the standard says what happens in this case, and P if it is a choice of this host."""
+        return "S" if self.source.startswith("S:") and not any(words in self.source for words in OPEN) else "P"
+
+    def rule_lines(self):
+        values = (self.rule, self.mark(), self.source, self.section)
+        return [f"{field} {value}" for field, value in zip(RULE_FIELDS, values)]
+
     def files(self):
         """The text of each file of the folder, by its name."""
         texts = {"script.pct": self.script, "schedule.txt": self.schedule(), "report.txt": self.report()}
+        texts["rule.txt"] = self.rule_lines()
         if self.status():
             texts["status.txt"] = [str(self.status())]
         return {name: text_of(lines) for name, lines in texts.items()}
@@ -223,7 +253,9 @@ def write():
         sys.exit(f"{CASES.relative_to(ROOT)} has other cases after the vectors: {', '.join(other_cases())}")
     for path, text in list(made(vectors, without)):
         path.parent.mkdir(exist_ok=True)
-        path.write_text(text)
+        # A file that is right keeps its time: ./pct compares the times of crates/ with that of the built program.
+        if not path.is_file() or path.read_text() != text:
+            path.write_text(text)
     for path in stray(vectors):
         shutil.rmtree(path) if path.is_dir() else path.unlink(missing_ok=True)
     print(f"{len(vectors)} vectors")
@@ -284,57 +316,178 @@ def checks():
         yield None if (heading, text) in shown else f"{heading}: no vector, and no reason for having none, for: {text}"
 
 
-def difference(wanted, written):
-    """The first line that differs."""
-    pairs = zip(wanted.split(b"\n") + [b"(no line)"], written.split(b"\n") + [b"(no line)"])
-    for number, (one, other) in enumerate(pairs, 1):
-        if one != other:
-            return f"line {number}: expected {one.decode()!r}, written {other.decode(errors='replace')!r}"
-    return "one is longer"
+# ---- runs
 
 
-def answer(command, given):
-    """What the command writes for this input, and its status."""
+@dataclasses.dataclass
+class Answer:
+    written: bytes
+    # What ended the command before it had ended by itself, in words, or nothing.
+    cut: str
+    status: int
+
+
+@dataclasses.dataclass
+class Folder:
+    """A folder of conformance/: its name, the bytes of its files, and the fields of rule.txt."""
+    name: str
+    texts: dict
+    fields: dict
+
+    def is_chosen(self, text, mark):
+        words = (self.name, self.fields["section"], self.fields["source"])
+        return any(text in word for word in words) and mark in (None, self.fields["mark"])
+
+    def given(self):
+        return self.texts["script.pct"] + b"%%\n" + self.texts["schedule.txt"]
+
+    def faults(self, answer, is_events):
+        """What is wrong with an answer, in words."""
+        wanted, written = (lines_of(text, is_events) for text in (self.texts["report.txt"], answer.written))
+        status = int(self.texts.get("status.txt", b"0"))
+        if wanted != written:
+            yield difference("event" if is_events else "line", wanted, written)
+        if answer.cut:
+            yield answer.cut
+        elif answer.status != status and not is_events:
+            yield f"expected status {status}, ended with {answer.status}"
+
+
+def folders():
+    for path in sorted(path.parent for path in TOP.glob("*/script.pct")):
+        texts = {file.name: file.read_bytes() for file in path.iterdir()}
+        pairs = (line.split(" ", 1) for line in texts["rule.txt"].decode().splitlines())
+        yield Folder(path.name, texts, dict(pairs))
+
+
+def lines_of(text, is_events):
+    lines = re.findall(rb"[^\n]*\n|[^\n]+", text)
+    return [line for line in lines if COMPARED.match(line)] if is_events else lines
+
+
+def difference(unit, wanted, written):
+    """The first line that differs, where the lists do."""
+    for number, pair in enumerate(itertools.zip_longest(wanted, written), 1):
+        if pair[0] != pair[1]:
+            return f"{unit} {number}: expected {quoted(pair[0])}, written {quoted(pair[1])}"
+
+
+def quoted(line):
+    if line is None:
+        return "no line"
+    words = repr(line.removesuffix(b"\n").decode(errors="replace"))
+    return words if line.endswith(b"\n") else f"{words} without a line end"
+
+
+def answer_of(command, given, seconds):
+    """What the command answers to this input. It and all that it started are ended after the time."""
+    with subprocess.Popen(
+        command, stdin=subprocess.PIPE, stdout=subprocess.PIPE, start_new_session=True
+    ) as process:
+        try:
+            written, cut = process.communicate(given, seconds)[0], ""
+        except subprocess.TimeoutExpired:
+            os.killpg(process.pid, signal.SIGKILL)
+            written, cut = process.communicate()[0], f"no end after {seconds:g} s"
+    if not cut and process.returncode < 0:
+        cut = f"killed by {signal_name(-process.returncode)}"
+    return Answer(written, cut, process.returncode)
+
+
+def signal_name(number):
     try:
-        ran = subprocess.run(command, input=given, stdout=subprocess.PIPE, timeout=SECONDS)
-    except subprocess.TimeoutExpired:
-        return b"(no answer in time)", None
-    except OSError as error:
-        sys.exit(f"{command[0]} cannot be run: {error.strerror}")
-    return ran.stdout, ran.returncode
+        return signal.Signals(number).name
+    except ValueError:
+        return f"signal {number}"
 
 
-def runs(command):
-    """For each folder: what is wrong with the answer of the command, or nothing."""
-    for folder in sorted(path.parent for path in TOP.glob("*/script.pct")):
-        texts = {path.name: path.read_bytes() for path in folder.iterdir()}
-        written, ended = answer(command, texts["script.pct"] + b"%%\n" + texts["schedule.txt"])
-        status = int(texts.get("status.txt", b"0"))
-        if written != texts["report.txt"]:
-            yield f"{folder.name}: {difference(texts['report.txt'], written)}"
-        elif ended != status:
-            yield f"{folder.name}: expected status {status}, ended with {ended}"
-        else:
-            yield None
+def show(folder, faults):
+    """Prints what is wrong with a vector, if anything is."""
+    if faults:
+        print(f"{folder.name}: {'; '.join(faults)}")
+        for field in RULE_FIELDS[:3]:
+            print(f"    {field}: {folder.fields[field]}")
+    sys.stdout.flush()
+
+
+def show_tap(number, folder, faults):
+    """Prints the result of a vector as TAP; a text in JSON is one in YAML, too."""
+    print(f"{'not ok' if faults else 'ok'} {number} - {folder.name}")
+    if faults:
+        fields = {"message": "; ".join(faults), **{field: folder.fields[field] for field in RULE_FIELDS[:3]}}
+        print("  ---", *(f"  {field}: {json.dumps(text)}" for field, text in fields.items()), "  ...", sep="\n")
+    sys.stdout.flush()
+
+
+def run(options):
+    """Runs the vectors that are chosen, prints the results, and returns whether each passed."""
+    chosen = [folder for folder in folders() if folder.is_chosen(options.filter, options.only)]
+    if options.tap:
+        print(f"TAP version 14\n1..{len(chosen)}")
+    passed = []
+    for number, (folder, answer) in enumerate(zip(chosen, answers_of(options, chosen)), 1):
+        faults = list(folder.faults(answer, options.events))
+        show_tap(number, folder, faults) if options.tap else show(folder, faults)
+        passed.append(not faults)
+    return passed
+
+
+def answers_of(options, chosen):
+    """The answers of the command to these vectors, in order."""
+    with concurrent.futures.ThreadPoolExecutor(options.jobs) as pool:
+        try:
+            yield from pool.map(lambda folder: answer_of(options.run, folder.given(), options.timeout), chosen)
+        except OSError as error:
+            sys.exit(f"{options.run[0]} cannot be run: {error.strerror}")
+
+
+# ---- the command line
+
+
+def positive(kind):
+    """The reader of an option's number, which is above 0."""
+    def number(word):
+        value = kind(word)
+        if not value > 0:
+            raise ValueError
+        return value
+    number.__name__ = "number above 0"
+    return number
+
+
+def options_of(words):
+    layout = argparse.RawDescriptionHelpFormatter
+    parser = argparse.ArgumentParser(description=__doc__, formatter_class=layout, allow_abbrev=False)
+    parser.add_argument("--check", action="store_true")
+    parser.add_argument("--run", type=shlex.split)
+    parser.add_argument("--filter", default="")
+    parser.add_argument("--only", choices=["S", "P"])
+    parser.add_argument("--events", action="store_true")
+    parser.add_argument("--tap", action="store_true")
+    parser.add_argument("--timeout", type=positive(float), default=SECONDS)
+    parser.add_argument("--jobs", type=positive(int), default=1)
+    options = parser.parse_args(words)
+    if words and words != ["--check"] and (options.check or not options.run):
+        parser.error("--check is alone, and the other options need --run COMMAND")
+    return options
 
 
 def main():
-    words = sys.argv[1:]
-    if not words:
+    options = options_of(sys.argv[1:])
+    if options.run:
+        results = run(options)
+    elif options.check:
+        wrongs = list(checks())
+        print(*filter(None, wrongs), sep="\n", end="\n" if any(wrongs) else "")
+        results = [wrong is None for wrong in wrongs]
+    else:
         write()
         return
-    if words == ["--check"]:
-        found = list(checks())
-    elif len(words) == 2 and words[0] == "--run" and shlex.split(words[1]):
-        found = list(runs(shlex.split(words[1])))
-    else:
-        sys.exit(__doc__)
-    wrongs = [wrong for wrong in found if wrong]
-    for wrong in wrongs:
-        print(wrong)
-    passed = len(found) - len(wrongs)
-    print(f"{passed} passed, {len(wrongs)} failed")
-    sys.exit(1 if wrongs or not passed else 0)
+    passed = sum(results)
+    failed = len(results) - passed
+    print(f"{'# ' if options.tap else ''}{passed} passed, {failed} failed")
+    sys.exit(1 if failed or not passed else 0)
 
 
-main()
+if __name__ == "__main__":
+    main()
