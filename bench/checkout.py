@@ -13,7 +13,8 @@ def make(folder, program):
         shutil.copy(ROOT / name, folder)
     (folder / "docs").mkdir()
     shutil.copy(ROOT / "docs/reasons.txt", folder / "docs")
-    shutil.copytree(ROOT / "examples", folder / "examples")
+    for name in ("examples", "scripts"):
+        shutil.copytree(ROOT / name, folder / name)
     for source, built in ((program, BUILT), (ROOT / INSPECT, INSPECT)):
         (folder / built).parent.mkdir(parents=True)
         shutil.copy(source, folder / built)
