@@ -7,8 +7,9 @@ PROGRAM is the built program, crates/pct_run/out/pct_run where none is named (./
 
 A case is a command of a shell, the files that it reads, the standard output and the status that it has to have, and
 what standard error has to say: all by the rules of docs/SCRIPT.md and docs/FORMATS.md, and the words of
-docs/reasons.txt. Each command is run in a temporary folder of its own that has the real ./pct, docs/reasons.txt and
-examples/. In the cases of SCRIPTS, SCHEDULES, CALLS and CONTINUED the program is where ./pct build leaves it.
+docs/reasons.txt. Each command is run in a temporary folder of its own that has the real ./pct, what it reads and
+examples/. In the cases of SCRIPTS, SCHEDULES, CALLS, CONTINUED and FIRST the program is where ./pct build leaves it;
+those of FIRST are in first_mistakes.py.
 
 In those of UNPROVED it is not, and in the PATH there is a stand-in for the kit's rt. `rt try` of it runs the program,
 and says what rt says then; `rt run` of it leaves the program where ./pct looks for it. As rt takes an input that pauses
@@ -22,12 +23,14 @@ The last line is `N passed, M failed`. The status is 1 if M is not 0 or N is 0.
 import dataclasses
 import os
 import pathlib
+import re
 import shutil
 import subprocess
 import sys
 import tempfile
 
 import checkout
+import first_mistakes
 from checkout import BUILT, INSPECT, ROOT
 
 SECONDS = 120
@@ -100,6 +103,24 @@ def schedule(name, why, line, text, *says):
     answer = f"refused schedule {line - 4} {why}\n"
     files = {"a.replay": SMALLEST + text}
     return Case(name, "./pct replay a.replay", 7, answer, [f"a.replay:{line}: {why}\n", *says], files)
+
+
+def ended(name, how, verdict, text, *says):
+    """A run that does not end complete: of a script with options, or of a schedule with these entries."""
+    if isinstance(how, str):
+        file, command, content = "a.pct", f"./pct run {how} a.pct", text
+    else:
+        file, command = "a.replay", "./pct replay a.replay"
+        content = f"{text}{HEADER}" + "".join(f"{entry}\n" for entry in how) + f"end {len(how)}\n"
+    status = {"deadlock": 1, "budget": 2}.get(verdict, 3)
+    answer = f"{status}\nverdict {verdict}\n"
+    says = [re.sub(r"\bF:", f"{file}:", words) for words in says]
+    return Case(name, f"{command} > report; echo $?; grep verdict report", 0, answer, says, {file: content})
+
+
+def words(name, call, says):
+    """Words that are refused, with a sentence on the word before the usage."""
+    return Case(name, f"./pct {call}", 5, "refused words\n", [says, USAGE], {"a.pct": SMALLEST})
 
 
 SCRIPTS = [
@@ -340,7 +361,9 @@ CALLS = [
     Case("a seed", "./pct run --seed 2 a.pct", 0, REPORT, [], {"a.pct": SMALLEST}),
     Case(
         "a budget of one step, after the file", "./pct run a.pct --budget=1", 2,
-        "report 1\n1.1 exit 0\nverdict budget\nschedule 1 1 4 64\n1 1 1 go\nend 1\n", [], {"a.pct": SMALLEST},
+        "report 1\n1.1 exit 0\nverdict budget\nschedule 1 1 4 64\n1 1 1 go\nend 1\n",
+        ["a.pct: the budget of 1 step is used up", "a.pct:1: thread 1.1 made 1 of the last 1 steps in this function", "'--budget N'"],
+        {"a.pct": SMALLEST},
     ),
     Case(
         "an option, and a script with a fault", "./pct run --slots 2 a.pct", 6, "refused script 2 word_count\n",
@@ -443,6 +466,43 @@ CONTINUED = [
         ["pct: more is no number of entries\n"], {"a.pct": SMALLEST, "begun": BEGUN},
     ),
     Case("trace with a word too many", "./pct trace a.pct begun 1 more", 5, "refused words\n", [USAGE], {"a.pct": SMALLEST, "begun": BEGUN}),
+]
+
+# Scripts that end in the same way under every schedule: main locks its own mutex, joins itself, loops.
+LOCKED = "mutex m\nfn main x\npthread_mutex_lock m\npthread_mutex_lock m\nend\n"
+STOPPED = "fn main x\npthread_join 1 -\nend\n"
+LOOP = "fn main x\nwhile 1\nend\nend\n"
+UNSEEN = "rm crates/pct_inspect/out/pct_inspect; ./pct run a.pct > report"
+
+FIRST = [
+    *(script(*case) for case in first_mistakes.REFUSED),
+    *(ended(*case) for case in first_mistakes.RUNS),
+    *(words(*case) for case in first_mistakes.WORDS),
+    Case(
+        "a deadlock of a run that is continued", "./pct continue 7 a.pct begun | grep verdict", 0, "verdict deadlock\n",
+        ["a.pct: deadlock after 1 step", "a.pct:4: thread 1.1 waits for mutex m, held by 1.1"], {"a.pct": LOCKED, "begun": BEGUN},
+    ),
+    Case(
+        "a budget of a run that is continued", "./pct continue 7 a.pct begun | grep verdict", 0, "verdict budget\n",
+        ["a.pct: the budget of 10000 steps", "a.pct:2: thread 1.1 made its last 10000 steps in this loop, lines 2 to 3", "BUDGET in the header"],
+        {"a.pct": LOOP, "begun": BEGUN},
+    ),
+    Case("a trace of a deadlock", "./pct run a.pct 2> says | ./pct trace a.pct - | tail -n 1", 0, "verdict deadlock\n", [], {"a.pct": LOCKED}),
+    Case("a deadlock of standard input", "./pct run < a.pct | grep verdict", 0, "verdict deadlock\n", [], {"a.pct": LOCKED}),
+    Case(
+        "a deadlock without the program that inspects runs", UNSEEN, 1, "",
+        ["a.pct: deadlock\n", "pct: with its report in a file, './pct choices a.pct REPORT' shows what each thread waits for\n"], {"a.pct": LOCKED},
+    ),
+    Case(
+        "a stop without the program that inspects runs", UNSEEN, 3, "",
+        ["a.pct: undefined join_self\n", "pct: with its report in a file, './pct trace a.pct REPORT' shows the step that was stopped\n", "  Rule: S: undefined"],
+        {"a.pct": STOPPED},
+    ),
+    Case(
+        "a budget without the program that inspects runs", UNSEEN, 2, "",
+        ["a.pct: budget\n", "pct: with its report in a file, './pct trace a.pct REPORT' shows the loop", "'--budget N' allows up to 200000.\n"],
+        {"a.pct": LOOP},
+    ),
 ]
 
 # A program that answers wrongly, and two of the files that it is made from, which are older.
@@ -614,7 +674,7 @@ def cases(program):
     with tempfile.TemporaryDirectory() as name:
         top = pathlib.Path(name)
         path = tools(top / "tools")
-        for number, case in enumerate([*SCRIPTS, *SCHEDULES, *CALLS, *CONTINUED, *UNPROVED]):
+        for number, case in enumerate([*SCRIPTS, *SCHEDULES, *CALLS, *CONTINUED, *FIRST, *UNPROVED]):
             folder = top / str(number)
             folder.mkdir()
             checkout.make(folder, program)
