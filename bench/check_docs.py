@@ -22,6 +22,7 @@ What is checked:
   which ./pct explains a refused word, has their forms, the cancellation points of SCRIPT.md and the limits of FORMATS.md.
 - Stops. The table of stops in FORMATS.md has all stops that the definitions know, and no others. docs/reasons.txt has
   each, with the use and the rule of the table, a usual cause and a way to mend it.
+- Deadlocks. docs/reasons.txt has each wait of the table in SCRIPT.md, with the same usual cause and way to mend it.
 
 The last line is `N passed, M failed`. The status is 1 if M is not 0 or N is 0.
 """
@@ -156,7 +157,7 @@ def page_of_reasons(page, kind):
 
 def reasons():
     """For each reason: its name, the sentences of the page, and those of the table."""
-    table = {refusal: words for refusal, words in table_of_reasons().items() if not refusal.startswith("stop ")}
+    table = {refusal: words for refusal, words in table_of_reasons().items() if not refusal.startswith(("stop ", "deadlock "))}
     pages = {**page_of_reasons(ROOT / "docs/SCRIPT.md", "script"), **page_of_reasons(ROOT / "docs/FORMATS.md", "schedule")}
     for refusal in sorted({*table, *pages}):
         yield f"{refusal} in docs/reasons.txt", pages.get(refusal, "none"), table.get(refusal, "none")
@@ -173,6 +174,15 @@ def stops():
     }
     for stop in sorted({*table, *pages}):
         yield f"{stop} in docs/reasons.txt", pages.get(stop, "none"), table.get(stop, "none")
+
+
+def deadlocks():
+    """For each wait of a deadlock: its name, the cause and the mend of the page, and those of the table."""
+    rows = re.findall(r"^\| `waits for (\w+)[^`]*` \| (.*) \| (.*) \|$", (ROOT / "docs/SCRIPT.md").read_text(), re.M)
+    pages = {f"deadlock {wait}": f"Usual cause: {plain(cause)}. Mend: {plain(mend)}." for wait, cause, mend in rows}
+    table = {wait: words for wait, words in table_of_reasons().items() if wait.startswith("deadlock ")}
+    for wait in sorted({*table, *pages}):
+        yield f"{wait} in docs/reasons.txt", pages.get(wait, "none"), table.get(wait, "none")
 
 
 # ---- statements and stops
@@ -243,6 +253,7 @@ def checks(program):
     """For each check: where it is, what the page has, and what it should have."""
     yield from reasons()
     yield from stops()
+    yield from deadlocks()
     yield from lists()
     yield from forms()
     for page in [ROOT / "README.md", *sorted((ROOT / "docs").glob("*.md"))]:

@@ -65,7 +65,7 @@ REFUSED = [
         "No 'end' is left for this 'fn': the last one, in line 3, closes the 'while' of line 2.",
     ),
     ("a statement after the function", "misplaced", 3, "fn main x\nend\nemit 1\n", "the last 'end', in line 2, closes the function 'main' of line 1."),
-    ("an else of a while", "stray_end", 3, "fn main x\nwhile x\nelse\nend\nend\n", "The innermost open block here is the 'while' of line 2"),
+    ("an else of a while", "stray_end", 3, "fn main x\nwhile x\nelse\nend\nend\n", "The innermost open block here is the 'while' of line 2, and an 'else' belongs to an 'if'."),
     ("a second else", "stray_end", 4, "fn main x\nif x\nelse\nelse\nend\nend\n", "The 'if' of line 2 has an 'else' already, in line 3."),
     ("a pop without a push", "pop_unmatched", 2, "fn main x\npthread_cleanup_pop 1\nend\n", "and no push is open."),
     (
@@ -113,13 +113,15 @@ RUNS = [
         "F: deadlock after 3 steps: no thread can go on, and 2 have not ended\n",
         "F:10: thread 1.1 waits for mutex b, held by 1.2: pthread_mutex_lock b\n    thread 1.2 acquired b in step 3, F:4\n",
         "F:5: thread 1.2 waits for mutex a, held by 1.1: pthread_mutex_lock a\n    thread 1.1 acquired a in step 2, F:9\n",
-        "  Cycle: thread 1.1 waits for 1.2, which waits for 1.1.\n",
+        "  Cycle: thread 1.1 waits for 1.2, which waits for 1.1.\n", "Usual cause: a thread that locks a mutex that it owns; threads that lock two",
+        "Mend: lock the mutexes in the same order",
     ),
     (
         "a signal before the wait", ["1 1 1 new 2", "1 1 1 go", "1 1 1 go", "1 1 2 go", "1 1 2 go"], "deadlock",
         WAITER + "fn main x t\npthread_create - t w 0\npthread_cond_signal c\npthread_join t -\nend\n",
         "F:11: thread 1.1 waits for thread 1.2: pthread_join t -\nF:5: thread 1.2 waits for condition variable c: pthread_cond_wait c m\n",
         "    the last signal of c that found no thread: step 2, thread 1.1, F:10. This wait began in step 5\n",
+        "Usual cause: a signal before the wait", "Mend: set a variable before the signal",
     ),
     (
         "a broadcast before the wait", ["1 1 1 new 2", "1 1 1 go", "1 1 1 go", "1 1 2 go", "1 1 2 go"], "deadlock",

@@ -1,5 +1,7 @@
 # Says of a run that used up its budget in which loop its last steps were. It reads the script and the answer of `trace`;
-# `file` is the name of the script, and `budget` the number of steps.
+# `budget` is the number of steps. In the environment `file` is the name of the script.
+
+BEGIN { file = ENVIRON["file"] }
 
 # ---- the loops of the script
 

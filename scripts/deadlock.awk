@@ -1,7 +1,7 @@
 # Says of a deadlock what each thread waits for, and what would have ended the wait. It reads the answers of `trace` and of
-# `choices`; `file` is the name of the script.
+# `choices`. In the environment `file` is the name of the script.
 
-BEGIN { FS = "\t"; most = 10 }
+BEGIN { FS = "\t"; most = 10; file = ENVIRON["file"] }
 
 # ---- the steps of the run
 

@@ -143,12 +143,12 @@ followed() {
     cat "$folder/report"
 }
 
-# Writes the answers of `trace` and `choices` to the report into files. It fails if no program shows them.
+# Writes the views of the report that an explanation is read from into files. It fails if no program shows them.
 look() {
     find_inspect || return
     followed >"$folder/followed"
     "$program" trace <"$folder/followed" >"$folder/trace"
-    "$program" choices <"$folder/followed" >"$folder/choices"
+    [ "$verdict" != deadlock ] || "$program" choices <"$folder/followed" >"$folder/choices"
     grep -q "^verdict $verdict" "$folder/trace"
 }
 
@@ -178,7 +178,12 @@ explain_unseen() {
 
 explain_deadlock() {
     if [ -n "$is_seen" ]; then
-        LC_ALL=C awk -v file="$file" -f "$here/scripts/deadlock.awk" "$folder/trace" "$folder/choices" >&2
+        file=$file LC_ALL=C awk -f "$here/scripts/deadlock.awk" "$folder/trace" "$folder/choices" >&2
+        # The others may wait for a thread that waits so.
+        for why in condition semaphore mutex process a thread; do
+            if grep -q "waits for $why " "$folder/choices"; then break; fi
+        done
+        show_reason deadlock "$why"
     else
         explain_unseen choices 'what each thread waits for'
     fi
@@ -187,7 +192,7 @@ explain_deadlock() {
 explain_budget() {
     budget=$(LC_ALL=C sed -n '/^schedule /{s/^schedule 1 \([0-9]*\) .*/\1/p;q;}' "$folder/report")
     if [ -n "$is_seen" ]; then
-        script_of_input | LC_ALL=C awk -v file="$file" -v budget="$budget" -f "$here/scripts/budget.awk" - "$folder/trace" >&2
+        script_of_input | file=$file LC_ALL=C awk -v budget="$budget" -f "$here/scripts/budget.awk" - "$folder/trace" >&2
     else
         explain_unseen trace 'the loop that took the steps'
     fi

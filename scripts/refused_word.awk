@@ -18,10 +18,11 @@ FNR == NR {
 
 # ---- the script
 
+# A script has far fewer lines than 10000 that are not empty. Of a text with more the others do not matter.
 {
     gsub(/\r/, " ")
     $0 = $0
-    if (!NF || $1 ~ /^#/) next
+    if (!NF || $1 ~ /^#/ || lines >= 10000 && FNR != at) next
     line_of[++lines] = FNR
     text[FNR] = $0
     first[FNR] = $1
@@ -97,10 +98,16 @@ function is_name(w) { return w ~ /^[A-Za-z_][A-Za-z0-9_]*$/ && length(w) <= 31 }
 
 function is_number(w) { return w ~ /^[0-9]+$/ && length(w) <= 10 && w + 0 <= 4294967295 }
 
-# The form of a line that begins with a word and has so many arguments, or else its first form.
-function form_for(w, arguments,   i, part) {
-    for (i = 1; i <= forms[w]; i++) if (split(form[w, i], part, " ") == arguments + 1) return form[w, i]
-    return form[w, 1]
+# The form of the refused line: the first with as many words and the same fixed words, or else with as many words.
+function its_form(   i, k, parts, part, is_same, best) {
+    for (i = forms[word[1]]; i >= 1; i--) {
+        parts = split(form[word[1], i], part, " ")
+        is_same = parts == words
+        for (k = 2; k <= parts; k++) if (part[k] ~ /^[a-z]+$/ && part[k] != word[k]) is_same = 0
+        if (is_same) return form[word[1], i]
+        if (parts == words) best = form[word[1], i]
+    }
+    return best == "" ? form[word[1], 1] : best
 }
 
 function all_forms(w,   i, all) {
@@ -118,7 +125,7 @@ function choices_at(w, place,   i, part, all) {
 
 # The place of a word in the form of the refused line: for `fn` all after the name are locals.
 function place_of(i,   part, parts) {
-    parts = split(form_for(word[1], words - 1), part, " ")
+    parts = split(its_form(), part, " ")
     return word[1] == "fn" ? (i == 2 ? "NAME" : "LOCAL") : i <= parts ? part[i] : ""
 }
 
@@ -246,7 +253,7 @@ function on_unknown_name(   i, w, kind, sentence, other) {
     w = word[i]
     kind = kind_at(place_of(i))
     if (w == "NULL") return "'NULL' is no name here: write '-' for a result or a function that is not needed, and 0 for a value."
-    sentence = "In " all_forms(word[1]) " the word " quoted(w) " has to be a " kind
+    sentence = "In " quoted(its_form()) " the word " quoted(w) " has to be a " kind
     if (kind == "variable") sentence = sentence ", a local of " quoted(second[function_at]) " or a global"
     if ((function_at, w) in is_local) return sentence ", and it is a local of " quoted(second[function_at]) ", line " function_at "."
     if (w in declared) return sentence ", and it is a " kind_of_line(declared[w]) ", line " declared[w] "." on_thread_name(w)
@@ -307,7 +314,7 @@ function on_no_function() {
 function on_stray_end(w) {
     if (!open) return on_no_function()
     if (first[open] == "if") return "The " opened(open) " has an 'else' already, in line " else_before "."
-    return "The innermost open block here is the " opened(open) ", which has no 'else'."
+    return "The innermost open block here is the " opened(open) ", and an 'else' belongs to an 'if'."
 }
 
 function on_pop() {
