@@ -34,18 +34,34 @@ show_reason() {
     ' "$here/docs/reasons.txt" >&2
 }
 
+# Shows which word of a refused line of a script it is about.
+show_word() {
+    script_of_input | LC_ALL=C awk -v at="$line" -v why="$why" -f "$here/scripts/refused_word.awk" "$here/docs/forms.txt" - >&2
+}
+
 explain_line() {
     printf '%s:%s: %s\n' "$file" "${place:-$line}" "$fault" >&2
     show_line "$line" "$kind"
+    [ "$kind" != script ] || show_word
     show_reason "$kind" "$why"
+}
+
+# The script of the input: what is before a line %%, if there is one.
+script_of_input() {
+    LC_ALL=C sed "/$marker_line/,\$d" "$input"
+}
+
+# From here on the program is pct_inspect. It may be missing, or not current.
+find_inspect() {
+    name=pct_inspect
+    program=$here/crates/$name/out/$name
+    [ -n "$is_proved" ] && is_current
 }
 
 # Shows where the threads are at the entry that `replay` refused, and what may be next. Without a built pct_inspect it says how
 # to see that.
 show_choices() {
-    name=pct_inspect
-    program=$here/crates/$name/out/$name
-    if [ -z "$is_proved" ] || ! is_current; then
+    if ! find_inspect; then
         say "'./pct choices $file' shows where each thread is there, and each entry that is legal"
         return
     fi
@@ -104,4 +120,92 @@ explain_refusal() {
         explain_line
         [ "$kind" != entry ] || show_choices
     fi
+}
+
+# ---- words that are refused
+
+explain_words() {
+    awk -f "$here/scripts/refused_words.awk" -- "$@" >&2
+}
+
+# ---- runs that do not end complete
+
+# The report that was written. A second run of several workers may be another one, so their report is kept.
+written_report() {
+    if [ -n "$keeps" ]; then cat "$folder/answer"; else repeat_answer "$@"; fi
+}
+
+# The script and the report, as the views read them.
+followed() {
+    script_of_input
+    [ -z "$(script_of_input | tail -c 1)" ] || echo
+    echo '%%'
+    cat "$folder/report"
+}
+
+# Writes the answers of `trace` and `choices` to the report into files. It fails if no program shows them.
+look() {
+    find_inspect || return
+    followed >"$folder/followed"
+    "$program" trace <"$folder/followed" >"$folder/trace"
+    "$program" choices <"$folder/followed" >"$folder/choices"
+    grep -q "^verdict $verdict" "$folder/trace"
+}
+
+# Explains the report of a run that ended by a stop or a deadlock, or used up its budget.
+explain_run() {
+    case $1 in
+        run | replay | continue) ;;
+        *) return ;;
+    esac
+    make_folder
+    written_report "$@" >"$folder/report"
+    verdict=$(LC_ALL=C sed -n '/^verdict /{s///p;q;}' "$folder/report")
+    is_seen=''
+    if look; then is_seen=yes; fi
+    case $verdict in
+        deadlock) explain_deadlock ;;
+        budget) explain_budget "$1" ;;
+        *) explain_stop ;;
+    esac
+}
+
+# Says which command shows what is not shown here.
+explain_unseen() {
+    printf '%s: %s\n' "$file" "$verdict" >&2
+    say "with its report in a file, './pct $1 $file REPORT' shows $2"
+}
+
+explain_deadlock() {
+    if [ -n "$is_seen" ]; then
+        LC_ALL=C awk -v file="$file" -f "$here/scripts/deadlock.awk" "$folder/trace" "$folder/choices" >&2
+    else
+        explain_unseen choices 'what each thread waits for'
+    fi
+}
+
+explain_budget() {
+    budget=$(LC_ALL=C sed -n '/^schedule /{s/^schedule 1 \([0-9]*\) .*/\1/p;q;}' "$folder/report")
+    if [ -n "$is_seen" ]; then
+        script_of_input | LC_ALL=C awk -v file="$file" -v budget="$budget" -f "$here/scripts/budget.awk" - "$folder/trace" >&2
+    else
+        explain_unseen trace 'the loop that took the steps'
+    fi
+    case $1 in
+        run) echo "  Mend: end the loop, or give the run more steps: '--budget N' allows up to 200000." >&2 ;;
+        *) echo '  Mend: end the loop, or give the run more steps: BUDGET in the header of its schedule may be up to 200000.' >&2 ;;
+    esac
+}
+
+# The last step of the trace is the one that was stopped.
+explain_stop() {
+    if [ -n "$is_seen" ]; then
+        line=$(LC_ALL=C awk -F '\t' 'NF == 6 { at = $3 } END { sub(/.*:/, "", at); print at }' "$folder/trace")
+        step=$(LC_ALL=C awk -F '\t' 'NF == 6 { step = $1 " of thread " $2; at = $3 } END { sub(/:.*/, "", at); print step " in " at }' "$folder/trace")
+        printf '%s:%s: %s, step %s\n' "$file" "$line" "$verdict" "$step" >&2
+        show_line "$line" script
+    else
+        explain_unseen trace 'the step that was stopped'
+    fi
+    show_reason stop "${verdict#* }"
 }
