@@ -32,9 +32,10 @@ first_difference() {
         END {
             for (at = 1; at <= count && at <= made && report[at] == run[at]; at++);
             if (at > made && (at > count || !is_whole)) exit
-            if (at > count) print "the report has " count + 0 " events, and event " at " of this run is " plain(run[at])
-            else if (at > made) print "event " at " of the report is " plain(report[at]) ", and this run has " made + 0 " events"
-            else print "event " at " of the report is " plain(report[at]) ", and of this run " plain(run[at])
+            there = at > count ? "" : " is " plain(report[at]) " in the report"
+            here = at > made ? "" : " is " plain(run[at]) " in this run"
+            if (there == "") print "event " at here ", and the report has none"
+            else print "event " at there ", and" (here == "" ? " this run has none" : substr(here, 4))
         }
     ' "$input" -
 }
