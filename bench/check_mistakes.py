@@ -6,8 +6,11 @@
 PROGRAM is the built program, crates/pct_run/out/pct_run where none is named (./pct build builds it).
 
 The cases are as in cases.py, with what is expected worked out from docs/SCRIPT.md and docs/FORMATS.md, and with the words of
-docs/reasons.txt.
+docs/reasons.txt. Those of FIRST are in first_mistakes.py.
 """
+import re
+
+import first_mistakes
 from cases import BEGUN, CHOICES, FAULTY, HEADER, LANES, REPORT, SMALLEST, TRACE, USAGE, WORKER, Case, named_program, run_all
 
 SHOWN = "pct: here each thread is, and each entry that is legal there ('./pct choices a.replay'):\n"
@@ -24,6 +27,24 @@ def schedule(name, why, line, text, *says):
     answer = f"refused schedule {line - 4} {why}\n"
     files = {"a.replay": SMALLEST + text}
     return Case(name, "./pct replay a.replay", 7, answer, [f"a.replay:{line}: {why}\n", *says], files)
+
+
+def ended(name, how, verdict, text, *says):
+    """A run that does not end complete: of a script with options, or of a schedule with these entries."""
+    if isinstance(how, str):
+        file, command, content = "a.pct", f"./pct run {how} a.pct", text
+    else:
+        file, command = "a.replay", "./pct replay a.replay"
+        content = f"{text}{HEADER}" + "".join(f"{entry}\n" for entry in how) + f"end {len(how)}\n"
+    status = {"deadlock": 1, "budget": 2}.get(verdict, 3)
+    answer = f"{status}\nverdict {verdict}\n"
+    says = [re.sub(r"\bF:", f"{file}:", words) for words in says]
+    return Case(name, f"{command} > report; echo $?; grep verdict report", 0, answer, says, {file: content})
+
+
+def words(name, call, says):
+    """Words that are refused, with a sentence on the word before the usage."""
+    return Case(name, f"./pct {call}", 5, "refused words\n", [says, USAGE], {"a.pct": SMALLEST})
 
 
 SCRIPTS = [
@@ -263,7 +284,9 @@ CALLS = [
     Case("a seed", "./pct run --seed 2 a.pct", 0, REPORT, [], {"a.pct": SMALLEST}),
     Case(
         "a budget of one step, after the file", "./pct run a.pct --budget=1", 2,
-        "report 1\n1.1 exit 0\nverdict budget\nschedule 1 1 4 64\n1 1 1 go\nend 1\n", [], {"a.pct": SMALLEST},
+        "report 1\n1.1 exit 0\nverdict budget\nschedule 1 1 4 64\n1 1 1 go\nend 1\n",
+        ["a.pct: the budget of 1 step is used up", "a.pct:1: thread 1.1 made 1 of the last 1 steps in this function", "'--budget N'"],
+        {"a.pct": SMALLEST},
     ),
     Case(
         "an option, and a script with a fault", "./pct run --slots 2 a.pct", 6, "refused script 2 word_count\n",
@@ -368,4 +391,41 @@ CONTINUED = [
     Case("trace with a word too many", "./pct trace a.pct begun 1 more", 5, "refused words\n", [USAGE], {"a.pct": SMALLEST, "begun": BEGUN}),
 ]
 
-run_all(named_program(), [*SCRIPTS, *SCHEDULES, *CALLS, *CONTINUED])
+# Scripts that end in the same way under every schedule: main locks its own mutex, joins itself, loops.
+LOCKED = "mutex m\nfn main x\npthread_mutex_lock m\npthread_mutex_lock m\nend\n"
+STOPPED = "fn main x\npthread_join 1 -\nend\n"
+LOOP = "fn main x\nwhile 1\nend\nend\n"
+UNSEEN = "rm crates/pct_inspect/out/pct_inspect; ./pct run a.pct > report"
+
+FIRST = [
+    *(script(*case) for case in first_mistakes.REFUSED),
+    *(ended(*case) for case in first_mistakes.RUNS),
+    *(words(*case) for case in first_mistakes.WORDS),
+    Case(
+        "a deadlock of a run that is continued", "./pct continue 7 a.pct begun | grep verdict", 0, "verdict deadlock\n",
+        ["a.pct: deadlock after 1 step", "a.pct:4: thread 1.1 waits for mutex m, held by 1.1"], {"a.pct": LOCKED, "begun": BEGUN},
+    ),
+    Case(
+        "a budget of a run that is continued", "./pct continue 7 a.pct begun | grep verdict", 0, "verdict budget\n",
+        ["a.pct: the budget of 10000 steps", "a.pct:2: thread 1.1 made its last 10000 steps in this loop, lines 2 to 3", "BUDGET in the header"],
+        {"a.pct": LOOP, "begun": BEGUN},
+    ),
+    Case("a trace of a deadlock", "./pct run a.pct 2> says | ./pct trace a.pct - | tail -n 1", 0, "verdict deadlock\n", [], {"a.pct": LOCKED}),
+    Case("a deadlock of standard input", "./pct run < a.pct | grep verdict", 0, "verdict deadlock\n", [], {"a.pct": LOCKED}),
+    Case(
+        "a deadlock without the program that inspects runs", UNSEEN, 1, "",
+        ["a.pct: deadlock\n", "pct: with its report in a file, './pct choices a.pct REPORT' shows what each thread waits for\n"], {"a.pct": LOCKED},
+    ),
+    Case(
+        "a stop without the program that inspects runs", UNSEEN, 3, "",
+        ["a.pct: undefined join_self\n", "pct: with its report in a file, './pct trace a.pct REPORT' shows the step that was stopped\n", "  Rule: S: undefined"],
+        {"a.pct": STOPPED},
+    ),
+    Case(
+        "a budget without the program that inspects runs", UNSEEN, 2, "",
+        ["a.pct: budget\n", "pct: with its report in a file, './pct trace a.pct REPORT' shows the loop", "'--budget N' allows up to 200000.\n"],
+        {"a.pct": LOOP},
+    ),
+]
+
+run_all(named_program(), [*SCRIPTS, *SCHEDULES, *CALLS, *CONTINUED, *FIRST])

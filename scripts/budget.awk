@@ -71,7 +71,7 @@ function show_function(   i, name, best, count) {
         if (++count[name] > count[best]) best = name
     }
     if (best == "") return
-    printf "%s:%d: %d of the last %d steps are of thread %s in this function, in no loop that takes most of them\n", file, function_line[best], count[best], steps - half, busiest
+    printf "%s:%d: thread %s made %d of the last %d steps in this function, and no loop has most of them\n", file, function_line[best], busiest, count[best], steps - half
     show_line(function_line[best])
 }
 

@@ -38,7 +38,7 @@ END {
 # Remembers a step that the end of a wait can depend on, by what is waited for.
 function note(text,   word, words) {
     words = split(text, word, " ")
-    if (word[1] == "acquire") remember(acquired, process "." number[2] " " word[2])
+    if (word[1] == "acquire") acquired[$2 " " word[2]] = "step " steps place(line_of[$2])
     if (word[1] == "ended") ended[$2] = steps
     if (word[1] == "process_end") ended_process[process] = steps
     if (word[1] == "fork") parent_of[word[2]] = process
@@ -81,20 +81,21 @@ function reason_of(t, wait,   word, key) {
     return ""
 }
 
-# When the owner of a mutex acquired it, and why it does not unlock it.
-function on_mutex(t, m, owner,   key, process_number, from, who) {
-    split(owner, number, ".")
-    process_number = number[1]
-    while (!((key = process_number "." number[2] " " m) in acquired) && process_number in parent_of) {
-        process_number = parent_of[process_number]
-        from = ", before the fork"
+# When the owner of a mutex acquired it, and why it does not unlock it. A child has the owners of its parent.
+function on_mutex(t, m, owner,   part, holder, text) {
+    split(owner, part, ".")
+    holder = owner
+    while (!(holder " " m in acquired) && part[1] in parent_of) {
+        part[1] = parent_of[part[1]]
+        holder = part[1] "." part[2]
     }
-    who = owner == t ? "thread " t " itself" : "thread " owner
-    if (key in acquired) who = who " acquired " m " in " acquired[key] from
-    if (owner == t) return who ": a second lock waits for its own unlock"
-    if (is_here[owner]) return who
-    if (owner in ended) return who ", and ended in step " ended[owner] " without an unlock"
-    return who ", and is not in this process, which forked with the mutex locked"
+    text = "thread " owner (owner == t ? " itself" : "")
+    if (holder " " m in acquired) text = text " acquired " m " in " acquired[holder " " m]
+    if (holder != owner) text = text ", before the fork"
+    if (owner == t) return text ": a second lock waits for its own unlock"
+    if (is_here[owner]) return text
+    if (owner in ended) return text ", and ended in step " ended[owner] " without an unlock"
+    return text ", and the process has no such thread: it was forked with the mutex locked"
 }
 
 # The calls for a condition variable that could have ended a wait.
