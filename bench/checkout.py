@@ -12,8 +12,8 @@ def make(folder, program):
     for name in ("pct", "crates.txt"):
         shutil.copy(ROOT / name, folder)
     (folder / "docs").mkdir()
-    for table in (ROOT / "docs").glob("*.txt"):
-        shutil.copy(table, folder / "docs")
+    for name in ("reasons.txt", "forms.txt"):
+        shutil.copy(ROOT / "docs" / name, folder / "docs")
     for name in ("examples", "scripts"):
         shutil.copytree(ROOT / name, folder / name)
     for source, built in ((program, BUILT), (ROOT / INSPECT, INSPECT)):

@@ -27,7 +27,7 @@ REFUSED = [
     ("a join with NULL", "unknown_name", 2, "fn main t\npthread_join t NULL\nend\n", "write '-' for a result"),
     (
         "a join of the name of a function", "unknown_name", 4, WORKER + "fn main x\npthread_join w -\nend\n",
-        "the word 'w' has to be a variable", "and it is a function, line 1.", "A thread is named by the number",
+        "the word 'w' has to be a variable", "and it is a function,", "line 1. A thread is named by the number",
     ),
     (
         "a local of another function", "unknown_name", 5, "fn w x v\nset v 1\nend\nfn main x\nemit v\nend\n",

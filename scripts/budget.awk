@@ -34,7 +34,7 @@ function follow(t, start) {
     if (at < start || at > end_of[start] || field[4] ~ /^return /) {
         outside[t, start] = made[t]
         rounds[t, start] = 0
-    } else if (at == start) rounds[t, start]++
+    } else if (at == start && !rounds[t, start]++) outside[t, start] = made[t] - 1
 }
 
 END {
