@@ -106,7 +106,7 @@ explain_refusal() {
             ;;
     esac
     if [ -n "$prefix" ] && [ "$kind" = schedule ]; then
-        file=$prefix place=$number
+        file=$prefix place=$(prefix_line "$number")
         explain_line
     elif [ "$name" = pct_inspect ]; then
         explain_line
