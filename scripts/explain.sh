@@ -51,11 +51,15 @@ script_of_input() {
     LC_ALL=C sed "/$marker_line/,\$d" "$input"
 }
 
-# From here on the program is pct_inspect. It may be missing, or not current.
+# From here on the program is pct_inspect: the proved one, or after an answer without proof one that is kept. It may be missing, or
+# not current; none is made here.
 find_inspect() {
     name=pct_inspect
     program=$here/crates/$name/out/$name
-    [ -n "$is_proved" ] && is_current
+    if is_current; then return; fi
+    [ -z "$is_proved" ] || return
+    program=$unproved/$name
+    is_kept
 }
 
 # Shows where the threads are at the entry that `replay` refused, and what may be next. Without a built pct_inspect it says how
