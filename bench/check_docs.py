@@ -18,8 +18,11 @@ What is checked:
 - Definitions. In a block marked ```antt FILE each line is one of this file, but for the spaces around it.
 - Reasons. docs/reasons.txt, from which ./pct explains a refusal, has each reason of SCRIPT.md and of FORMATS.md, with the
   same usual cause and the same way to mend it.
-- Statements. The tables of SCRIPT.md have all statements that the definitions know, and no others.
-- Stops. The table of stops in FORMATS.md has all stops that the definitions know, and no others.
+- Statements. The tables of SCRIPT.md have all statements that the definitions know, and no others. docs/forms.txt, from
+  which ./pct explains a refused word, has their forms, the cancellation points of SCRIPT.md and the limits of FORMATS.md.
+- Stops. The table of stops in FORMATS.md has all stops that the definitions know, and no others. docs/reasons.txt has
+  each, with the use and the rule of the table, a usual cause and a way to mend it.
+- Deadlocks. docs/reasons.txt has each wait of the table in SCRIPT.md, with the same usual cause and way to mend it.
 
 The last line is `N passed, M failed`. The status is 1 if M is not 0 or N is 0.
 """
@@ -154,10 +157,32 @@ def page_of_reasons(page, kind):
 
 def reasons():
     """For each reason: its name, the sentences of the page, and those of the table."""
-    table = table_of_reasons()
+    table = {refusal: words for refusal, words in table_of_reasons().items() if not refusal.startswith(("stop ", "deadlock "))}
     pages = {**page_of_reasons(ROOT / "docs/SCRIPT.md", "script"), **page_of_reasons(ROOT / "docs/FORMATS.md", "schedule")}
     for refusal in sorted({*table, *pages}):
         yield f"{refusal} in docs/reasons.txt", pages.get(refusal, "none"), table.get(refusal, "none")
+
+
+def stops():
+    """For each stop: its name, the use and the rule of the page and the labels after them, and those of the table."""
+    rows = re.findall(r"^\| `(?:undefined|profile) ([a-z_]+)` \| (.*) \| (.*) \|$", (ROOT / "docs/FORMATS.md").read_text(), re.M)
+    pages = {f"stop {name}": f"Use: {plain(use)}. Rule: {plain(rule)}. Usual cause: Mend:" for name, use, rule in rows}
+    table = {
+        stop: re.sub(r"(Usual cause:) .*? (Mend:) .+", r"\1 \2", words)
+        for stop, words in table_of_reasons().items()
+        if stop.startswith("stop ")
+    }
+    for stop in sorted({*table, *pages}):
+        yield f"{stop} in docs/reasons.txt", pages.get(stop, "none"), table.get(stop, "none")
+
+
+def deadlocks():
+    """For each wait of a deadlock: its name, the cause and the mend of the page, and those of the table."""
+    rows = re.findall(r"^\| `waits for (\w+)[^`]*` \| (.*) \| (.*) \|$", (ROOT / "docs/SCRIPT.md").read_text(), re.M)
+    pages = {f"deadlock {wait}": f"Usual cause: {plain(cause)}. Mend: {plain(mend)}." for wait, cause, mend in rows}
+    table = {wait: words for wait, words in table_of_reasons().items() if wait.startswith("deadlock ")}
+    for wait in sorted({*table, *pages}):
+        yield f"{wait} in docs/reasons.txt", pages.get(wait, "none"), table.get(wait, "none")
 
 
 # ---- statements and stops
@@ -184,6 +209,28 @@ def codes(text):
     return [code.split()[0] for code in re.findall(r"`([^`]+)`", text) if code.strip()]
 
 
+def forms_of(text):
+    """The forms of statements and declarations in the tables of a page."""
+    known = known_statements() | {"fn", "global", "mutex", "cond", "sem"}
+    cells = [line.split("|")[1] for line in text.splitlines() if line.startswith("| `")]
+    return {form for cell in cells for form in re.findall(r"`([^`]+)`", cell) if form.split()[0] in known}
+
+
+def forms():
+    """For each kind of line of docs/forms.txt: where it is, what the pages have, and what the file has."""
+    script, formats = (ROOT / "docs/SCRIPT.md").read_text(), (ROOT / "docs/FORMATS.md").read_text()
+    lines = [line for line in (ROOT / "docs/forms.txt").read_text().splitlines() if line and not line.startswith(("#", "- "))]
+    has = {line for line in lines if not line.startswith(("limit ", "point "))}
+    yield "docs/forms.txt: the forms of SCRIPT.md", names(forms_of(script)), names(has)
+    listed = script.partition("### Cancellation points")[2].partition("\n## ")[0].split("```")[1::2]
+    points = [word for line in lines if line.startswith("point ") for word in line.split()[1:]]
+    yield "docs/forms.txt: the points of SCRIPT.md", names(" ".join(listed).split()), names(points)
+    for _, word, number, *what in [line.split() for line in lines if line.startswith("limit ")]:
+        rows = [row for row in formats.splitlines() if row.startswith("| ") and re.sub("mutexes|condition variables|semaphores", "globals", " ".join(what)) in row]
+        limit = rows[0].split("|")[2].split()[0].replace(",", "") if rows else "none"
+        yield f"docs/forms.txt: the limit of {word} in FORMATS.md", limit, number
+
+
 def names(words):
     return ", ".join(sorted(words)) or "none"
 
@@ -205,7 +252,10 @@ def lists():
 def checks(program):
     """For each check: where it is, what the page has, and what it should have."""
     yield from reasons()
+    yield from stops()
+    yield from deadlocks()
     yield from lists()
+    yield from forms()
     for page in [ROOT / "README.md", *sorted((ROOT / "docs").glob("*.md"))]:
         for number, command, printed, written in results(page, program):
             yield f"{page.relative_to(ROOT)}:{number}: {command}", printed, written

@@ -1,92 +1,19 @@
 #!/usr/bin/env python3
 """Makes mistakes with ./pct, and compares what it says with what the pages promise.
 
-    bench/check_mistakes.py [PROGRAM] [--with-rt]
+    bench/check_mistakes.py [PROGRAM]
 
 PROGRAM is the built program, crates/pct_run/out/pct_run where none is named (./pct build builds it).
 
-A case is a command of a shell, the files that it reads, the standard output and the status that it has to have, and
-what standard error has to say: all by the rules of docs/SCRIPT.md and docs/FORMATS.md, and the words of
-docs/reasons.txt. Each command is run in a temporary folder of its own that has the real ./pct, docs/reasons.txt and
-examples/. In the cases of SCRIPTS, SCHEDULES, CALLS and CONTINUED the program is where ./pct build leaves it.
-
-In those of UNPROVED it is not, and in the PATH there is a stand-in for the kit's rt. `rt try` of it runs the program,
-and says what rt says then; `rt run` of it leaves the program where ./pct looks for it. As rt takes an input that pauses
-to have ended, it refuses one that is not a file. It notes its words in the file rt.words, and fails if there is a file
-rt.fails.
-
-With --with-rt the real `rt try` compiles and runs the program once, in a copy of crates/.
-
-The last line is `N passed, M failed`. The status is 1 if M is not 0 or N is 0.
+The cases are as in cases.py, with what is expected worked out from docs/SCRIPT.md and docs/FORMATS.md, and with the words of
+docs/reasons.txt. Those of FIRST are in first_mistakes.py.
 """
-import dataclasses
-import os
-import pathlib
-import shutil
-import subprocess
-import sys
-import tempfile
+import re
 
-import checkout
-from checkout import BUILT, INSPECT, ROOT
+import first_mistakes
+from cases import BEGUN, CHOICES, FAULTY, HEADER, LANES, REPORT, SMALLEST, TRACE, USAGE, WORKER, Case, named_program, run_all
 
-SECONDS = 120
-# What ./pct calls; the PATH of the cases has these commands, without the kit's rt.
-TOOLS = "sh awk cat chmod cp cut date dirname find grep head mkdir mktemp od printf readlink rm sed sleep tail test touch".split()
-RT = """#!/bin/sh
-echo "$*" >> "$TOP/rt.words"
-[ "${PWD##*/}" = pct_run ] || PROGRAM=$INSPECT
-if [ -e "$TOP/rt.fails" ]; then echo half; echo 'run=none proved=no' >&2; exit 2; fi
-case $1 in
-    run) mkdir -p out; cp "$PROGRAM" "out/${PWD##*/}" ;;
-    try)
-        while [ "$1" != -- ]; do shift; done
-        shift
-        case $1 in
-            run | replay | check | continue | trace | choices | lanes | picture) [ -f /dev/stdin ] || { echo 'run=none proved=no' >&2; exit 2; } ;;
-        esac
-        "$PROGRAM" "$@"
-        status=$?
-        echo "checked: ended status=$status" >&2
-        echo "run=ended status=$status runners=1 proved=no" >&2
-        exit "$status"
-        ;;
-esac
-"""
-USAGE = "usage: pct run [OPTION]... [FILE]"
-SMALLEST = "fn main x\nreturn 0\nend\n"
-FAULTY = "fn main x\nemit\nend\n"
-# The report of the script SMALLEST: main returns, and the process ends.
-REPORT = """report 1
-1.1 exit 0
-1.1 process_end 0
-verdict complete
-schedule 1 10000 4 64
-1 1 1 go
-1 1 1 go
-end 2
-"""
-WORKER = "fn w x\nend\nfn main x\npthread_create - - w 1\nend\n"
-HEADER = "%%\nschedule 1 100 4 64\n"
-BEGUN = "schedule 1 10000 4 64\n1 1 1 go\n"
 SHOWN = "pct: here each thread is, and each entry that is legal there ('./pct choices a.replay'):\n"
-FROM_UNPROVED = ["the answer comes from an unproved build", "'./pct build' proves and builds it"]
-# The views of SMALLEST after BEGUN.
-TRACE = "1\t1.1\tmain:2\treturn 0\tgo\texit 0\nverdict open\n"
-CHOICES = "verdict open\n1.1\t-\t-\texiting\tdisable deferred, no request\t-\n1 1 1 go\n"
-LANES = "step\t1.1\n1\texit 0\nverdict open\n"
-
-
-@dataclasses.dataclass
-class Case:
-    """A mistake. `says` is what standard error has, in this order, and no other line that begins with `pct: `."""
-
-    name: str
-    command: str
-    status: int
-    stdout: str
-    says: list = dataclasses.field(default_factory=list)
-    files: dict = dataclasses.field(default_factory=dict)
 
 
 def script(name, why, line, text, *says):
@@ -100,6 +27,24 @@ def schedule(name, why, line, text, *says):
     answer = f"refused schedule {line - 4} {why}\n"
     files = {"a.replay": SMALLEST + text}
     return Case(name, "./pct replay a.replay", 7, answer, [f"a.replay:{line}: {why}\n", *says], files)
+
+
+def ended(name, how, verdict, text, *says):
+    """A run that does not end complete: of a script with options, or of a schedule with these entries."""
+    if isinstance(how, str):
+        file, command, content = "a.pct", f"./pct run {how} a.pct", text
+    else:
+        file, command = "a.replay", "./pct replay a.replay"
+        content = f"{text}{HEADER}" + "".join(f"{entry}\n" for entry in how) + f"end {len(how)}\n"
+    status = {"deadlock": 1, "budget": 2}.get(verdict, 3)
+    answer = f"{status}\nverdict {verdict}\n"
+    says = [re.sub(r"\bF:", f"{file}:", words) for words in says]
+    return Case(name, f"{command} > report; echo $?; grep verdict report", 0, answer, says, {file: content})
+
+
+def words(name, call, says):
+    """Words that are refused, with a sentence on the word before the usage."""
+    return Case(name, f"./pct {call}", 5, "refused words\n", [says, USAGE], {"a.pct": SMALLEST})
 
 
 SCRIPTS = [
@@ -335,12 +280,13 @@ CALLS = [
     Case("an unknown command", "./pct walk < a.pct", 5, "refused words\n", [USAGE, "pct build"], {"a.pct": SMALLEST}),
     Case("an unknown command with a file", "./pct walk a.pct", 5, "refused words\n", [USAGE], {"a.pct": SMALLEST}),
     Case("no words", "./pct", 5, "refused words\n", [USAGE]),
-    Case("a call for help", "./pct --help", 5, "refused words\n", [USAGE]),
     Case("two files", "./pct run a.pct b.pct", 5, "refused words\n", [USAGE], {"a.pct": SMALLEST, "b.pct": SMALLEST}),
     Case("a seed", "./pct run --seed 2 a.pct", 0, REPORT, [], {"a.pct": SMALLEST}),
     Case(
         "a budget of one step, after the file", "./pct run a.pct --budget=1", 2,
-        "report 1\n1.1 exit 0\nverdict budget\nschedule 1 1 4 64\n1 1 1 go\nend 1\n", [], {"a.pct": SMALLEST},
+        "report 1\n1.1 exit 0\nverdict budget\nschedule 1 1 4 64\n1 1 1 go\nend 1\n",
+        ["a.pct: the budget of 1 step is used up", "a.pct:1: thread 1.1 made 1 of the last 1 steps in this function", "'--budget N'"],
+        {"a.pct": SMALLEST},
     ),
     Case(
         "an option, and a script with a fault", "./pct run --slots 2 a.pct", 6, "refused script 2 word_count\n",
@@ -445,213 +391,41 @@ CONTINUED = [
     Case("trace with a word too many", "./pct trace a.pct begun 1 more", 5, "refused words\n", [USAGE], {"a.pct": SMALLEST, "begun": BEGUN}),
 ]
 
-# A program that answers wrongly, and two of the files that it is made from, which are older.
-OLD = """
-mkdir -p crates/a crates/pct_run/out
-printf '#!/bin/sh\\necho old\\n' > crates/pct_run/out/pct_run
-chmod +x crates/pct_run/out/pct_run
-touch -t 200001010000 crates/a/lib.rt crates.txt
-touch -t 200001020000 crates/pct_run/out/pct_run
-"""
-OUTDATED = OLD + "touch crates/a/lib.rt; "
+# Scripts that end in the same way under every schedule: main locks its own mutex, joins itself, loops.
+LOCKED = "mutex m\nfn main x\npthread_mutex_lock m\npthread_mutex_lock m\nend\n"
+STOPPED = "fn main x\npthread_join 1 -\nend\n"
+LOOP = "fn main x\nwhile 1\nend\nend\n"
+UNSEEN = "rm crates/pct_inspect/out/pct_inspect; ./pct run a.pct > report"
 
-UNPROVED = [
+FIRST = [
+    *(script(*case) for case in first_mistakes.REFUSED),
+    *(ended(*case) for case in first_mistakes.RUNS),
+    *(words(*case) for case in first_mistakes.WORDS),
     Case(
-        "no program", "./pct run < a.pct && cat rt.words", 0, REPORT + "try --seconds 600 -- run\n",
-        ["pct: the program is not built, so", *FROM_UNPROVED], {"a.pct": SMALLEST},
+        "a deadlock of a run that is continued", "./pct continue 7 a.pct begun | grep verdict", 0, "verdict deadlock\n",
+        ["a.pct: deadlock after 1 step", "a.pct:4: thread 1.1 waits for mutex m, held by 1.1"], {"a.pct": LOCKED, "begun": BEGUN},
     ),
     Case(
-        "no program, and a file", "./pct run a.pct && cat rt.words", 0, REPORT + "try --seconds 600 -- run\n",
-        FROM_UNPROVED, {"a.pct": SMALLEST},
+        "a budget of a run that is continued", "./pct continue 7 a.pct begun | grep verdict", 0, "verdict budget\n",
+        ["a.pct: the budget of 10000 steps", "a.pct:2: thread 1.1 made its last 10000 steps in this loop, lines 2 to 3", "BUDGET in the header"],
+        {"a.pct": LOOP, "begun": BEGUN},
+    ),
+    Case("a trace of a deadlock", "./pct run a.pct 2> says | ./pct trace a.pct - | tail -n 1", 0, "verdict deadlock\n", [], {"a.pct": LOCKED}),
+    Case("a deadlock of standard input", "./pct run < a.pct | grep verdict", 0, "verdict deadlock\n", [], {"a.pct": LOCKED}),
+    Case(
+        "a deadlock without the program that inspects runs", UNSEEN, 1, "",
+        ["a.pct: deadlock\n", "pct: with its report in a file, './pct choices a.pct REPORT' shows what each thread waits for\n"], {"a.pct": LOCKED},
     ),
     Case(
-        "no program, an option and a file", "./pct run --seed 2 a.pct && cat rt.words", 0,
-        REPORT + "try --seconds 600 -- run --seed 2\n", FROM_UNPROVED, {"a.pct": SMALLEST},
+        "a stop without the program that inspects runs", UNSEEN, 3, "",
+        ["a.pct: undefined join_self\n", "pct: with its report in a file, './pct trace a.pct REPORT' shows the step that was stopped\n", "  Rule: S: undefined"],
+        {"a.pct": STOPPED},
     ),
     Case(
-        "no program, and a refusal", "./pct check a.pct", 6, "refused script 2 word_count\n",
-        [*FROM_UNPROVED, "a.pct:2: word_count\n", "    emit\n", "Mend:"], {"a.pct": FAULTY},
-    ),
-    Case(
-        "no program, and an input that pauses", "{ head -n 1 a.pct; sleep 0.1; sed 1d a.pct; } | ./pct run", 0,
-        REPORT, FROM_UNPROVED, {"a.pct": SMALLEST},
-    ),
-    Case(
-        "no program, and an unknown command", "./pct walk; echo $?; cat rt.words", 0,
-        "refused words\n5\ntry --seconds 600 -- walk\n", [*FROM_UNPROVED, USAGE],
-    ),
-    Case(
-        "no program, points reads nothing", "{ ./pct points | head -n 1; cat; } < a.pct", 0,
-        "accept required outside\n" + SMALLEST, FROM_UNPROVED, {"a.pct": SMALLEST},
-    ),
-    Case(
-        "no program, and a full disk", "./pct run a.pct > /dev/full", 10, "",
-        [*FROM_UNPROVED, "pct: the answer could not be written"], {"a.pct": SMALLEST},
-    ),
-    Case(
-        "no program, and a folder as standard input", "./pct run < .", 9, "",
-        [*FROM_UNPROVED, "pct: the input could not be read"],
-    ),
-    Case(
-        "no program, and a closed standard input", "./pct run <&-", 9, "",
-        [*FROM_UNPROVED, "pct: the input could not be read"],
-    ),
-    Case(
-        "no program, and a closed standard output", "./pct run a.pct >&-", 10, "",
-        [*FROM_UNPROVED, "pct: the answer could not be written"], {"a.pct": SMALLEST},
-    ),
-    Case(
-        "no program, and an input that is too long", "./pct run a.pct", 8, "refused input too_long\n",
-        [*FROM_UNPROVED, "pct: the input has more than"], {"a.pct": "\n" * 16_777_217},
-    ),
-    Case(
-        "no program, and a pipe that is too long", "cat a.pct | ./pct run", 8, "refused input too_long\n",
-        [*FROM_UNPROVED, "pct: the input has more than"], {"a.pct": "\n" * 16_777_217},
-    ),
-    Case(
-        "no program, and a file that is not there", "./pct run nowhere.pct", 66, "",
-        ["pct: nowhere.pct is no file that can be read\n"],
-    ),
-    Case(
-        "no program, and rt fails", "touch rt.fails; ./pct run a.pct", 126, "",
-        [*FROM_UNPROVED, "pct: the unproved build gave no answer; /", "/log says why\n"], {"a.pct": SMALLEST},
-    ),
-    Case(
-        "no program and no rt", "rm rt/rt; ./pct run a.pct", 126, "",
-        ["pct: the program is not built, and there is no rt in the PATH"], {"a.pct": SMALLEST},
-    ),
-    Case(
-        "no program and no rt, build", "rm rt/rt; ./pct build", 126, "",
-        ["pct: the program is not built, and there is no rt in the PATH"],
-    ),
-    Case(
-        "an outdated program", OUTDATED + "./pct run a.pct", 0, REPORT,
-        ["pct: the built program is older than its sources, so", *FROM_UNPROVED], {"a.pct": SMALLEST},
-    ),
-    Case(
-        "a program that is older than crates.txt", OLD + "touch crates.txt; ./pct run a.pct", 0, REPORT,
-        ["pct: the built program is older than its sources, so", *FROM_UNPROVED], {"a.pct": SMALLEST},
-    ),
-    Case("trace without a program", "./pct trace a.pct begun", 4, TRACE, FROM_UNPROVED, {"a.pct": SMALLEST, "begun": BEGUN}),
-    Case(
-        "a refused replay without the program that inspects runs", "./pct build 2>build.log; rm crates/pct_inspect/out/pct_inspect; ./pct replay a.replay", 7,
-        "refused entry 1\n", ["a.replay:6: entry 1 is not legal\n", "pct: './pct choices a.replay' shows where each thread is there"],
-        {"a.replay": SMALLEST + HEADER + "1 2 1 go\nend 1\n"},
-    ),
-    Case("continue without a program", "./pct continue 7 a.pct", 0, REPORT, FROM_UNPROVED, {"a.pct": SMALLEST}),
-    Case("a program that is not outdated", OLD + "./pct run a.pct", 0, "old\n", [], {"a.pct": SMALLEST}),
-    Case(
-        "an outdated program and no rt", OUTDATED + "rm rt/rt; ./pct run a.pct", 126, "",
-        ["pct: the built program is older than its sources, and there is no rt in the PATH"], {"a.pct": SMALLEST},
-    ),
-    Case(
-        "build, and then a run", "./pct build && ./pct run a.pct && cat rt.words", 0, REPORT + "run\nrun\n",
-        ["pct: proving and building", "pct: proved and built in", "crates/pct_run/out/pct_run\n", "crates/pct_inspect/out/pct_inspect\n"],
-        {"a.pct": SMALLEST},
-    ),
-    Case(
-        "build of an outdated program", OUTDATED + "./pct build && ./pct run a.pct", 0, REPORT,
-        ["pct: proving and building", "pct: proved and built in"], {"a.pct": SMALLEST},
-    ),
-    Case(
-        "build, and rt fails", "touch rt.fails; ./pct build", 126, "",
-        ["pct: proving and building", "pct: the program was not built; crates/pct_run/out/pct_run.log says why"],
+        "a budget without the program that inspects runs", UNSEEN, 2, "",
+        ["a.pct: budget\n", "pct: with its report in a file, './pct trace a.pct REPORT' shows the loop", "'--budget N' allows up to 200000.\n"],
+        {"a.pct": LOOP},
     ),
 ]
 
-# Main joins the worker, and the worker joins main.
-WITH_RT = Case(
-    "the real rt try", "./pct run examples/deadlock.pct > report; echo $?; grep verdict report", 0,
-    "1\nverdict deadlock\n", FROM_UNPROVED,
-)
-
-
-def tools(folder):
-    """A folder of links to the commands in TOOLS, so that the PATH has no rt."""
-    folder.mkdir()
-    for name in TOOLS:
-        (folder / name).symlink_to(shutil.which(name))
-    return str(folder)
-
-
-def wrongs(case, folder, path, program):
-    """What is wrong at a case, which is run in a folder."""
-    for name, text in case.files.items():
-        (folder / name).write_bytes(text.encode())
-    (folder / "tmp").mkdir()
-    ran = subprocess.run(
-        ["sh", "-c", case.command],
-        cwd=folder,
-        env={"PATH": path, "TMPDIR": str(folder / "tmp"), "PROGRAM": str(program), "INSPECT": str(ROOT / INSPECT), "TOP": str(folder)},
-        stdin=subprocess.DEVNULL,
-        capture_output=True,
-        timeout=SECONDS,
-    )
-    stdout, stderr = ran.stdout.decode(errors="replace"), ran.stderr.decode(errors="replace")
-    wrong = []
-    if ran.returncode != case.status:
-        wrong.append(f"the status is {ran.returncode} and not {case.status}")
-    if stdout != case.stdout:
-        wrong.append(f"standard output is {stdout[:500]!r} and not {case.stdout!r}")
-    at = 0
-    for words in case.says:
-        found = stderr.find(words, at)
-        if found < 0:
-            wrong.append(f"standard error does not say {words!r}")
-        at = max(at, found)
-    for line in stderr.splitlines():
-        if line.startswith("pct: ") and not any(words.strip() in line for words in case.says):
-            wrong.append(f"standard error says {line!r}")
-    if stderr and not case.says:
-        wrong.append("standard error is not empty")
-    if case.status != 126 and os.listdir(folder / "tmp"):
-        wrong.append("a temporary folder is left")
-    return [*wrong, f"standard error is {stderr!r}"] if wrong else []
-
-
-def cases(program):
-    """Each case, with a folder for it, ready, and its PATH."""
-    with tempfile.TemporaryDirectory() as name:
-        top = pathlib.Path(name)
-        path = tools(top / "tools")
-        for number, case in enumerate([*SCRIPTS, *SCHEDULES, *CALLS, *CONTINUED, *UNPROVED]):
-            folder = top / str(number)
-            folder.mkdir()
-            checkout.make(folder, program)
-            if case in UNPROVED:
-                (folder / BUILT).unlink()
-                (folder / INSPECT).unlink()
-                (folder / "rt").mkdir()
-                (folder / "rt/rt").write_text(RT)
-                (folder / "rt/rt").chmod(0o755)
-                yield case, folder, f"{folder}/rt:{path}"
-            else:
-                yield case, folder, path
-            shutil.rmtree(folder)
-        if "--with-rt" in sys.argv:
-            folder = top / "with-rt"
-            folder.mkdir()
-            checkout.make(folder, program)
-            shutil.rmtree(folder / "crates")
-            shutil.copytree(ROOT / "crates", folder / "crates", ignore=shutil.ignore_patterns("out"))
-            yield WITH_RT, folder, os.environ["PATH"]
-
-
-def main():
-    words = [word for word in sys.argv[1:] if word != "--with-rt"]
-    program = pathlib.Path(words[0] if words else ROOT / BUILT).resolve()
-    if not program.is_file():
-        sys.exit(f"there is no program {program}; ./pct build builds it")
-    passed = failed = 0
-    for case, folder, path in cases(program):
-        wrong = wrongs(case, folder, path, program)
-        if wrong:
-            failed += 1
-            print(f"{case.name}: {case.command}", *wrong, sep="\n    ")
-        else:
-            passed += 1
-    print(f"{passed} passed, {failed} failed")
-    sys.exit(1 if failed or not passed else 0)
-
-
-main()
+run_all(named_program(), [*SCRIPTS, *SCHEDULES, *CALLS, *CONTINUED, *FIRST])

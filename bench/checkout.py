@@ -12,8 +12,10 @@ def make(folder, program):
     for name in ("pct", "crates.txt"):
         shutil.copy(ROOT / name, folder)
     (folder / "docs").mkdir()
-    shutil.copy(ROOT / "docs/reasons.txt", folder / "docs")
-    shutil.copytree(ROOT / "examples", folder / "examples")
+    for name in ("reasons.txt", "forms.txt"):
+        shutil.copy(ROOT / "docs" / name, folder / "docs")
+    for name in ("examples", "scripts"):
+        shutil.copytree(ROOT / name, folder / name)
     for source, built in ((program, BUILT), (ROOT / INSPECT, INSPECT)):
         (folder / built).parent.mkdir(parents=True)
         shutil.copy(source, folder / built)

@@ -1,0 +1,155 @@
+#!/usr/bin/env python3
+"""Gives prefixes, numbers and ranges of steps to ./pct, and compares what it writes and says with what the pages promise.
+
+    bench/check_prefixes.py [PROGRAM]
+
+PROGRAM is the built program, crates/pct_run/out/pct_run where none is named (./pct build builds it). The cases are as in
+cases.py, with what is expected worked out from docs/FORMATS.md and docs/VIEWS.md.
+"""
+from cases import BEGUN, CHOICES, LANES, REPORT, SMALLEST, TRACE, USAGE, WORKER, Case, named_program, run_all
+
+# As SMALLEST, but the process ends with 7.
+SEVEN = "fn main x\nreturn 7\nend\n"
+SEVEN_REPORT = REPORT.replace("exit 0", "exit 7").replace("process_end 0", "process_end 7")
+SEVEN_TRACE = "1\t1.1\tmain:2\treturn 7\tgo\texit 7\n2\t1.1\texiting\t-\tgo\tprocess_end 7\nverdict complete\n"
+DIFFERS = [
+    "pct: the report that was given is not of this run: event 1 is '1.1 exit 0' in the report, and '1.1 exit 7' in this run\n",
+    "pct: of a report only the schedule is followed",
+]
+FILES = {"a.pct": SMALLEST, "seven.pct": SEVEN, "report": REPORT, "begun": BEGUN}
+
+
+def given(name, command, status, stdout, says=(), **files):
+    """A case with the files of FILES and these."""
+    return Case(name, command, status, stdout, list(says), {**FILES, **files})
+
+
+REPORTS = [
+    given("trace with a report of another script", "./pct trace seven.pct report", 0, SEVEN_TRACE, DIFFERS),
+    given("choices with one", "./pct choices seven.pct report", 0, "verdict complete\n", DIFFERS),
+    given("lanes with one", "./pct lanes seven.pct report", 0, "step\t1.1\n1\texit 7\n2\tprocess_end 7\nverdict complete\n", DIFFERS),
+    given("a picture with one", "./pct picture seven.pct report | grep -c '<svg '", 0, "1\n", DIFFERS),
+    given("continue with one", "./pct continue 7 seven.pct report", 0, SEVEN_REPORT, DIFFERS),
+    given("replay of one", "./pct replay a.replay", 0, SEVEN_REPORT, DIFFERS, **{"a.replay": SEVEN + "%%\n" + REPORT}),
+    given("its first entry", "./pct trace seven.pct report 1 | tail -n 1", 0, "verdict open\n", DIFFERS),
+    given("from standard input", "./pct trace seven.pct - < report", 0, SEVEN_TRACE, DIFFERS),
+    given("one with CR LF", "./pct trace seven.pct crlf", 0, SEVEN_TRACE, DIFFERS, crlf=REPORT.replace("\n", "\r\n")),
+    given("a range of it", "./pct trace seven.pct report 2-2", 0, "".join(SEVEN_TRACE.splitlines(True)[1:]), DIFFERS),
+    given("the report of the script", "./pct continue 7 a.pct report", 0, REPORT),
+    given("the report of the script, to replay", "./pct replay a.replay", 0, REPORT, **{"a.replay": SMALLEST + "%%\n" + REPORT}),
+    given("the report with CR LF", "./pct replay a.replay", 0, REPORT, **{"a.replay": SMALLEST + "%%\n" + REPORT.replace("\n", "\r\n")}),
+    given("the first entry of its report", "./pct trace a.pct report 1", 4, TRACE),
+    given("its report, cut off", "./pct trace a.pct cut", 4, TRACE, cut="".join(REPORT.splitlines(True)[:6])),
+    given("no entry of its report", "./pct choices a.pct report 0 | head -n 1", 0, "verdict open\n"),
+    given("a schedule is no report", "./pct trace seven.pct begun | tail -n 1", 0, "verdict open\n"),
+    given("no FILE", "cat seven.pct marker report | ./pct trace", 0, SEVEN_TRACE, marker="%%\n"),
+    given(
+        "a report without its last event", "./pct trace a.pct short | tail -n 1", 0, "verdict complete\n",
+        ["pct: the report that was given is not of this run: event 2 is '1.1 process_end 0' in this run, and the report has none\n", "pct: of a report"],
+        short=REPORT.replace("1.1 process_end 0\n", ""),
+    ),
+    given(
+        "a report with an event more", "./pct trace a.pct long | tail -n 1", 0, "verdict complete\n",
+        ["pct: the report that was given is not of this run: event 3 is '1.1 emit 5' in the report, and this run has none\n", "pct: of a report"],
+        long=REPORT.replace("verdict", "1.1 emit 5\nverdict"),
+    ),
+    given("an event more than its first entry makes", "./pct trace a.pct long 1", 4, TRACE, long=REPORT.replace("verdict", "1.1 emit 5\nverdict")),
+    given(
+        "a report with an entry that is not legal", "./pct trace a.pct changed", 7, TRACE + "entry 2 is not legal here\n",
+        changed=REPORT.replace("1 1 1 go\nend", "1 1 2 go\nend"),
+    ),
+]
+
+NOTED = "# The first step\nschedule 1 10000 4 64\n\n# of main:\n1 1 1 go\n"
+FAULT = "# one\nschedule 1 10000 4 64\n# two\n\n1 1 go\n# three\n"
+FAULT_SAYS = ["begun:5: bad_entry\n", "    1 1 go\n", "Usual cause:"]
+COMMENTS = [
+    given("comments in a prefix", "./pct trace a.pct noted", 4, TRACE, noted=NOTED),
+    given("comments with CR LF", "./pct choices a.pct noted", 4, CHOICES, noted=NOTED.replace("\n", "\r\n")),
+    given("comments from standard input", "./pct lanes a.pct - < noted", 4, LANES, noted=NOTED),
+    given("comments from a pipe", "mkfifo pipe; cat noted > pipe & ./pct trace a.pct pipe", 4, TRACE, noted=NOTED),
+    given("comments, and go on", "./pct continue 7 a.pct noted", 0, REPORT, noted=NOTED),
+    given("a comment that looks like a header", "./pct trace a.pct noted", 4, TRACE, noted="#schedule 1 1 4 1\n" + NOTED),
+    given("the first entry among comments", "./pct trace a.pct noted 1", 4, TRACE, noted=NOTED + "# the last:\n1 1 1 go\n"),
+    given("no entry among comments", "./pct trace a.pct noted 0", 4, "verdict open\n", noted=NOTED),
+    given("a fault among comments", "./pct trace a.pct begun", 7, "refused schedule 2 bad_entry\n", FAULT_SAYS, begun=FAULT),
+    given("a fault among comments, with a number", "./pct trace a.pct begun 3", 7, "refused schedule 2 bad_entry\n", FAULT_SAYS, begun=FAULT),
+    given(
+        "a fault among comments from standard input", "./pct trace a.pct - < begun", 7, "refused schedule 2 bad_entry\n",
+        ["-:5: bad_entry\n", "    1 1 go\n", "Usual cause:"], begun=FAULT,
+    ),
+    given(
+        "no header after comments", "./pct continue 7 a.pct begun", 7, "refused schedule 1 bad_header\n",
+        ["begun:4: bad_header\n", "    1 1 1 go\n", "Usual cause:"], begun="# one\n\n# two\n1 1 1 go\n",
+    ),
+    given("comments alone are no prefix", "./pct continue 7 a.pct noted", 0, REPORT, noted="# one\n\n"),
+    given(
+        "an entry that is not legal among comments", "./pct trace a.pct noted", 7, TRACE + "entry 2 is not legal here\n",
+        noted=NOTED + "# two\n1 1 2 go\n",
+    ),
+    given(
+        "a comment in FILE, after its line %%", "./pct trace a.replay", 7, "refused schedule 2 bad_entry\n",
+        ["a.replay:6: bad_entry\n", "    # two\n", "Usual cause:"], **{"a.replay": SMALLEST + "%%\nschedule 1 1 4 64\n# two\n"},
+    ),
+]
+
+STEPS = ["1\t1.1\tmain:2\treturn 0\tgo\texit 0\n", "2\t1.1\texiting\t-\tgo\tprocess_end 0\n"]
+COMPLETE, OPEN = "verdict complete\n", "verdict open\n"
+# Main creates thread 2, which ends; a nop has no event.
+TWO = "fn w x\nnop\nend\nfn main x\npthread_create - - w 1\nend\n"
+TWO_PREFIX = "schedule 1 100 4 2\n1 1 1 new 2\n1 1 2 go\n1 1 2 go\n1 1 2 go\n"
+TWO_STEPS = [
+    "1\t1.1\tmain:5\tpthread_create - - w 1\tnew 2\tcreate 2 joinable\n",
+    "2\t1.2\tw:2\tnop\tgo\t-\n",
+    "3\t1.2\tw:3\tend\tgo\tending exit 0\n",
+    "4\t1.2\tending\t-\tgo\tended 0\n",
+]
+two = {"two.pct": TWO, "two": TWO_PREFIX}
+RANGES = [
+    given("one step", "./pct trace a.pct report 1-1", 4, STEPS[0] + OPEN),
+    given("the last step", "./pct trace a.pct report 2-2", 0, STEPS[1] + COMPLETE),
+    given("steps from one on", "./pct trace a.pct report 2-", 0, STEPS[1] + COMPLETE),
+    given("steps up to one", "./pct trace a.pct report -1", 4, STEPS[0] + OPEN),
+    given("more steps than there are", "./pct trace a.pct report 2-9", 0, STEPS[1] + COMPLETE),
+    given("steps after the last", "./pct trace a.pct report 7-9", 0, COMPLETE),
+    given("a range, and an entry that is not legal", "./pct trace a.pct begun 2-3", 7, OPEN + "entry 2 is not legal here\n", begun=BEGUN + "1 1 2 go\n"),
+    given("a range of a prefix with a fault", "./pct trace a.pct begun 2-3", 7, "refused schedule 1 bad_header\n", ["begun:1: bad_header\n"], begun="schedule 1\n"),
+    given("a step above the last", "./pct trace a.pct report 3-1", 5, "", ["pct: 3-1 is no range of steps: FROM is above TO\n"]),
+    given("a word as a range", "./pct lanes a.pct report one-2", 5, "", ["pct: one-2 is no range of steps, FROM-TO\n"]),
+    given("a range of three", "./pct picture a.pct report 1-2-3", 5, "", ["pct: 1-2-3 is no range of steps, FROM-TO\n"]),
+    given("a range from 0", "./pct trace a.pct report 0-2", 5, "", ["pct: 0-2 is no range of steps, which are counted from 1\n"]),
+    given("a sign alone", "./pct trace a.pct report -", 5, "", ["pct: - is no range of steps, FROM-TO\n"]),
+    given("a range for choices", "./pct choices a.pct report 1-2", 5, "", ["pct: 1-2 is no number of entries\n"]),
+    given("a range for continue", "./pct continue 1 a.pct report 1-2", 5, "", ["pct: 1-2 is no number of entries\n"]),
+    given("a word as a number", "./pct lanes a.pct report one", 5, "", ["pct: one is no number of entries\n"]),
+    given("a range, and a full disk", "./pct trace a.pct report 1-1 > /dev/full", 10, "", ["pct: the answer could not be written"]),
+    given("the steps of a thread", "./pct trace two.pct two --threads 1.2", 4, "".join(TWO_STEPS[1:]) + OPEN, **two),
+    given("of two threads", "./pct trace --threads=1.2,1.1 two.pct two", 4, "".join(TWO_STEPS) + OPEN, **two),
+    given("of a thread that is not there", "./pct trace two.pct --threads 1.20 two", 4, OPEN, **two),
+    given("steps with an event", "./pct trace --events two.pct two", 4, TWO_STEPS[0] + "".join(TWO_STEPS[2:]) + OPEN, **two),
+    given("all at once", "./pct trace two.pct --events two 2-3 --threads 1.2", 4, TWO_STEPS[2] + OPEN, **two),
+    given("options without a prefix", "./pct trace --events a.replay", 4, TRACE, **{"a.replay": SMALLEST + "%%\n" + BEGUN}),
+    given("options without FILE", "./pct trace --threads 1.1 < a.replay", 4, TRACE, **{"a.replay": SMALLEST + "%%\n" + BEGUN}),
+    given("no list", "./pct trace two.pct two --threads", 5, "", ["pct: --threads has no list of threads after it"], **two),
+    given("a list that is none", "./pct lanes two.pct two --threads 2", 5, "", ["pct: 2 is no list of threads, such as 1.2,1.3\n"], **two),
+    given("two lists", "./pct trace a.pct --threads 1.1 --threads 1.1", 5, "", ["pct: --threads is given twice\n"]),
+    given("an unknown option", "./pct trace --steps a.pct report", 5, "refused words\n", [USAGE]),
+]
+
+# A program in the place of pct_inspect, which writes its words and its input.
+SHOW = "printf '#!/bin/sh\\necho \"$*\"\\ncat\\n' > crates/pct_inspect/out/pct_inspect; "
+INPUT = SMALLEST + "%%\n" + "".join(REPORT.splitlines(True)[:6])
+WHOLE = SMALLEST + "%%\n" + REPORT
+PASSED = [
+    given("lanes gets a range", SHOW + "./pct lanes a.pct report 1-1", 0, "lanes --steps 1-1\n" + INPUT),
+    given("picture gets all", SHOW + "./pct picture --events a.pct --threads 1.2,1.3 begun 2-", 0, "picture --steps 2-200000 --threads 1.2,1.3 --events\n" + SMALLEST + "%%\n" + BEGUN),
+    given("lanes gets threads without FILE", SHOW + "./pct lanes --threads 1.2 < a.pct", 0, "lanes --threads 1.2\n" + SMALLEST),
+    given("lanes with a number has no range", SHOW + "./pct lanes a.pct begun 1", 0, "lanes\n" + SMALLEST + "%%\n" + BEGUN),
+    given("states", SHOW + "./pct states a.pct begun 1", 0, "states\n" + SMALLEST + "%%\n" + BEGUN),
+    given("states of FILE", SHOW + "./pct states a.pct", 0, "states\n" + SMALLEST),
+    given("states without FILE", SHOW + "./pct states < a.pct", 0, "states\n" + SMALLEST),
+    given("states with a range", SHOW + "./pct states a.pct begun 1-2", 5, "", ["pct: 1-2 is no number of entries\n"]),
+    given("states with a word too many", SHOW + "./pct states a.pct begun 1 more < begun", 0, "states a.pct begun 1 more\n" + BEGUN),
+]
+
+run_all(named_program(), [*REPORTS, *COMMENTS, *RANGES, *PASSED])

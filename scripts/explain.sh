@@ -1,0 +1,220 @@
+# Explanations of answers, on standard error. ./pct reads this file where there is something to explain.
+# shellcheck shell=sh disable=SC2154
+
+# The number of the first line of the input, from a line on, that the pattern matches.
+first_line() {
+    LC_ALL=C sed -n "$1,\${/$2/{=;q;}}" "$input"
+}
+
+# Shows a line of the input. A byte that is not printable is shown as \xHH. In a script a tab and a last CR are blanks. In a
+# schedule a tab and a blank at the end are faults, and are shown likewise.
+show_line() {
+    LC_ALL=C sed -n "$1{p;q;}" "$input" | head -c 202 | od -An -v -tu1 | awk -v kind="$2" '
+        { for (i = 1; i <= NF; i++) byte[++count] = $i + 0 }
+        END {
+            is_line = count > 0
+            if (byte[count] == 10) count--
+            if (byte[count] == 13) count--
+            if (!count) text = is_line ? "(an empty line)" : "(the end of the text)"
+            for (i = 1; i <= count && i <= 200; i++) {
+                is_blank = kind == "script" ? byte[i] == 32 || byte[i] == 9 : byte[i] == 32 && i < count
+                if (is_blank) text = text " "
+                else text = text sprintf(byte[i] > 32 && byte[i] < 127 ? "%c" : "\\x%02X", byte[i])
+            }
+            print "    " text (count > 200 ? " ..." : "")
+        }
+    ' >&2
+}
+
+# Shows the usual cause of a refusal of this kind, for this reason, and the way to mend it.
+show_reason() {
+    awk -v kind="$1" -v why="$2" '
+        /^[^ #]/ { is_it = $1 == kind && $2 == why }
+        is_it && /^ / { print }
+    ' "$here/docs/reasons.txt" >&2
+}
+
+# Shows which word of a refused line of a script it is about.
+show_word() {
+    script_of_input | LC_ALL=C awk -v at="$line" -v why="$why" -f "$here/scripts/refused_word.awk" "$here/docs/forms.txt" - >&2
+}
+
+explain_line() {
+    printf '%s:%s: %s\n' "$file" "${place:-$line}" "$fault" >&2
+    show_line "$line" "$kind"
+    [ "$kind" != script ] || show_word
+    show_reason "$kind" "$why"
+}
+
+# The script of the input: what is before a line %%, if there is one.
+script_of_input() {
+    LC_ALL=C sed "/$marker_line/,\$d" "$input"
+}
+
+# From here on the program is pct_inspect: the proved one, or after an answer without proof one that is kept. It may be missing, or
+# not current; none is made here.
+find_inspect() {
+    name=pct_inspect
+    program=$here/crates/$name/out/$name
+    if is_current; then return; fi
+    [ -z "$is_proved" ] || return
+    program=$unproved/$name
+    is_kept
+}
+
+# Shows where the threads are at the entry that `replay` refused, and what may be next. Without a built pct_inspect it says how
+# to see that.
+show_choices() {
+    if ! find_inspect; then
+        say "'./pct choices $file' shows where each thread is there, and each entry that is legal"
+        return
+    fi
+    say "here each thread is, and each entry that is legal there ('./pct choices $file'):"
+    "$program" choices <"$input" | sed 's/^/    /' | align >&2
+}
+
+# Says that a report of `continue` is not of the prefix, since an entry of that is not legal. A view says so in its last line.
+explain_notice() {
+    [ "$command" = continue ] || return
+    # The last line is `entry N is not legal here`.
+    # shellcheck disable=SC2046
+    set -- $(repeat_answer "$@" | tail -n 1)
+    say "entry $2 of the prefix is not legal, and the report is of a run without it: it goes on from the entries before"
+    say "'./pct choices' with the same files shows what is legal there"
+}
+
+# Explains the refusal that a command gave of the file. An answer with status 7 of a command that follows a prefix may be a report
+# or a view instead.
+explain_refusal() {
+    command=$1
+    answer=$(repeat_answer "$@" | head -n 1)
+    case $answer in
+        'refused '*) ;;
+        *)
+            explain_notice "$@"
+            return
+            ;;
+    esac
+    # A refusal is three or four words without patterns.
+    # shellcheck disable=SC2086
+    set -- $answer
+    kind=$2 number=$3 why=$4
+    marker=$(first_line 1 "$marker_line")
+    fault=$why
+    case $kind in
+        script) line=$number ;;
+        schedule) line=$((marker + number)) ;;
+        entry)
+            line=$(($(first_line $((marker + 1)) '^schedule ') + number))
+            fault="entry $number is not legal"
+            ;;
+    esac
+    if [ -n "$prefix" ] && [ "$kind" = schedule ]; then
+        file=$prefix place=$(prefix_line "$number")
+        explain_line
+    elif [ "$name" = pct_inspect ]; then
+        explain_line
+    elif [ "$command" = replay ] && [ -z "$marker" ]; then
+        [ "$kind" = schedule ] || explain_line
+        say "$file has no line %%, so all of it is the script and the schedule is empty; './pct run $file' runs a script"
+    elif [ "$command" != replay ] && [ -n "$marker" ]; then
+        [ "$line" = "$marker" ] || explain_line
+        say "line $marker of $file is %%, so this is an input of replay: './pct replay $file'"
+    else
+        explain_line
+        [ "$kind" != entry ] || show_choices
+    fi
+}
+
+# ---- words that are refused
+
+explain_words() {
+    awk -f "$here/scripts/refused_words.awk" -- "$@" >&2
+}
+
+# ---- runs that do not end complete
+
+# The report that was written. A second run of several workers may be another one, so their report is kept.
+written_report() {
+    if [ -n "$keeps" ]; then cat "$folder/answer"; else repeat_answer "$@"; fi
+}
+
+# The script and the report, as the views read them.
+followed() {
+    script_of_input
+    [ -z "$(script_of_input | tail -c 1)" ] || echo
+    echo '%%'
+    cat "$folder/report"
+}
+
+# Writes the views of the report that an explanation is read from into files. It fails if no program shows them.
+look() {
+    find_inspect || return
+    followed >"$folder/followed"
+    "$program" trace <"$folder/followed" >"$folder/trace"
+    [ "$verdict" != deadlock ] || "$program" choices <"$folder/followed" >"$folder/choices"
+    grep -q "^verdict $verdict" "$folder/trace"
+}
+
+# Explains the report of a run that ended by a stop or a deadlock, or used up its budget.
+explain_run() {
+    case $1 in
+        run | replay | continue) ;;
+        *) return ;;
+    esac
+    make_folder
+    written_report "$@" >"$folder/report"
+    verdict=$(LC_ALL=C sed -n '/^verdict /{s///p;q;}' "$folder/report")
+    is_seen=''
+    if look; then is_seen=yes; fi
+    case $verdict in
+        deadlock) explain_deadlock ;;
+        budget) explain_budget "$1" ;;
+        *) explain_stop ;;
+    esac
+}
+
+# Says which command shows what is not shown here.
+explain_unseen() {
+    printf '%s: %s\n' "$file" "$verdict" >&2
+    say "with its report in a file, './pct $1 $file REPORT' shows $2"
+}
+
+explain_deadlock() {
+    if [ -n "$is_seen" ]; then
+        file=$file LC_ALL=C awk -f "$here/scripts/deadlock.awk" "$folder/trace" "$folder/choices" >&2
+        # The others may wait for a thread that waits so.
+        for why in condition semaphore mutex process a thread; do
+            if grep -q "waits for $why " "$folder/choices"; then break; fi
+        done
+        show_reason deadlock "$why"
+    else
+        explain_unseen choices 'what each thread waits for'
+    fi
+}
+
+explain_budget() {
+    budget=$(LC_ALL=C sed -n '/^schedule /{s/^schedule 1 \([0-9]*\) .*/\1/p;q;}' "$folder/report")
+    if [ -n "$is_seen" ]; then
+        script_of_input | file=$file LC_ALL=C awk -v budget="$budget" -f "$here/scripts/budget.awk" - "$folder/trace" >&2
+    else
+        explain_unseen trace 'the loop that took the steps'
+    fi
+    case $1 in
+        run) echo "  Mend: end the loop, or give the run more steps: '--budget N' allows up to 200000." >&2 ;;
+        *) echo '  Mend: end the loop, or give the run more steps: BUDGET in the header of its schedule may be up to 200000.' >&2 ;;
+    esac
+}
+
+# The last step of the trace is the one that was stopped.
+explain_stop() {
+    if [ -n "$is_seen" ]; then
+        line=$(LC_ALL=C awk -F '\t' 'NF == 6 { at = $3 } END { sub(/.*:/, "", at); print at }' "$folder/trace")
+        step=$(LC_ALL=C awk -F '\t' 'NF == 6 { step = $1 " of thread " $2; at = $3 } END { sub(/:.*/, "", at); print step " in " at }' "$folder/trace")
+        printf '%s:%s: %s, step %s\n' "$file" "$line" "$verdict" "$step" >&2
+        show_line "$line" script
+    else
+        explain_unseen trace 'the step that was stopped'
+    fi
+    show_reason stop "${verdict#* }"
+}

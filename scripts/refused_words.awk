@@ -1,0 +1,74 @@
+# Says which of the words of a command is not accepted, and why. The words are the arguments, without FILE.
+
+BEGIN {
+    range("--seed", "0", "18446744073709551615")
+    range("--budget", "1", "200000")
+    range("--passes", "4", "16")
+    range("--slots", "1", "64")
+    range("--workers", "1", "16")
+    range("--turns", "1", "200000")
+    sentence = on_command(ARGV[1])
+    if (sentence != "") print sentence
+}
+
+function range(option, low, high) {
+    least[option] = low
+    largest[option] = high
+}
+
+function on_command(command) {
+    if (ARGC < 2) return "a command is missing"
+    if (command == "run") return on_run()
+    if (command ~ /^(replay|check|points|build)$/) return on_plain(command)
+    if (command == "demo") return on_number("demo", 2, "0", "4294967295")
+    if (command == "continue") return on_number("continue", 5, least["--seed"], largest["--seed"])
+    if (command ~ /^(trace|choices|lanes|picture)$/) return too_many(command, 4)
+    if (tolower(command) ~ /^(run|replay|check|points|build|demo|continue|trace|choices|lanes|picture)$/) return command ": commands are in lower case"
+    return command ": no such command"
+}
+
+# A command without options; FILE, if it has one, is not among the words.
+function on_plain(command) {
+    if (ARGC < 3) return ""
+    if (ARGV[2] ~ /^-/) return ARGV[2] ": " command " has no options"
+    return too_many(command, 1)
+}
+
+# A command that begins with a number, and has so many words.
+function on_number(command, words, low, high) {
+    if (ARGC < 3) return command ": its number is missing, " low " to " high
+    if (!is_in(ARGV[2], low, high)) return ARGV[2] ": " command " takes a number from " low " to " high
+    return too_many(command, words)
+}
+
+function too_many(command, words) {
+    return ARGC > words + 1 ? ARGV[words + 1] ": a word too many for " command : ""
+}
+
+function on_run(   i, option, value, sign, seen) {
+    for (i = 2; i < ARGC; i++) {
+        option = ARGV[i]
+        if (option !~ /^-/) return option ": a second FILE"
+        sign = index(option, "=")
+        if (sign) option = substr(option, 1, sign - 1)
+        if (!(option in least)) return option ": run has no such option" (option ~ /^-[^-]/ ? "; a FILE with this name is ./" option : "")
+        if (option in seen) return option ": it is given twice"
+        seen[option] = 1
+        if (!sign && i + 1 == ARGC) return option ": its value is missing, " least[option] " to " largest[option]
+        value = sign ? substr(ARGV[i], sign + 1) : ARGV[++i]
+        if (!is_in(value, least[option], largest[option])) return option " " value ": the value is a number from " least[option] " to " largest[option]
+    }
+    return ""
+}
+
+function is_in(value, low, high) {
+    if (value !~ /^[0-9]+$/ || length(value) > 20) return 0
+    sub(/^0+/, "", value)
+    if (value == "") value = "0"
+    return !is_below(value, low) && !is_below(high, value)
+}
+
+# Of two numbers without leading zeros, as texts: 2^64 is past what awk counts exactly.
+function is_below(a, b) {
+    return length(a) < length(b) || length(a) == length(b) && (a "") < (b "")
+}
