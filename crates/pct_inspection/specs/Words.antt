@@ -7,13 +7,14 @@ use Rattle.pct_inspection.specs.declared.words.Form.TheVariants.{Trace, Lanes, P
 use Rattle.pct_inspection.specs.declared.words.Inspection.{Inspection}
 use Rattle.pct_inspection.specs.declared.words.Inspection.TheVariants.{Continue, Show}
 use Rattle.pct_inspection.specs.declared.words.View.{View}
-use Rattle.pct_inspection.specs.declared.words.View.TheVariants.{Choices, Steps}
+use Rattle.pct_inspection.specs.declared.words.View.TheVariants.{Choices, States, Steps}
 
 -- the view with this name
 unfoldable pub view_named : List ℕ → Option View
 view_named name =
     if bytes_eq name (codes "trace") then Some (Steps Trace)
     else if bytes_eq name (codes "choices") then Some Choices
+    else if bytes_eq name (codes "states") then Some States
     else if bytes_eq name (codes "lanes") then Some (Steps Lanes)
     else if bytes_eq name (codes "picture") then Some (Steps Picture)
     else None

@@ -18,8 +18,8 @@ use std::alloc::Global;
 
 /// Does what the words ask for on the bytes of the source, and writes the answer to the sink.
 ///
-/// The words are `continue` and a seed, or one of `trace`, `choices`, `lanes` and `picture`. The input is a script, a line `%%`, and a prefix
-/// of a schedule: a schedule or a whole report, in which the line `end N` may be missing. Without a line `%%`, or with nothing after it, the
+/// The words are `continue` and a seed, or one of `trace`, `choices`, `states`, `lanes` and `picture`. The input is a script, a line `%%`, and
+/// a prefix of a schedule: a schedule or a whole report, in which the line `end N` may be missing. Without a line `%%`, or with nothing after it, the
 /// prefix has no entry, and the numbers of the run are those of `run` without options. The run makes the steps of the prefix, up to the first
 /// entry that is not legal.
 ///
@@ -28,6 +28,9 @@ use std::alloc::Global;
 /// - `trace`: a line for each step is written, with where the thread was, the statement there, the choice and the events; then the verdict.
 /// - `choices`: the verdict is written; then, for each thread that has not ended, where it is, what it waits for, its cancelability and its
 ///   handlers, and below it each entry of worker 1 that is legal.
+/// - `states`: the verdict is written; then, for each process that has not ended, its globals, its mutexes with their owners, its semaphores
+///   with their counts, its keys, and what it has registered; and below it, for each thread that has not ended, its frames with their locals,
+///   its thread-specific data, and whether it is detached.
 /// - `lanes`, `picture`: the steps are written with a column for each thread, as text or as SVG.
 ///
 /// After it, if entry N of the prefix is not legal, a line `entry N is not legal here` is written. A refusal is one line that names the reason.

@@ -1,4 +1,4 @@
-//! The views of a run: `trace`, `choices`, `lanes` and `picture`.
+//! The views of a run: `trace`, `choices`, `states`, `lanes` and `picture`.
 
 ghost use Rattle.std.specs.Prelude.{◌≡◌, ◌≤◌, [], ℕ, List, length, IsTrue, IfOk};
 ghost use Rattle.pct_engine.specs.EngineStates.{IsRunOf};
@@ -6,9 +6,10 @@ ghost use Rattle.pct_model.specs.Run.{Run, is_config};
 ghost use Rattle.pct_model.specs.declared.limits.TheConstants.{MAX_INPUT};
 ghost use Rattle.pct_view_texts.specs.TextBuffers.{text_in, Appends};
 ghost use Rattle.pct_inspection.specs.declared.words.Inspection.TheVariants as inspection;
-ghost use Rattle.pct_inspection.specs.Answer.{Answered, AsksFor, HasParts};
+ghost use Rattle.pct_command.specs.Answer.{status_of_verdict};
+ghost use Rattle.pct_inspection.specs.Answer.{Answered, AsksFor, HasParts, status_by, status_of_answer, text_of_answer};
 ghost use Rattle.pct_inspection.specs.Inspection.{notice, script_in};
-ghost use Rattle.pct_inspection.specs.Shown.{IsInForm, ShowsChoices, ShowsTrace};
+ghost use Rattle.pct_inspection.specs.Shown.{IsInForm, ShowsState, ShowsTrace, choices_after, states_after};
 
 use crate::answer::Answer;
 use crate::answer_writer::write_notice;
@@ -20,7 +21,7 @@ use pct_io::{Failed, NoMemory};
 use pct_lanes::{lanes, picture};
 use pct_model::{Entry, Script, Verdict};
 use pct_script::{StatementLines, statement_lines};
-use pct_view_texts::{TextBuffer, push_choices, push_trace};
+use pct_view_texts::{TextBuffer, push_choices, push_states, push_trace};
 use std::alloc::Global;
 
 /// The parts of an input.
@@ -57,12 +58,11 @@ pub(crate) fn show_script(
         Ok((config, entries)) => match view {
             View::Choices => {
                 let (engine, illegal) = follow(alloc, script, config, entries.as_slice())?;
-                let shown = choices(alloc, &lines, &engine, illegal)?;
-                Ok(Answer::Shown {
-                    text: shown.text.into_bytes(),
-                    verdict: shown.verdict,
-                    illegal: shown.illegal,
-                })
+                Ok(answer_of(choices(alloc, &lines, &engine, illegal)?))
+            }
+            View::States => {
+                let (engine, illegal) = follow(alloc, script, config, entries.as_slice())?;
+                Ok(answer_of(states(alloc, &lines, &engine, illegal)?))
             }
             View::Steps(form) => {
                 let engine = Engine::open(alloc, script, config)?;
@@ -87,7 +87,7 @@ fn choices(
     ensures illegal { IfOk result (λ shown. shown.illegal ≡ illegal) }
     // The run of the entries is defined, for every engine.
     ensures runs { (after : Run) × IsRunOf engine.now after }
-    ensures shown { (after : Run) → IsRunOf engine.now after → IfOk result (λ shown. ShowsChoices lines.now engine.now after illegal (text_in shown.text) shown.verdict) }
+    ensures shown { (after : Run) → IsRunOf engine.now after → IfOk result (λ shown. ShowsState (choices_after lines.now engine.now after) engine.now after illegal (text_in shown.text) shown.verdict) }
 {
     let verdict = engine.verdict();
     let mut text = TextBuffer::new(alloc);
@@ -98,6 +98,41 @@ fn choices(
         verdict,
         illegal,
     })
+}
+
+// The text of `states` after the run of an engine that followed a prefix.
+fn states(
+    alloc: Global,
+    lines: &StatementLines,
+    engine: &Engine,
+    illegal: Option<u32>,
+) -> Result<Shown, NoMemory>
+    ensures illegal { IfOk result (λ shown. shown.illegal ≡ illegal) }
+    // The run of the entries is defined, for every engine.
+    ensures runs { (after : Run) × IsRunOf engine.now after }
+    ensures shown { (after : Run) → IsRunOf engine.now after → IfOk result (λ shown. ShowsState (states_after lines.now engine.now after) engine.now after illegal (text_in shown.text) shown.verdict) }
+{
+    let verdict = engine.verdict();
+    let mut text = TextBuffer::new(alloc);
+    push_states(alloc, &mut text, lines, engine)?;
+    push_notice(&mut text, illegal)?;
+    Ok(Shown {
+        text,
+        verdict,
+        illegal,
+    })
+}
+
+// The answer that shows a text as it is.
+fn answer_of(shown: Shown) -> Answer
+    ensures status { status_of_answer result ≡ status_by shown.illegal (status_of_verdict shown.verdict) }
+    ensures text { text_of_answer result ≡ text_in shown.text }
+{
+    Answer::Shown {
+        text: shown.text.into_bytes(),
+        verdict: shown.verdict,
+        illegal: shown.illegal,
+    }
 }
 
 // The text of `trace` for the entries of a prefix, up to the first that is not legal, with an engine without entries.

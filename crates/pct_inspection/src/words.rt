@@ -21,6 +21,8 @@ pub enum Form {
 pub enum View {
     /// Where each thread is, what it waits for, and its legal entries.
     Choices,
+    /// The values of variables, mutexes, semaphores and keys, and what is registered.
+    States,
     /// The steps.
     Steps(Form),
 }
@@ -34,8 +36,8 @@ pub enum Inspection {
     Show(View),
 }
 
-/// What the words ask for: `trace`, `choices`, `lanes` or `picture` alone, or `continue` and a seed, which is 1 to 20 digits. It
-/// is `None` with all other words. It allocates no memory.
+/// What the words ask for: `trace`, `choices`, `states`, `lanes` or `picture` alone, or `continue` and a seed, which is 1 to 20
+/// digits. It is `None` with all other words. It allocates no memory.
 #[tactic(auto, unfolding(crate::specs::Words::inspection_asked))]
 pub fn read_inspection(words: &[String]) -> Option<Inspection>
     ensures { result ≡ inspection_asked (map string_bytes words.now) }
@@ -58,6 +60,8 @@ fn view_named(name: &[u8]) -> Option<View>
         Some(View::Steps(Form::Trace))
     } else if name == b"choices".as_slice() {
         Some(View::Choices)
+    } else if name == b"states".as_slice() {
+        Some(View::States)
     } else if name == b"lanes".as_slice() {
         Some(View::Steps(Form::Lanes))
     } else if name == b"picture".as_slice() {
