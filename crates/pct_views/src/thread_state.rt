@@ -1,7 +1,6 @@
 //! The values of a thread, as they are shown.
 
-ghost use Rattle.std.specs.Prelude.{◌≡◌, ◌<◌, ◌≤◌, true, filter, is_some, length, reverse, Some};
-ghost use Rattle.pct_keys.specs.Tables.{row_at};
+ghost use Rattle.std.specs.Prelude.{◌≡◌, ◌<◌, true, filter, is_some, length, Some};
 ghost use Rattle.pct_model.specs.World.{Thread};
 ghost use Rattle.pct_process.specs.ProcessViews.{slot_on, thread_on_slot};
 ghost use Rattle.pct_view_laws.specs.Listed.{is_unended};
@@ -42,7 +41,8 @@ pub fn state_on(state: &ProcessState, slot: u32) -> Option<ThreadState<'_>>
 
 // The values of the thread on a slot, which a thread holds.
 fn state_of(state: &ProcessState, slot: u32) -> ThreadState<'_>
-    requires { is_some (thread_on_slot state.now.slots slot) ≡ true }
+    requires inside { slot < length state.now.slots }
+    requires held { is_some (thread_on_slot state.now.slots slot) ≡ true }
     ensures { (t : Thread) → thread_on_slot state.now.slots slot ≡ Some t → ShowsState state.now.shared.keys t result }
 {
     ThreadState {
