@@ -1,9 +1,9 @@
 //! The frames of a thread, with the values of their locals.
 
-ghost use Rattle.std.specs.Prelude.{ℕ, ◌×◌, ◌∷◌, ◌++◌, List, flat_map, map, reverse, slice_get, zip, codes, decimal};
+ghost use Rattle.std.specs.Prelude.{◌∷◌, ◌++◌, flat_map, map, reverse, zip, codes};
 ghost use Rattle.pct_view_texts.specs.Fields.{field_text, phrase_text};
 ghost use Rattle.pct_view_texts.specs.Positions.{locals_of};
-ghost use Rattle.pct_view_texts.specs.States.{frame_phrase};
+ghost use Rattle.pct_view_texts.specs.States.{frame_phrase, value_words};
 ghost use Rattle.pct_view_texts.specs.TextBuffers.{Appends};
 
 use crate::TextBuffer;
@@ -55,7 +55,7 @@ fn push_frame(phrases: &mut TextBuffer, script: &Script, frame: &Frame) -> Resul
 
 // Appends each local that the function of a frame declares, with its value, each after a space.
 fn push_locals(text: &mut TextBuffer, script: &Script, frame: &Frame) -> Result<(), NoMemory>
-    ensures { Appends text.old text.new (flat_map (λ (v : List ℕ × ℕ). 32 ∷ v.0 ++ 32 ∷ decimal v.1) (zip (locals_of script.now frame.now.func) frame.now.locals)) result }
+    ensures { Appends text.old text.new (flat_map (λ v. 32 ∷ phrase_text (value_words v)) (zip (locals_of script.now frame.now.func) frame.now.locals)) result }
 {
     match script.funcs.as_slice().get(frame.func as usize) {
         None => Ok(()),

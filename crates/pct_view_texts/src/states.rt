@@ -1,6 +1,6 @@
 //! The text of `states`: the line of the verdict, and the processes that have not ended, each with its threads that have not ended.
 
-ghost use Rattle.std.specs.Prelude.{◌≡◌, ◌<◌, ◌≤◌, ◌×◌, [], filter, flat_map, length, slice_get};
+ghost use Rattle.std.specs.Prelude.{◌≡◌, ◌<◌, ◌≤◌, [], filter, flat_map, length, slice_get};
 ghost use Rattle.std.specs.Option.{option_map_or};
 ghost use Rattle.pct_engine.specs.EngineStates.{IsRunOf};
 ghost use Rattle.pct_engine_laws.specs.Seen.{SeenProcess, seen, threads_on};

@@ -1,8 +1,8 @@
 //! Names and their values.
 
-ghost use Rattle.std.specs.Prelude.{ℕ, ◌×◌, ◌∷◌, ◌++◌, List, flat_map, map, zip, codes, decimal};
+ghost use Rattle.std.specs.Prelude.{◌∷◌, ◌++◌, flat_map, map, zip, codes};
 ghost use Rattle.pct_view_texts.specs.Fields.{field_text, phrase_text};
-ghost use Rattle.pct_view_texts.specs.States.{mutex_phrase, mutex_phrases, value_phrases};
+ghost use Rattle.pct_view_texts.specs.States.{mutex_phrase, mutex_phrases, value_phrases, value_words};
 ghost use Rattle.pct_view_texts.specs.TextBuffers.{Appends};
 
 use crate::TextBuffer;
@@ -32,7 +32,7 @@ pub(crate) fn push_values(
     names: &[Name],
     values: &[u32],
 ) -> Result<(), NoMemory>
-    ensures { Appends text.old text.new (flat_map (λ (v : List ℕ × ℕ). before.now ++ v.0 ++ 32 ∷ decimal v.1) (zip names.now values.now)) result }
+    ensures { Appends text.old text.new (flat_map (λ v. before.now ++ phrase_text (value_words v)) (zip names.now values.now)) result }
 {
     for (name, value) in names.iter().zip(values) {
         push_value(text, before, name.as_bytes(), *value)?;
@@ -47,7 +47,7 @@ fn push_value(
     name: &[u8],
     value: u32,
 ) -> Result<(), NoMemory>
-    ensures { Appends text.old text.new (before.now ++ name.now ++ 32 ∷ decimal value) result }
+    ensures { Appends text.old text.new (before.now ++ phrase_text (value_words (name.now, value))) result }
 {
     text.push(before)?;
     text.push_words(&[Field::Text(name), Field::Number(value)])
@@ -73,7 +73,7 @@ fn push_counts(
     sems: &[SemDecl],
     counts: &[u32],
 ) -> Result<(), NoMemory>
-    ensures { Appends phrases.old phrases.new (flat_map (λ (v : List ℕ × ℕ). codes ", " ++ v.0 ++ 32 ∷ decimal v.1) (zip (map (λ d. d.name) sems.now) counts.now)) result }
+    ensures { Appends phrases.old phrases.new (flat_map (λ v. codes ", " ++ phrase_text (value_words v)) (zip (map (λ d. d.name) sems.now) counts.now)) result }
 {
     for (sem, count) in sems.iter().zip(counts) {
         push_value(phrases, b", ", sem.name.as_bytes(), *count)?;
@@ -103,7 +103,7 @@ fn push_owners(
     names: &[Name],
     owners: &[u32],
 ) -> Result<(), NoMemory>
-    ensures { Appends phrases.old phrases.new (flat_map (λ (m : List ℕ × ℕ). codes ", " ++ phrase_text (mutex_phrase pid m)) (zip names.now owners.now)) result }
+    ensures { Appends phrases.old phrases.new (flat_map (λ m. codes ", " ++ phrase_text (mutex_phrase pid m)) (zip names.now owners.now)) result }
 {
     for (name, owner) in names.iter().zip(owners) {
         push_mutex(phrases, pid, name.as_bytes(), *owner)?;
