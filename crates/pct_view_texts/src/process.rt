@@ -1,11 +1,10 @@
 //! The lines of a process and of its threads, with their values.
 
-ghost use Rattle.std.specs.Prelude.{[], ◌∷◌, ◌++◌, map, decimal};
+ghost use Rattle.std.specs.Prelude.{◌≡◌, [], ◌∷◌, ◌++◌, decimal};
 ghost use Rattle.pct_model.specs.declared.keyword.Keyword.TheVariants as keyword;
 ghost use Rattle.pct_model.specs.EventTexts.{either};
-ghost use Rattle.pct_model.specs.Keys.{KeyPlace};
 ghost use Rattle.pct_model.specs.Report.{thread_text};
-ghost use Rattle.pct_model.specs.World.{SharedState, Thread};
+ghost use Rattle.pct_model.specs.World.{Thread};
 ghost use Rattle.pct_view_laws.specs.ListedProcesses.{ListedProcess};
 ghost use Rattle.pct_view_texts.specs.Fields.{field_text, fields_text};
 ghost use Rattle.pct_view_texts.specs.States.{process_fields, values_fields};
