@@ -54,7 +54,7 @@ abbrev pub key_on : Script → List KeyPlace → ℕ → List Phrase
 key_on script places place = option_map_or (λ key. key_phrase script key ∷ []) (key_at places place) []
 
 -- the keys of a process, by rising place
-abbrev pub key_phrases : Script → List KeyPlace → List Phrase
+unfoldable pub key_phrases : Script → List KeyPlace → List Phrase
 key_phrases script places = flat_map (key_on script places) (range_with_len 0 MAX_KEYS)
 
 -- the key on a place and a thread's value of it, unless this is 0 (NULL)
@@ -62,7 +62,7 @@ abbrev pub specific_on : List KeyPlace → KeyValues → ℕ → List Phrase
 specific_on places own place = if nat_eq (value_at place own) 0 then [] else (decimal (number_at places place) ∷ decimal (value_at place own) ∷ []) ∷ []
 
 -- the thread-specific data of a thread, by rising place
-abbrev pub specific_phrases : List KeyPlace → KeyValues → List Phrase
+unfoldable pub specific_phrases : List KeyPlace → KeyValues → List Phrase
 specific_phrases places own = flat_map (specific_on places own) (range_with_len 0 MAX_KEYS)
 
 -- ---- what is registered (XSH atexit, pthread_atfork), and how far the process is

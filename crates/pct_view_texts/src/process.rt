@@ -1,6 +1,6 @@
 //! The lines of a process and of its threads, with their values.
 
-ghost use Rattle.std.specs.Prelude.{◌≡◌, [], ◌∷◌, ◌++◌, decimal};
+ghost use Rattle.std.specs.Prelude.{◌≡◌, ◌<◌, [], ◌∷◌, ◌++◌, length};
 ghost use Rattle.pct_model.specs.declared.keyword.Keyword.TheVariants as keyword;
 ghost use Rattle.pct_model.specs.EventTexts.{either};
 ghost use Rattle.pct_model.specs.Report.{thread_text};
@@ -34,8 +34,19 @@ pub(crate) fn push_process_line(
     ensures { (p : ListedProcess) → p.pid ≡ pid → p.shared ≡ state.now.shared → Appends text.old text.new (fields_text (process_fields script.now p)) result }
 {
     text.push_number(pid)?;
-    push_globals(alloc, text, script.globals.as_slice(), state.globals.as_slice())?;
-    push_mutexes(alloc, text, pid, script.mutexes.as_slice(), state.owners.as_slice())?;
+    push_globals(
+        alloc,
+        text,
+        script.globals.as_slice(),
+        state.globals.as_slice(),
+    )?;
+    push_mutexes(
+        alloc,
+        text,
+        pid,
+        script.mutexes.as_slice(),
+        state.owners.as_slice(),
+    )?;
     push_semaphores(alloc, text, script.sems.as_slice(), state.counts.as_slice())?;
     push_keys(alloc, text, script, &state.keys)?;
     push_registered(alloc, text, script, state)?;
@@ -50,6 +61,7 @@ pub(crate) fn push_thread_values(
     pid: u32,
     thread: &ThreadState,
 ) -> Result<(), NoMemory>
+    requires { thread.now.slot < length thread.now.keys.now.rows }
     ensures { (p : ListedProcess) (t : Thread) → p.pid ≡ pid → ShowsState p.shared.keys t thread.now → Appends text.old text.new (fields_text (values_fields source.entry.lines.now source.entry.script.now p t)) result }
 {
     text.push_thread_id(pid, thread.tid)?;

@@ -41,12 +41,7 @@ pub(crate) fn push_values(
 }
 
 // Appends a name after a text, and its value after a space.
-fn push_value(
-    text: &mut TextBuffer,
-    before: &[u8],
-    name: &[u8],
-    value: u32,
-) -> Result<(), NoMemory>
+fn push_value(text: &mut TextBuffer, before: &[u8], name: &[u8], value: u32) -> Result<(), NoMemory>
     ensures { Appends text.old text.new (before.now ++ phrase_text (value_words (name.now, value))) result }
 {
     text.push(before)?;
@@ -68,11 +63,7 @@ pub(crate) fn push_semaphores(
 }
 
 // Appends each semaphore and its count after a comma.
-fn push_counts(
-    phrases: &mut TextBuffer,
-    sems: &[SemDecl],
-    counts: &[u32],
-) -> Result<(), NoMemory>
+fn push_counts(phrases: &mut TextBuffer, sems: &[SemDecl], counts: &[u32]) -> Result<(), NoMemory>
     ensures { Appends phrases.old phrases.new (flat_map (λ v. codes ", " ++ phrase_text (value_words v)) (zip (map (λ d. d.name) sems.now) counts.now)) result }
 {
     for (sem, count) in sems.iter().zip(counts) {
@@ -112,6 +103,7 @@ fn push_owners(
 }
 
 // Appends a mutex after a comma: `free`, or who holds it.
+#[tactic(auto, unfolding(pct_model::specs::Report::thread_text))]
 fn push_mutex(phrases: &mut TextBuffer, pid: u32, name: &[u8], owner: u32) -> Result<(), NoMemory>
     ensures { Appends phrases.old phrases.new (codes ", " ++ phrase_text (mutex_phrase pid (name.now, owner))) result }
 {
