@@ -110,6 +110,7 @@ not_refused words input code text accepted valid (outcome.Continued goes_on) =
     record { run_code = omega (arith, below); closed = λ _ _. below }
 not_refused words input code text accepted valid (outcome.Traced traces) = view_code words input code (view.Steps form.Trace) valid traces.asked traces.prefix traces.code_is
 not_refused words input code text accepted valid (outcome.Listed lists) = view_code words input code view.Choices valid lists.asked lists.prefix lists.code_is
+not_refused words input code text accepted valid (outcome.Valued lists) = view_code words input code view.States valid lists.asked lists.prefix lists.code_is
 not_refused words input code text accepted valid (outcome.Drawn draws) = view_code words input code (view.Steps draws.shown) valid draws.asked draws.prefix draws.code_is
 
 -- ---- all that a source had left

@@ -17,7 +17,6 @@ use Rattle.pct_history.specs.Replays.{followed, Follows}
 use Rattle.pct_view_laws.proofs.BlockedWaits.{blocked_threads_wait}
 use Rattle.pct_view_laws.proofs.LegalListed.{legal_entries_listed}
 use Rattle.pct_view_laws.proofs.TracedRuns.{traces_runs}
-use Rattle.pct_view_texts.specs.Choices.{choices_text}
 use Rattle.pct_view_texts.specs.Trace.{trace_text}
 use Rattle.pct_inspection.specs.declared.answer.Answer.{Answer}
 use Rattle.pct_inspection.specs.declared.words.Form.{Form}
@@ -27,7 +26,7 @@ use Rattle.pct_inspection.specs.declared.words.View.TheVariants as view
 use Rattle.pct_inspection.specs.Inspection.{script_in, prefix_in, notice, code_by, FollowsPrefix, code_after, IsInspected}
 use Rattle.pct_inspection.specs.Inspection as outcome
 use Rattle.pct_inspection.specs.Answer.{code_of_answer, text_of_answer, status_by, status_of_answer, Answered, AsksFor, HasScript}
-use Rattle.pct_inspection.specs.Shown.{IsInForm, ShowsChoices, ShowsTrace, verdict_after}
+use Rattle.pct_inspection.specs.Shown.{IsInForm, ShowsState, ShowsTrace, choices_after, states_after, verdict_after}
 
 -- the code of a verdict, or that of a refused schedule
 code_by_verdict : (illegal : Option ℕ) (v : Verdict) → code_of (status_by illegal (status_of_verdict v)) ≡ code_by illegal (code_of_verdict v)
@@ -60,19 +59,35 @@ module _ (words : List (List ℕ)) (input : List ℕ) (script : Script) (config 
         code_by_verdict illegal v
         ∙ ap (λ (w : Verdict). code_by illegal (code_of_verdict w)) (same ∙ ap (λ (e : EngineValue). verdict_after e after) follows.engine_is)
 
+    -- the text of a view of the state is that of the run, with the lines of the input
+    text_followed : (text_of : List (List ℕ) → EngineValue → List ℕ) (lines : List (List ℕ)) (text : List ℕ) → lines ≡ statement_lines (script_in input) → text ≡ text_of lines engine ++ notice illegal
+        → text ≡ text_of (statement_lines (script_in input)) (record { script = script; config = config; history = followed illegal entries }) ++ notice illegal
+    text_followed text_of lines text of_input is =
+        is
+        ∙ ap (λ (e : EngineValue). text_of lines e ++ notice illegal) follows.engine_is
+        ∙ ap (λ (ls : List (List ℕ)). text_of ls (record { script = script; config = config; history = followed illegal entries }) ++ notice illegal) of_input
+
     -- `choices`
     choices_listed : (lines : List (List ℕ)) (text : List ℕ) (v : Verdict) → AsksFor words (inspection.Show view.Choices) → lines ≡ statement_lines (script_in input)
-        → ShowsChoices lines engine after illegal text v → IsInspected words input (code_of (status_by illegal (status_of_verdict v))) text
+        → ShowsState (choices_after lines engine after) engine after illegal text v → IsInspected words input (code_of (status_by illegal (status_of_verdict v))) text
     choices_listed lines text v asked of_input shows = outcome.Listed (record {
       asked = asked;
       prefix = prefix;
       code_is = code_is v shows.verdict_is;
-      text_is =
-          shows.text_is
-          ∙ ap (λ (e : EngineValue). choices_text lines e.script e.config after.world (length e.history) ++ notice illegal) follows.engine_is
-          ∙ ap (λ (ls : List (List ℕ)). choices_text ls script config after.world (length (followed illegal entries)) ++ notice illegal) of_input;
+      text_is = text_followed (λ ls e. choices_after ls e after) lines text of_input shows.text_is;
       entries_are = legal_entries_listed script config (followed illegal entries) after run_followed;
       waits_are = λ l listed. blocked_threads_wait script config (followed illegal entries) after l run_followed listed;
+      lines_are = λ func pc f s at here. lines_spell (script_in input) script has.spelled func pc f s at here;
+    })
+
+    -- `states`
+    states_listed : (lines : List (List ℕ)) (text : List ℕ) (v : Verdict) → AsksFor words (inspection.Show view.States) → lines ≡ statement_lines (script_in input)
+        → ShowsState (states_after lines engine after) engine after illegal text v → IsInspected words input (code_of (status_by illegal (status_of_verdict v))) text
+    states_listed lines text v asked of_input shows = outcome.Valued (record {
+      asked = asked;
+      prefix = prefix;
+      code_is = code_is v shows.verdict_is;
+      text_is = text_followed (λ ls e. states_after ls e after) lines text of_input shows.text_is;
       lines_are = λ func pc f s at here. lines_spell (script_in input) script has.spelled func pc f s at here;
     })
 
@@ -100,8 +115,14 @@ module _ (words : List (List ℕ)) (input : List ℕ) (script : Script) (config 
   -- the answer of `choices`
   pub choices-answer : (engine : EngineValue) (illegal : Option ℕ) (after : Run) (lines : List (List ℕ)) (text : List ℕ) (v : Verdict)
       → Follows script config entries engine illegal → IsRunOf engine after → AsksFor words (inspection.Show view.Choices) → lines ≡ statement_lines (script_in input)
-      → ShowsChoices lines engine after illegal text v → IsInspected words input (code_of (status_by illegal (status_of_verdict v))) text
+      → ShowsState (choices_after lines engine after) engine after illegal text v → IsInspected words input (code_of (status_by illegal (status_of_verdict v))) text
   choices-answer engine illegal after lines text v follows is_run asked of_input shows = choices_listed engine illegal follows after is_run lines text v asked of_input shows
+
+  -- the answer of `states`
+  pub states-answer : (engine : EngineValue) (illegal : Option ℕ) (after : Run) (lines : List (List ℕ)) (text : List ℕ) (v : Verdict)
+      → Follows script config entries engine illegal → IsRunOf engine after → AsksFor words (inspection.Show view.States) → lines ≡ statement_lines (script_in input)
+      → ShowsState (states_after lines engine after) engine after illegal text v → IsInspected words input (code_of (status_by illegal (status_of_verdict v))) text
+  states-answer engine illegal after lines text v follows is_run asked of_input shows = states_listed engine illegal follows after is_run lines text v asked of_input shows
 
   -- the answer that shows the steps in a form
   pub steps-answer : (shown : Form) (illegal : Option ℕ) (lines : List (List ℕ)) (text : List ℕ) (v : Verdict) (a : Answer)

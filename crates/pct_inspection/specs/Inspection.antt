@@ -24,6 +24,7 @@ use Rattle.pct_script.specs.StatementLines.{statement_lines, line_at, SpellsStat
 use Rattle.pct_view_laws.specs.Listed.{ListedThread, listed_threads, AreLegalEntries, IsBlockedIfWaiting}
 use Rattle.pct_view_laws.specs.TracedSteps.{IsTraceOf, steps_of}
 use Rattle.pct_view_texts.specs.Choices.{choices_text}
+use Rattle.pct_view_texts.specs.States.{states_text}
 use Rattle.pct_view_texts.specs.Trace.{trace_text}
 use Rattle.pct_history.specs.Replays.{followed}
 use Rattle.pct_command.specs.declared.status.Status.{Status}
@@ -166,6 +167,14 @@ pub record ListsChoices (words : List (List ℕ)) (input : List ℕ) (code : ℕ
   pub waits_are : (l : ListedThread) → Contains (listed_threads prefix.script prefix.config prefix.after.world) l → IsBlockedIfWaiting l
   pub lines_are : LinesSpell (script_in input) prefix.script
 
+-- `states`: the state after the run, with the values of variables, mutexes, semaphores and keys and what is registered, and the notice
+pub record ListsStates (words : List (List ℕ)) (input : List ℕ) (code : ℕ) (text : List ℕ) : Type 0 where
+  pub asked : inspection_asked words ≡ Some (inspection.Show view.States)
+  pub prefix : FollowsPrefix input
+  pub code_is : code ≡ code_after prefix
+  pub text_is : text ≡ states_text (statement_lines (script_in input)) prefix.script prefix.config prefix.after.world (length (entries_in prefix)) ++ notice prefix.illegal
+  pub lines_are : LinesSpell (script_in input) prefix.script
+
 -- the steps are drawn in this form
 abbrev pub is_drawn : Form → Bool
 is_drawn form.Trace = false
@@ -189,6 +198,7 @@ pub data IsInspected (words : List (List ℕ)) (input : List ℕ) (code : ℕ) (
   Continued : Continues words input code text → IsInspected words input code text
   Traced : Traces words input code text → IsInspected words input code text
   Listed : ListsChoices words input code text → IsInspected words input code text
+  Valued : ListsStates words input code text → IsInspected words input code text
   Drawn : Draws words input code → IsInspected words input code text
 
 -- ---- completeness

@@ -9,6 +9,7 @@ use Rattle.pct_command.specs.Answer.{status_of_verdict}
 use Rattle.pct_engine.specs.EngineStates.{EngineValue}
 use Rattle.pct_history.specs.Replays.{Follows}
 use Rattle.pct_view_texts.specs.Choices.{choices_text}
+use Rattle.pct_view_texts.specs.States.{states_text}
 use Rattle.pct_view_texts.specs.Trace.{trace_text}
 use Rattle.pct_inspection.specs.declared.answer.Answer.{Answer}
 use Rattle.pct_inspection.specs.declared.words.Form.{Form}
@@ -20,10 +21,18 @@ use Rattle.pct_inspection.specs.Inspection.{notice}
 abbrev pub verdict_after : EngineValue → Run → Verdict
 verdict_after engine after = verdict_of engine.script engine.config after.world (length engine.history)
 
--- the text of `choices` and the notice, and the verdict, after the run of an engine that followed a prefix
-pub record ShowsChoices (lines : List (List ℕ)) (engine : EngineValue) (after : Run) (illegal : Option ℕ) (text : List ℕ) (v : Verdict) : Type 0 where
-  pub text_is : text ≡ choices_text lines engine.script engine.config after.world (length engine.history) ++ notice illegal
+-- the text of a view of the state and the notice, and the verdict, after the run of an engine that followed a prefix
+pub record ShowsState (shown : List ℕ) (engine : EngineValue) (after : Run) (illegal : Option ℕ) (text : List ℕ) (v : Verdict) : Type 0 where
+  pub text_is : text ≡ shown ++ notice illegal
   pub verdict_is : v ≡ verdict_after engine after
+
+-- the text of `choices` after the run of an engine
+abbrev pub choices_after : List (List ℕ) → EngineValue → Run → List ℕ
+choices_after lines engine after = choices_text lines engine.script engine.config after.world (length engine.history)
+
+-- that of `states`
+abbrev pub states_after : List (List ℕ) → EngineValue → Run → List ℕ
+states_after lines engine after = states_text lines engine.script engine.config after.world (length engine.history)
 
 -- the text of `trace` and the notice, and the verdict, of the run of the entries of a prefix up to the first that is not legal, which has this
 -- number

@@ -10,16 +10,17 @@ ghost use Rattle.pct_inspection.specs.Words.{is_inspection};
 use crate::answer::{Answer, Unanswered};
 use crate::answer_writer::write_answer;
 use crate::answering::answer_input;
-use crate::words::{Inspection, read_inspection};
+use crate::words::{Inspection, read_inspection, selection_in};
 use pct_command::{Refusal, Status};
 use pct_io::{Failed, NoMemory, ReadEnd, Sink, Source, read_all};
+use pct_lanes::Selection;
 use pct_model::MAX_INPUT;
 use std::alloc::Global;
 
 /// Does what the words ask for on the bytes of the source, and writes the answer to the sink.
 ///
-/// The words are `continue` and a seed, or one of `trace`, `choices`, `lanes` and `picture`. The input is a script, a line `%%`, and a prefix
-/// of a schedule: a schedule or a whole report, in which the line `end N` may be missing. Without a line `%%`, or with nothing after it, the
+/// The words are `continue` and a seed, or one of `trace`, `choices`, `states`, `lanes` and `picture`. The input is a script, a line `%%`, and
+/// a prefix of a schedule: a schedule or a whole report, in which the line `end N` may be missing. Without a line `%%`, or with nothing after it, the
 /// prefix has no entry, and the numbers of the run are those of `run` without options. The run makes the steps of the prefix, up to the first
 /// entry that is not legal.
 ///
@@ -28,7 +29,11 @@ use std::alloc::Global;
 /// - `trace`: a line for each step is written, with where the thread was, the statement there, the choice and the events; then the verdict.
 /// - `choices`: the verdict is written; then, for each thread that has not ended, where it is, what it waits for, its cancelability and its
 ///   handlers, and below it each entry of worker 1 that is legal.
-/// - `lanes`, `picture`: the steps are written with a column for each thread, as text or as SVG.
+/// - `states`: the verdict is written; then, for each process that has not ended, its globals, its mutexes with their owners, its semaphores
+///   with their counts, its keys, and what it has registered; and below it, for each thread that has not ended, its frames with their locals,
+///   its thread-specific data, and whether it is detached.
+/// - `lanes`, `picture`: the steps are written with a column for each thread, as text or as SVG. After the command words may select steps:
+///   `--steps FROM-TO`, `--threads P.T,P.T..` and `--events`.
 ///
 /// After it, if entry N of the prefix is not legal, a line `entry N is not legal here` is written. A refusal is one line that names the reason.
 ///
@@ -102,7 +107,7 @@ fn answer_words<S: Source>(
 {
     match read_inspection(words) {
         None => Ok(Answer::Refused(Refusal::Words)),
-        Some(asked) => answer_read(alloc, asked, source),
+        Some(asked) => answer_read(alloc, asked, selection_in(words), source),
     }
 }
 
@@ -110,13 +115,14 @@ fn answer_words<S: Source>(
 fn answer_read<S: Source>(
     alloc: Global,
     asked: Inspection,
+    selection: Selection,
     source: &mut S,
 ) -> Result<Answer, Unanswered>
     ensures answer { (words : List (List ℕ)) → AsksFor words asked → IfOk result (λ answer. AnswersRead words (S.left source.old) (S.left source.new) answer) }
     ensures reads { ReadsInput S.left S.errors source.old source.new result }
 {
     match read_all(alloc, source, MAX_INPUT) {
-        Ok(text) => match answer_input(alloc, asked, &text) {
+        Ok(text) => match answer_input(alloc, asked, selection, &text) {
             Ok(answer) => Ok(answer),
             Err(NoMemory) => Err(Unanswered::NoMemory),
         },

@@ -1,5 +1,5 @@
 //! The program that inspects runs: `inspect` reads words and an input. `continue` goes on with a run that begins with the entries
-//! of a given prefix of a schedule, as a seed chooses. `trace`, `choices`, `lanes` and `picture` show the run of these entries.
+//! of a given prefix of a schedule, as a seed chooses. `trace`, `choices`, `states`, `lanes` and `picture` show the run of these entries.
 #![tactic(auto)]
 
 mod answer;
@@ -7,6 +7,7 @@ mod answer_writer;
 mod answering;
 mod continuing;
 mod inspecting;
+mod selecting;
 mod showing;
 mod words;
 

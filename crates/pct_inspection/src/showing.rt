@@ -1,4 +1,4 @@
-//! The views of a run: `trace`, `choices`, `lanes` and `picture`.
+//! The views of a run: `trace`, `choices`, `states`, `lanes` and `picture`.
 
 ghost use Rattle.std.specs.Prelude.{◌≡◌, ◌≤◌, [], ℕ, List, length, IsTrue, IfOk};
 ghost use Rattle.pct_engine.specs.EngineStates.{IsRunOf};
@@ -6,9 +6,10 @@ ghost use Rattle.pct_model.specs.Run.{Run, is_config};
 ghost use Rattle.pct_model.specs.declared.limits.TheConstants.{MAX_INPUT};
 ghost use Rattle.pct_view_texts.specs.TextBuffers.{text_in, Appends};
 ghost use Rattle.pct_inspection.specs.declared.words.Inspection.TheVariants as inspection;
-ghost use Rattle.pct_inspection.specs.Answer.{Answered, AsksFor, HasParts};
+ghost use Rattle.pct_command.specs.Answer.{status_of_verdict};
+ghost use Rattle.pct_inspection.specs.Answer.{Answered, AsksFor, HasParts, status_by, status_of_answer, text_of_answer};
 ghost use Rattle.pct_inspection.specs.Inspection.{notice, script_in};
-ghost use Rattle.pct_inspection.specs.Shown.{IsInForm, ShowsChoices, ShowsTrace};
+ghost use Rattle.pct_inspection.specs.Shown.{IsInForm, ShowsState, ShowsTrace, choices_after, states_after};
 
 use crate::answer::Answer;
 use crate::answer_writer::write_notice;
@@ -17,10 +18,10 @@ use pct_command::Refusal;
 use pct_engine::Engine;
 use pct_history::{ScheduleFault, follow, read_prefix};
 use pct_io::{Failed, NoMemory};
-use pct_lanes::{lanes, picture};
+use pct_lanes::{Selection, lanes, picture};
 use pct_model::{Entry, Script, Verdict};
 use pct_script::{StatementLines, statement_lines};
-use pct_view_texts::{TextBuffer, push_choices, push_trace};
+use pct_view_texts::{TextBuffer, push_choices, push_states, push_trace};
 use std::alloc::Global;
 
 /// The parts of an input.
@@ -41,10 +42,18 @@ struct Shown {
     illegal: Option<u32>,
 }
 
+// The steps of a run: what `trace` shows, and the text of `choices` after them, if that is drawn too.
+#[derive(Drop)]
+struct Steps {
+    shown: Shown,
+    state: TextBuffer,
+}
+
 /// The answer of a view to a script, its text and a prefix.
 pub(crate) fn show_script(
     alloc: Global,
     view: View,
+    selection: Selection,
     script: Script,
     parts: Parts,
 ) -> Result<Answer, NoMemory>
@@ -57,17 +66,16 @@ pub(crate) fn show_script(
         Ok((config, entries)) => match view {
             View::Choices => {
                 let (engine, illegal) = follow(alloc, script, config, entries.as_slice())?;
-                let shown = choices(alloc, &lines, &engine, illegal)?;
-                Ok(Answer::Shown {
-                    text: shown.text.into_bytes(),
-                    verdict: shown.verdict,
-                    illegal: shown.illegal,
-                })
+                Ok(answer_of(choices(alloc, &lines, &engine, illegal)?))
+            }
+            View::States => {
+                let (engine, illegal) = follow(alloc, script, config, entries.as_slice())?;
+                Ok(answer_of(states(alloc, &lines, &engine, illegal)?))
             }
             View::Steps(form) => {
                 let engine = Engine::open(alloc, script, config)?;
-                let shown = trace(alloc, &lines, engine, entries.as_slice())?;
-                in_form(alloc, form, shown)
+                let steps = trace(alloc, &lines, engine, entries.as_slice(), form)?;
+                in_form(alloc, form, selection, steps)
             }
         },
         Err(ScheduleFault::Refused { line, why }) => {
@@ -87,7 +95,7 @@ fn choices(
     ensures illegal { IfOk result (λ shown. shown.illegal ≡ illegal) }
     // The run of the entries is defined, for every engine.
     ensures runs { (after : Run) × IsRunOf engine.now after }
-    ensures shown { (after : Run) → IsRunOf engine.now after → IfOk result (λ shown. ShowsChoices lines.now engine.now after illegal (text_in shown.text) shown.verdict) }
+    ensures shown { (after : Run) → IsRunOf engine.now after → IfOk result (λ shown. ShowsState (choices_after lines.now engine.now after) engine.now after illegal (text_in shown.text) shown.verdict) }
 {
     let verdict = engine.verdict();
     let mut text = TextBuffer::new(alloc);
@@ -100,39 +108,106 @@ fn choices(
     })
 }
 
-// The text of `trace` for the entries of a prefix, up to the first that is not legal, with an engine without entries.
+// The text of `states` after the run of an engine that followed a prefix.
+fn states(
+    alloc: Global,
+    lines: &StatementLines,
+    engine: &Engine,
+    illegal: Option<u32>,
+) -> Result<Shown, NoMemory>
+    ensures illegal { IfOk result (λ shown. shown.illegal ≡ illegal) }
+    // The run of the entries is defined, for every engine.
+    ensures runs { (after : Run) × IsRunOf engine.now after }
+    ensures shown { (after : Run) → IsRunOf engine.now after → IfOk result (λ shown. ShowsState (states_after lines.now engine.now after) engine.now after illegal (text_in shown.text) shown.verdict) }
+{
+    let verdict = engine.verdict();
+    let mut text = TextBuffer::new(alloc);
+    push_states(alloc, &mut text, lines, engine)?;
+    push_notice(&mut text, illegal)?;
+    Ok(Shown {
+        text,
+        verdict,
+        illegal,
+    })
+}
+
+// The answer that shows a text as it is.
+fn answer_of(shown: Shown) -> Answer
+    ensures status { status_of_answer result ≡ status_by shown.illegal (status_of_verdict shown.verdict) }
+    ensures text { text_of_answer result ≡ text_in shown.text }
+{
+    Answer::Shown {
+        text: shown.text.into_bytes(),
+        verdict: shown.verdict,
+        illegal: shown.illegal,
+    }
+}
+
+// The text of `trace` for the entries of a prefix, up to the first that is not legal, with an engine without entries; and what is to be
+// drawn in this form of the state after them.
 fn trace(
     alloc: Global,
     lines: &StatementLines,
     engine: Engine,
     entries: &[Entry],
-) -> Result<Shown, NoMemory>
+    form: Form,
+) -> Result<Steps, NoMemory>
     requires opened { engine.history ≡ [] }
     requires config { IsTrue (is_config engine.config) }
     requires few { length entries.now ≤ engine.config.budget }
-    ensures { IfOk result (λ shown. ShowsTrace lines.now engine.script engine.config entries.now shown.illegal (text_in shown.text) shown.verdict) }
+    ensures { IfOk result (λ steps. ShowsTrace lines.now engine.script engine.config entries.now steps.shown.illegal (text_in steps.shown.text) steps.shown.verdict) }
 {
     let mut engine = engine;
     let mut text = TextBuffer::new(alloc);
     let illegal = push_trace(&mut text, lines, &mut engine, entries)?;
     push_notice(&mut text, illegal)?;
-    Ok(Shown {
-        text,
-        verdict: engine.verdict(),
-        illegal,
+    let state = state_in_form(alloc, lines, &engine, form)?;
+    Ok(Steps {
+        shown: Shown {
+            text,
+            verdict: engine.verdict(),
+            illegal,
+        },
+        state,
     })
 }
 
+// The text of `choices` after the run of an engine, if it is drawn in this form.
+fn state_in_form(
+    alloc: Global,
+    lines: &StatementLines,
+    engine: &Engine,
+    form: Form,
+) -> Result<TextBuffer, NoMemory> {
+    let mut text = TextBuffer::new(alloc);
+    match form {
+        Form::Picture => push_choices(&mut text, lines, engine)?,
+        Form::Trace | Form::Lanes => {}
+    }
+    Ok(text)
+}
+
 // The answer that shows the steps of a text of `trace` in a form.
-fn in_form(alloc: Global, form: Form, shown: Shown) -> Result<Answer, NoMemory>
-    ensures { IfOk result (IsInForm form shown.illegal (text_in shown.text) shown.verdict) }
+fn in_form(
+    alloc: Global,
+    form: Form,
+    selection: Selection,
+    steps: Steps,
+) -> Result<Answer, NoMemory>
+    ensures { IfOk result (IsInForm form steps.shown.illegal (text_in steps.shown.text) steps.shown.verdict) }
 {
+    let shown = steps.shown;
     let verdict = shown.verdict;
     let illegal = shown.illegal;
     let text = match form {
         Form::Trace => shown.text.into_bytes(),
-        Form::Lanes => lanes(alloc, shown.text.as_slice())?,
-        Form::Picture => picture(alloc, shown.text.as_slice())?,
+        Form::Lanes => lanes(alloc, shown.text.as_slice(), selection)?,
+        Form::Picture => picture(
+            alloc,
+            shown.text.as_slice(),
+            steps.state.as_slice(),
+            selection,
+        )?,
     };
     Ok(Answer::Shown {
         text,

@@ -1,5 +1,6 @@
 pub mod ListedSeen
 pub mod StartSeen
+pub mod ProcessesSeen
 pub mod TracedRuns
 pub mod ContainedItems
 pub mod ListedThreads

@@ -25,7 +25,7 @@ map-filter-flat_map {A} {B} {C} f q g xs =
     ∙ flat_map_agree (λ a. flat_map each (g a)) (λ a. map f (filter q (g a))) (λ a. sym (map-filter f q (g a))) xs
 
 -- a choice between the same
-cond_same : {A : Type 0} (b : Bool) (x : A) → cond b x x ≡ x
+pub cond_same : {A : Type 0} (b : Bool) (x : A) → cond b x x ≡ x
 cond_same true x = refl
 cond_same false x = refl
 

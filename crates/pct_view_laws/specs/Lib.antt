@@ -2,3 +2,4 @@ pub mod Waits
 pub mod Listed
 pub mod TracedSteps
 pub mod SeenViews
+pub mod ListedProcesses

@@ -4,3 +4,5 @@ pub mod LineTexts
 pub mod ListedTexts
 pub mod StatusTexts
 pub mod StepLines
+pub mod PhraseTexts
+pub mod StateTexts

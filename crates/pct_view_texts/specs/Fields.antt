@@ -1,5 +1,5 @@
--- The lines of `trace` and of `choices`: fields separated by HT (byte 9). A field is a list of phrases, and a phrase is a list of words.
-use Rattle.std.specs.Prelude.{ℕ, List, [], ◌∷◌, ◌++◌, codes}
+-- The lines of `trace`, `choices` and `states`: fields separated by HT (byte 9). A field is a list of phrases, and a phrase is a list of words.
+use Rattle.std.specs.Prelude.{ℕ, List, [], ◌∷◌, ◌++◌, flat_map, codes}
 use Rattle.std.specs.List.{join_by, join_with_byte}
 
 -- words, and numbers or names among them
@@ -19,6 +19,10 @@ field_text (first ∷ phrases) = join_by phrase_text (codes ", ") (first ∷ phr
 abbrev pub before_comma : List Phrase → List ℕ
 before_comma [] = []
 before_comma (first ∷ phrases) = field_text (first ∷ phrases) ++ codes ", "
+
+-- phrases, each after a comma and a space
+abbrev pub after_commas : List Phrase → List ℕ
+after_commas phrases = flat_map (λ phrase. codes ", " ++ phrase_text phrase) phrases
 
 -- a line: its fields separated by HT (byte 9), then LF (byte 10)
 unfoldable pub fields_text : List (List Phrase) → List ℕ

@@ -5,3 +5,4 @@ pub mod Choices
 pub mod ListedLines
 pub mod TextBuffers
 pub mod NextSteps
+pub mod States

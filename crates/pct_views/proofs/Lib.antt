@@ -2,3 +2,4 @@ mod UnendedThreads
 mod ListedThreads
 mod FoundProcesses
 mod Waits
+mod ThreadStates

@@ -1,1 +1,2 @@
 pub mod ShownThreads
+pub mod ShownStates

@@ -60,8 +60,8 @@ pub fn thread_on<'a>(process: ProcessView<'a>, slot: u32) -> Option<ThreadView<'
     })
 }
 
-// The record of the thread on a slot. `None` exactly if no thread holds the slot, or it has ended.
-fn unended_on(state: &ProcessState, slot: u32) -> Option<&ThreadRecord>
+/// The record of the thread on a slot. `None` exactly if no thread holds the slot, or it has ended.
+pub(crate) fn unended_on(state: &ProcessState, slot: u32) -> Option<&ThreadRecord>
     requires { slot < length state.now.slots }
     ensures some { IfSome result (λ kept. IsUnended state.now.slots slot kept.now) }
     ensures none { IfNone result (filter is_unended (slot_on state.now.slots slot).here ≡ []) }

@@ -11,31 +11,46 @@ use Rattle.pct_inspection.specs.Answer.{status_by, AsksFor}
 use Rattle.pct_inspection.specs.Inspection.{IsInspected}
 use Rattle.pct_inspection.specs.Shown.{ShowsTrace}
 use Rattle.pct_inspection.proofs.Outcomes.{prefix-answer}
-use Rattle.pct_inspection.proofs.Views.{choices-answer, steps-answered}
+use Rattle.pct_inspection.proofs.Views.{choices-answer, states-answer, steps-answered}
 use Rattle.pct_inspection.proofs.showing.show_script.Goals as goal
 
 pub returns-in-Choices : goal.returns-in-Choices
 returns-in-Choices c = λ words input asks has of_text.
     let runs = c.choices.ensures.runs in
     let followed = c.in_ok-engine-in-Choices in
-    let shown = c.in_ok-shown-in-Choices in
-    let v = shown.shown.verdict in
-    subst (λ (text : List ℕ). IsInspected words input (code_of (status_by shown.shown.illegal (status_of_verdict v))) text) (sym c.into_bytes.ensures)
-    (subst (λ (illegal : Option ℕ). IsInspected words input (code_of (status_by illegal (status_of_verdict v))) (text_in shown.shown.text)) (sym shown.ensures.illegal)
-    (choices-answer words input c.args.script c.in-Ok.config c.in-Ok.entries has.has_script (rw has.rest at c.in-Ok.ensures.read) followed.engine followed.illegal runs.0 c.in_ok-lines.lines (text_in shown.shown.text) v
-    (rw c.as_slice.ensures at followed.ensures) runs.1
+    let shown = c.in_ok-choices in
+    let v = shown.choices.verdict in
+    rw (c.answer_of-in-Choices.ensures.status, c.answer_of-in-Choices.ensures.text)
+    (subst (λ (illegal : Option ℕ). IsInspected words input (code_of (status_by illegal (status_of_verdict v))) (text_in shown.choices.text)) (sym shown.ensures.illegal)
+    (choices-answer words input c.args.script c.in-Ok.config c.in-Ok.entries has.has_script (rw has.rest at c.in-Ok.ensures.read) followed.engine followed.illegal runs.0 c.in_ok-lines.lines (text_in shown.choices.text) v
+    (rw c.as_slice-in-Choices.ensures at followed.ensures) runs.1
     (subst (λ (view : View). AsksFor words (inspection.Show view)) c.in-Choices.is asks)
+    (c.in_ok-lines.ensures ∙ ap statement_lines of_text)
+    (shown.ensures.shown runs.0 runs.1)))
+
+pub returns-in-States : goal.returns-in-States
+returns-in-States c = λ words input asks has of_text.
+    let runs = c.states.ensures.runs in
+    let followed = c.in_ok-engine-in-States in
+    let shown = c.in_ok-states in
+    let v = shown.states.verdict in
+    rw (c.answer_of-in-States.ensures.status, c.answer_of-in-States.ensures.text)
+    (subst (λ (illegal : Option ℕ). IsInspected words input (code_of (status_by illegal (status_of_verdict v))) (text_in shown.states.text)) (sym shown.ensures.illegal)
+    (states-answer words input c.args.script c.in-Ok.config c.in-Ok.entries has.has_script (rw has.rest at c.in-Ok.ensures.read) followed.engine followed.illegal runs.0 c.in_ok-lines.lines (text_in shown.states.text) v
+    (rw c.as_slice-in-States.ensures at followed.ensures) runs.1
+    (subst (λ (view : View). AsksFor words (inspection.Show view)) c.in-States.is asks)
     (c.in_ok-lines.ensures ∙ ap statement_lines of_text)
     (shown.ensures.shown runs.0 runs.1)))
 
 pub returns-in-Ok : goal.returns-in-Ok
 returns-in-Ok c = λ words input asks has of_text.
-    let shown = c.in_ok-shown-in-Steps in
-    steps-answered words input c.args.script c.in-Ok.config c.in-Ok.entries has.has_script (rw has.rest at c.in-Ok.ensures.read) c.in-Steps.form shown.shown.illegal c.in_ok-lines.lines (text_in shown.shown.text) shown.shown.verdict c.in_form.result
+    let steps = c.in_ok-steps-in-Steps in
+    let shown = steps.steps.shown in
+    steps-answered words input c.args.script c.in-Ok.config c.in-Ok.entries has.has_script (rw has.rest at c.in-Ok.ensures.read) c.in-Steps.form shown.illegal c.in_ok-lines.lines (text_in shown.text) shown.verdict c.in_form.result
     (subst (λ (view : View). AsksFor words (inspection.Show view)) c.in-Steps.is asks)
     (c.in_ok-lines.ensures ∙ ap statement_lines of_text)
-    (subst (λ (entries : List Entry). ShowsTrace c.in_ok-lines.lines c.args.script c.in-Ok.config entries shown.shown.illegal (text_in shown.shown.text) shown.shown.verdict) c.as_slice-in-Steps.ensures
-    (subst (λ (e : EngineValue). ShowsTrace c.in_ok-lines.lines e.script e.config c.as_slice-in-Steps.result.now shown.shown.illegal (text_in shown.shown.text) shown.shown.verdict) c.in_ok-engine-in-Steps.ensures shown.ensures))
+    (subst (λ (entries : List Entry). ShowsTrace c.in_ok-lines.lines c.args.script c.in-Ok.config entries shown.illegal (text_in shown.text) shown.verdict) c.as_slice-in-Steps.ensures
+    (subst (λ (e : EngineValue). ShowsTrace c.in_ok-lines.lines e.script e.config c.as_slice-in-Steps.result.now shown.illegal (text_in shown.text) shown.verdict) c.in_ok-engine-in-Steps.ensures steps.ensures))
     c.in_form.ensures
 
 pub returns-in-Err-Refused : goal.returns-in-Err-Refused

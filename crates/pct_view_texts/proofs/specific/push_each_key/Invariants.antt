@@ -1,0 +1,11 @@
+use Rattle.std.proofs.Common.{◌≡◌, ◌++◌}
+use Rattle.std.specs.Prelude.{flat_map}
+use Rattle.std.specs.List.{range_with_len}
+use Rattle.pct_view_texts.specs.Fields.{after_commas}
+use Rattle.pct_view_texts.specs.States.{key_on}
+use Rattle.pct_view_texts.specs.TextBuffers.{text_in}
+use Rattle.pct_view_texts.proofs.specific.push_each_key.Given as goal
+
+-- the keys on the first places were appended
+abbrev pub invariant-loop-place : goal.invariant-loop-place
+invariant-loop-place l = text_in l.phrases ≡ text_in l.initial.phrases ++ after_commas (flat_map (key_on l.script l.keys.places) (range_with_len 0 l.place))

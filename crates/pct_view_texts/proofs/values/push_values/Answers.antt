@@ -1,0 +1,16 @@
+use Rattle.std.proofs.Common.{◌≡◌, ◌⊎◌, inl, inr, length, ◌++◌}
+use Rattle.std.specs.Prelude.{zip}
+use Rattle.std.specs.Iterator.Adapters.{zip_first, zip_second}
+use Rattle.std.specs.Slice.Iter.{iter_rest}
+use Rattle.pct_view_texts.specs.Fields.{phrase_text}
+use Rattle.pct_view_texts.specs.States.{value_words}
+use Rattle.pct_view_texts.proofs.PhraseTexts.{no_pairs, none_left}
+use Rattle.pct_view_texts.proofs.values.push_values.Goals as goal
+
+pub returns : goal.returns
+returns c =
+    let none : (length (iter_rest (zip_first c.loop-name.name-iterator)) ≡ 0) ⊎ (length (iter_rest (zip_second c.loop-name.name-iterator)) ≡ 0) = elim c.in-None.ensures.steps [
+      | inl first ↦ inl first.1.0
+      | inr second ↦ inr second.1.0
+    ] in
+    none_left (λ v. c.args.before.now ++ phrase_text (value_words v)) (zip (iter_rest (zip_first c.loop-name.name-iterator)) (iter_rest (zip_second c.loop-name.name-iterator))) _ _ (no_pairs (iter_rest (zip_first c.loop-name.name-iterator)) (iter_rest (zip_second c.loop-name.name-iterator)) none) c.loop-name.invariant
