@@ -1,274 +1,237 @@
 //! The picture of a run.
 
-use crate::layout::{
-    BAR, BASELINE, Caption, Column, Layout, MIDDLE, NAME_GAP, NAMES_BASELINE, RADIUS, ROW_HEIGHT,
-    TOP, row_at,
-};
+use crate::caption::Caption;
+use crate::kinds::{KIND_COUNT, KINDS, Kind};
+use crate::layout::{DROP, LEGEND_WIDTH, Layout, MARGIN, ROW_HEIGHT, TITLE_BASELINE};
 use crate::page::Page;
-use crate::run::{Arrow, Row, Run, Thread};
+use crate::run::Run;
+use crate::selection::Selection;
 use pct_io::NoMemory;
 use std::alloc::Global;
 
-/// The picture of a trace: an SVG document that shows the same as `lanes`.
+// How what has a class looks. A style sheet of the page that has the picture may say otherwise.
+const STYLE: &str = "<style>
+text{font-family:monospace;font-size:12px;fill:#000;stroke:none}
+.title,.closing,.name{font-weight:bold}
+.name{text-anchor:middle}
+.function{font-weight:normal}
+.first,.turned{text-anchor:start}
+.lower,.number,.mutex{text-anchor:end}
+.number,.place{fill:#555}
+.paper{fill:#fff}
+.stripe{fill:#f3f3f3}
+.ground{fill:#fff;fill-opacity:.8}
+.lane,.waiting,.ended{fill:none;stroke:#555;stroke-width:2}
+.waiting{stroke-dasharray:6 4}
+.ended{stroke-width:1.5;stroke-dasharray:2 3}
+.owner{fill:#bbb;stroke:#000;stroke-width:1}
+.arrow{fill:#000;stroke:#000;stroke-width:1}
+.request{stroke-dasharray:6 3}
+.signal{stroke-dasharray:2 2}
+.end{fill:none;stroke:#000;stroke-width:2}
+.mark{fill:#000;stroke:#000;stroke-width:1.5}
+.act,.stop{fill:#fff}
+</style>
+";
+
+/// The picture of a run: an SVG document that shows the same as `lanes`, from the texts of `trace` and of `choices`.
 ///
 /// Each thread has a lane, from the step that makes it to its end, and each step a row. At the left side stands where the thread
-/// was, and the statement. A filled mark in the lane of the thread is the step, a hollow one a step that acts on a request, and the
-/// events stand beside the mark, or, where there are many threads, at the right side. An arrow leads to a thread that the step
-/// makes, signals, or requests the end of, and from the thread that it has joined. A bar ends a lane where the thread ends, and a
-/// cross where its process ends in a step of another thread. The lane is dotted from the end of a thread to the last row that has
-/// something of it. The verdict stands at the bottom. Long texts are cut.
-pub fn picture(alloc: Global, trace: &[u8]) -> Result<Vec<u8>, NoMemory> {
-    let run = Run::parse(alloc, trace)?;
-    let layout = Layout::new(&run);
-    let mut svg = Page::new(alloc);
+/// was, and the statement. A mark in the lane of the thread is the step: its shape says of which kind. The events stand beside it. An arrow
+/// leads to a thread that the step makes, signals, or requests the end of, and from the thread that it has joined. A bar ends a lane where the
+/// thread ends, and a cross where its process ends in a step of another thread. The lane is dotted from the end of a thread to the last row
+/// that has something of it, and dashed while the thread waits. Beside it there is a bar for each mutex that it owns. The verdict stands at
+/// the bottom, and what the marks mean. Long texts are cut. What the selection leaves out is not shown.
+pub fn picture(
+    alloc: Global,
+    trace: &[u8],
+    choices: &[u8],
+    selection: Selection,
+) -> Result<Vec<u8>, NoMemory> {
+    let run = Run::parse(alloc, trace, choices, selection)?;
+    let layout = Layout::new(alloc, &run)?;
+    let mut body = Page::new(alloc);
     let mut drawing = Drawing {
         run: &run,
         layout: &layout,
-        svg: &mut svg,
+        svg: &mut body,
+        has: [false; KIND_COUNT],
     };
-    drawing.draw();
-    svg.finish()
+    let bottom = drawing.draw();
+    let mut document = Page::new(alloc);
+    open_document(&mut document, &run, layout.width, bottom);
+    document.push_page(&body);
+    document.push("</svg>\n");
+    document.finish()
 }
 
-// The picture of a run, while it is drawn.
+fn open_document(svg: &mut Page, run: &Run, width: usize, height: usize) {
+    svg.push("<?xml version=\"1.0\" encoding=\"UTF-8\"?>\n");
+    svg.fill(
+        "<svg xmlns=\"http://www.w3.org/2000/svg\" version=\"1.1\" role=\"img\" width=\"%\" height=\"%\" viewBox=\"0 0 % %\">\n",
+        &[width, height, width, height],
+    );
+    svg.push("<title>");
+    push_title(svg, run);
+    svg.push(
+        "</title>\n<desc>The steps of a run from top to bottom, and a lane for each thread from left to right.</desc>\n",
+    );
+    svg.push(STYLE);
+    svg.fill(
+        "<rect class=\"paper\" width=\"%\" height=\"%\"/>\n<text class=\"title\" x=\"14\" y=\"%\">",
+        &[width, height, TITLE_BASELINE],
+    );
+    push_title(svg, run);
+    svg.push("</text>\n");
+}
+
+// The verdict, and the number of steps.
+fn push_title(svg: &mut Page, run: &Run) {
+    if let Some(verdict) = run.closing.first() {
+        svg.push_escaped(verdict);
+    }
+    svg.fill(", steps: %", &[run.rows.len()]);
+    if run.shown_rows < run.rows.len() {
+        svg.fill(", shown: %", &[run.shown_rows]);
+    }
+}
+
+/// The picture of a run, while it is drawn.
 #[derive(Drop)]
-struct Drawing<'a, 't> {
-    run: &'a Run<'t>,
-    layout: &'a Layout,
-    svg: &'a mut Page,
+pub(crate) struct Drawing<'a, 't> {
+    pub(crate) run: &'a Run<'t>,
+    pub(crate) layout: &'a Layout,
+    pub(crate) svg: &'a mut Page,
+    // Which kinds have been drawn.
+    has: [bool; KIND_COUNT],
 }
 
 impl Drawing<'_, '_> {
-    fn draw(&mut self) {
-        self.open_document();
+    // Draws all, and returns the height of the picture.
+    fn draw(&mut self) -> usize {
         self.draw_stripes();
         self.draw_names();
         self.draw_lanes();
+        self.draw_owners();
         self.draw_arrows();
         self.draw_ends();
         self.draw_marks();
-        self.draw_column("<g fill=\"#666\" text-anchor=\"end\">\n", Column::Numbers);
-        self.draw_column("<g fill=\"#666\">\n", Column::Places);
-        self.draw_column("<g>\n", Column::Statements);
-        self.draw_column("<g>\n", Column::Events);
+        self.draw_texts();
+        self.draw_last_waits();
         self.draw_closing();
-        self.svg.push("</svg>\n");
-    }
-
-    fn open_document(&mut self) {
-        let width = self.layout.width;
-        let height = self.layout.closing_baseline(self.run.closing.len());
-        self.svg
-            .push("<?xml version=\"1.0\" encoding=\"UTF-8\"?>\n");
-        self.svg.fill(
-            "<svg xmlns=\"http://www.w3.org/2000/svg\" version=\"1.1\" width=\"%\" height=\"%\" viewBox=\"0 0 % %\" font-family=\"monospace\" font-size=\"12\">\n",
-            &[width, height, width, height],
-        );
-        self.svg.fill(
-            "<rect width=\"%\" height=\"%\" fill=\"#fff\"/>\n",
-            &[width, height],
-        );
+        self.draw_legend()
     }
 
     // Every second row is gray.
     fn draw_stripes(&mut self) {
-        self.svg.push("<g fill=\"#f2f2f2\">\n");
-        for row in 0..self.layout.rows {
-            if row % 2 == 0 {
+        self.svg.push("<g class=\"stripe\">\n");
+        for position in 0..self.layout.rows {
+            if position % 2 == 0 {
                 self.svg.fill(
                     "<rect y=\"%\" width=\"%\" height=\"%\"/>\n",
-                    &[row_at(row, TOP), self.layout.width, ROW_HEIGHT],
+                    &[self.layout.row_top(position), self.layout.width, ROW_HEIGHT],
                 );
             }
         }
         self.svg.push("</g>\n");
     }
 
-    // ---- lanes
-
-    // In a long picture a lane is named below it too, and where it begins.
-    fn draw_names(&mut self) {
-        self.svg
-            .push("<g font-weight=\"bold\" text-anchor=\"middle\">\n");
-        self.draw_names_at(NAMES_BASELINE);
-        if self.layout.is_long() {
-            self.draw_names_at(self.layout.lower_names_baseline());
-        }
-        self.svg.push("</g>\n");
-        if self.layout.is_long() {
-            self.draw_first_names();
+    /// Notes that something of this kind is drawn.
+    pub(crate) fn note(&mut self, kind: Kind) {
+        if let Some(has) = self.has.get_mut(kind as usize) {
+            *has = true;
         }
     }
 
-    fn draw_names_at(&mut self, baseline: usize) {
-        for (index, thread) in self.run.threads.iter().enumerate() {
-            self.draw_name(self.layout.lane(index), baseline, thread);
+    /// Draws a form at a point.
+    pub(crate) fn draw_form(&mut self, kind: Kind, x: usize, y: usize) {
+        let (class, form, _) = kind.look();
+        self.svg.push("<path class=\"");
+        self.svg.push(class);
+        self.svg.fill("\" d=\"M% %", &[x, y]);
+        self.svg.push(form);
+        self.svg.push("\"/>\n");
+        self.note(kind);
+    }
+
+    /// Draws a text. Of one that is cut, the first characters and two dots are shown, and a title has all.
+    pub(crate) fn draw_text(&mut self, class: &str, x: usize, y: usize, caption: Caption) {
+        let total = caption.total();
+        let is_cut = total > caption.limit;
+        if total == 0 || is_cut && caption.limit < 3 {
+            return;
         }
-    }
-
-    // The name of each thread that another one makes, at the beginning of its lane.
-    fn draw_first_names(&mut self) {
-        self.svg.push("<g font-weight=\"bold\">\n");
-        for (index, thread) in self.run.threads.iter().enumerate() {
-            if index > 0 {
-                let start = self.layout.lane(index).saturating_add(NAME_GAP);
-                self.draw_name(start, row_at(thread.first, BASELINE), thread);
-            }
-        }
-        self.svg.push("</g>\n");
-    }
-
-    fn draw_name(&mut self, x: usize, y: usize, thread: &Thread) {
-        self.svg.fill(
-            "<text x=\"%\" y=\"%\">%.%</text>\n",
-            &[x, y, thread.id.process, thread.id.thread],
-        );
-    }
-
-    fn draw_lanes(&mut self) {
-        self.svg.push("<g stroke=\"#888\" stroke-width=\"1.5\">\n");
-        for (index, thread) in self.run.threads.iter().enumerate() {
-            self.draw_lane(index, thread);
-        }
-        self.svg.push("</g>\n");
-    }
-
-    // A line while the thread is there, and a dotted one after it. The first thread is there before its first step.
-    fn draw_lane(&mut self, index: usize, thread: &Thread) {
-        let lane = self.layout.lane(index);
-        let top = row_at(thread.first, if index == 0 { TOP } else { MIDDLE });
-        let bottom = self.lane_bottom(thread);
-        self.svg.fill(
-            "<line x1=\"%\" y1=\"%\" x2=\"%\" y2=\"%\"/>\n",
-            &[lane, top, lane, bottom],
-        );
-        let last_seen = row_at(thread.last_seen, MIDDLE);
-        if last_seen > bottom {
-            self.svg.fill(
-                "<line x1=\"%\" y1=\"%\" x2=\"%\" y2=\"%\" stroke-dasharray=\"2 3\"/>\n",
-                &[lane, bottom, lane, last_seen],
-            );
-        }
-    }
-
-    fn lane_bottom(&self, thread: &Thread) -> usize {
-        match thread.last {
-            None => row_at(self.layout.rows, TOP),
-            Some(last) => row_at(last, if thread.is_cut_off { MIDDLE } else { BAR }),
-        }
-    }
-
-    // A bar where a thread ends, or a cross where it is cut off.
-    fn draw_ends(&mut self) {
-        self.svg.push("<g stroke=\"#000\" stroke-width=\"2\">\n");
-        for (index, thread) in self.run.threads.iter().enumerate() {
-            if thread.last.is_some() {
-                let form = if thread.is_cut_off {
-                    "<path d=\"M% %m-4-4l8 8m-8 0l8-8\"/>\n"
-                } else {
-                    "<path d=\"M% %m-6 0h12\"/>\n"
-                };
-                let lane = self.layout.lane(index);
-                let bottom = self.lane_bottom(thread);
-                self.svg.fill(form, &[lane, bottom]);
-            }
-        }
-        self.svg.push("</g>\n");
-    }
-
-    // ---- steps
-
-    fn draw_arrows(&mut self) {
-        self.svg.push("<g stroke=\"#000\" fill=\"#000\">\n");
-        for arrow in self.run.arrows.iter() {
-            if let Some(row) = self.run.rows.get(arrow.row) {
-                self.draw_arrow(arrow, row);
-            }
-        }
-        self.svg.push("</g>\n");
-    }
-
-    // Beside the mark of the step an arrow leaves room for the events.
-    fn draw_arrow(&mut self, arrow: &Arrow, row: &Row) {
-        let y = row_at(arrow.row, MIDDLE);
-        let from = self.layout.lane(arrow.from);
-        let to = self.layout.lane(arrow.to);
-        if from < to {
-            let (start, end) = if row.thread == Some(arrow.from) {
-                (self.layout.right_of_mark(arrow.from, row), to)
-            } else {
-                (from, to.saturating_sub(RADIUS))
-            };
-            self.draw_arrow_between(start, end, y);
-        } else if to < from {
-            let end = if row.thread == Some(arrow.to) {
-                self.layout.right_of_mark(arrow.to, row)
-            } else {
-                to
-            };
-            self.draw_arrow_between(from, end, y);
-        }
-    }
-
-    fn draw_arrow_between(&mut self, start: usize, end: usize, y: usize) {
-        let form = if start < end {
-            "<path d=\"M% %H%l-7-3v6l7-3\"/>\n"
+        self.svg.push("<text class=\"");
+        self.svg.push(class);
+        self.svg.fill("\" x=\"%\" y=\"%\">", &[x, y]);
+        if is_cut {
+            self.svg.push("<title>");
+            self.push_caption(&caption, total);
+            self.svg.push("</title>");
+            self.push_caption(&caption, caption.limit.saturating_sub(2));
+            self.svg.push("..");
         } else {
-            "<path d=\"M% %H%l7-3v6l-7-3\"/>\n"
-        };
-        self.svg.fill(form, &[start, y, end]);
+            self.push_caption(&caption, total);
+        }
+        self.svg.push("</text>\n");
     }
 
-    fn draw_marks(&mut self) {
-        self.svg.push("<g stroke=\"#000\" stroke-width=\"1.5\">\n");
-        for (index, row) in self.run.rows.iter().enumerate() {
-            if let Some(thread) = row.thread {
-                let form = if row.step.is_act() {
-                    "<circle cx=\"%\" cy=\"%\" r=\"%\" fill=\"#fff\"/>\n"
-                } else {
-                    "<circle cx=\"%\" cy=\"%\" r=\"%\" fill=\"#000\"/>\n"
-                };
-                let lane = self.layout.lane(thread);
-                self.svg.fill(form, &[lane, row_at(index, MIDDLE), RADIUS]);
+    /// Adds the first characters of a text.
+    pub(crate) fn push_caption(&mut self, caption: &Caption, count: usize) {
+        let mut left = count;
+        for part in caption.parts.iter() {
+            for character in part.chars().take(left) {
+                self.svg.push_character(character);
             }
+            left = left.saturating_sub(part.len());
         }
-        self.svg.push("</g>\n");
     }
 
-    // ---- texts
-
-    fn draw_column(&mut self, group: &str, column: Column) {
-        self.svg.push(group);
-        for (index, row) in self.run.rows.iter().enumerate() {
-            let (start, caption) = self.layout.text(column, row);
-            self.draw_text(start, row_at(index, BASELINE), caption);
-        }
-        self.svg.push("</g>\n");
-    }
+    // ---- after the steps
 
     // The lines after the steps.
     fn draw_closing(&mut self) {
-        self.svg.push("<g font-weight=\"bold\">\n");
+        self.svg.push("<g class=\"closings\">\n");
         for (index, line) in self.run.closing.iter().enumerate() {
-            let y = self.layout.closing_baseline(index);
-            self.draw_text(self.layout.places, y, Caption::whole(line));
+            self.draw_text(
+                "label closing",
+                MARGIN,
+                self.layout.closing(index),
+                Caption::whole(line),
+            );
         }
         self.svg.push("</g>\n");
     }
 
-    // Of a text that is cut, the first characters and two dots are shown.
-    fn draw_text(&mut self, x: usize, y: usize, caption: Caption) {
-        if caption.text.is_empty() {
-            return;
+    // What the kinds that have been drawn mean, in columns. Returns the height of the picture.
+    fn draw_legend(&mut self) -> usize {
+        let top = self.layout.legend(self.run);
+        let columns = (self.layout.width / LEGEND_WIDTH).max(1);
+        let mut count: usize = 0;
+        self.svg.push("<g class=\"legend\">\n");
+        for (kind, has) in KINDS.iter().zip(self.has) {
+            if has {
+                let x = (count % columns)
+                    .saturating_mul(LEGEND_WIDTH)
+                    .saturating_add(MARGIN * 2);
+                let y = (count / columns)
+                    .saturating_mul(ROW_HEIGHT)
+                    .saturating_add(top);
+                let (_, _, words) = kind.look();
+                self.draw_form(*kind, x, y.saturating_sub(DROP));
+                self.draw_text(
+                    "label",
+                    x.saturating_add(MARGIN * 2),
+                    y,
+                    Caption::whole(words),
+                );
+                count = count.saturating_add(1);
+            }
         }
-        self.svg.fill("<text x=\"%\" y=\"%\">", &[x, y]);
-        let is_cut = caption.text.len() > caption.limit;
-        let dots = if is_cut { 2 } else { 0 };
-        let shown = caption.limit.saturating_sub(dots);
-        for character in caption.text.chars().take(shown) {
-            self.svg.push_escaped(character);
-        }
-        self.svg
-            .push(if is_cut { "..</text>\n" } else { "</text>\n" });
+        self.svg.push("</g>\n");
+        count
+            .div_ceil(columns)
+            .saturating_mul(ROW_HEIGHT)
+            .saturating_add(top)
     }
 }

@@ -2,6 +2,7 @@
 
 use crate::page::Page;
 use crate::run::{Row, Run};
+use crate::selection::Selection;
 use pct_io::NoMemory;
 use std::alloc::Global;
 
@@ -12,32 +13,42 @@ use std::alloc::Global;
 /// The thread that makes the step has its events as its field; if there are none, the statement; if there is none, where it was.
 /// Another thread has `|` if it is there at this step, else `.`. A thread is there from the step that makes it to the step with
 /// which it or its process ends.
-pub fn lanes(alloc: Global, trace: &[u8]) -> Result<Vec<u8>, NoMemory> {
-    let run = Run::parse(alloc, trace)?;
+/// What the selection leaves out is not shown.
+pub fn lanes(alloc: Global, trace: &[u8], selection: Selection) -> Result<Vec<u8>, NoMemory> {
+    let run = Run::parse(alloc, trace, &[], selection)?;
     let mut table = Page::new(alloc);
     table.reserve(size_of_fields(&run))?;
     push_lines(&mut table, &run);
     table.finish()
 }
 
-// The table has at least two bytes for each step and thread. They are asked for at once, so that a table which cannot fit into
-// memory is refused before it is begun.
+// The table has at least two bytes for each step and thread that are shown. They are asked for at once, so that a table which cannot
+// fit into memory is refused before it is begun.
 fn size_of_fields(run: &Run) -> usize {
-    run.rows
-        .len()
-        .saturating_mul(run.threads.len())
+    let mut shown_threads: usize = 0;
+    for thread in run.threads.iter() {
+        if thread.is_shown {
+            shown_threads = shown_threads.saturating_add(1);
+        }
+    }
+    run.shown_rows
+        .saturating_mul(shown_threads)
         .saturating_mul(2)
 }
 
 fn push_lines(table: &mut Page, run: &Run) {
     table.push("step");
     for thread in run.threads.iter() {
-        table.fill("\t%.%", &[thread.id.process, thread.id.thread]);
+        if thread.is_shown {
+            table.fill("\t%.%", &[thread.id.process, thread.id.thread]);
+        }
     }
     table.push("\n");
     for (index, row) in run.rows.iter().enumerate() {
-        table.push(row.step.number);
-        push_fields(table, run, index, row);
+        if row.is_shown {
+            table.push(row.step.number);
+            push_fields(table, run, index, row);
+        }
     }
     for line in run.closing.iter() {
         table.push(line);
@@ -47,6 +58,9 @@ fn push_lines(table: &mut Page, run: &Run) {
 
 fn push_fields(table: &mut Page, run: &Run, index: usize, row: &Row) {
     for (at, thread) in run.threads.iter().enumerate() {
+        if !thread.is_shown {
+            continue;
+        }
         table.push("\t");
         table.push(if row.thread == Some(at) {
             row.step.summary()

@@ -1,312 +1,327 @@
 //! Where things stand in a picture, in pixels.
 
+use crate::caption::Caption;
 use crate::run::{Row, Run};
+use crate::thread::Thread;
+use pct_io::NoMemory;
+use std::alloc::Global;
 
 /// The height of a row.
 pub(crate) const ROW_HEIGHT: usize = 18;
 
+/// The height of a line of a name or a wait.
+pub(crate) const LINE_HEIGHT: usize = 14;
+
+/// Around the picture, and between its parts.
+pub(crate) const MARGIN: usize = 14;
+
 /// The radius of a mark.
-pub(crate) const RADIUS: usize = 4;
+pub(crate) const RADIUS: usize = 5;
 
-/// From the beginning of a lane to its name there.
-pub(crate) const NAME_GAP: usize = 5;
+/// From the middle of a row to the base line of its texts.
+pub(crate) const DROP: usize = 4;
 
-/// The base line of the names above the lanes.
-pub(crate) const NAMES_BASELINE: usize = MARGIN + ROW_HEIGHT / 2;
+/// The distance of two bars beside a lane.
+pub(crate) const BAR_DISTANCE: usize = 6;
 
-/// The top of the first row.
-pub(crate) const TOP: usize = MARGIN + ROW_HEIGHT;
+/// The base line of the title.
+pub(crate) const TITLE_BASELINE: usize = MARGIN + 8;
 
-/// The middle of the first row.
-pub(crate) const MIDDLE: usize = TOP + ROW_HEIGHT / 2;
+/// The most characters of a function's name above a lane.
+pub(crate) const FUNCTION_LIMIT: usize = 12;
 
-/// The base line of the texts of the first row.
-pub(crate) const BASELINE: usize = MIDDLE + BASELINE_DROP;
+/// The width of an entry of the legend.
+pub(crate) const LEGEND_WIDTH: usize = 270;
 
-/// The bar of a lane that ends in the first row.
-pub(crate) const BAR: usize = MIDDLE + 8;
+// From a lane to the text beside it.
+const TEXT_GAP: usize = 12;
 
-// From the middle of a row to the base line of its texts.
-const BASELINE_DROP: usize = 4;
+// The room that a text beside a mark leaves for an arrow.
+const ARROW_ROOM: usize = 20;
 
-// Around the picture, and between its parts.
-const MARGIN: usize = 14;
+// The width of a slide, which a picture does not exceed if that can be helped.
+const SLIDE: usize = 1280;
 
-// From a lane to the text beside it, and after such a text.
-const TEXT_GAP: usize = 11;
+// The width of a picture in which the title has room.
+const LEAST_WIDTH: usize = 380;
 
-const LANE_GAP: usize = 36;
+// The least distance of two lanes with texts between.
+const WIDE_LANE: usize = 90;
 
-// Half of the width of the name of the first thread, `1.1`.
-const HALF_NAME: usize = 11;
-
-// From a text to the arrow that begins or ends there.
-const ARROW_GAP: usize = 5;
-
-// The least distance of two lanes with no text between.
+// The least distance of two lanes.
 const NARROW_LANE: usize = 26;
 
-// With more threads the events stand at the right side of all lanes.
-const FEW_THREADS: usize = 5;
+/// The greatest number of characters of a place.
+pub(crate) const PLACE_LIMIT: usize = 24;
 
-// A picture with more rows is long.
-const FEW_ROWS: usize = 24;
+// The greatest number of characters of a statement, with few threads and with more.
+const STATEMENT_LIMIT: usize = 48;
 
-// The greatest numbers of characters shown.
-const PLACE_LIMIT: usize = 24;
+const SHORT_STATEMENT_LIMIT: usize = 30;
 
-const STATEMENT_LIMIT: usize = 36;
+const FEW_THREADS: usize = 4;
 
-const STATUS_LIMIT: usize = 48;
+// The greatest number of characters of the name of a mutex.
+const MUTEX_LIMIT: usize = 10;
 
-const EVENTS_BESIDE_LIMIT: usize = 44;
+// The greatest number of characters of events, and the least to which they are cut so that the picture is no wider than a slide.
+const EVENTS_LIMIT: usize = 44;
 
-const EVENTS_LIMIT: usize = 80;
+const LEAST_EVENTS: usize = 10;
 
-/// A text of a picture. Where it has more characters than the limit it is cut.
+// What a lane has beside it: numbers of characters.
 #[derive(Clone, Copy)]
-pub(crate) struct Caption<'a> {
-    pub(crate) text: &'a str,
-    pub(crate) limit: usize,
-}
-
-impl<'a> Caption<'a> {
-    /// A text that is never cut.
-    pub(crate) fn whole(text: &'a str) -> Caption<'a> {
-        Caption {
-            text,
-            limit: text.len(),
-        }
-    }
-
-    /// Where the thread of a step was, `FUNC:LINE` or its status.
-    pub(crate) fn of_place(row: &Row<'a>) -> Caption<'a> {
-        Caption {
-            text: row.step.place,
-            limit: if row.step.is_at_statement() {
-                PLACE_LIMIT
-            } else {
-                STATUS_LIMIT
-            },
-        }
-    }
-
-    /// The statement of a step. It is empty where the status says it.
-    pub(crate) fn of_statement(row: &Row<'a>) -> Caption<'a> {
-        Caption {
-            text: if row.step.is_at_statement() {
-                row.step.statement
-            } else {
-                ""
-            },
-            limit: STATEMENT_LIMIT,
-        }
-    }
-
-    /// Its number of characters.
-    pub(crate) fn len(&self) -> usize {
-        self.text.len().min(self.limit)
-    }
-}
-
-/// A column of texts, one for each step.
-#[derive(Clone, Copy)]
-pub(crate) enum Column {
-    /// The number of the step.
-    Numbers,
-    /// Where its thread was.
-    Places,
-    /// The statement of the script.
-    Statements,
-    /// The events.
-    Events,
+struct Texts {
+    // Of the longest events, name or wait, at the right side.
+    right: usize,
+    // Of the longest name of a mutex, at the left side.
+    left: usize,
 }
 
 /// Where the parts of a picture stand.
-#[derive(Clone, Copy)]
+#[derive(Drop)]
 pub(crate) struct Layout {
-    // Each lane, if there are few.
-    lanes: [usize; FEW_THREADS],
-    // Else the first lane, and the distance of the next one.
-    first_lane: usize,
-    distance: usize,
-    // Where the numbers of the steps end.
-    numbers_end: usize,
+    // The place of each lane.
+    lanes: Vec<usize>,
+    /// Whether texts beside marks extend over the lanes at their right side.
+    pub(crate) is_narrow: bool,
+    /// Where the numbers of the steps end.
+    pub(crate) numbers_end: usize,
     /// Where the places begin.
     pub(crate) places: usize,
-    // Where the statements begin.
-    statements: usize,
-    // Where the events begin, if they do not stand beside the marks.
-    events: Option<usize>,
+    /// Where the statements begin.
+    pub(crate) statements: usize,
+    /// The greatest number of characters of a statement.
+    pub(crate) statement_limit: usize,
+    // The distance of the lanes in a narrow picture.
+    distance: usize,
+    // Where the statements end.
+    texts_end: usize,
     /// The width of the whole.
     pub(crate) width: usize,
-    /// The number of rows.
+    /// The top of the first row.
+    pub(crate) top: usize,
+    /// The number of rows that are shown.
     pub(crate) rows: usize,
+    /// The number of waits after the last step.
+    pub(crate) last_waits: usize,
+    /// The greatest number of characters of a name in a narrow picture, with its function.
+    pub(crate) longest_name: usize,
 }
 
 impl Layout {
     /// The layout of the picture of a run.
-    pub(crate) fn new(run: &Run) -> Layout {
+    pub(crate) fn new(alloc: Global, run: &Run) -> Result<Layout, NoMemory> {
         let mut layout = Layout {
-            lanes: [0; FEW_THREADS],
-            first_lane: 0,
-            distance: 0,
+            lanes: Vec::new(alloc),
+            is_narrow: false,
             numbers_end: 0,
             places: 0,
             statements: 0,
-            events: None,
+            statement_limit: STATEMENT_LIMIT,
+            distance: 0,
+            texts_end: 0,
             width: 0,
-            rows: run.rows.len(),
+            top: MARGIN * 5,
+            rows: run.shown_rows,
+            last_waits: 0,
+            longest_name: 0,
         };
-        layout.place_texts(run);
-        if run.threads.len() <= FEW_THREADS {
-            layout.place_wide_lanes(run);
-        } else {
-            layout.place_narrow_lanes(run);
-        }
-        layout
+        let mut texts = Vec::new(alloc);
+        layout.measure_threads(run, &mut texts)?;
+        layout.measure_rows(run, &mut texts);
+        layout.measure_owners(run, &mut texts);
+        layout.place_lanes(run, texts.as_slice());
+        Ok(layout)
     }
 
-    // Places the numbers, the places and the statements.
-    fn place_texts(&mut self, run: &Run) {
+    // ---- measures
+
+    fn measure_threads(&mut self, run: &Run, texts: &mut Vec<Texts>) -> Result<(), NoMemory> {
+        let mut shown: usize = 0;
+        for thread in run.threads.iter() {
+            let name = thread.id.len();
+            let function = thread.function.len();
+            self.lanes.push(0)?;
+            texts.push(Texts {
+                right: name.max(thread.wait.len()),
+                left: 0,
+            })?;
+            if thread.is_shown {
+                shown = shown.saturating_add(1);
+                let both = name
+                    .saturating_add(1)
+                    .saturating_add(function.min(FUNCTION_LIMIT));
+                self.longest_name = self.longest_name.max(both);
+                if !thread.wait.is_empty() {
+                    self.last_waits = self.last_waits.saturating_add(1);
+                }
+            }
+        }
+        if shown > FEW_THREADS {
+            self.statement_limit = SHORT_STATEMENT_LIMIT;
+        }
+        Ok(())
+    }
+
+    // Measures the texts of the rows, and places those at the left side.
+    fn measure_rows(&mut self, run: &Run, texts: &mut Vec<Texts>) {
         let mut number = 0;
         let mut place = 0;
-        let mut status = 0;
         let mut statement = 0;
         for row in run.rows.iter() {
-            number = number.max(row.step.number.len());
-            statement = statement.max(Caption::of_statement(row).len());
-            let characters = Caption::of_place(row).len();
-            if row.step.is_at_statement() {
-                place = place.max(characters);
-            } else {
-                status = status.max(characters);
+            if row.is_shown {
+                number = number.max(row.step.number.len());
+                place = place.max(Caption::new(row.place, PLACE_LIMIT).len());
+                statement = statement.max(Caption::of_statement(row, self.statement_limit).len());
+                if let Some(thread) = row.thread {
+                    if let Some(beside) = texts.get_mut(thread) {
+                        beside.right = beside.right.max(row.step.events().len());
+                    }
+                }
             }
         }
         self.numbers_end = text_end(MARGIN, number);
-        self.places = text_end(2 * MARGIN, number);
+        self.places = self.numbers_end.saturating_add(MARGIN);
         self.statements = text_end(self.places, place).saturating_add(TEXT_GAP);
-        self.width = text_end(self.statements, statement)
-            .max(text_end(self.places, status))
-            .saturating_add(MARGIN);
+        self.texts_end = text_end(self.statements, statement).saturating_add(MARGIN);
     }
 
-    // Places lanes with room for the events beside the marks.
-    fn place_wide_lanes(&mut self, run: &Run) {
-        self.width = self.width.saturating_add(HALF_NAME);
+    fn measure_owners(&mut self, run: &Run, texts: &mut Vec<Texts>) {
+        for owner in run.owners.iter() {
+            if let Some(thread) = owner.thread {
+                if let Some(beside) = texts.get_mut(thread) {
+                    beside.left = beside.left.max(owner.mutex.len()).min(MUTEX_LIMIT);
+                }
+            }
+        }
+    }
+
+    // ---- lanes
+
+    // Cuts the events until the picture is no wider than a slide. If they would be cut too short the lanes become narrow.
+    fn place_lanes(&mut self, run: &Run, texts: &[Texts]) {
+        for cut in 0..=EVENTS_LIMIT - LEAST_EVENTS {
+            self.place_wide(run, texts, EVENTS_LIMIT - cut);
+            if self.width <= SLIDE {
+                return;
+            }
+        }
+        self.is_narrow = true;
+        self.top = text_end(MARGIN * 3, self.longest_name);
+        self.place_narrow(run, texts);
+    }
+
+    fn place_wide(&mut self, run: &Run, texts: &[Texts], limit: usize) {
+        let mut lane = self.texts_end;
+        let mut end = self.texts_end;
         for (index, thread) in run.threads.iter().enumerate() {
-            if let Some(lane) = self.lanes.get_mut(index) {
-                *lane = self.width;
+            if let (true, Some(beside)) = (thread.is_shown, texts.get(index)) {
+                let name = thread
+                    .function
+                    .len()
+                    .min(FUNCTION_LIMIT)
+                    .max(thread.id.len());
+                let left = text_end(left_of(thread.most_owned), beside.left).max(text_end(0, name) / 2);
+                lane = end.saturating_add(left).max(lane.saturating_add(WIDE_LANE));
+                end = text_end(lane, beside.right.min(limit)).saturating_add(TEXT_GAP + ARROW_ROOM);
             }
-            let events = self.longest_events(run, Some(index));
-            let characters = events.max(thread.id.len());
-            self.width = text_end(self.width, characters).saturating_add(TEXT_GAP + LANE_GAP);
+            if let Some(place) = self.lanes.get_mut(index) {
+                *place = lane;
+            }
         }
+        self.width = end.max(LEAST_WIDTH);
     }
 
-    // Places lanes side by side, and the events at their right side, where the name at the beginning of the last lane has room.
-    fn place_narrow_lanes(&mut self, run: &Run) {
-        self.distance = NARROW_LANE;
-        for thread in run.threads.iter() {
-            self.distance = self.distance.max(text_end(MARGIN, thread.id.len()));
-        }
-        self.first_lane = self.width.saturating_add(self.distance / 2);
-        let events = self.lane(run.threads.len()).saturating_add(MARGIN);
-        self.events = Some(events);
-        self.width = text_end(events, self.longest_events(run, None)).saturating_add(MARGIN);
-    }
-
-    // The greatest number of characters of the events of a step, of this thread if there is one.
-    fn longest_events(&self, run: &Run, thread: Option<usize>) -> usize {
+    // Places lanes side by side, with room for the events of the last one.
+    fn place_narrow(&mut self, run: &Run, texts: &[Texts]) {
         let mut longest = 0;
-        for row in run.rows.iter() {
-            if thread.is_none() || thread == row.thread {
-                longest = longest.max(self.events_caption(row).len());
+        let mut count: usize = 0;
+        for (thread, beside) in run.threads.iter().zip(texts) {
+            if thread.is_shown {
+                longest = beside.right.min(EVENTS_LIMIT).max(longest);
+                count = count.saturating_add(1);
             }
         }
-        longest
-    }
-
-    /// Where a column has its text of a step, and the text.
-    pub(crate) fn text<'a>(&self, column: Column, row: &Row<'a>) -> (usize, Caption<'a>) {
-        match column {
-            Column::Numbers => (self.numbers_end, Caption::whole(row.step.number)),
-            Column::Places => (self.places, Caption::of_place(row)),
-            Column::Statements => (self.statements, Caption::of_statement(row)),
-            Column::Events => match row.thread {
-                Some(thread) => (self.events_start(thread), self.events_caption(row)),
-                None => (self.width, Caption::whole("")),
-            },
+        let right = text_end(TEXT_GAP + MARGIN, longest);
+        let room = SLIDE.saturating_sub(self.texts_end).saturating_sub(right);
+        self.distance = (room / count.max(1)).clamp(NARROW_LANE, WIDE_LANE);
+        let mut lane = self.texts_end;
+        for (index, thread) in run.threads.iter().enumerate() {
+            if thread.is_shown {
+                lane = lane.saturating_add(self.distance);
+            }
+            if let Some(place) = self.lanes.get_mut(index) {
+                *place = lane;
+            }
         }
-    }
-
-    // The events of a step.
-    fn events_caption<'a>(&self, row: &Row<'a>) -> Caption<'a> {
-        Caption {
-            text: row.step.events(),
-            limit: if self.events.is_none() {
-                EVENTS_BESIDE_LIMIT
-            } else {
-                EVENTS_LIMIT
-            },
-        }
+        self.width = lane.saturating_add(right).max(LEAST_WIDTH);
     }
 
     /// The place of the lane of this thread.
     pub(crate) fn lane(&self, thread: usize) -> usize {
-        match self.lanes.get(thread) {
-            Some(lane) if self.events.is_none() => *lane,
-            _ => thread
-                .saturating_mul(self.distance)
-                .saturating_add(self.first_lane),
-        }
+        self.lanes.get(thread).copied().unwrap_or(0)
     }
 
-    // Where the events of a step of this thread begin.
-    fn events_start(&self, thread: usize) -> usize {
-        match self.events {
-            Some(start) => start,
-            None => self.lane(thread).saturating_add(TEXT_GAP),
-        }
+    /// The left side of what belongs to the lane with this index.
+    pub(crate) fn left_edge(&self, index: usize, thread: &Thread) -> usize {
+        self.lane(index).saturating_sub(left_of(thread.most_owned))
     }
 
-    /// Where an arrow towards the right begins in the lane of the thread that makes this step: after the events beside the mark.
-    pub(crate) fn right_of_mark(&self, thread: usize, row: &Row) -> usize {
-        let characters = self.events_caption(row).len();
-        if self.events.is_some() || characters == 0 {
-            self.lane(thread).saturating_add(RADIUS)
+    /// Where the name of a mutex ends that this thread owns, and how many characters have room up to the lane before it.
+    pub(crate) fn mutex(&self, index: usize, thread: &Thread) -> (usize, usize) {
+        let end = self.left_edge(index, thread).saturating_sub(2);
+        let limit = if self.is_narrow {
+            let lane = self.lane(index).saturating_sub(self.distance);
+            characters_between(lane.saturating_add(RADIUS), end)
         } else {
-            text_end(self.events_start(thread), characters).saturating_add(ARROW_GAP)
+            MUTEX_LIMIT
+        };
+        (end, limit)
+    }
+
+    /// Where the events of a step stand, and at most how many characters have room. In a narrow picture they stand beside the last lane that
+    /// an arrow of the row concerns, else beside the mark, up to the next lane or an arrow to it.
+    pub(crate) fn events(
+        &self,
+        run: &Run,
+        index: usize,
+        row: &Row<'_>,
+        thread: usize,
+    ) -> (usize, usize) {
+        let (start, end) = if self.is_narrow {
+            (self.lane(row.reach), self.width.saturating_sub(MARGIN))
+        } else {
+            let edge = self.next_edge(run, thread, index);
+            let arrow = if row.reach > thread { ARROW_ROOM } else { 0 };
+            (self.lane(thread), edge.saturating_sub(arrow))
+        };
+        let start = start.saturating_add(TEXT_GAP);
+        (start, characters_between(start, end).min(EVENTS_LIMIT))
+    }
+
+    /// The next place at the right side of the lane with this index where a lane has a line in this row, or the end of the picture.
+    pub(crate) fn next_edge(&self, run: &Run, index: usize, row: usize) -> usize {
+        for (at, thread) in run.threads.iter().enumerate().skip(index.saturating_add(1)) {
+            if thread.is_drawn(row) {
+                return self.left_edge(at, thread);
+            }
         }
-    }
-
-    /// Whether a reader of the last rows may not see the first ones.
-    pub(crate) fn is_long(&self) -> bool {
-        self.rows > FEW_ROWS
-    }
-
-    /// The base line of the names below the lanes, which stand there in a long picture.
-    pub(crate) fn lower_names_baseline(&self) -> usize {
-        row_at(self.rows, TOP + MARGIN)
-    }
-
-    /// The base line of the line with this index after the steps.
-    pub(crate) fn closing_baseline(&self, index: usize) -> usize {
-        let lower_names = if self.is_long() { MARGIN } else { 0 };
-        row_at(
-            self.rows.saturating_add(index),
-            TOP + ROW_HEIGHT + BASELINE_DROP,
-        )
-        .saturating_add(lower_names)
+        self.width.saturating_sub(MARGIN)
     }
 }
 
-/// Where something stands in a row, if it stands at `in_first` in the first row.
-pub(crate) fn row_at(row: usize, in_first: usize) -> usize {
-    row.saturating_mul(ROW_HEIGHT).saturating_add(in_first)
+/// From a lane to the left side of what belongs to it: its marks, and so many bars of mutexes.
+pub(crate) fn left_of(bars: usize) -> usize {
+    bars.saturating_mul(BAR_DISTANCE).saturating_add(RADIUS + 1)
 }
 
-// Where a text ends: 7.25 pixels for each character, at a font size of 12.
-fn text_end(start: usize, characters: usize) -> usize {
+/// Where a text ends: 7.25 pixels for each character, at a font size of 12.
+pub(crate) fn text_end(start: usize, characters: usize) -> usize {
     start.saturating_add(characters.saturating_mul(29).div_ceil(4))
+}
+
+/// The number of characters that have room between two places.
+pub(crate) fn characters_between(start: usize, end: usize) -> usize {
+    end.saturating_sub(start).saturating_mul(4) / 29
 }

@@ -33,8 +33,15 @@ impl Page {
         }
     }
 
+    /// Adds a text of SVG.
+    pub(crate) fn push_escaped(&mut self, text: &str) {
+        for character in text.chars() {
+            self.push_character(character);
+        }
+    }
+
     /// Adds a character of a text of SVG. One that is no visible ASCII character is shown as `?`.
-    pub(crate) fn push_escaped(&mut self, character: char) {
+    pub(crate) fn push_character(&mut self, character: char) {
         match character {
             '&' => self.push("&amp;"),
             '<' => self.push("&lt;"),
@@ -60,6 +67,12 @@ impl Page {
         if self.text.write_fmt(formatted).is_err() {
             self.is_whole = false;
         }
+    }
+
+    /// Adds a page.
+    pub(crate) fn push_page(&mut self, page: &Page) {
+        self.push(page.text.as_str());
+        self.is_whole = self.is_whole && page.is_whole;
     }
 
     /// The bytes of the text.

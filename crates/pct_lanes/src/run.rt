@@ -1,64 +1,64 @@
-//! The run of a trace: its steps, its threads, and when each of them is there.
+//! The run of a trace: its steps, its threads, when each of them is there, waits, and owns a mutex.
 
 use crate::effects::Effect;
+use crate::kinds::Kind;
+use crate::selection::Selection;
+use crate::thread::Thread;
 use crate::thread_id::ThreadId;
-use crate::trace_lines::Step;
+use crate::trace_lines::{Step, nth_word};
+use crate::waits::{Owner, Wait};
 use pct_io::NoMemory;
 use std::alloc::Global;
 use std::collections::BTreeMap;
 use std::str;
 
-/// A thread, and when it is there. Rows count the steps from 0.
-#[derive(Clone, Copy)]
-pub(crate) struct Thread {
-    pub(crate) id: ThreadId,
-    /// The row of the step that makes it.
-    pub(crate) first: usize,
-    /// The row of the step with which it ends, if it ends.
-    pub(crate) last: Option<usize>,
-    /// Whether it has not ended by itself, but with its process, in a step of another thread.
-    pub(crate) is_cut_off: bool,
-    /// The last row in which it makes a step, or an arrow comes from it or leads to it.
-    pub(crate) last_seen: usize,
-}
-
-impl Thread {
-    /// Whether the thread is there in this row.
-    pub(crate) fn is_there(&self, row: usize) -> bool {
-        let has_ended = match self.last {
-            None => false,
-            Some(last) => last < row,
-        };
-        self.first <= row && !has_ended
-    }
-}
-
 /// In a row, something goes from one thread to another.
 #[derive(Clone, Copy)]
 pub(crate) struct Arrow {
     pub(crate) row: usize,
+    pub(crate) kind: Kind,
     /// The index of the thread from which it comes.
     pub(crate) from: usize,
     /// The index of the thread to which it leads.
     pub(crate) to: usize,
+    /// The number of bars beside the lane of the second of the two threads.
+    pub(crate) bars: usize,
 }
 
-/// A step, and the index of its thread.
+/// A step, and its thread.
 #[derive(Clone, Copy)]
 pub(crate) struct Row<'a> {
     pub(crate) step: Step<'a>,
+    /// The index of its thread.
     pub(crate) thread: Option<usize>,
+    pub(crate) kind: Kind,
+    /// `FUNC:LINE` of its statement, or where its thread was.
+    pub(crate) place: &'a str,
+    /// The greatest index of a thread that has the mark or an end of an arrow in this row.
+    pub(crate) reach: usize,
+    /// Whether it is shown.
+    pub(crate) is_shown: bool,
+    /// The number of rows before it that are shown.
+    pub(crate) position: usize,
 }
 
 /// A run.
 #[derive(Drop)]
 pub(crate) struct Run<'a> {
+    /// Which part of it is shown.
+    pub(crate) selection: Selection<'a>,
     /// The steps.
     pub(crate) rows: Vec<Row<'a>>,
+    /// The number of rows that are shown.
+    pub(crate) shown_rows: usize,
     /// The threads, in the order in which they come into being. The first one is there from the beginning.
-    pub(crate) threads: Vec<Thread>,
+    pub(crate) threads: Vec<Thread<'a>>,
     /// What goes between threads, by rising row.
     pub(crate) arrows: Vec<Arrow>,
+    /// Who owns a mutex, and when, by rising first row.
+    pub(crate) owners: Vec<Owner<'a>>,
+    /// When a thread waits, for each thread by rising rows.
+    pub(crate) waits: Vec<Wait>,
     /// The lines after the steps: the verdict, and a notice.
     pub(crate) closing: Vec<&'a str>,
     // The index of each thread, by its process and its number.
@@ -68,20 +68,37 @@ pub(crate) struct Run<'a> {
 }
 
 impl<'a> Run<'a> {
-    /// The run of a trace. A trace is ASCII text, and one that is not even UTF-8 counts as empty.
-    pub(crate) fn parse(alloc: Global, trace: &'a [u8]) -> Result<Run<'a>, NoMemory> {
+    /// The run of a trace, with what is waited for after it: the texts of `trace` and of `choices`. They are ASCII text, and one that is not
+    /// even UTF-8 counts as empty.
+    pub(crate) fn parse(
+        alloc: Global,
+        trace: &'a [u8],
+        choices: &'a [u8],
+        selection: Selection<'a>,
+    ) -> Result<Run<'a>, NoMemory> {
         let mut run = Run {
+            selection,
             rows: Vec::new(alloc),
+            shown_rows: 0,
             threads: Vec::new(alloc),
             arrows: Vec::new(alloc),
+            owners: Vec::new(alloc),
+            waits: Vec::new(alloc),
             closing: Vec::new(alloc),
             indices: BTreeMap::new(alloc),
             process_ends: BTreeMap::new(alloc),
         };
-        run.add_thread(ThreadId::MAIN)?;
-        run.add_lines(str::from_utf8(trace).unwrap_or(""))?;
-        run.end_processes();
+        run.add_all(trace, choices)?;
         Ok(run)
+    }
+
+    fn add_all(&mut self, trace: &'a [u8], choices: &'a [u8]) -> Result<(), NoMemory> {
+        let is_shown = self.selection.has_thread(ThreadId::MAIN);
+        self.add_thread(Thread::new(ThreadId::MAIN, "main", is_shown, 0))?;
+        self.add_lines(str::from_utf8(trace).unwrap_or(""))?;
+        self.end_processes();
+        self.add_choices(str::from_utf8(choices).unwrap_or(""))?;
+        self.add_open_calls()
     }
 
     fn add_lines(&mut self, trace: &'a str) -> Result<(), NoMemory> {
@@ -95,35 +112,85 @@ impl<'a> Run<'a> {
         Ok(())
     }
 
+    // ---- steps
+
     fn add_step(&mut self, step: Step<'a>) -> Result<(), NoMemory> {
-        let mut thread = None;
-        if let Some(by) = ThreadId::parse(step.thread) {
-            thread = self.see(by);
-            self.add_events(step.events, by)?;
+        let index = self.rows.len();
+        let mut row = Row {
+            step,
+            thread: None,
+            kind: Kind::Step,
+            place: step.place,
+            reach: 0,
+            is_shown: self.selection.has_step(index, &step),
+            position: self.shown_rows,
+        };
+        self.note_thread(&mut row)?;
+        if row.is_shown {
+            self.shown_rows = self.shown_rows.saturating_add(1);
         }
-        self.rows.push(Row { step, thread })?;
+        self.rows.push(row)?;
         Ok(())
     }
 
-    // Adds the events of a step that the thread `by` makes.
-    fn add_events(&mut self, events: &str, by: ThreadId) -> Result<(), NoMemory> {
-        for event in events.split(',') {
+    // Notes what the step of a row does, and completes the row.
+    fn note_thread(&mut self, row: &mut Row<'a>) -> Result<(), NoMemory> {
+        let Some(by) = ThreadId::parse(row.step.thread) else {
+            return Ok(());
+        };
+        let Some(index) = self.see(by) else {
+            return Ok(());
+        };
+        self.end_wait(index, &row.step)?;
+        let Some(thread) = self.threads.get_mut(index) else {
+            return Ok(());
+        };
+        let (kind, place) = thread.note_step(row.step);
+        thread.since = self.rows.len();
+        row.thread = Some(index);
+        row.kind = kind;
+        row.place = place;
+        row.is_shown = row.is_shown && thread.is_shown;
+        row.reach = self.add_events(row, index, by)?;
+        Ok(())
+    }
+
+    // Adds the events of a step of this thread, and returns the greatest index of a thread that an arrow concerns.
+    fn add_events(&mut self, row: &Row<'a>, index: usize, by: ThreadId) -> Result<usize, NoMemory> {
+        let first_arrow = self.arrows.len();
+        for event in row.step.events.split(',') {
             if let Some(effect) = Effect::parse(event, by) {
-                self.apply(effect, by)?;
+                self.apply(effect, row, index, by)?;
             }
         }
-        Ok(())
+        let mut reach = index;
+        for arrow in self.arrows.iter().skip(first_arrow) {
+            reach = reach.max(arrow.from).max(arrow.to);
+        }
+        Ok(reach)
     }
 
-    fn apply(&mut self, effect: Effect, by: ThreadId) -> Result<(), NoMemory> {
+    fn apply(
+        &mut self,
+        effect: Effect<'a>,
+        row: &Row<'a>,
+        index: usize,
+        by: ThreadId,
+    ) -> Result<(), NoMemory> {
         match effect {
-            Effect::Makes(id) => {
-                self.add_thread(id)?;
-                self.add_arrow(by, id)?;
+            Effect::Makes(kind, id) => self.make_thread(kind, id, row, index)?,
+            Effect::Requests(id) => self.add_arrow(Kind::Request, index, self.index_of(id))?,
+            Effect::Signals(id) => self.unblock(index, self.index_of(id))?,
+            Effect::Broadcasts(condition) => self.unblock_all(index, by.process, condition)?,
+            Effect::Joins(id) => {
+                if let Some(from) = self.index_of(id) {
+                    self.add_arrow(Kind::Join, from, Some(index))?;
+                }
             }
-            Effect::Calls(id) => self.add_arrow(by, id)?,
-            Effect::Joins(id) => self.add_arrow(id, by)?,
-            Effect::Ends => self.end_thread(by),
+            Effect::Suspends => self.suspend(index),
+            Effect::Acquires(mutex) => self.acquire(index, by.process, mutex)?,
+            Effect::Releases(mutex) => self.release(index, by.process, mutex),
+            Effect::Ends => self.end_thread(index),
             Effect::EndsProcess => {
                 let end = (self.rows.len(), by.thread);
                 self.process_ends.insert(by.process, end)?;
@@ -132,48 +199,94 @@ impl<'a> Run<'a> {
         Ok(())
     }
 
-    fn index_of(&self, id: ThreadId) -> Option<usize> {
+    /// Adds an arrow between the threads with these indices.
+    pub(crate) fn add_arrow(
+        &mut self,
+        kind: Kind,
+        from: usize,
+        to: Option<usize>,
+    ) -> Result<(), NoMemory> {
+        let row = self.rows.len();
+        if let Some(to) = to {
+            self.see_at(from);
+            self.see_at(to);
+            let bars = match self.threads.get(from.max(to)) {
+                Some(thread) => thread.bars(),
+                None => 0,
+            };
+            self.arrows.push(Arrow {
+                row,
+                kind,
+                from,
+                to,
+                bars,
+            })?;
+        }
+        Ok(())
+    }
+
+    // ---- threads
+
+    /// The index of the thread with this name.
+    pub(crate) fn index_of(&self, id: ThreadId) -> Option<usize> {
         self.indices.get(&(id.process, id.thread)).copied()
     }
 
-    fn add_thread(&mut self, id: ThreadId) -> Result<(), NoMemory> {
+    fn add_thread(&mut self, thread: Thread<'a>) -> Result<(), NoMemory> {
         self.indices
-            .insert((id.process, id.thread), self.threads.len())?;
-        let row = self.rows.len();
-        self.threads.push(Thread {
-            id,
-            first: row,
-            last: None,
-            is_cut_off: false,
-            last_seen: row,
-        })?;
+            .insert((thread.id.process, thread.id.thread), self.threads.len())?;
+        self.threads.push(thread)?;
         Ok(())
     }
 
-    fn add_arrow(&mut self, from: ThreadId, to: ThreadId) -> Result<(), NoMemory> {
-        if let (Some(from), Some(to)) = (self.see(from), self.see(to)) {
-            let row = self.rows.len();
-            self.arrows.push(Arrow { row, from, to })?;
+    // Adds the thread that the step of a row creates, or the replica of its thread.
+    fn make_thread(
+        &mut self,
+        kind: Kind,
+        id: ThreadId,
+        row: &Row<'a>,
+        index: usize,
+    ) -> Result<(), NoMemory> {
+        let first = self.rows.len();
+        let is_shown = self.selection.has_thread(id);
+        let made = self.threads.len();
+        let thread = match (kind, self.threads.get(index)) {
+            (Kind::Fork, Some(parent)) => parent.replica(id, is_shown, first),
+            _ => Thread::new(id, row.step.word(3), is_shown, first),
+        };
+        self.add_thread(thread)?;
+        if let Kind::Fork = kind {
+            self.copy_owners(index, made)?;
         }
-        Ok(())
+        self.add_arrow(kind, index, Some(made))
     }
 
     // Notes that the row of the step has something of this thread, and returns its index.
     fn see(&mut self, id: ThreadId) -> Option<usize> {
         let index = self.index_of(id)?;
-        self.threads.get_mut(index)?.last_seen = self.rows.len();
+        self.see_at(index);
         Some(index)
     }
 
-    fn end_thread(&mut self, id: ThreadId) {
-        if let Some(index) = self.index_of(id) {
-            if let Some(thread) = self.threads.get_mut(index) {
-                thread.last = Some(self.rows.len());
-            }
+    fn see_at(&mut self, index: usize) {
+        if let Some(thread) = self.threads.get_mut(index) {
+            thread.last_seen = self.rows.len();
         }
     }
 
-    // Ends the threads that are there when their process ends.
+    fn suspend(&mut self, index: usize) {
+        if let Some(thread) = self.threads.get_mut(index) {
+            thread.is_in_call = true;
+        }
+    }
+
+    fn end_thread(&mut self, index: usize) {
+        if let Some(thread) = self.threads.get_mut(index) {
+            thread.last = Some(self.rows.len());
+        }
+    }
+
+    // Ends the threads that are there when their process ends, and what they own.
     fn end_processes(&mut self) {
         for thread in self.threads.iter_mut() {
             if thread.last.is_none() {
@@ -183,5 +296,48 @@ impl<'a> Run<'a> {
                 }
             }
         }
+        for owner in self.owners.iter_mut() {
+            if owner.last.is_none() {
+                if let Some((row, _)) = self.process_ends.get(&owner.process) {
+                    owner.last = Some(*row);
+                }
+            }
+        }
+    }
+
+    // ---- what is waited for after the last step
+
+    // Notes the wait of each thread in a text of `choices`.
+    fn add_choices(&mut self, choices: &'a str) -> Result<(), NoMemory> {
+        for line in choices.split('\n') {
+            let mut fields = line.split('\t');
+            if let (Some(name), Some(status)) = (fields.next(), fields.nth(2)) {
+                if let Some(id) = ThreadId::parse(name) {
+                    self.add_last_wait(id, status)?;
+                }
+            }
+        }
+        Ok(())
+    }
+
+    // Notes what a thread with this status waits for.
+    fn add_last_wait(&mut self, id: ThreadId, status: &'a str) -> Result<(), NoMemory> {
+        let Some(index) = self.index_of(id) else {
+            return Ok(());
+        };
+        let end = self.rows.len();
+        let shows_end = self.selection.has_end(end);
+        for phrase in status.split(',') {
+            let phrase = phrase.strip_prefix(' ').unwrap_or(phrase);
+            if phrase.starts_with("waits for") {
+                if let (true, Some(thread)) = (shows_end, self.threads.get_mut(index)) {
+                    thread.wait = phrase;
+                }
+                if nth_word(phrase, 2) == "mutex" {
+                    self.wait_for_mutex(index, nth_word(phrase, 3), end)?;
+                }
+            }
+        }
+        Ok(())
     }
 }

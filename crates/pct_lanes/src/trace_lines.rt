@@ -57,8 +57,23 @@ impl<'a> Step<'a> {
         self.place.contains(':')
     }
 
+    /// Whether the thread was in a call.
+    pub(crate) fn is_in_call(&self) -> bool {
+        self.place.starts_with("in ")
+    }
+
     /// Whether the thread acts on a request in this step.
     pub(crate) fn is_act(&self) -> bool {
         self.choice.starts_with("act")
     }
+
+    /// The word of the statement with this index, or nothing.
+    pub(crate) fn word(&self, index: usize) -> &'a str {
+        nth_word(self.statement, index)
+    }
+}
+
+/// The word of a text with this index, or nothing.
+pub(crate) fn nth_word(text: &str, index: usize) -> &str {
+    text.split_ascii_whitespace().nth(index).unwrap_or("")
 }

@@ -1,0 +1,283 @@
+//! The lanes of a picture: their names, when each thread is there, what it owns and when it waits.
+
+use crate::caption::Caption;
+use crate::drawing::Drawing;
+use crate::kinds::Kind;
+use crate::layout::{BAR_DISTANCE, DROP, FUNCTION_LIMIT, LINE_HEIGHT, RADIUS, characters_between};
+use crate::thread::Thread;
+use crate::waits::{Owner, Wait};
+
+// The width of the bar of a mutex.
+const BAR_WIDTH: usize = 4;
+
+// From the middle of a row to the bar of a thread that ends there.
+const END_DROP: usize = 8;
+
+impl Drawing<'_, '_> {
+    // ---- names
+
+    // In a long picture a lane is named below it too, and where it begins.
+    pub(crate) fn draw_names(&mut self) {
+        let top = self.layout.top.saturating_sub(DROP * 2);
+        let lower = self.layout.lower_names();
+        self.svg.push("<g class=\"names\">\n");
+        for (index, thread) in self.run.threads.iter().enumerate() {
+            if thread.is_shown {
+                let lane = self.layout.lane(index);
+                if self.layout.is_narrow {
+                    self.draw_turned_name("name turned", lane, top, thread);
+                } else {
+                    self.draw_level_name(lane, top, thread);
+                }
+                if self.layout.is_long() && self.layout.is_narrow {
+                    self.draw_turned_name("name turned lower", lane, lower, thread);
+                } else if self.layout.is_long() {
+                    self.draw_level_name(lane, lower.saturating_add(LINE_HEIGHT * 2), thread);
+                    self.draw_first_name(index, thread);
+                }
+            }
+        }
+        self.svg.push("</g>\n");
+    }
+
+    // The name of a thread, and on the base line below it its function.
+    fn draw_level_name(&mut self, lane: usize, baseline: usize, thread: &Thread) {
+        let function = Caption::new(thread.function, FUNCTION_LIMIT);
+        self.draw_name("name", lane, baseline.saturating_sub(LINE_HEIGHT), thread);
+        self.draw_text("name function", lane, baseline, function);
+    }
+
+    // The name of a thread and its function, from the bottom to the top.
+    fn draw_turned_name(&mut self, class: &str, lane: usize, y: usize, thread: &Thread) {
+        self.svg.push("<text class=\"");
+        self.svg.push(class);
+        self.svg.fill(
+            "\" transform=\"translate(% %) rotate(-90)\">%.% ",
+            &[
+                lane.saturating_add(DROP),
+                y,
+                thread.id.process,
+                thread.id.thread,
+            ],
+        );
+        let function = Caption::new(thread.function, FUNCTION_LIMIT);
+        self.push_caption(&function, FUNCTION_LIMIT);
+        self.svg.push("</text>\n");
+    }
+
+    // The name of a thread that another one makes, at the beginning of its lane.
+    fn draw_first_name(&mut self, index: usize, thread: &Thread) {
+        if let (true, Some(row)) = (index > 0, self.run.rows.get(thread.first)) {
+            if row.is_shown {
+                let x = self.layout.lane(index).saturating_add(RADIUS);
+                self.draw_name("name first", x, self.layout.baseline(row.position), thread);
+            }
+        }
+    }
+
+    fn draw_name(&mut self, class: &str, x: usize, y: usize, thread: &Thread) {
+        self.svg.push("<text class=\"");
+        self.svg.push(class);
+        self.svg.fill(
+            "\" x=\"%\" y=\"%\">%.%</text>\n",
+            &[x, y, thread.id.process, thread.id.thread],
+        );
+    }
+
+    // ---- lines
+
+    // A line while a thread is there, broken while it waits, and dotted after its end.
+    pub(crate) fn draw_lanes(&mut self) {
+        self.svg.push("<g class=\"lanes\">\n");
+        for wait in self.run.waits.iter() {
+            self.draw_wait(wait);
+        }
+        for (index, thread) in self.run.threads.iter().enumerate() {
+            if thread.is_shown {
+                self.draw_lane(index, thread);
+            }
+        }
+        self.svg.push("</g>\n");
+    }
+
+    // The lane of a thread while it waits, and before that.
+    fn draw_wait(&mut self, wait: &Wait) {
+        if let Some(thread) = self.run.threads.get(wait.thread) {
+            if thread.is_shown {
+                let after = self.layout.y(self.run, wait.after);
+                let first = self.layout.y(self.run, wait.first);
+                let last = self.layout.y(self.run, wait.last);
+                self.draw_line("lane", wait.thread, after, first);
+                if self.draw_line("waiting", wait.thread, first, last) {
+                    self.note(Kind::Waiting);
+                }
+            }
+        }
+    }
+
+    // The lane of a thread after its waits. The first thread is there before its first step.
+    fn draw_lane(&mut self, index: usize, thread: &Thread) {
+        if index == 0 {
+            self.draw_line("lane", index, self.layout.top, self.layout.y(self.run, 0));
+        }
+        let waited = self.layout.y(self.run, thread.waited);
+        let bottom = self.lane_bottom(thread);
+        self.draw_line("lane", index, waited, bottom);
+        if self.draw_line(
+            "ended",
+            index,
+            bottom,
+            self.layout.y(self.run, thread.last_seen),
+        ) {
+            self.note(Kind::Ended);
+        }
+    }
+
+    // Draws a line in a lane, and returns whether there is one.
+    fn draw_line(&mut self, class: &str, index: usize, top: usize, bottom: usize) -> bool {
+        if top >= bottom {
+            return false;
+        }
+        let lane = self.layout.lane(index);
+        self.svg.push("<path class=\"");
+        self.svg.push(class);
+        self.svg.fill("\" d=\"M% %V%\"/>\n", &[lane, top, bottom]);
+        true
+    }
+
+    fn lane_bottom(&self, thread: &Thread) -> usize {
+        match thread.last {
+            None => self.layout.bottom(),
+            Some(last) if thread.is_cut_off => self.layout.y(self.run, last),
+            Some(last) => self.layout.y(self.run, last).saturating_add(END_DROP),
+        }
+    }
+
+    // A bar where a thread ends, or a cross where it is cut off. Two bars where a process ends.
+    pub(crate) fn draw_ends(&mut self) {
+        self.svg.push("<g class=\"ends\">\n");
+        for (index, thread) in self.run.threads.iter().enumerate() {
+            if let Some(last) = thread.last {
+                let kind = if thread.is_cut_off {
+                    Kind::CutOff
+                } else {
+                    Kind::End
+                };
+                if thread.is_shown && self.is_row_shown(last) {
+                    self.draw_form(kind, self.layout.lane(index), self.lane_bottom(thread));
+                }
+            }
+        }
+        self.svg.push("</g>\n");
+    }
+
+    fn is_row_shown(&self, row: usize) -> bool {
+        match self.run.rows.get(row) {
+            Some(row) => row.is_shown,
+            None => false,
+        }
+    }
+
+    // ---- mutexes
+
+    // A bar beside the lane of the owner of a mutex, with its name at the top.
+    pub(crate) fn draw_owners(&mut self) {
+        self.svg.push("<g class=\"owners\">\n");
+        for owner in self.run.owners.iter() {
+            if let Some(index) = owner.thread {
+                if let Some(thread) = self.run.threads.get(index) {
+                    if thread.is_shown {
+                        self.draw_owner(owner, index, thread);
+                    }
+                }
+            }
+        }
+        self.svg.push("</g>\n");
+    }
+
+    fn draw_owner(&mut self, owner: &Owner, index: usize, thread: &Thread) {
+        let top = self.layout.y(self.run, owner.first);
+        let bottom = match owner.last {
+            None => self.layout.bottom(),
+            Some(last) => self.layout.y(self.run, last),
+        };
+        if top >= bottom {
+            return;
+        }
+        let left = self.layout.lane(index).saturating_sub(
+            owner
+                .place
+                .saturating_mul(BAR_DISTANCE)
+                .saturating_add(RADIUS),
+        );
+        self.svg.fill(
+            "<rect class=\"owner\" x=\"%\" y=\"%\" width=\"%\" height=\"%\"/>\n",
+            &[left, top, BAR_WIDTH, bottom.saturating_sub(top)],
+        );
+        self.note(Kind::Owner);
+        self.draw_mutex(owner, index, thread);
+    }
+
+    // The name of a mutex. If its owner does not make a step in the first row, which is left out or has a fork, the names of its
+    // mutexes stand below that row, one below the other.
+    fn draw_mutex(&mut self, owner: &Owner, index: usize, thread: &Thread) {
+        if let Some(row) = self.run.rows.get(owner.first) {
+            let below = if row.is_shown && row.thread == owner.thread {
+                0
+            } else {
+                owner.place
+            };
+            let y = self.layout.baseline(row.position.saturating_add(below));
+            let (end, limit) = self.layout.mutex(index, thread);
+            self.draw_text("label mutex", end, y, Caption::new(owner.mutex, limit));
+        }
+    }
+
+    // ---- waits after the last step
+
+    // What each thread waits for, below its lane; in a narrow picture below the other lines after the steps.
+    pub(crate) fn draw_last_waits(&mut self) {
+        self.svg.push("<g class=\"waits\">\n");
+        let mut line = self.run.closing.len();
+        for (index, thread) in self.run.threads.iter().enumerate() {
+            if thread.is_shown && !thread.wait.is_empty() {
+                if self.layout.is_narrow {
+                    self.draw_wait_line(thread, self.layout.closing(line));
+                    line = line.saturating_add(1);
+                } else {
+                    self.draw_wait_below(thread, index);
+                }
+            }
+        }
+        self.svg.push("</g>\n");
+    }
+
+    fn draw_wait_line(&mut self, thread: &Thread, y: usize) {
+        self.svg.fill(
+            "<text class=\"label wait\" x=\"14\" y=\"%\">%.% ",
+            &[y, thread.id.process, thread.id.thread],
+        );
+        self.svg.push_escaped(thread.wait);
+        self.svg.push("</text>\n");
+    }
+
+    // In one line, or in two if that has no room.
+    fn draw_wait_below(&mut self, thread: &Thread, index: usize) {
+        let x = self.layout.lane(index).saturating_sub(RADIUS);
+        let y = self.layout.bottom().saturating_add(LINE_HEIGHT);
+        let end = self.layout.next_edge(self.run, index, self.run.rows.len());
+        let limit = characters_between(x, end);
+        let second = thread.wait.strip_prefix("waits for ").unwrap_or("");
+        if thread.wait.len() <= limit || second.is_empty() {
+            self.draw_text("label wait", x, y, Caption::new(thread.wait, limit));
+        } else {
+            self.draw_text("label wait", x, y, Caption::new("waits for", limit));
+            self.draw_text(
+                "label wait",
+                x,
+                y.saturating_add(LINE_HEIGHT),
+                Caption::new(second, limit),
+            );
+        }
+    }
+}

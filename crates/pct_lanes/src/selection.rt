@@ -1,0 +1,56 @@
+//! The part of a run that is shown.
+
+use crate::thread_id::ThreadId;
+use crate::trace_lines::Step;
+
+/// Which steps and which threads are shown.
+#[derive(Clone, Copy)]
+pub struct Selection<'a> {
+    /// The numbers of the first and of the last step. If it is `None` no step is left out for its number.
+    pub steps: Option<(usize, usize)>,
+    /// The threads, as `P.T`, separated by commas. If it is `None` no thread is left out.
+    pub threads: Option<&'a str>,
+    /// Whether a step without an event is left out.
+    pub events: bool,
+}
+
+impl<'a> Selection<'a> {
+    /// Nothing is left out.
+    pub const ALL: Selection<'static> = Selection {
+        steps: None,
+        threads: None,
+        events: false,
+    };
+
+    /// Whether this thread is shown.
+    pub(crate) fn has_thread(&self, id: ThreadId) -> bool {
+        let Some(threads) = self.threads else {
+            return true;
+        };
+        for name in threads.split(',') {
+            if let Some(shown) = ThreadId::parse(name) {
+                if shown.process == id.process && shown.thread == id.thread {
+                    return true;
+                }
+            }
+        }
+        false
+    }
+
+    /// Whether the state after the last step of a run with so many steps is shown.
+    pub(crate) fn has_end(&self, steps: usize) -> bool {
+        match self.steps {
+            None => true,
+            Some((_, last)) => steps <= last,
+        }
+    }
+
+    /// Whether the step in this row is shown, if its thread is. Rows count the steps from 0.
+    pub(crate) fn has_step(&self, row: usize, step: &Step) -> bool {
+        let is_within = match self.steps {
+            None => true,
+            Some((first, last)) => first <= row.saturating_add(1) && row < last,
+        };
+        is_within && !(self.events && step.events().is_empty())
+    }
+}

@@ -1,0 +1,246 @@
+//! Who owns a mutex, and who waits.
+
+use crate::kinds::Kind;
+use crate::run::Run;
+use crate::trace_lines::Step;
+use pct_io::NoMemory;
+
+/// Rows in which a mutex has an owner.
+#[derive(Clone, Copy)]
+pub(crate) struct Owner<'a> {
+    pub(crate) process: usize,
+    pub(crate) mutex: &'a str,
+    /// The index of the thread that owns the mutex. It is `None` in the child of a fork, if that has no such thread.
+    pub(crate) thread: Option<usize>,
+    /// The place of the mutex beside the lane, from 1.
+    pub(crate) place: usize,
+    /// The row of the step from which on it has the owner.
+    pub(crate) first: usize,
+    /// The row of the step up to which it has the owner. It is `None` if it has it after the last step.
+    pub(crate) last: Option<usize>,
+}
+
+/// Rows in which a thread waits, or is suspended in a call.
+#[derive(Clone, Copy)]
+pub(crate) struct Wait {
+    /// The index of the thread.
+    pub(crate) thread: usize,
+    /// The row up to which its wait before this one was, or in which it came into being.
+    pub(crate) after: usize,
+    pub(crate) first: usize,
+    /// The row up to which it waits. That of a wait after the last step is past all rows.
+    pub(crate) last: usize,
+}
+
+impl<'a> Run<'a> {
+    // ---- mutexes
+
+    /// The thread with this index owns a mutex of its process.
+    pub(crate) fn acquire(
+        &mut self,
+        index: usize,
+        process: usize,
+        mutex: &'a str,
+    ) -> Result<(), NoMemory> {
+        let place = self.own(index);
+        self.owners.push(Owner {
+            process,
+            mutex,
+            thread: Some(index),
+            place,
+            first: self.rows.len(),
+            last: None,
+        })?;
+        Ok(())
+    }
+
+    fn own(&mut self, index: usize) -> usize {
+        match self.threads.get_mut(index) {
+            Some(thread) => thread.own(),
+            None => 0,
+        }
+    }
+
+    /// The thread with this index owns a mutex of its process no more.
+    pub(crate) fn release(&mut self, index: usize, process: usize, mutex: &str) {
+        for owner in self.owners.iter_mut().rev() {
+            if owner.last.is_none() && owner.process == process && owner.mutex == mutex {
+                owner.last = Some(self.rows.len());
+                if let Some(thread) = self.threads.get_mut(index) {
+                    thread.disown(owner.place);
+                }
+                break;
+            }
+        }
+    }
+
+    /// In the child of a fork the mutexes have owners as in the parent: the thread that forked is its replica.
+    pub(crate) fn copy_owners(&mut self, parent: usize, replica: usize) -> Result<(), NoMemory> {
+        let (Some(from), Some(to)) = (self.threads.get(parent), self.threads.get(replica)) else {
+            return Ok(());
+        };
+        let from = from.id.process;
+        let process = to.id.process;
+        let row = self.rows.len();
+        for at in 0..self.owners.len() {
+            let Some(owner) = self.owners.get(at).copied() else {
+                break;
+            };
+            if owner.last.is_none() && owner.process == from {
+                let is_replica = owner.thread == Some(parent);
+                let place = if is_replica { self.own(replica) } else { 0 };
+                self.owners.push(Owner {
+                    process,
+                    thread: if is_replica { Some(replica) } else { None },
+                    place,
+                    first: row,
+                    ..owner
+                })?;
+            }
+        }
+        Ok(())
+    }
+
+    // ---- calls and waits
+
+    /// The thread with this index makes a step, so its call or its wait is over.
+    pub(crate) fn end_wait(&mut self, index: usize, step: &Step<'a>) -> Result<(), NoMemory> {
+        let row = self.rows.len();
+        if self.leave_call(index)? {
+            return Ok(());
+        }
+        let word = step.word(0);
+        if word == "pthread_mutex_lock" {
+            self.wait_for_mutex(index, step.word(1), row)
+        } else if word == "pthread_cond_wait" && step.is_in_call() {
+            self.wait_for_mutex(index, step.word(2), row)
+        } else {
+            Ok(())
+        }
+    }
+
+    // Ends the call in which the thread is suspended. It returns false if there is none.
+    fn leave_call(&mut self, index: usize) -> Result<bool, NoMemory> {
+        let row = self.rows.len();
+        let Some(thread) = self.threads.get_mut(index) else {
+            return Ok(false);
+        };
+        if !thread.is_in_call {
+            return Ok(false);
+        }
+        let first = thread.since;
+        thread.is_in_call = false;
+        thread.since = row;
+        self.add_wait(index, first, row)?;
+        Ok(true)
+    }
+
+    /// Adds the waits of a thread for a mutex of its process, up to this row: since it is where it is, the rows in which another thread owns
+    /// the mutex; after the last step also those in which it owns the mutex itself.
+    pub(crate) fn wait_for_mutex(
+        &mut self,
+        index: usize,
+        mutex: &str,
+        end: usize,
+    ) -> Result<(), NoMemory> {
+        let Some(thread) = self.threads.get(index) else {
+            return Ok(());
+        };
+        let process = thread.id.process;
+        let since = thread.since;
+        for at in self.first_owner_after(process, mutex, since)..self.owners.len() {
+            if let Some(owner) = self.owners.get(at) {
+                let first = owner.first.max(since);
+                let last = owner.last.unwrap_or(end).min(end);
+                if owner.process == process && owner.mutex == mutex {
+                    self.add_wait(index, first, last)?;
+                }
+            }
+        }
+        Ok(())
+    }
+
+    // The thread with this index waits between these rows.
+    fn add_wait(&mut self, index: usize, first: usize, last: usize) -> Result<(), NoMemory> {
+        if let Some(thread) = self.threads.get_mut(index) {
+            if first < last {
+                let after = thread.waited;
+                thread.waited = last;
+                self.waits.push(Wait {
+                    thread: index,
+                    after,
+                    first,
+                    last,
+                })?;
+            }
+        }
+        Ok(())
+    }
+
+    // The index of an owner before which no owner has this mutex after this row.
+    fn first_owner_after(&self, process: usize, mutex: &str, row: usize) -> usize {
+        let mut index = self.owners.len();
+        for owner in self.owners.iter().rev() {
+            let has_ended = match owner.last {
+                None => false,
+                Some(last) => last <= row,
+            };
+            if has_ended && owner.process == process && owner.mutex == mutex {
+                break;
+            }
+            index = index.saturating_sub(1);
+        }
+        index
+    }
+
+    /// A step of the thread with the index `by` unblocks the thread with this index, which waits on a condition variable.
+    pub(crate) fn unblock(&mut self, by: usize, index: Option<usize>) -> Result<(), NoMemory> {
+        if let Some(index) = index {
+            self.leave_call(index)?;
+        }
+        self.add_arrow(Kind::Signal, by, index)
+    }
+
+    /// A step of the thread with the index `by` unblocks all threads of its process that wait on a condition variable.
+    pub(crate) fn unblock_all(
+        &mut self,
+        by: usize,
+        process: usize,
+        condition: &str,
+    ) -> Result<(), NoMemory> {
+        for index in 0..self.threads.len() {
+            if self.is_in_wait(index, process, condition) {
+                self.unblock(by, Some(index))?;
+            }
+        }
+        Ok(())
+    }
+
+    fn is_in_wait(&self, index: usize, process: usize, condition: &str) -> bool {
+        let Some(thread) = self.threads.get(index) else {
+            return false;
+        };
+        let Some(step) = thread.at else {
+            return false;
+        };
+        thread.is_in_call
+            && thread.id.process == process
+            && step.word(0) == "pthread_cond_wait"
+            && step.word(1) == condition
+    }
+
+    /// After the last step: the threads that are suspended in a call are so up to the end.
+    pub(crate) fn add_open_calls(&mut self) -> Result<(), NoMemory> {
+        let bottom = self.rows.len();
+        for index in 0..self.threads.len() {
+            if let Some(thread) = self.threads.get(index) {
+                if thread.is_in_call {
+                    let first = thread.since;
+                    let last = thread.last.unwrap_or(bottom);
+                    self.add_wait(index, first, last)?;
+                }
+            }
+        }
+        Ok(())
+    }
+}
