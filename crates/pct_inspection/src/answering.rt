@@ -11,6 +11,7 @@ use crate::words::Inspection;
 use pct_command::Refusal;
 use pct_history::split_replay;
 use pct_io::NoMemory;
+use pct_lanes::Selection;
 use pct_script::{ParseFault, parse};
 use std::alloc::Global;
 
@@ -18,6 +19,7 @@ use std::alloc::Global;
 pub(crate) fn answer_input(
     alloc: Global,
     asked: Inspection,
+    selection: Selection,
     input: &[u8],
 ) -> Result<Answer, NoMemory>
     requires { length input.now ≤ MAX_INPUT }
@@ -34,7 +36,7 @@ pub(crate) fn answer_input(
                     text,
                     prefix: &input[start..],
                 };
-                show_script(alloc, view, script, parts)
+                show_script(alloc, view, selection, script, parts)
             }
         },
         Err(ParseFault::Refused { line, why }) => {

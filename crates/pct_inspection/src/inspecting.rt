@@ -10,9 +10,10 @@ ghost use Rattle.pct_inspection.specs.Words.{is_inspection};
 use crate::answer::{Answer, Unanswered};
 use crate::answer_writer::write_answer;
 use crate::answering::answer_input;
-use crate::words::{Inspection, read_inspection};
+use crate::words::{Inspection, read_inspection, selection_in};
 use pct_command::{Refusal, Status};
 use pct_io::{Failed, NoMemory, ReadEnd, Sink, Source, read_all};
+use pct_lanes::Selection;
 use pct_model::MAX_INPUT;
 use std::alloc::Global;
 
@@ -105,7 +106,7 @@ fn answer_words<S: Source>(
 {
     match read_inspection(words) {
         None => Ok(Answer::Refused(Refusal::Words)),
-        Some(asked) => answer_read(alloc, asked, source),
+        Some(asked) => answer_read(alloc, asked, selection_in(words), source),
     }
 }
 
@@ -113,13 +114,14 @@ fn answer_words<S: Source>(
 fn answer_read<S: Source>(
     alloc: Global,
     asked: Inspection,
+    selection: Selection,
     source: &mut S,
 ) -> Result<Answer, Unanswered>
     ensures answer { (words : List (List ℕ)) → AsksFor words asked → IfOk result (λ answer. AnswersRead words (S.left source.old) (S.left source.new) answer) }
     ensures reads { ReadsInput S.left S.errors source.old source.new result }
 {
     match read_all(alloc, source, MAX_INPUT) {
-        Ok(text) => match answer_input(alloc, asked, &text) {
+        Ok(text) => match answer_input(alloc, asked, selection, &text) {
             Ok(answer) => Ok(answer),
             Err(NoMemory) => Err(Unanswered::NoMemory),
         },

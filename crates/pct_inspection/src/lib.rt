@@ -7,6 +7,7 @@ mod answer_writer;
 mod answering;
 mod continuing;
 mod inspecting;
+mod selecting;
 mod showing;
 mod words;
 

@@ -18,7 +18,7 @@ use pct_command::Refusal;
 use pct_engine::Engine;
 use pct_history::{ScheduleFault, follow, read_prefix};
 use pct_io::{Failed, NoMemory};
-use pct_lanes::{lanes, picture};
+use pct_lanes::{Selection, lanes, picture};
 use pct_model::{Entry, Script, Verdict};
 use pct_script::{StatementLines, statement_lines};
 use pct_view_texts::{TextBuffer, push_choices, push_states, push_trace};
@@ -42,10 +42,18 @@ struct Shown {
     illegal: Option<u32>,
 }
 
+// The steps of a run: what `trace` shows, and the text of `choices` after them, if that is drawn too.
+#[derive(Drop)]
+struct Steps {
+    shown: Shown,
+    state: TextBuffer,
+}
+
 /// The answer of a view to a script, its text and a prefix.
 pub(crate) fn show_script(
     alloc: Global,
     view: View,
+    selection: Selection,
     script: Script,
     parts: Parts,
 ) -> Result<Answer, NoMemory>
@@ -66,8 +74,8 @@ pub(crate) fn show_script(
             }
             View::Steps(form) => {
                 let engine = Engine::open(alloc, script, config)?;
-                let shown = trace(alloc, &lines, engine, entries.as_slice())?;
-                in_form(alloc, form, shown)
+                let steps = trace(alloc, &lines, engine, entries.as_slice(), form)?;
+                in_form(alloc, form, selection, steps)
             }
         },
         Err(ScheduleFault::Refused { line, why }) => {
@@ -135,39 +143,71 @@ fn answer_of(shown: Shown) -> Answer
     }
 }
 
-// The text of `trace` for the entries of a prefix, up to the first that is not legal, with an engine without entries.
+// The text of `trace` for the entries of a prefix, up to the first that is not legal, with an engine without entries; and what is to be
+// drawn in this form of the state after them.
 fn trace(
     alloc: Global,
     lines: &StatementLines,
     engine: Engine,
     entries: &[Entry],
-) -> Result<Shown, NoMemory>
+    form: Form,
+) -> Result<Steps, NoMemory>
     requires opened { engine.history ≡ [] }
     requires config { IsTrue (is_config engine.config) }
     requires few { length entries.now ≤ engine.config.budget }
-    ensures { IfOk result (λ shown. ShowsTrace lines.now engine.script engine.config entries.now shown.illegal (text_in shown.text) shown.verdict) }
+    ensures { IfOk result (λ steps. ShowsTrace lines.now engine.script engine.config entries.now steps.shown.illegal (text_in steps.shown.text) steps.shown.verdict) }
 {
     let mut engine = engine;
     let mut text = TextBuffer::new(alloc);
     let illegal = push_trace(&mut text, lines, &mut engine, entries)?;
     push_notice(&mut text, illegal)?;
-    Ok(Shown {
-        text,
-        verdict: engine.verdict(),
-        illegal,
+    let state = state_in_form(alloc, lines, &engine, form)?;
+    Ok(Steps {
+        shown: Shown {
+            text,
+            verdict: engine.verdict(),
+            illegal,
+        },
+        state,
     })
 }
 
+// The text of `choices` after the run of an engine, if it is drawn in this form.
+fn state_in_form(
+    alloc: Global,
+    lines: &StatementLines,
+    engine: &Engine,
+    form: Form,
+) -> Result<TextBuffer, NoMemory> {
+    let mut text = TextBuffer::new(alloc);
+    match form {
+        Form::Picture => push_choices(&mut text, lines, engine)?,
+        Form::Trace | Form::Lanes => {}
+    }
+    Ok(text)
+}
+
 // The answer that shows the steps of a text of `trace` in a form.
-fn in_form(alloc: Global, form: Form, shown: Shown) -> Result<Answer, NoMemory>
-    ensures { IfOk result (IsInForm form shown.illegal (text_in shown.text) shown.verdict) }
+fn in_form(
+    alloc: Global,
+    form: Form,
+    selection: Selection,
+    steps: Steps,
+) -> Result<Answer, NoMemory>
+    ensures { IfOk result (IsInForm form steps.shown.illegal (text_in steps.shown.text) steps.shown.verdict) }
 {
+    let shown = steps.shown;
     let verdict = shown.verdict;
     let illegal = shown.illegal;
     let text = match form {
         Form::Trace => shown.text.into_bytes(),
-        Form::Lanes => lanes(alloc, shown.text.as_slice())?,
-        Form::Picture => picture(alloc, shown.text.as_slice())?,
+        Form::Lanes => lanes(alloc, shown.text.as_slice(), selection)?,
+        Form::Picture => picture(
+            alloc,
+            shown.text.as_slice(),
+            steps.state.as_slice(),
+            selection,
+        )?,
     };
     Ok(Answer::Shown {
         text,

@@ -1,8 +1,10 @@
 //! The words after the program's name.
 
 ghost use Rattle.std.specs.Prelude.{◌≡◌, map, string_bytes};
-ghost use Rattle.pct_inspection.specs.Words.{inspection_asked, view_named};
+ghost use Rattle.pct_inspection.specs.Words.{allows, continuation_asked, inspection_asked, view_asked, view_named};
 
+use crate::selecting::read_selection;
+use pct_lanes::Selection;
 use pct_options::read_seed;
 
 /// A form in which the steps of a run are shown.
@@ -36,18 +38,56 @@ pub enum Inspection {
     Show(View),
 }
 
-/// What the words ask for: `trace`, `choices`, `states`, `lanes` or `picture` alone, or `continue` and a seed, which is 1 to 20
-/// digits. It is `None` with all other words. It allocates no memory.
+/// What the words ask for: `trace`, `choices` or `states` alone; `lanes` or `picture` and a selection; or `continue` and a seed, which is
+/// 1 to 20 digits. It is `None` with all other words. It allocates no memory.
 #[tactic(auto, unfolding(crate::specs::Words::inspection_asked))]
 pub fn read_inspection(words: &[String]) -> Option<Inspection>
     ensures { result ≡ inspection_asked (map string_bytes words.now) }
 {
+    let (command, rest) = words.split_first()?;
+    if command.as_bytes() == b"continue".as_slice() {
+        continuation_asked(rest)
+    } else {
+        view_asked(rest, view_named(command.as_bytes())?)
+    }
+}
+
+// To continue with the seed that is the only word.
+fn continuation_asked(words: &[String]) -> Option<Inspection>
+    ensures { result ≡ continuation_asked (map string_bytes words.now) }
+{
     match words {
-        [name] => Some(Inspection::Show(view_named(name.as_bytes())?)),
-        [command, seed] if command.as_bytes() == b"continue".as_slice() => {
-            Some(Inspection::Continue(read_seed(seed.as_str())?))
-        }
+        [seed] => Some(Inspection::Continue(read_seed(seed.as_str())?)),
         _ => None,
+    }
+}
+
+// A view, if the words after its name are accepted.
+fn view_asked(words: &[String], view: View) -> Option<Inspection>
+    ensures { result ≡ view_asked (map string_bytes words.now) view }
+{
+    if allows(view, words) {
+        Some(Inspection::Show(view))
+    } else {
+        None
+    }
+}
+
+// Whether these words are accepted after the name of a view.
+fn allows(view: View, words: &[String]) -> bool
+    ensures { result ≡ allows view (map string_bytes words.now) }
+{
+    match view {
+        View::Steps(Form::Lanes) | View::Steps(Form::Picture) => read_selection(words).is_some(),
+        View::Steps(Form::Trace) | View::Choices | View::States => words.is_empty(),
+    }
+}
+
+/// The selection that the words after the first one ask for. If they ask for none nothing is left out.
+pub(crate) fn selection_in(words: &[String]) -> Selection<'_> {
+    match words.split_first() {
+        Some((_, rest)) => read_selection(rest).unwrap_or(Selection::ALL),
+        None => Selection::ALL,
     }
 }
 

@@ -115,7 +115,11 @@ impl Kind {
             ),
             Kind::Create => ("arrow create", "m-14 0h28l-7-3v6l7-3", "creates a thread"),
             Kind::Fork => ("arrow fork", "m-14 0h28l-7-3v6l7-3", "forks a process"),
-            Kind::Request => ("arrow request", "m-14 0h28l-7-3v6l7-3", "requests cancellation"),
+            Kind::Request => (
+                "arrow request",
+                "m-14 0h28l-7-3v6l7-3",
+                "requests cancellation",
+            ),
             Kind::Signal => ("arrow signal", "m-14 0h28l-7-3v6l7-3", "signals a thread"),
             Kind::Join => ("arrow join", "m-14 0h28l-7-3v6l7-3", "is joined"),
             Kind::Waiting => ("waiting", "m0-8v16", "is in a call, or waits"),

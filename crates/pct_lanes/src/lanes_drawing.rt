@@ -3,8 +3,8 @@
 use crate::caption::Caption;
 use crate::drawing::Drawing;
 use crate::kinds::Kind;
-use crate::layout::{BAR_DISTANCE, DROP, FUNCTION_LIMIT, LINE_HEIGHT, RADIUS, characters_between};
-use crate::thread::Thread;
+use crate::layout::{DROP, FUNCTION_LIMIT, LINE_HEIGHT, RADIUS, characters_between, left_of};
+use crate::thread::{Thread, bars_up_to};
 use crate::waits::{Owner, Wait};
 
 // The width of the bar of a mutex.
@@ -24,16 +24,20 @@ impl Drawing<'_, '_> {
         for (index, thread) in self.run.threads.iter().enumerate() {
             if thread.is_shown {
                 let lane = self.layout.lane(index);
-                if self.layout.is_narrow {
+                if self.layout.is_dense {
                     self.draw_turned_name("name turned", lane, top, thread);
                 } else {
                     self.draw_level_name(lane, top, thread);
                 }
-                if self.layout.is_long() && self.layout.is_narrow {
-                    self.draw_turned_name("name turned lower", lane, lower, thread);
-                } else if self.layout.is_long() {
-                    self.draw_level_name(lane, lower.saturating_add(LINE_HEIGHT * 2), thread);
-                    self.draw_first_name(index, thread);
+                if self.layout.is_long() {
+                    if self.layout.is_dense {
+                        self.draw_turned_name("name turned lower", lane, lower, thread);
+                    } else {
+                        self.draw_level_name(lane, lower.saturating_add(LINE_HEIGHT * 2), thread);
+                    }
+                    if !self.layout.is_narrow {
+                        self.draw_first_name(index, thread);
+                    }
                 }
             }
         }
@@ -153,28 +157,26 @@ impl Drawing<'_, '_> {
         }
     }
 
-    // A bar where a thread ends, or a cross where it is cut off. Two bars where a process ends.
+    // A bar where a thread ends, or a cross where it is cut off.
     pub(crate) fn draw_ends(&mut self) {
         self.svg.push("<g class=\"ends\">\n");
         for (index, thread) in self.run.threads.iter().enumerate() {
-            if let Some(last) = thread.last {
-                let kind = if thread.is_cut_off {
-                    Kind::CutOff
-                } else {
-                    Kind::End
-                };
-                if thread.is_shown && self.is_row_shown(last) {
-                    self.draw_form(kind, self.layout.lane(index), self.lane_bottom(thread));
-                }
+            if let (true, Some(kind)) = (thread.is_shown, self.end_of(thread)) {
+                self.draw_form(kind, self.layout.lane(index), self.lane_bottom(thread));
             }
         }
         self.svg.push("</g>\n");
     }
 
-    fn is_row_shown(&self, row: usize) -> bool {
-        match self.run.rows.get(row) {
-            Some(row) => row.is_shown,
-            None => false,
+    // The kind of the end of a thread, if it is shown. One that ends its process has that end.
+    fn end_of(&self, thread: &Thread) -> Option<Kind> {
+        let row = self.run.rows.get(thread.last?)?;
+        if !row.is_shown || row.step.ends_process() && !thread.is_cut_off {
+            None
+        } else if thread.is_cut_off {
+            Some(Kind::CutOff)
+        } else {
+            Some(Kind::End)
         }
     }
 
@@ -204,12 +206,11 @@ impl Drawing<'_, '_> {
         if top >= bottom {
             return;
         }
-        let left = self.layout.lane(index).saturating_sub(
-            owner
-                .place
-                .saturating_mul(BAR_DISTANCE)
-                .saturating_add(RADIUS),
-        );
+        let place = bars_up_to(owner.place);
+        let left = self
+            .layout
+            .lane(index)
+            .saturating_sub(left_of(place).saturating_sub(1));
         self.svg.fill(
             "<rect class=\"owner\" x=\"%\" y=\"%\" width=\"%\" height=\"%\"/>\n",
             &[left, top, BAR_WIDTH, bottom.saturating_sub(top)],
@@ -225,9 +226,13 @@ impl Drawing<'_, '_> {
             let below = if row.is_shown && row.thread == owner.thread {
                 0
             } else {
-                owner.place
+                bars_up_to(owner.place)
             };
-            let y = self.layout.baseline(row.position.saturating_add(below));
+            let position = row.position.saturating_add(below);
+            if position >= self.layout.rows {
+                return;
+            }
+            let y = self.layout.baseline(position);
             let (end, limit) = self.layout.mutex(index, thread);
             self.draw_text("label mutex", end, y, Caption::new(owner.mutex, limit));
         }
@@ -235,13 +240,13 @@ impl Drawing<'_, '_> {
 
     // ---- waits after the last step
 
-    // What each thread waits for, below its lane; in a narrow picture below the other lines after the steps.
+    // What each thread waits for, below its lane; if the lanes have no room below the other lines after the steps.
     pub(crate) fn draw_last_waits(&mut self) {
         self.svg.push("<g class=\"waits\">\n");
         let mut line = self.run.closing.len();
         for (index, thread) in self.run.threads.iter().enumerate() {
             if thread.is_shown && !thread.wait.is_empty() {
-                if self.layout.is_narrow {
+                if self.layout.is_dense {
                     self.draw_wait_line(thread, self.layout.closing(line));
                     line = line.saturating_add(1);
                 } else {

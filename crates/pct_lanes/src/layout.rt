@@ -21,8 +21,8 @@ pub(crate) const RADIUS: usize = 5;
 /// From the middle of a row to the base line of its texts.
 pub(crate) const DROP: usize = 4;
 
-/// The distance of two bars beside a lane.
-pub(crate) const BAR_DISTANCE: usize = 6;
+// The distance of two bars beside a lane.
+const BAR_DISTANCE: usize = 6;
 
 /// The base line of the title.
 pub(crate) const TITLE_BASELINE: usize = MARGIN + 8;
@@ -48,18 +48,21 @@ const LEAST_WIDTH: usize = 380;
 // The least distance of two lanes with texts between.
 const WIDE_LANE: usize = 90;
 
+// The least distance of two lanes with names side by side.
+const LEVEL_LANE: usize = 70;
+
 // The least distance of two lanes.
 const NARROW_LANE: usize = 26;
 
 /// The greatest number of characters of a place.
 pub(crate) const PLACE_LIMIT: usize = 24;
 
-// The greatest number of characters of a statement, with few threads and with more.
+// The greatest number of characters of a statement, with few lanes and with more.
 const STATEMENT_LIMIT: usize = 48;
 
 const SHORT_STATEMENT_LIMIT: usize = 30;
 
-const FEW_THREADS: usize = 4;
+const FEW_LANES: usize = 4;
 
 // The greatest number of characters of the name of a mutex.
 const MUTEX_LIMIT: usize = 10;
@@ -69,22 +72,26 @@ const EVENTS_LIMIT: usize = 44;
 
 const LEAST_EVENTS: usize = 10;
 
-// What a lane has beside it: numbers of characters.
+// A lane.
 #[derive(Clone, Copy)]
-struct Texts {
-    // Of the longest events, name or wait, at the right side.
+struct Lane {
+    // Its place.
+    place: usize,
+    // The number of characters of the longest events, name or wait, which stand at the right side.
     right: usize,
-    // Of the longest name of a mutex, at the left side.
+    // The number of characters of the longest name of a mutex, at the left side.
     left: usize,
 }
 
 /// Where the parts of a picture stand.
 #[derive(Drop)]
 pub(crate) struct Layout {
-    // The place of each lane.
-    lanes: Vec<usize>,
+    // The lane of each thread.
+    lanes: Vec<Lane>,
     /// Whether texts beside marks extend over the lanes at their right side.
     pub(crate) is_narrow: bool,
+    /// Whether the lanes have no room for their names side by side.
+    pub(crate) is_dense: bool,
     /// Where the numbers of the steps end.
     pub(crate) numbers_end: usize,
     /// Where the places begin.
@@ -93,6 +100,10 @@ pub(crate) struct Layout {
     pub(crate) statements: usize,
     /// The greatest number of characters of a statement.
     pub(crate) statement_limit: usize,
+    // The number of lanes.
+    shown_lanes: usize,
+    // The number of characters of the longest events, cut.
+    longest_events: usize,
     // The distance of the lanes in a narrow picture.
     distance: usize,
     // Where the statements end.
@@ -105,7 +116,7 @@ pub(crate) struct Layout {
     pub(crate) rows: usize,
     /// The number of waits after the last step.
     pub(crate) last_waits: usize,
-    /// The greatest number of characters of a name in a narrow picture, with its function.
+    /// The greatest number of characters of a name with its function.
     pub(crate) longest_name: usize,
 }
 
@@ -115,10 +126,13 @@ impl Layout {
         let mut layout = Layout {
             lanes: Vec::new(alloc),
             is_narrow: false,
+            is_dense: false,
             numbers_end: 0,
             places: 0,
             statements: 0,
             statement_limit: STATEMENT_LIMIT,
+            shown_lanes: 0,
+            longest_events: 0,
             distance: 0,
             texts_end: 0,
             width: 0,
@@ -127,57 +141,63 @@ impl Layout {
             last_waits: 0,
             longest_name: 0,
         };
-        let mut texts = Vec::new(alloc);
-        layout.measure_threads(run, &mut texts)?;
-        layout.measure_rows(run, &mut texts);
-        layout.measure_owners(run, &mut texts);
-        layout.place_lanes(run, texts.as_slice());
+        layout.measure(run)?;
         Ok(layout)
     }
 
     // ---- measures
 
-    fn measure_threads(&mut self, run: &Run, texts: &mut Vec<Texts>) -> Result<(), NoMemory> {
-        let mut shown: usize = 0;
+    fn measure(&mut self, run: &Run) -> Result<(), NoMemory> {
         for thread in run.threads.iter() {
-            let name = thread.id.len();
-            let function = thread.function.len();
-            self.lanes.push(0)?;
-            texts.push(Texts {
-                right: name.max(thread.wait.len()),
-                left: 0,
-            })?;
-            if thread.is_shown {
-                shown = shown.saturating_add(1);
-                let both = name
-                    .saturating_add(1)
-                    .saturating_add(function.min(FUNCTION_LIMIT));
-                self.longest_name = self.longest_name.max(both);
-                if !thread.wait.is_empty() {
-                    self.last_waits = self.last_waits.saturating_add(1);
+            self.measure_thread(thread)?;
+        }
+        self.measure_rows(run);
+        for owner in run.owners.iter() {
+            if let Some(thread) = owner.thread {
+                if let Some(lane) = self.lanes.get_mut(thread) {
+                    lane.left = lane.left.max(owner.mutex.len()).min(MUTEX_LIMIT);
                 }
             }
         }
-        if shown > FEW_THREADS {
-            self.statement_limit = SHORT_STATEMENT_LIMIT;
+        self.place_lanes(run);
+        Ok(())
+    }
+
+    fn measure_thread(&mut self, thread: &Thread) -> Result<(), NoMemory> {
+        let name = thread.id.len();
+        self.lanes.push(Lane {
+            place: 0,
+            right: name.max(thread.wait.len()),
+            left: 0,
+        })?;
+        if thread.is_shown {
+            self.shown_lanes = self.shown_lanes.saturating_add(1);
+            let function = thread.function.len().min(FUNCTION_LIMIT);
+            let both = name.saturating_add(1).saturating_add(function);
+            self.longest_name = self.longest_name.max(both);
+            if !thread.wait.is_empty() {
+                self.last_waits = self.last_waits.saturating_add(1);
+            }
+            if self.shown_lanes > FEW_LANES {
+                self.statement_limit = SHORT_STATEMENT_LIMIT;
+            }
         }
         Ok(())
     }
 
     // Measures the texts of the rows, and places those at the left side.
-    fn measure_rows(&mut self, run: &Run, texts: &mut Vec<Texts>) {
+    fn measure_rows(&mut self, run: &Run) {
         let mut number = 0;
         let mut place = 0;
         let mut statement = 0;
         for row in run.rows.iter() {
-            if row.is_shown {
+            if let (true, Some(thread)) = (row.is_shown, row.thread) {
                 number = number.max(row.step.number.len());
-                place = place.max(Caption::new(row.place, PLACE_LIMIT).len());
+                place = place.max(row.place.len()).min(PLACE_LIMIT);
                 statement = statement.max(Caption::of_statement(row, self.statement_limit).len());
-                if let Some(thread) = row.thread {
-                    if let Some(beside) = texts.get_mut(thread) {
-                        beside.right = beside.right.max(row.step.events().len());
-                    }
+                if let Some(lane) = self.lanes.get_mut(thread) {
+                    lane.right = lane.right.max(row.step.events().len());
+                    self.longest_events = self.longest_events.max(lane.right).min(EVENTS_LIMIT);
                 }
             }
         }
@@ -187,80 +207,64 @@ impl Layout {
         self.texts_end = text_end(self.statements, statement).saturating_add(MARGIN);
     }
 
-    fn measure_owners(&mut self, run: &Run, texts: &mut Vec<Texts>) {
-        for owner in run.owners.iter() {
-            if let Some(thread) = owner.thread {
-                if let Some(beside) = texts.get_mut(thread) {
-                    beside.left = beside.left.max(owner.mutex.len()).min(MUTEX_LIMIT);
-                }
-            }
-        }
-    }
-
     // ---- lanes
 
     // Cuts the events until the picture is no wider than a slide. If they would be cut too short the lanes become narrow.
-    fn place_lanes(&mut self, run: &Run, texts: &[Texts]) {
+    fn place_lanes(&mut self, run: &Run) {
         for cut in 0..=EVENTS_LIMIT - LEAST_EVENTS {
-            self.place_wide(run, texts, EVENTS_LIMIT - cut);
+            self.place_wide(run, EVENTS_LIMIT - cut);
             if self.width <= SLIDE {
                 return;
             }
         }
         self.is_narrow = true;
-        self.top = text_end(MARGIN * 3, self.longest_name);
-        self.place_narrow(run, texts);
+        self.place_narrow(run);
+        if self.distance < LEVEL_LANE {
+            self.is_dense = true;
+            self.top = text_end(MARGIN * 3, self.longest_name);
+        }
     }
 
-    fn place_wide(&mut self, run: &Run, texts: &[Texts], limit: usize) {
-        let mut lane = self.texts_end;
+    // Between two lanes there is room for the events of the first one and the bars of the second one, or for the names of its mutexes, which
+    // stand in other rows.
+    fn place_wide(&mut self, run: &Run, limit: usize) {
+        let mut place = self.texts_end.saturating_sub(WIDE_LANE / 2);
         let mut end = self.texts_end;
-        for (index, thread) in run.threads.iter().enumerate() {
-            if let (true, Some(beside)) = (thread.is_shown, texts.get(index)) {
-                let name = thread
-                    .function
-                    .len()
-                    .min(FUNCTION_LIMIT)
-                    .max(thread.id.len());
-                let left = text_end(left_of(thread.most_owned), beside.left).max(text_end(0, name) / 2);
-                lane = end.saturating_add(left).max(lane.saturating_add(WIDE_LANE));
-                end = text_end(lane, beside.right.min(limit)).saturating_add(TEXT_GAP + ARROW_ROOM);
+        for (thread, lane) in run.threads.iter().zip(self.lanes.iter_mut()) {
+            if thread.is_shown {
+                let bars = left_of(thread.most_owned);
+                let names = text_end(bars.saturating_add(RADIUS), lane.left);
+                place = place
+                    .saturating_add(names.max(WIDE_LANE))
+                    .max(end.saturating_add(bars));
+                end = text_end(place, lane.right.min(limit)).saturating_add(TEXT_GAP + ARROW_ROOM);
             }
-            if let Some(place) = self.lanes.get_mut(index) {
-                *place = lane;
-            }
+            lane.place = place;
         }
         self.width = end.max(LEAST_WIDTH);
     }
 
     // Places lanes side by side, with room for the events of the last one.
-    fn place_narrow(&mut self, run: &Run, texts: &[Texts]) {
-        let mut longest = 0;
-        let mut count: usize = 0;
-        for (thread, beside) in run.threads.iter().zip(texts) {
-            if thread.is_shown {
-                longest = beside.right.min(EVENTS_LIMIT).max(longest);
-                count = count.saturating_add(1);
-            }
-        }
-        let right = text_end(TEXT_GAP + MARGIN, longest);
+    fn place_narrow(&mut self, run: &Run) {
+        let right = text_end(TEXT_GAP + MARGIN, self.longest_events);
         let room = SLIDE.saturating_sub(self.texts_end).saturating_sub(right);
-        self.distance = (room / count.max(1)).clamp(NARROW_LANE, WIDE_LANE);
-        let mut lane = self.texts_end;
-        for (index, thread) in run.threads.iter().enumerate() {
+        self.distance = (room / self.shown_lanes.max(1)).clamp(NARROW_LANE, WIDE_LANE);
+        let mut place = self.texts_end;
+        for (thread, lane) in run.threads.iter().zip(self.lanes.iter_mut()) {
             if thread.is_shown {
-                lane = lane.saturating_add(self.distance);
+                place = place.saturating_add(self.distance);
             }
-            if let Some(place) = self.lanes.get_mut(index) {
-                *place = lane;
-            }
+            lane.place = place;
         }
-        self.width = lane.saturating_add(right).max(LEAST_WIDTH);
+        self.width = place.saturating_add(right).max(LEAST_WIDTH);
     }
 
     /// The place of the lane of this thread.
     pub(crate) fn lane(&self, thread: usize) -> usize {
-        self.lanes.get(thread).copied().unwrap_or(0)
+        match self.lanes.get(thread) {
+            Some(lane) => lane.place,
+            None => 0,
+        }
     }
 
     /// The left side of what belongs to the lane with this index.

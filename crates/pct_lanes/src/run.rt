@@ -250,13 +250,17 @@ impl<'a> Run<'a> {
         let first = self.rows.len();
         let is_shown = self.selection.has_thread(id);
         let made = self.threads.len();
+        let mut parent = id.process;
         let thread = match (kind, self.threads.get(index)) {
-            (Kind::Fork, Some(parent)) => parent.replica(id, is_shown, first),
+            (Kind::Fork, Some(thread)) => {
+                parent = thread.id.process;
+                thread.replica(id, is_shown, first)
+            }
             _ => Thread::new(id, row.step.word(3), is_shown, first),
         };
         self.add_thread(thread)?;
         if let Kind::Fork = kind {
-            self.copy_owners(index, made)?;
+            self.copy_owners(index, parent, made, id.process)?;
         }
         self.add_arrow(kind, index, Some(made))
     }

@@ -2,14 +2,15 @@
 
 use crate::thread_id::ThreadId;
 use crate::trace_lines::Step;
+use std::str;
 
 /// Which steps and which threads are shown.
 #[derive(Clone, Copy)]
 pub struct Selection<'a> {
     /// The numbers of the first and of the last step. If it is `None` no step is left out for its number.
-    pub steps: Option<(usize, usize)>,
-    /// The threads, as `P.T`, separated by commas. If it is `None` no thread is left out.
-    pub threads: Option<&'a str>,
+    pub steps: Option<(u32, u32)>,
+    /// The text of the threads, each `P.T`, separated by commas. If it is `None` no thread is left out.
+    pub threads: Option<&'a [u8]>,
     /// Whether a step without an event is left out.
     pub events: bool,
 }
@@ -27,7 +28,7 @@ impl<'a> Selection<'a> {
         let Some(threads) = self.threads else {
             return true;
         };
-        for name in threads.split(',') {
+        for name in str::from_utf8(threads).unwrap_or("").split(',') {
             if let Some(shown) = ThreadId::parse(name) {
                 if shown.process == id.process && shown.thread == id.thread {
                     return true;
@@ -41,7 +42,7 @@ impl<'a> Selection<'a> {
     pub(crate) fn has_end(&self, steps: usize) -> bool {
         match self.steps {
             None => true,
-            Some((_, last)) => steps <= last,
+            Some((_, last)) => steps <= last as usize,
         }
     }
 
@@ -49,7 +50,7 @@ impl<'a> Selection<'a> {
     pub(crate) fn has_step(&self, row: usize, step: &Step) -> bool {
         let is_within = match self.steps {
             None => true,
-            Some((first, last)) => first <= row.saturating_add(1) && row < last,
+            Some((first, last)) => first as usize <= row.saturating_add(1) && row < last as usize,
         };
         is_within && !(self.events && step.events().is_empty())
     }

@@ -22,7 +22,7 @@ impl Drawing<'_, '_> {
             if let (true, Some(thread)) = (row.is_shown, row.thread) {
                 let lane = self.layout.lane(thread);
                 let y = self.layout.middle(row.position);
-                if row.step.events.contains("process_end ") {
+                if row.step.ends_process() {
                     self.draw_form(Kind::ProcessEnd, lane, y.saturating_add(RADIUS * 2));
                 }
                 self.draw_form(row.kind, lane, y);

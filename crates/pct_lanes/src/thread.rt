@@ -4,9 +4,6 @@ use crate::kinds::Kind;
 use crate::thread_id::ThreadId;
 use crate::trace_lines::Step;
 
-// The most mutexes of a process.
-const MAX_MUTEXES: usize = 32;
-
 /// A thread, and when it is there. Rows count the steps from 0.
 #[derive(Clone, Copy)]
 pub(crate) struct Thread<'a> {
@@ -33,8 +30,8 @@ pub(crate) struct Thread<'a> {
     pub(crate) wait: &'a str,
     /// The greatest number of mutexes that it owns at once.
     pub(crate) most_owned: usize,
-    // Which of the places beside the lane have a mutex that it owns.
-    owned: [bool; MAX_MUTEXES],
+    // The places beside the lane that have a mutex which it owns, a bit each.
+    owned: u32,
     /// Its last step at a statement, if it has made one.
     pub(crate) at: Option<Step<'a>>,
     // Where its last `fork` is.
@@ -61,7 +58,7 @@ impl<'a> Thread<'a> {
             waited: first,
             wait: "",
             most_owned: 0,
-            owned: [false; MAX_MUTEXES],
+            owned: 0,
             at: None,
             fork_place: "",
             inside: None,
@@ -93,36 +90,22 @@ impl<'a> Thread<'a> {
         self.is_shown && (self.is_there(row) || (self.first <= row && row <= self.last_seen))
     }
 
-    /// Adds a mutex to those that it owns, and returns its place beside the lane.
-    pub(crate) fn own(&mut self) -> usize {
-        let mut place = 0;
-        for is_taken in self.owned.iter_mut() {
-            place += 1;
-            if !*is_taken {
-                *is_taken = true;
-                break;
-            }
-        }
-        self.most_owned = self.most_owned.max(place);
+    /// Adds a mutex to those that it owns, and returns its place beside the lane, which is the first free one.
+    pub(crate) fn own(&mut self) -> u32 {
+        let place = !self.owned & self.owned.wrapping_add(1);
+        self.owned |= place;
+        self.most_owned = self.most_owned.max(bars_up_to(place));
         place
     }
 
     /// Removes the mutex with this place.
-    pub(crate) fn disown(&mut self, place: usize) {
-        if let Some(is_taken) = self.owned.get_mut(place.saturating_sub(1)) {
-            *is_taken = false;
-        }
+    pub(crate) fn disown(&mut self, place: u32) {
+        self.owned &= !place;
     }
 
     /// The number of bars beside its lane now, with those that are missing between two of them.
     pub(crate) fn bars(&self) -> usize {
-        let mut bars = 0;
-        for (place, is_taken) in self.owned.iter().enumerate() {
-            if *is_taken {
-                bars = place.saturating_add(1);
-            }
-        }
-        bars
+        bars_up_to(self.owned)
     }
 
     /// Notes a step of the thread, and returns its kind and `FUNC:LINE` of its statement, if it has one.
@@ -184,6 +167,14 @@ impl<'a> Thread<'a> {
             Kind::Step => self.inside.unwrap_or(kind),
             _ => kind,
         }
+    }
+}
+
+/// The number of bars beside a lane up to the last of these places. Each place is a bit, and a process has 32 mutexes.
+pub(crate) fn bars_up_to(places: u32) -> usize {
+    match places.checked_ilog2() {
+        None => 0,
+        Some(last) => (last as usize).saturating_add(1),
     }
 }
 

@@ -67,6 +67,11 @@ impl<'a> Step<'a> {
         self.choice.starts_with("act")
     }
 
+    /// Whether the process ends with this step.
+    pub(crate) fn ends_process(&self) -> bool {
+        self.events.contains("process_end ")
+    }
+
     /// The word of the statement with this index, or nothing.
     pub(crate) fn word(&self, index: usize) -> &'a str {
         nth_word(self.statement, index)

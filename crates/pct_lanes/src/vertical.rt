@@ -45,21 +45,19 @@ impl Layout {
 
     /// The top of the names below the lanes, which stand there in a long picture.
     pub(crate) fn lower_names(&self) -> usize {
-        let waits = if self.last_waits > 0 && !self.is_narrow {
+        let waits = if self.last_waits > 0 && !self.is_dense {
             2 * LINE_HEIGHT
         } else {
             0
         };
-        self.bottom()
-            .saturating_add(waits)
-            .saturating_add(DROP * 2)
+        self.bottom().saturating_add(waits).saturating_add(DROP * 2)
     }
 
     /// The base line of the line with this index after the steps.
     pub(crate) fn closing(&self, index: usize) -> usize {
         let names = if !self.is_long() {
             0
-        } else if self.is_narrow {
+        } else if self.is_dense {
             text_end(MARGIN, self.longest_name)
         } else {
             2 * LINE_HEIGHT
@@ -73,7 +71,7 @@ impl Layout {
 
     /// The base line of the first line of the legend.
     pub(crate) fn legend(&self, run: &Run) -> usize {
-        let waits = if self.is_narrow { self.last_waits } else { 0 };
+        let waits = if self.is_dense { self.last_waits } else { 0 };
         self.closing(run.closing.len().saturating_add(waits))
             .saturating_add(ROW_HEIGHT / 2)
     }

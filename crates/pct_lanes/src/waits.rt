@@ -12,8 +12,8 @@ pub(crate) struct Owner<'a> {
     pub(crate) mutex: &'a str,
     /// The index of the thread that owns the mutex. It is `None` in the child of a fork, if that has no such thread.
     pub(crate) thread: Option<usize>,
-    /// The place of the mutex beside the lane, from 1.
-    pub(crate) place: usize,
+    /// The place of the mutex beside the lane, as a bit, or 0.
+    pub(crate) place: u32,
     /// The row of the step from which on it has the owner.
     pub(crate) first: usize,
     /// The row of the step up to which it has the owner. It is `None` if it has it after the last step.
@@ -43,18 +43,29 @@ impl<'a> Run<'a> {
         mutex: &'a str,
     ) -> Result<(), NoMemory> {
         let place = self.own(index);
+        self.add_owner(process, mutex, Some(index), place)
+    }
+
+    fn add_owner(
+        &mut self,
+        process: usize,
+        mutex: &'a str,
+        thread: Option<usize>,
+        place: u32,
+    ) -> Result<(), NoMemory> {
+        let first = self.rows.len();
         self.owners.push(Owner {
             process,
             mutex,
-            thread: Some(index),
+            thread,
             place,
-            first: self.rows.len(),
+            first,
             last: None,
         })?;
         Ok(())
     }
 
-    fn own(&mut self, index: usize) -> usize {
+    fn own(&mut self, index: usize) -> u32 {
         match self.threads.get_mut(index) {
             Some(thread) => thread.own(),
             None => 0,
@@ -75,27 +86,27 @@ impl<'a> Run<'a> {
     }
 
     /// In the child of a fork the mutexes have owners as in the parent: the thread that forked is its replica.
-    pub(crate) fn copy_owners(&mut self, parent: usize, replica: usize) -> Result<(), NoMemory> {
-        let (Some(from), Some(to)) = (self.threads.get(parent), self.threads.get(replica)) else {
-            return Ok(());
-        };
-        let from = from.id.process;
-        let process = to.id.process;
-        let row = self.rows.len();
+    pub(crate) fn copy_owners(
+        &mut self,
+        parent: usize,
+        parent_process: usize,
+        replica: usize,
+        process: usize,
+    ) -> Result<(), NoMemory> {
         for at in 0..self.owners.len() {
-            let Some(owner) = self.owners.get(at).copied() else {
-                break;
-            };
-            if owner.last.is_none() && owner.process == from {
-                let is_replica = owner.thread == Some(parent);
-                let place = if is_replica { self.own(replica) } else { 0 };
-                self.owners.push(Owner {
-                    process,
-                    thread: if is_replica { Some(replica) } else { None },
-                    place,
-                    first: row,
-                    ..owner
-                })?;
+            let mut mutex = "";
+            let mut thread = None;
+            if let Some(owner) = self.owners.get(at) {
+                if owner.last.is_none() && owner.process == parent_process {
+                    mutex = owner.mutex;
+                    thread = owner.thread;
+                }
+            }
+            if !mutex.is_empty() && thread == Some(parent) {
+                let place = self.own(replica);
+                self.add_owner(process, mutex, Some(replica), place)?;
+            } else if !mutex.is_empty() {
+                self.add_owner(process, mutex, None, 0)?;
             }
         }
         Ok(())
