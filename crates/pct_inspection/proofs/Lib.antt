@@ -2,3 +2,4 @@ mod Inputs
 mod Outcomes
 mod CompleteOutcomes
 mod Views
+mod Selections

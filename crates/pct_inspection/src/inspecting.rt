@@ -32,7 +32,8 @@ use std::alloc::Global;
 /// - `states`: the verdict is written; then, for each process that has not ended, its globals, its mutexes with their owners, its semaphores
 ///   with their counts, its keys, and what it has registered; and below it, for each thread that has not ended, its frames with their locals,
 ///   its thread-specific data, and whether it is detached.
-/// - `lanes`, `picture`: the steps are written with a column for each thread, as text or as SVG.
+/// - `lanes`, `picture`: the steps are written with a column for each thread, as text or as SVG. After the command words may select steps:
+///   `--steps FROM-TO`, `--threads P.T,P.T..` and `--events`.
 ///
 /// After it, if entry N of the prefix is not legal, a line `entry N is not legal here` is written. A refusal is one line that names the reason.
 ///

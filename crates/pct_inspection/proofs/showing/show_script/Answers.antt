@@ -44,12 +44,13 @@ returns-in-States c = λ words input asks has of_text.
 
 pub returns-in-Ok : goal.returns-in-Ok
 returns-in-Ok c = λ words input asks has of_text.
-    let shown = c.in_ok-shown-in-Steps in
-    steps-answered words input c.args.script c.in-Ok.config c.in-Ok.entries has.has_script (rw has.rest at c.in-Ok.ensures.read) c.in-Steps.form shown.shown.illegal c.in_ok-lines.lines (text_in shown.shown.text) shown.shown.verdict c.in_form.result
+    let steps = c.in_ok-steps-in-Steps in
+    let shown = steps.steps.shown in
+    steps-answered words input c.args.script c.in-Ok.config c.in-Ok.entries has.has_script (rw has.rest at c.in-Ok.ensures.read) c.in-Steps.form shown.illegal c.in_ok-lines.lines (text_in shown.text) shown.verdict c.in_form.result
     (subst (λ (view : View). AsksFor words (inspection.Show view)) c.in-Steps.is asks)
     (c.in_ok-lines.ensures ∙ ap statement_lines of_text)
-    (subst (λ (entries : List Entry). ShowsTrace c.in_ok-lines.lines c.args.script c.in-Ok.config entries shown.shown.illegal (text_in shown.shown.text) shown.shown.verdict) c.as_slice-in-Steps.ensures
-    (subst (λ (e : EngineValue). ShowsTrace c.in_ok-lines.lines e.script e.config c.as_slice-in-Steps.result.now shown.shown.illegal (text_in shown.shown.text) shown.shown.verdict) c.in_ok-engine-in-Steps.ensures shown.ensures))
+    (subst (λ (entries : List Entry). ShowsTrace c.in_ok-lines.lines c.args.script c.in-Ok.config entries shown.illegal (text_in shown.text) shown.verdict) c.as_slice-in-Steps.ensures
+    (subst (λ (e : EngineValue). ShowsTrace c.in_ok-lines.lines e.script e.config c.as_slice-in-Steps.result.now shown.illegal (text_in shown.text) shown.verdict) c.in_ok-engine-in-Steps.ensures steps.ensures))
     c.in_form.ensures
 
 pub returns-in-Err-Refused : goal.returns-in-Err-Refused
