@@ -1,11 +1,11 @@
 -- Views are outcomes.
-use Rattle.std.proofs.Common.{◌≡◌, ℕ, true, false, List, ◌++◌, length, Option, Some, None, Result, Ok, Err, IfOk, refl, sym, ap, ◌∙◌, subst}
+use Rattle.std.proofs.Common.{◌≡◌, ℕ, true, List, ◌++◌, Option, Some, None, Result, Ok, Err, IfOk, refl, sym, ap, ◌∙◌, subst}
 use Rattle.pct_model.specs.declared.schedule.Config.{Config}
 use Rattle.pct_model.specs.declared.schedule.Entry.{Entry}
 use Rattle.pct_model.specs.declared.script.Script.{Script}
 use Rattle.pct_model.specs.declared.stop.Verdict.{Verdict}
 use Rattle.pct_model.specs.Outcome.{code_of_verdict}
-use Rattle.pct_model.specs.Run.{Run, run, verdict_of}
+use Rattle.pct_model.specs.Run.{Run, run}
 use Rattle.pct_schedule.specs.Prefix.{prefix_of}
 use Rattle.pct_script.specs.StatementLines.{statement_lines}
 use Rattle.pct_script.proofs.StatementSpellings.{lines_spell}
@@ -25,7 +25,7 @@ use Rattle.pct_inspection.specs.declared.words.Inspection.TheVariants as inspect
 use Rattle.pct_inspection.specs.declared.words.View.TheVariants as view
 use Rattle.pct_inspection.specs.Inspection.{script_in, prefix_in, notice, code_by, FollowsPrefix, code_after, IsInspected}
 use Rattle.pct_inspection.specs.Inspection as outcome
-use Rattle.pct_inspection.specs.Answer.{code_of_answer, text_of_answer, status_by, status_of_answer, Answered, AsksFor, HasScript}
+use Rattle.pct_inspection.specs.Answer.{code_of_answer, text_of_answer, status_by, Answered, AsksFor, HasScript}
 use Rattle.pct_inspection.specs.Shown.{IsInForm, ShowsState, ShowsTrace, choices_after, states_after, verdict_after}
 
 -- the code of a verdict, or that of a refused schedule

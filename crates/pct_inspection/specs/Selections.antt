@@ -1,5 +1,5 @@
 -- The words of a selection, which says what `lanes` and `picture` leave out.
-use Rattle.std.specs.Prelude.{ℕ, suc, zero, Bool, true, false, ◌&&◌, if◌then◌else◌, List, [], ◌∷◌, Option, Some, None, bytes_eq, codes, is_some, nat_le, option_and_then, option_map}
+use Rattle.std.specs.Prelude.{ℕ, suc, zero, Bool, true, false, ◌&&◌, if◌then◌else◌, List, [], ◌∷◌, Option, Some, None, bytes_eq, codes, is_some, nat_le, option_map}
 use Rattle.std.specs.Option.{option_map_or}
 use Rattle.pct_model.specs.Lines.{◌>>=◌, number_of, split_once}
 use Rattle.pct_inspection.specs.declared.selecting.SelectionOption.{SelectionOption}

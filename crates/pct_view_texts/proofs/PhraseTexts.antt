@@ -1,5 +1,5 @@
 -- Phrases that are collected one after the other, each after a comma.
-use Rattle.std.proofs.Common.{◌≡◌, ◌⊎◌, inl, inr, ℕ, suc, ◌+◌, ◌-◌, ◌<◌, ◌≤◌, List, [], ◌∷◌, ◌++◌, length, take, drop, map, flat_map, reverse, Bool, Option, Some, Result, OnOk, refl, sym, ap, ◌∙◌, append_assoc, arith, codes, decimal}
+use Rattle.std.proofs.Common.{◌≡◌, ◌⊎◌, inl, inr, ℕ, ◌+◌, ◌-◌, ◌<◌, ◌≤◌, List, [], ◌∷◌, ◌++◌, length, take, drop, map, flat_map, Bool, Option, Some, Result, OnOk, refl, sym, ap, ◌∙◌, append_assoc, arith, codes, decimal}
 use Rattle.std.specs.Prelude.{slice_get, zip}
 use Rattle.std.specs.List.{join_with_byte, range_with_len}
 use Rattle.std.proofs.lemmas.Grind.{flat_map-append}

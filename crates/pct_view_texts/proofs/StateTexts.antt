@@ -1,5 +1,5 @@
 -- The lines of processes and of their threads, with their values.
-use Rattle.std.proofs.Common.{◌≡◌, ℕ, ◌+◌, ◌<◌, ◌≤◌, Bool, true, false, cond, List, [], ◌∷◌, ◌++◌, length, take, get_or, map, flat_map, reverse, Option, Some, None, Result, OnOk, refl, sym, ap, ◌∙◌, append-nil, arith, decimal}
+use Rattle.std.proofs.Common.{◌≡◌, ℕ, ◌+◌, ◌<◌, ◌≤◌, Bool, true, false, cond, List, [], ◌∷◌, ◌++◌, length, take, get_or, map, flat_map, reverse, Some, None, Result, OnOk, refl, sym, ap, ◌∙◌, append-nil, arith, decimal}
 use Rattle.std.specs.Prelude.{filter, is_some, slice_get}
 use Rattle.std.specs.Option.{option_map_or}
 use Rattle.std.proofs.lemmas.Grind.{flat_map-append}
@@ -29,7 +29,7 @@ use Rattle.pct_view_texts.specs.ListedLines.{process_lines_seen, values_lines}
 use Rattle.pct_view_texts.specs.Positions.{position_phrases}
 use Rattle.pct_view_texts.specs.States.{frame_phrase, key_phrases, mutex_phrases, process_fields, process_lines, registered_phrases, specific_phrases, states_text, value_phrases, values_fields}
 use Rattle.pct_view_texts.proofs.FieldTexts.{last_field, next_field, one_word}
-use Rattle.pct_view_texts.proofs.Appending.{as_text, both_texts, then_text}
+use Rattle.pct_view_texts.proofs.Appending.{as_text, then_text}
 use Rattle.pct_view_texts.proofs.ListedTexts.{next_text}
 
 -- ---- threads

@@ -1,7 +1,7 @@
 -- The values of a thread, as they are read of the tables of its process.
 use Rattle.std.proofs.Common.{◌≡◌, ℕ, ◌<◌, List, [], ◌∷◌, length, Option, Some, None, refl, sym, ap, ◌∙◌, subst}
 use Rattle.std.specs.Prelude.{option_map}
-use Rattle.std.proofs.lemmas.Option.{none-some, same_Some}
+use Rattle.std.proofs.lemmas.Option.{same_Some}
 use Rattle.pct_keys.specs.Tables.{Table, row_at}
 use Rattle.pct_model.specs.Keys.{KeyPlace}
 use Rattle.pct_model.specs.World.{Thread}

@@ -1,4 +1,4 @@
-use Rattle.std.proofs.Common.{◌≡◌, ℕ, List, Option, sym, ap, ◌∙◌, subst}
+use Rattle.std.proofs.Common.{ℕ, List, Option, sym, ap, ◌∙◌, subst}
 use Rattle.pct_model.specs.declared.schedule.Entry.{Entry}
 use Rattle.pct_script.specs.StatementLines.{statement_lines}
 use Rattle.pct_command.specs.Answer.{status_of_verdict}
@@ -18,12 +18,12 @@ pub returns-in-Choices : goal.returns-in-Choices
 returns-in-Choices c = λ words input asks has of_text.
     let runs = c.choices.ensures.runs in
     let followed = c.in_ok-engine-in-Choices in
-    let shown = c.in_ok-choices in
-    let v = shown.choices.verdict in
-    rw (c.answer_of-in-Choices.ensures.status, c.answer_of-in-Choices.ensures.text)
-    (subst (λ (illegal : Option ℕ). IsInspected words input (code_of (status_by illegal (status_of_verdict v))) (text_in shown.choices.text)) (sym shown.ensures.illegal)
-    (choices-answer words input c.args.script c.in-Ok.config c.in-Ok.entries has.has_script (rw has.rest at c.in-Ok.ensures.read) followed.engine followed.illegal runs.0 c.in_ok-lines.lines (text_in shown.choices.text) v
-    (rw c.as_slice-in-Choices.ensures at followed.ensures) runs.1
+    let shown = c.in_ok-choices-in-Choices in
+    let v = shown.field-0.verdict in
+    rw (c.answer_of.ensures.status, c.answer_of.ensures.text)
+    (subst (λ (illegal : Option ℕ). IsInspected words input (code_of (status_by illegal (status_of_verdict v))) (text_in shown.field-0.text)) (sym shown.ensures.illegal)
+    (choices-answer words input c.args.script c.in-Ok.config c.in-Ok.entries has.has_script (rw has.rest at c.in-Ok.ensures.read) followed.engine followed.illegal runs.0 c.in_ok-lines.lines (text_in shown.field-0.text) v
+    (rw c.as_slice.ensures at followed.ensures) runs.1
     (subst (λ (view : View). AsksFor words (inspection.Show view)) c.in-Choices.is asks)
     (c.in_ok-lines.ensures ∙ ap statement_lines of_text)
     (shown.ensures.shown runs.0 runs.1)))
@@ -32,11 +32,11 @@ pub returns-in-States : goal.returns-in-States
 returns-in-States c = λ words input asks has of_text.
     let runs = c.states.ensures.runs in
     let followed = c.in_ok-engine-in-States in
-    let shown = c.in_ok-states in
-    let v = shown.states.verdict in
+    let shown = c.in_ok-states-in-States in
+    let v = shown.field-0.verdict in
     rw (c.answer_of-in-States.ensures.status, c.answer_of-in-States.ensures.text)
-    (subst (λ (illegal : Option ℕ). IsInspected words input (code_of (status_by illegal (status_of_verdict v))) (text_in shown.states.text)) (sym shown.ensures.illegal)
-    (states-answer words input c.args.script c.in-Ok.config c.in-Ok.entries has.has_script (rw has.rest at c.in-Ok.ensures.read) followed.engine followed.illegal runs.0 c.in_ok-lines.lines (text_in shown.states.text) v
+    (subst (λ (illegal : Option ℕ). IsInspected words input (code_of (status_by illegal (status_of_verdict v))) (text_in shown.field-0.text)) (sym shown.ensures.illegal)
+    (states-answer words input c.args.script c.in-Ok.config c.in-Ok.entries has.has_script (rw has.rest at c.in-Ok.ensures.read) followed.engine followed.illegal runs.0 c.in_ok-lines.lines (text_in shown.field-0.text) v
     (rw c.as_slice-in-States.ensures at followed.ensures) runs.1
     (subst (λ (view : View). AsksFor words (inspection.Show view)) c.in-States.is asks)
     (c.in_ok-lines.ensures ∙ ap statement_lines of_text)

@@ -1,9 +1,7 @@
-use Rattle.std.proofs.Common.{ap, ◌∙◌}
 use Rattle.std.specs.Prelude.{filter}
 use Rattle.pct_process.specs.ProcessViews.{slot_on}
 use Rattle.pct_view_laws.specs.Listed.{is_unended}
-use Rattle.pct_view_texts.specs.ListedLines.{values_lines}
-use Rattle.pct_view_texts.proofs.StateTexts.{one_line, one_state}
+use Rattle.pct_view_texts.proofs.StateTexts.{one_state}
 use Rattle.pct_view_texts.proofs.states.push_slot.Goals as goal
 
 pub push_thread_values-requires : goal.push_thread_values-requires
