@@ -233,6 +233,8 @@ RANGES = [
     given("no prefix for lanes", "./pct lanes --events a.pct", 4, "step\t1.1\n" + OPEN, [MISSING]),
     given("no prefix for a picture", "./pct picture a.pct | grep -c '<svg '", 0, "1\n", [MISSING]),
     given("no prefix after a line %%", "./pct trace a.replay", 4, OPEN, [MISSING], **{"a.replay": SMALLEST + "%%\n"}),
+    given("a prefix of comments", "./pct trace a.pct noted", 4, OPEN, [MISSING], noted="# one\n\n \t# two\n \n"),
+    given("one with CR LF, and no line end", "./pct trace a.pct noted", 4, OPEN, [MISSING], noted="# one\r\n\r\n # two"),
     given("an empty prefix", "./pct trace a.pct empty", 4, OPEN, [MISSING], empty=""),
     given("no entry of a prefix", "./pct trace a.pct begun 0", 4, OPEN),
     given("choices without a prefix", "./pct choices a.pct", 4, "verdict open\n1.1\tmain:2\treturn 0\trunning\tenable deferred, no request\t-\n1 1 1 go\n"),

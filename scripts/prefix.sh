@@ -97,10 +97,9 @@ explain_prefix() {
 
 # ---- views that show no step
 
-# Whether there is no prefix: PREFIX is empty, or in FILE nothing comes after a line %%; says so.
+# Whether there is no prefix; says so.
 explain_missing() {
-    [ -z "$prefix" ] || [ ! -s "$prefix_file" ] || return
-    [ -z "$(LC_ALL=C sed "1,/$marker_line/d" "$input" | head -c 1)" ] || return
+    [ -z "$header" ] || return
     say "there is no prefix, so the run has no step: give a report of './pct run', or a schedule"
 }
 
