@@ -17,7 +17,8 @@ SECONDS = 120
 # What ./pct and the commands of the cases call; the PATH of the cases has these, without the kit's rt.
 TOOLS = """sh awk cat chmod cmp cp cut date dirname find git grep head ls mkdir mkfifo mktemp mv od printf readlink rm rmdir sed
     sleep tail test timeout touch""".split()
-USAGE = "usage: pct run [OPTION]... [FILE]"
+# The form of a command, which is shown after words that are refused.
+USAGE = "usage: pct "
 SMALLEST = "fn main x\nreturn 0\nend\n"
 FAULTY = "fn main x\nemit\nend\n"
 # The report of the script SMALLEST: main returns, and the process ends.

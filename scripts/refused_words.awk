@@ -21,13 +21,31 @@ function on_command(command) {
     if (command == "run") return on_run()
     if (command ~ /^(replay|check|points|build)$/) return on_plain(command)
     if (command == "demo") return on_number("demo", 2, "0", "4294967295")
-    if (command == "continue") return on_number("continue", 5, least["--seed"], largest["--seed"])
-    if (command ~ /^(trace|choices|lanes|picture)$/) return too_many(command, 4)
-    if (tolower(command) ~ /^(run|replay|check|points|build|demo|continue|trace|choices|lanes|picture)$/) return command ": commands are in lower case"
+    if (command == "continue") return on_continue()
+    if (command ~ /^(trace|choices|states|lanes|picture)$/) return on_view(command)
+    if (command ~ /^--(version|help)$/) return too_many(command, 1)
+    if (tolower(command) ~ /^(run|replay|check|points|build|demo|continue|trace|choices|states|lanes|picture)$/) return command ": commands are in lower case"
     return command ": no such command"
 }
 
-# A command without options; FILE, if it has one, is not among the words.
+# A view. Its options that are accepted are not among the words, and "-" and a range such as "-8" are none.
+function on_view(command,   i, option) {
+    for (i = 2; i < ARGC; i++) {
+        if (ARGV[i] !~ /^-[^0-9]/) continue
+        option = ARGV[i]
+        sub(/=.*/, "", option)
+        return option " is no option of " command "; it has " (command ~ /^(choices|states)$/ ? "none" : "--threads and --events")
+    }
+    return too_many(command, 4)
+}
+
+function on_continue(   i) {
+    if (ARGC > 3 && ARGV[2] !~ /^[0-9]+$/) return ARGV[2] " is no SEED: \047./pct continue SEED FILE [PREFIX [N]]\047"
+    for (i = 3; i < ARGC; i++) if (ARGV[i] ~ /^-[^0-9]/) return ARGV[i] " is no option of continue; it has none"
+    return on_number("continue", 5, least["--seed"], largest["--seed"])
+}
+
+# A command without options; FILE and PREFIX, if it has them, are not among the words.
 function on_plain(command) {
     if (ARGC < 3) return ""
     if (ARGV[2] ~ /^-/) return ARGV[2] ": " command " has no options"
