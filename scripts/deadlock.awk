@@ -1,23 +1,16 @@
-# Says of a deadlock what each thread waits for, and what would have ended the wait. It reads the answers of `trace` and of
-# `choices`. In the environment `file` is the name of the script.
+# Says of a deadlock what each thread waits for, and what would have ended the wait. It reads the script and the answers of
+# `trace` and of `choices`. In the environment `file` is the name of the script, and `found` a file that gets the name of a cause, if
+# one was found. run_facts.awk has the events that explanations use.
 
-BEGIN { FS = "\t"; most = 10; file = ENVIRON["file"] }
-
-# ---- the steps of the run
-
-FNR == NR && NF == 6 {
-    steps = $1
-    split($2, number, ".")
-    process = number[1]
-    if ($3 ~ /^[A-Za-z0-9_]+:[0-9]+$/) line_of[$2] = substr($3, index($3, ":") + 1)
-    events = split($6, event, ", ")
-    for (i = 1; i <= events; i++) note(event[i])
-    next
-}
+BEGIN { most = 10 }
+FNR == 1 { input++ }
+input == 1 { read_script() }
+input == 2 { read_step() }
 
 # ---- the threads that have not ended
 
-FNR != NR && NF == 6 {
+input == 3 && split($0, field, "\t") == 6 {
+    $0 = $0
     thread[++threads] = $1
     is_here[$1] = 1
     line_of[$1] = $2 == "-" ? 0 : substr($2, index($2, ":") + 1)

@@ -34,15 +34,16 @@ show_reason() {
     ' "$here/docs/reasons.txt" >&2
 }
 
-# Shows which word of a refused line of a script it is about.
+# Shows which word of a refused line of a script it is about, and how to mend it. It fails if no mend of its own is known.
 show_word() {
-    script_of_input | LC_ALL=C awk -v at="$line" -v why="$why" -f "$here/scripts/refused_word.awk" "$here/docs/forms.txt" - >&2
+    script_of_input | LC_ALL=C awk -v at="$line" -v why="$why" -f "$here/scripts/refused_word.awk" -f "$here/scripts/mend_word.awk" \
+        "$here/docs/forms.txt" - >&2
 }
 
 explain_line() {
     printf '%s:%s: %s\n' "$file" "${place:-$line}" "$fault" >&2
     show_line "$line" "$kind"
-    [ "$kind" != script ] || show_word
+    if [ "$kind" = script ] && show_word; then return; fi
     show_reason "$kind" "$why"
 }
 
@@ -116,6 +117,8 @@ explain_refusal() {
         explain_line
     elif [ "$command" = replay ] && [ -z "$marker" ]; then
         [ "$kind" = schedule ] || explain_line
+        # A last line without a line end has the marker in it, and its explanation says so.
+        [ -z "$(LC_ALL=C sed -n "${line:-1}{/^[^#].*%%$carriage_return\{0,1\}\$/p;}" "$input")" ] || return
         say "$file has no line %%, so all of it is the script and the schedule is empty; './pct run $file' runs a script"
     elif [ "$command" != replay ] && [ -n "$marker" ]; then
         [ "$line" = "$marker" ] || explain_line
