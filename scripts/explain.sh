@@ -150,13 +150,24 @@ followed() {
     cat "$folder/report"
 }
 
-# Writes the views of the report that an explanation is read from into files. It fails if no program shows them.
+# Writes the script and the views of the report that an explanation is read from into files. It fails if no program shows them.
 look() {
     find_inspect || return
+    script_of_input >"$folder/script"
     followed >"$folder/followed"
     "$program" trace <"$folder/followed" >"$folder/trace"
-    [ "$verdict" != deadlock ] || "$program" choices <"$folder/followed" >"$folder/choices"
+    "$program" choices <"$folder/followed" >"$folder/choices"
     grep -q "^verdict $verdict" "$folder/trace"
+}
+
+# Explains what is in these files by an awk script and its variables. The cause that it finds, if any, is then in $cause.
+explain_by() {
+    rm -f "$folder/found"
+    script=$1
+    shift
+    file=$file found=$folder/found LC_ALL=C awk -f "$here/scripts/run_facts.awk" -f "$here/scripts/$script.awk" "$@" >&2
+    cause=''
+    [ ! -s "$folder/found" ] || cause=$(cat "$folder/found")
 }
 
 # Explains the report of a run that ended by a stop or a deadlock, or used up its budget.
@@ -168,7 +179,7 @@ explain_run() {
     make_folder
     written_report "$@" >"$folder/report"
     verdict=$(LC_ALL=C sed -n '/^verdict /{s///p;q;}' "$folder/report")
-    is_seen=''
+    is_seen='' cause=''
     if look; then is_seen=yes; fi
     case $verdict in
         deadlock) explain_deadlock ;;
@@ -185,7 +196,11 @@ explain_unseen() {
 
 explain_deadlock() {
     if [ -n "$is_seen" ]; then
-        file=$file LC_ALL=C awk -f "$here/scripts/deadlock.awk" "$folder/trace" "$folder/choices" >&2
+        explain_by deadlock "$folder/script" "$folder/trace" "$folder/choices"
+        if [ -n "$cause" ]; then
+            show_reason cause "$cause"
+            return
+        fi
         # The others may wait for a thread that waits so.
         for why in condition semaphore mutex process a thread; do
             if grep -q "waits for $why " "$folder/choices"; then break; fi
@@ -199,9 +214,13 @@ explain_deadlock() {
 explain_budget() {
     budget=$(LC_ALL=C sed -n '/^schedule /{s/^schedule 1 \([0-9]*\) .*/\1/p;q;}' "$folder/report")
     if [ -n "$is_seen" ]; then
-        script_of_input | file=$file LC_ALL=C awk -v budget="$budget" -f "$here/scripts/budget.awk" - "$folder/trace" >&2
+        explain_by budget budget="$budget" "$folder/script" "$folder/trace" "$folder/choices"
     else
         explain_unseen trace 'the loop that took the steps'
+    fi
+    if [ -n "$cause" ]; then
+        show_reason cause "$cause"
+        return
     fi
     case $1 in
         run) echo "  Mend: end the loop, or give the run more steps: '--budget N' allows up to 200000." >&2 ;;
