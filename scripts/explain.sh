@@ -26,11 +26,13 @@ show_line() {
     ' >&2
 }
 
-# Shows the usual cause of a refusal of this kind, for this reason, and the way to mend it.
+# Shows the usual cause of a refusal of this kind, for this reason, and the way to mend it. With a third word the usual cause is left
+# out: the explanation has the cause.
 show_reason() {
-    awk -v kind="$1" -v why="$2" '
+    awk -v kind="$1" -v why="$2" -v has_cause="$3" '
         /^[^ #]/ { is_it = $1 == kind && $2 == why }
-        is_it && /^ / { print }
+        /^  [^ ]/ { is_left_out = has_cause != "" && /^  Usual cause:/ }
+        is_it && /^ / && !is_left_out { print }
     ' "$here/docs/reasons.txt" >&2
 }
 
@@ -228,6 +230,16 @@ explain_budget() {
     esac
 }
 
+# The script and the schedule without its last entry, as the views read them. A pct_inspect without `states` refuses that word.
+before_last() {
+    LC_ALL=C awk '
+        is_header && $1 == "end" { exit }
+        is_header { if (held != "") print held; held = $0; next }
+        { print; is_header = is_marker && /^schedule / }
+        $0 == "%%" { is_marker = 1 }
+    ' "$folder/followed"
+}
+
 # The last step of the trace is the one that was stopped.
 explain_stop() {
     if [ -n "$is_seen" ]; then
@@ -235,8 +247,10 @@ explain_stop() {
         step=$(LC_ALL=C awk -F '\t' 'NF == 6 { step = $1 " of thread " $2; at = $3 } END { sub(/:.*/, "", at); print step " in " at }' "$folder/trace")
         printf '%s:%s: %s, step %s\n' "$file" "$line" "$verdict" "$step" >&2
         show_line "$line" script
+        before_last | "$program" states >"$folder/states"
+        explain_by stop stop="${verdict#* }" "$folder/script" "$folder/trace" "$folder/choices" "$folder/states"
     else
         explain_unseen trace 'the step that was stopped'
     fi
-    show_reason stop "${verdict#* }"
+    show_reason stop "${verdict#* }" "$cause"
 }

@@ -24,6 +24,7 @@ function read_step(   field, events, event, i) {
     doing = field[4]
     where = field[3]
     if (where ~ /^[A-Za-z0-9_]+:[0-9]+$/) line_of[who] = substr(where, index(where, ":") + 1)
+    else if (where !~ /^in /) line_of[who] = 0
     events = split(field[6], event, ", ")
     for (i = 1; i <= events; i++) note(event[i])
 }
@@ -104,12 +105,20 @@ function note_wait(word,   key) {
 function note_fork(child,   key, part) {
     parent_of[child] = process
     forked[child] = this_step_of()
+    others_at_fork[child] = others_of(process)
     for (key in owner) {
         split(key, part, " ")
         if (part[1] == process) inherited[child " " part[2]] = child "." substr(owner[key], index(owner[key], ".") + 1)
     }
     for (key in inherited) if (index(key, child " ") == 1) owner[key] = inherited[key]
     if (who in state) { state[child substr(who, index(who, "."))] = state[who] }
+}
+
+# The threads of a process, but for the one that makes the step, that have not ended.
+function others_of(p,   t, all) {
+    if (who != p ".1" && !(p in parent_of) && !((p ".1") in ended)) all = " " p ".1"
+    for (t in created) if (process_of(t) == p && t != who && !(t in ended)) all = all " " t
+    return all
 }
 
 # ---- sentences
