@@ -44,16 +44,12 @@ function note(text,   word) {
     note_thread(word)
     note_end(word)
     note_wait(word)
+    note_call(word)
     if (word[1] == "fork") note_fork(word[2])
     if (word[1] == "state") { state[who] = word[2]; state_since[who] = this_step() }
     if (word[1] == "type") { type_since[who] = this_step() }
     if (word[1] == "key") key_made[process " " word[2]] = this_step_of()
     if (word[1] == "key_delete") key_deleted[process " " word[2]] = this_step_of()
-    if (word[1] == "push") pushed[who, ++handlers[who]] = word[2]
-    if (word[1] == "pop") handlers[who]--
-    if (word[1] == "pop" && word[4] == "run") called[who] = "the handler " word[2] ", which a pop called in " this_step()
-    if (word[1] == "handler") called[who] = "the cleanup handler " word[2] ", called in " this_step()
-    if (word[1] == "dtor") called[who] = "the destructor " word[4] ", called in " this_step()
 }
 
 # Creations, joins, detaches and requests, by the thread that is named.
@@ -74,11 +70,22 @@ function note_end(word,   i) {
     if (word[1] == "ending") {
         ending[who] = (word[2] == "canceled" ? "acted on a request in " : "began to end in ") this_step()
         is_canceled[who] = word[2] == "canceled"
+        delete called[who]
         for (i = 1; i <= handlers[who]; i++) handlers_at_end[who] = handlers_at_end[who] " " pushed[who, i]
     }
     if (word[1] == "ended") ended[who] = steps
     if (word[1] == "exit" && !(process in exit_began)) exit_began[process] = this_step_of()
     if (word[1] == "exit") ending[who] = "began to exit the process in " this_step()
+}
+
+# The cleanup handlers of a thread, and the function that was called last without a `do`.
+function note_call(word) {
+    if (word[1] == "push") pushed[who, ++handlers[who]] = word[2]
+    if (word[1] == "pop") handlers[who]--
+    if (word[1] == "pop" && word[4] == "run") called[who] = "the handler " word[2] ", which a pop called in " this_step()
+    if (word[1] == "handler") called[who] = "the cleanup handler " word[2] ", called in " this_step()
+    if (word[1] == "at_exit") called[who] = "the exit function " word[2] ", called in " this_step()
+    if (word[1] == "dtor") called[who] = "the destructor " word[4] ", called in " this_step()
 }
 
 # Mutexes, condition variables and semaphores.

@@ -21,7 +21,7 @@ END {
 
 function sentence_on(stop) {
     if (stop == "thread_id") return on_number(word[2])
-    if (stop == "join_self") return named(word[2]) "the number of the calling thread, " who
+    if (stop == "join_self") return quoted(word[2]) " is the number of the calling thread, " who
     if (stop == "not_joinable") return on_detached(process "." value_of(word[2]))
     if (stop ~ /^(join_twice|detach_joined)$/) return on_joiner(value_of(word[2]))
     if (stop == "key_id") return on_key(word[1] == "pthread_getspecific" ? word[3] : word[2])
@@ -53,11 +53,10 @@ function value_in(text, name, from,   part, parts, i) {
     return ""
 }
 
-# The beginning of a sentence on the value of an operand, as in `'t' is 2, `.
-function named(w) {
-    if (w ~ /^[0-9]+$/) return w " is "
-    return "'" w "' is " (value_of(w) == "" ? "" : value_of(w) ", ")
-}
+function quoted(w) { return w ~ /^[0-9]+$/ ? w : "'" w "'" }
+
+# The beginning of a sentence on an operand whose value is known: nothing for a number.
+function on_value(w, n) { return w == n ? "" : quoted(w) " is " n ": " }
 
 # ---- threads
 
@@ -65,7 +64,7 @@ function on_number(w,   n, t, text) {
     n = value_of(w)
     if (n == "") return ""
     t = process "." n
-    text = w == n ? "" : "'" w "' is " n ": "
+    text = on_value(w, n)
     if (t in joined) return text "thread " t " was joined in " joined[t] on_others()
     if (t in ended) return text "thread " t " was " detached[t] ", and ended in step " ended[t]
     if (was_in_parent(n)) return text "thread " n " is one of a parent, and child " process " has the thread alone that forked"
@@ -108,7 +107,7 @@ function on_fork(p) {
 function on_key(w,   n, p, text) {
     n = value_of(w)
     if (n == "") return ""
-    text = w == n ? "" : "'" w "' is " n ": "
+    text = on_value(w, n)
     for (p = process; p != ""; p = parent_of[p]) if ((p " " n) in key_deleted) return text "key " n " was deleted in " key_deleted[p " " n]
     return text "no key of process " process " had this number up to here"
 }
