@@ -9,8 +9,12 @@ WORKER = "fn w x\nend\n"
 REFUSED = [
     ("a string", "bad_name", 2, 'fn main x\nemit "hello"\nend\n', "There are no strings: 'emit V' takes a number", "  Mend: emit a number in its place"),
     ("a string of two words", "word_count", 2, 'fn main x\nemit "hello world"\nend\n', "and 2 words are after 'emit'", "There are no strings"),
-    ("a comparison", "word_count", 2, "fn main x\nif x == 1\nend\nend\n", "Its form is 'if V'", "'==' is an operator, and there are no expressions",
-     "Mend: 'set d x' and 'add d 4294967295' (which subtracts 1), with d a further local, make d 0 if x is 1."),
+    (
+        "a comparison", "word_count", 2, "fn main x\nif x == 1\nend\nend\n", "Its form is 'if V'", "'==' is an operator, and there are no expressions",
+        "Mend: 'set d x' and 'add d 4294967295' (which subtracts 1), with d a further local, make d 0 if x is 1.",
+    ),
+    ("a comparison in brackets", "word_count", 2, "fn main v\nif (v == 3)\nend\nend\n", "'set d v' and 'add d 4294967293'"),
+    ("a loop as in C", "unknown_word", 2, "fn main n\nwhile(n < 3)\nend\nend\n", "it is 'while V'", "Mend: count down to 0: 'set i 3'"),
     ("a comparison without blanks", "bad_name", 2, "fn main v\nif v==3\nend\nend\n", "'v==3' is an expression", "'set d v' and 'add d 4294967293'"),
     ("a test for 0", "word_count", 2, "fn main v\nif v == 0\nend\nend\n", "'==' is an operator", "Mend: write 'if v', and after its 'else' what is for 0."),
     ("a test for another value than 0", "word_count", 2, "fn main v\nif v != 0\nend\nend\n", "'!=' is an operator", "Mend: write 'if v'.\n"),
@@ -200,7 +204,7 @@ RUNS = [
     # In each order main creates, joins in two steps and stops, and the worker ends in two.
     (
         "a join twice", "", "undefined thread_id", JOINED + "pthread_join t -\npthread_join t -\nend\n",
-        "F:6: undefined thread_id, step 6 of thread 1.1 in main\n    pthread_join t -\n", "Usual cause: a second join", "Mend: join a thread once",
+        "F:6: undefined thread_id, step 6 of thread 1.1 in main\n    pthread_join t -\n", "Mend: join a thread once",
     ),
     (
         "a join of a detached thread", ["1 1 1 new 2", "1 1 1 go", "1 1 1 go"], "undefined not_joinable", JOINED + "pthread_detach t\npthread_join t -\nend\n",

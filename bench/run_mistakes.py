@@ -53,6 +53,13 @@ RUNS = [
         "mutex m\nfn h x\nend\nfn w x\npthread_mutex_lock m\npthread_cleanup_push h 0\npthread_testcancel\npthread_cleanup_pop 0\nend\n" + CANCELED_OWNER,
         "acted on a request in step 5, F:7, and ended in step 8 without an unlock: no handler that it had pushed unlocks m\n",
     ),
+    # The handler tests its argument, which is 0, and so does not unlock.
+    (
+        "a canceled thread whose handler has an unlock",
+        ["1 1 1 new 2", "1 1 2 go", "1 1 2 go", "1 1 1 go", "1 1 2 act 0"] + ["1 1 2 go"] * 4 + ["1 1 1 go"] * 2, "deadlock",
+        "mutex m\nfn h x\nif x\npthread_mutex_unlock m\nend\nend\nfn w x\npthread_mutex_lock m\npthread_cleanup_push h 0\npthread_testcancel\n"
+        "pthread_cleanup_pop 0\nend\n" + CANCELED_OWNER, "and ended in step 9 without an unlock: its handler h has an unlock of m\n", "  Usual cause:",
+    ),
     (
         "a wait for a semaphore with the mutex locked", ["1 1 1 new 2", "1 1 2 go", "1 1 2 go"], "deadlock",
         "mutex m\nsem s 0\nfn w x\npthread_mutex_lock m\nsem_wait s\nend\nfn main x\npthread_create - - w 0\npthread_mutex_lock m\nsem_post s\nend\n",

@@ -106,7 +106,8 @@ function show_cycle(   i, t, seen, start, text) {
 function find_cause(t,   found, held_by) {
     held_by = wait_of[t] ~ /^mutex / ? next_of[t] : ""
     if (held_by == t) found = "own_lock"
-    else if (held_by in ended) found = is_canceled[held_by] ? "canceled_owner" : "ended_owner"
+    else if (held_by in ended && !is_canceled[held_by]) found = "ended_owner"
+    else if (held_by in ended) found = unlocking_handler(held_by, mutex_of(wait_of[t])) == "" ? "canceled_owner" : ""
     else if (t in is_joined && pending_at(t) != "") found = cancelability[t] ~ /^disable/ ? "pending_disabled" : "pending_lock"
     else if (wait_of[held_by] ~ /^(semaphore|condition) /) found = "waiting_owner"
     else if (wait_of[t] ~ /^condition / && !(process_of(t) " " substr(wait_of[t], 20) in signaled)) found = "no_signal"

@@ -120,7 +120,7 @@ explain_refusal() {
     elif [ "$command" = replay ] && [ -z "$marker" ]; then
         [ "$kind" = schedule ] || explain_line
         # A last line without a line end has the marker in it, and its explanation says so.
-        [ -z "$(LC_ALL=C sed -n "${line:-1}{/^[^#].*%%$carriage_return\{0,1\}\$/p;}" "$input")" ] || return
+        [ -z "$(LC_ALL=C sed -n "${line:-1}{/^[[:blank:]]*[^#[:blank:]]\{1,\}%%$carriage_return\{0,1\}\$/p;}" "$input")" ] || return
         say "$file has no line %%, so all of it is the script and the schedule is empty; './pct run $file' runs a script"
     elif [ "$command" != replay ] && [ -n "$marker" ]; then
         [ "$line" = "$marker" ] || explain_line

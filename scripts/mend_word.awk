@@ -11,21 +11,30 @@ function known(name, w) {
 # ---- faults
 
 # Of an operator, or a word with one: a comparison in an `if` or a `while`, an assignment, or an expression. It finds the sides.
-function fault_of_operator(w,   side, sign, parts) {
-    variable = "v"
-    number = 3
-    parts = split(rest_of_line(), side, / *(==|!=|<=|>=|<|>|=) */)
+function fault_of_operator(w,   sign) {
     sign = sign_in(w)
     if (word[1] == "global" && words == 4 && w == "=") return "with_value"
     if (word[1] ~ /^(set|add)$/ && words == 4 && w == "=") return "equals_sign"
-    if (word[1] !~ /^(if|while)$/ || sign == "") return "operator"
-    if (parts == 2) find_sides(side[1], side[2])
+    if (keyword() !~ /^(if|while)$/ || sign !~ /^(==|!=|<=|>=|<|>)$/) return "operator"
+    return fault_of_comparison(keyword() == "while", sign)
+}
+
+function fault_of_comparison(is_loop, sign) {
+    find_sides()
     if (number == 0 && sign ~ /^(!=|>)$/) return "not_zero"
-    if (number == 0 && sign == "==" && word[1] == "if") return "zero"
-    if (sign !~ /^[<>]/) return word[1] == "if" ? "equal" : sign == "!=" ? "differ_loop" : "equal_loop"
-    if (word[1] == "if" || sign ~ /^>/) return "order"
+    if (number == 0 && sign == "==" && !is_loop) return "zero"
+    if (sign ~ /^[!=]=$/ && !is_loop) return "equal"
+    if (sign ~ /^[!=]=$/) return sign == "!=" ? "differ_loop" : "equal_loop"
+    if (!is_loop || sign ~ /^>/) return "order"
     if (sign == "<=") number++
     return "order_loop"
+}
+
+# The first word without the syntax of C.
+function keyword(   w) {
+    w = word[1]
+    sub(/[^A-Za-z0-9_].*$/, "", w)
+    return w
 }
 
 function rest_of_line(   i, all) {
@@ -37,9 +46,16 @@ function sign_in(w) {
     return match(w, /==|!=|<=|>=|<|>|=/) ? substr(w, RSTART, RLENGTH) : ""
 }
 
-function find_sides(left, right) {
-    if (is_name(left) && is_number(right)) { variable = left; number = right + 0 }
-    if (is_name(right) && is_number(left)) { variable = right; number = left + 0 }
+# The two sides of the comparison in the line, or others as an example.
+function find_sides(   all, side) {
+    variable = "v"
+    number = 3
+    all = word[1] " " rest_of_line()
+    sub(/^[a-z]+/, "", all)
+    gsub(/[ (){};]/, "", all)
+    if (split(all, side, /==|!=|<=|>=|<|>/) != 2) return
+    if (is_name(side[1]) && is_number(side[2])) { variable = side[1]; number = side[2] + 0 }
+    if (is_name(side[2]) && is_number(side[1])) { variable = side[2]; number = side[1] + 0 }
 }
 
 function fault_of_address(w,   i) {
@@ -47,7 +63,8 @@ function fault_of_address(w,   i) {
     return place_of(i) == "V" ? "address_value" : "address"
 }
 
-function fault_of_syntax() {
+function fault_of_syntax(   i) {
+    for (i = 2; i <= words; i++) if (is_operator(word[i]) && keyword() ~ /^(if|while)$/) return fault_of_operator(word[i])
     if (word[1] ~ /^pthread_create[^A-Za-z0-9_]/) return "pthread_create"
     return plain_line() == "" ? "form" : "syntax"
 }

@@ -159,11 +159,13 @@ function is_accepted(w, place) {
 
 # ---- sentences on words
 
+function is_operator(w) { return w ~ /^(==|!=|<|>|<=|>=|=|\+|\*|\/|%|&&|\|\||!.*|\+=|-=)$/ }
+
 # What a word is that another language has, or nothing.
 function on_habit(w) {
     if (w ~ /["']/) return known("string", w) quoted(w) " is a string or a part of one. There are no strings: 'emit V' takes a number or a variable."
     if (w ~ /^(#|\/\/|\/\*)/) return known("comment", w) "A comment is a line of its own: there is none after a statement."
-    if (w ~ /^(==|!=|<|>|<=|>=|=|\+|\*|\/|%|&&|\|\||!.*|\+=|-=)$/)
+    if (is_operator(w))
         return known(fault_of_operator(w), w) quoted(w) " is an operator, and there are no expressions: V is one number or one variable, and counts as true if it is not 0."
     if (w ~ /^[A-Za-z0-9_]+(==|!=|<|>|=|\+|\*|\/|%)/)
         return known(fault_of_operator(w), w) quoted(w) " is an expression, and there are none: V is one number or one variable, and counts as true if it is not 0."

@@ -46,8 +46,8 @@ function note(text,   word) {
     note_wait(word)
     note_call(word)
     if (word[1] == "fork") note_fork(word[2])
-    if (word[1] == "state") { state[who] = word[2]; state_since[who] = this_step() }
-    if (word[1] == "type") { type_since[who] = this_step() }
+    if (word[1] == "state") state_since[who] = this_step()
+    if (word[1] == "type") type_since[who] = this_step()
     if (word[1] == "key") key_made[process " " word[2]] = this_step_of()
     if (word[1] == "key_delete") key_deleted[process " " word[2]] = this_step_of()
 }
@@ -118,7 +118,6 @@ function note_fork(child,   key, part) {
         if (part[1] == process) inherited[child " " part[2]] = child "." substr(owner[key], index(owner[key], ".") + 1)
     }
     for (key in inherited) if (index(key, child " ") == 1) owner[key] = inherited[key]
-    if (who in state) { state[child substr(who, index(who, "."))] = state[who] }
 }
 
 # The threads of a process, but for the one that makes the step, that have not ended.
@@ -139,10 +138,14 @@ function on_request(t, cancelability, why_enabled,   text) {
     return why_enabled == "" ? "" : text ": " why_enabled "."
 }
 
-# Whether the handlers that a thread had at its end unlock a mutex.
-function on_handlers(t, m,   name, names, i) {
-    names = split(handlers_at_end[t], name, " ")
-    if (!names) return "it had pushed no handler"
-    for (i = names; i > 0; i--) if ((name[i], m) in unlocks) return "its handler " name[i] " has an unlock, and did not come to it"
-    return "no handler that it had pushed unlocks " m
+# The newest handler that a thread had at its end and that has an unlock of a mutex, or nothing.
+function unlocking_handler(t, m,   name, i) {
+    for (i = split(handlers_at_end[t], name, " "); i > 0; i--) if ((name[i], m) in unlocks) return name[i]
+    return ""
+}
+
+function on_handlers(t, m,   handler) {
+    if (handlers_at_end[t] == "") return "it had pushed no handler"
+    handler = unlocking_handler(t, m)
+    return handler == "" ? "no handler that it had pushed unlocks " m : "its handler " handler " has an unlock of " m
 }
