@@ -79,7 +79,7 @@ function was_in_parent(n,   p) {
 # The threads that may have been meant: those that were neither joined nor detached.
 function on_others(   t, all) {
     if (word[1] != "pthread_join") return ""
-    for (t in created) if (process_of(t) == process && !(t in joined) && !(t in detached)) all = all (all == "" ? "" : ", ") t
+    for (t in created) if (t != who && process_of(t) == process && !(t in joined) && !(t in detached)) all = all (all == "" ? "" : ", ") t
     return all == "" ? "" : "; not joined: " all
 }
 
