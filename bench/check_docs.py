@@ -23,6 +23,8 @@ What is checked:
 - Stops. The table of stops in FORMATS.md has all stops that the definitions know, and no others. docs/reasons.txt has
   each, with the use and the rule of the table, a usual cause and a way to mend it.
 - Deadlocks. docs/reasons.txt has each wait of the table in SCRIPT.md, with the same usual cause and way to mend it.
+- Faults and causes. Each fault in a word and each cause in a run that the scripts of ./pct find has a mend in docs/forms.txt or
+  docs/reasons.txt, and each mend there belongs to one.
 
 The last line is `N passed, M failed`. The status is 1 if M is not 0 or N is 0.
 """
@@ -157,7 +159,7 @@ def page_of_reasons(page, kind):
 
 def reasons():
     """For each reason: its name, the sentences of the page, and those of the table."""
-    table = {refusal: words for refusal, words in table_of_reasons().items() if not refusal.startswith(("stop ", "deadlock "))}
+    table = {refusal: words for refusal, words in table_of_reasons().items() if not refusal.startswith(("stop ", "deadlock ", "cause "))}
     pages = {**page_of_reasons(ROOT / "docs/SCRIPT.md", "script"), **page_of_reasons(ROOT / "docs/FORMATS.md", "schedule")}
     for refusal in sorted({*table, *pages}):
         yield f"{refusal} in docs/reasons.txt", pages.get(refusal, "none"), table.get(refusal, "none")
@@ -220,7 +222,7 @@ def forms():
     """For each kind of line of docs/forms.txt: where it is, what the pages have, and what the file has."""
     script, formats = (ROOT / "docs/SCRIPT.md").read_text(), (ROOT / "docs/FORMATS.md").read_text()
     lines = [line for line in (ROOT / "docs/forms.txt").read_text().splitlines() if line and not line.startswith(("#", "- "))]
-    has = {line for line in lines if not line.startswith(("limit ", "point "))}
+    has = {line for line in lines if not line.startswith(("limit ", "point ", "mend "))}
     yield "docs/forms.txt: the forms of SCRIPT.md", names(forms_of(script)), names(has)
     listed = script.partition("### Cancellation points")[2].partition("\n## ")[0].split("```")[1::2]
     points = [word for line in lines if line.startswith("point ") for word in line.split()[1:]]
@@ -229,6 +231,27 @@ def forms():
         rows = [row for row in formats.splitlines() if row.startswith("| ") and re.sub("mutexes|condition variables|semaphores", "globals", " ".join(what)) in row]
         limit = rows[0].split("|")[2].split()[0].replace(",", "") if rows else "none"
         yield f"docs/forms.txt: the limit of {word} in FORMATS.md", limit, number
+
+
+def found():
+    """For the names of faults and causes: where they are, those that the scripts of ./pct find, and those that the tables have a mend of."""
+    word = "".join((ROOT / f"scripts/{name}.awk").read_text() for name in ("refused_word", "mend_word"))
+    run = "".join((ROOT / f"scripts/{name}.awk").read_text() for name in ("deadlock", "budget"))
+    mends = re.findall(r"^mend ([a-z_]+): .", (ROOT / "docs/forms.txt").read_text(), re.M)
+    yield "docs/forms.txt: the faults that refused_word.awk and mend_word.awk do not name", "none", names({name for name in mends if not quotes(word, name)})
+    named = re.findall(r'(?:known|keep)\("([a-z_]+)"', word)
+    choices = (ROOT / "scripts/mend_word.awk").read_text().partition("# ---- faults")[2].partition("\n# ---- ")[0]
+    named += [name for name in re.findall(r'"([a-z]+(?:_[a-z]+)+)"', choices) if not name.startswith("pthread_cond_")]
+    yield "docs/forms.txt: the faults without a mend", "none", names(set(named) - set(mends))
+    causes = {name[6:]: words for name, words in table_of_reasons().items() if name.startswith("cause ")}
+    yield "docs/reasons.txt: the causes that deadlock.awk and budget.awk do not name", "none", names({name for name in causes if not quotes(run, name)})
+    named = re.findall(r'"((?:pending|own|waiting|ended|canceled|no)_[a-z]+)"', run)
+    yield "docs/reasons.txt: the causes without a mend", "none", names({name for name in named if not causes.get(name, "").startswith("Mend: ")})
+
+
+def quotes(text, name):
+    """Whether the text has a name in quotes, whole or but for a beginning that ends with `_`."""
+    return f'"{name}"' in text or any(f'"{name[:at + 1]}"' in text for at, byte in enumerate(name) if byte == "_")
 
 
 def names(words):
@@ -256,6 +279,7 @@ def checks(program):
     yield from deadlocks()
     yield from lists()
     yield from forms()
+    yield from found()
     for page in [ROOT / "README.md", *sorted((ROOT / "docs").glob("*.md"))]:
         for number, command, printed, written in results(page, program):
             yield f"{page.relative_to(ROOT)}:{number}: {command}", printed, written

@@ -6,12 +6,15 @@
 PROGRAM is the built program, crates/pct_run/out/pct_run where none is named (./pct build builds it).
 
 The cases are as in cases.py, with what is expected worked out from docs/SCRIPT.md and docs/FORMATS.md, and with the words of
-docs/reasons.txt. Those of FIRST are in first_mistakes.py.
+docs/reasons.txt and docs/forms.txt. Those of FIRST are in first_mistakes.py and run_mistakes.py.
 """
 import re
+import subprocess
 
 import first_mistakes
-from cases import BEGUN, CHOICES, FAULTY, HEADER, LANES, REPORT, SMALLEST, TRACE, USAGE, WORKER, Case, named_program, run_all
+import run_mistakes
+from cases import BEGUN, CHOICES, FAULTY, HEADER, LANES, REPORT, SECONDS, SMALLEST, TRACE, USAGE, WORKER, Case, named_program, run_all
+from checkout import INSPECT, ROOT
 
 SHOWN = "pct: here each thread is, and each entry that is legal there ('./pct choices a.replay'):\n"
 
@@ -42,6 +45,14 @@ def ended(name, how, verdict, text, *says):
     return Case(name, f"{command} > report; echo $?; grep verdict report", 0, answer, says, {file: content})
 
 
+def has_states():
+    """Whether pct_inspect has the view `states`. If not, the cases that need it are left out, and this is said."""
+    ran = subprocess.run([str(ROOT / INSPECT), "states"], input=f"{SMALLEST}{HEADER}".encode(), capture_output=True, timeout=SECONDS)
+    if ran.returncode == 5:
+        print(f"pct_inspect has no view states: {len(run_mistakes.OPERANDS)} cases are left out")
+    return ran.returncode != 5
+
+
 def words(name, call, says):
     """Words that are refused, with a sentence on the word before the usage."""
     return Case(name, f"./pct {call}", 5, "refused words\n", [says, USAGE], {"a.pct": SMALLEST})
@@ -61,16 +72,16 @@ SCRIPTS = [
         "Usual cause:", "Mend:",
     ),
     script(
-        "a word that is none", "unknown_word", 2, "fn main x\nprint x\nend\n", "    print x\n",
+        "a word that is none", "unknown_word", 2, "fn main x\nwalk x\nend\n", "    walk x\n",
         "Usual cause: C syntax", "Mend: compare the line",
     ),
     script(
         "a call as in C", "unknown_word", 2, "fn main x\n\tpthread_exit(0)\nend\n", "     pthread_exit(0)\n",
-        "such as 'pthread_exit(0)'", "Mend:",
+        "  'pthread_exit(0)' has the syntax of C", "  Mend: write 'pthread_exit 0'.\n",
     ),
     script(
         "a comment after a statement", "word_count", 2, "fn main x\nemit 1 # one\nend\n", "    emit 1 # one\n",
-        "a comment after a statement", "put the comment on its own line",
+        "A comment is a line of its own", "  Mend: put the comment on a line of its own.\n",
     ),
     script(
         "a hexadecimal number", "bad_number", 2, "fn main x\nemit 0x10\nend\n", "    emit 0x10\n",
@@ -78,11 +89,11 @@ SCRIPTS = [
     ),
     script(
         "a negative number", "bad_name", 2, "fn main x\nemit -1\nend\n", "    emit -1\n", "a negative number",
-        "add 2^32 - N",
+        "  Mend: write 'emit 4294967295'.\n",
     ),
     script(
         "a missing end before a function", "misplaced", 4, "fn f x\nif x\nend\nfn main x\nend\n", "    fn main x\n",
-        "a missing 'end'", "count its 'if', 'while' and 'fn'",
+        "closes the 'if' of line 2", "  Mend: add an 'end' above this line",
     ),
     script(
         "an end too many", "stray_end", 3, "fn main x\nend\nend\n", "    end\n", "one 'end' too many",
@@ -95,11 +106,11 @@ SCRIPTS = [
     ),
     script(
         "a push without its pop", "unclosed", 3, "fn main x\npthread_cleanup_push main 1\nend\n", "    end\n",
-        "a push without its pop", "add the pop",
+        "The push of line 2 is open here", "  Mend: add 'pthread_cleanup_pop 1' before this line",
     ),
     script(
         "a missing end in the last function", "unclosed", 1, "fn main x\nif x\nend\n", "    fn main x\n",
-        "a missing 'end' in the last function", "or the 'end' that is missing",
+        "closes the 'if' of line 2", "  Mend: add an 'end' where it is missing",
     ),
     script(
         "nine locals", "too_many", 1, "fn main a b c d e f g h i\nend\n", "    fn main a b c d e f g h i\n",
@@ -111,7 +122,7 @@ SCRIPTS = [
     ),
     script(
         "a local that is not declared", "unknown_name", 2, "fn main x\nset v 1\nend\n", "    set v 1\n",
-        "'set v 1' does not declare 'v'", "add the local to the line 'fn'",
+        "the word 'v' has to be a variable", "  Mend: add 'v' to the line 'fn main'",
     ),
     script(
         "a return between push and pop", "return_in_push", 3,
@@ -123,9 +134,9 @@ SCRIPTS = [
         "    atexit - bye\n", "a 'nop'", "or register another one",
     ),
     script("an empty file", "no_main", 1, "", "    (the end of the text)\n", "an empty input", "add 'fn main x'"),
-    script("Main for main", "no_main", 1, "fn Main x\nend\n", "    fn Main x\n", "'Main' or another name", "Mend:"),
+    script("Main for main", "no_main", 1, "fn Main x\nend\n", "    fn Main x\n", "upper and lower case differ", "  Mend: write 'main' in the place of 'Main'.\n"),
     script(
-        "a fault in a file with CR LF", "unknown_word", 2, "fn main x\nprint x\r\nend\n", "    print x\n",
+        "a fault in a file with CR LF", "unknown_word", 2, "fn main x\nwalk x\r\nend\n", "    walk x\n",
         "Usual cause:", "Mend:",
     ),
     script(
@@ -211,7 +222,7 @@ SCHEDULES = [
     ),
     Case(
         "a script without a last line end before %%", "./pct replay a.replay", 6, "refused script 3 unknown_word\n",
-        ["a.replay:3: unknown_word\n", "    end%%\n", "has no LF before '%%'", "pct: a.replay has no line %%"],
+        ["a.replay:3: unknown_word\n", "    end%%\n  The script's last line has no line end, so %% is not a line of its own.\n", "  Mend: end the last line of the script"],
         {"a.replay": SMALLEST[:-1] + HEADER + "end 0\n"},
     ),
     Case(
@@ -226,7 +237,7 @@ SCHEDULES = [
     Case(
         "check of an input of replay, with a fault before", "./pct check a.replay", 6,
         "refused script 1 word_count\n",
-        ["a.replay:1: word_count\n", "    fn main\n", "'fn main' without a parameter", "pct: line 4 of a.replay is %%"],
+        ["a.replay:1: word_count\n", "    fn main\n", "  Mend: write 'fn main x'.", "pct: line 4 of a.replay is %%"],
         {"a.replay": SMALLEST.replace(" x", "") + HEADER + "end 0\n"},
     ),
 ]
@@ -249,7 +260,7 @@ CALLS = [
     Case("a file with CR LF", "./pct run a.pct", 0, REPORT, [], {"a.pct": SMALLEST.replace("\n", "\r\n")}),
     Case(
         "a pipe as a file", "cat a.pct | ./pct check /dev/stdin", 6, "refused script 2 word_count\n",
-        ["/dev/stdin:2: word_count\n", "    emit\n", "Usual cause:"], {"a.pct": FAULTY},
+        ["/dev/stdin:2: word_count\n", "    emit\n", "  Mend: write 'emit 0'"], {"a.pct": FAULTY},
     ),
     Case(
         "no file, a script with a fault", "./pct check < a.pct", 6, "refused script 2 word_count\n", [],
@@ -338,7 +349,7 @@ CONTINUED = [
     ),
     Case(
         "a script with a fault before a prefix", "./pct continue 7 a.pct begun", 6, "refused script 2 word_count\n",
-        ["a.pct:2: word_count\n", "    emit\n", "Usual cause:", "Mend:"], {"a.pct": FAULTY, "begun": BEGUN},
+        ["a.pct:2: word_count\n", "    emit\n", "  Mend: write 'emit 0'"], {"a.pct": FAULTY, "begun": BEGUN},
     ),
     Case(
         "a prefix that is not there", "./pct continue 7 a.pct nowhere", 66, "",
@@ -364,7 +375,7 @@ CONTINUED = [
     ),
     Case(
         "choices of a script with a fault", "./pct choices a.pct begun", 6, "refused script 2 word_count\n",
-        ["a.pct:2: word_count\n", "    emit\n", "Usual cause:", "Mend:"], {"a.pct": FAULTY, "begun": BEGUN},
+        ["a.pct:2: word_count\n", "    emit\n", "  Mend: write 'emit 0'"], {"a.pct": FAULTY, "begun": BEGUN},
     ),
     Case(
         "lanes of a prefix with a fault", "./pct lanes a.pct begun", 7, "refused schedule 1 bad_header\n",
@@ -399,7 +410,8 @@ UNSEEN = "rm crates/pct_inspect/out/pct_inspect; ./pct run a.pct > report"
 
 FIRST = [
     *(script(*case) for case in first_mistakes.REFUSED),
-    *(ended(*case) for case in first_mistakes.RUNS),
+    *(ended(*case) for case in first_mistakes.RUNS + run_mistakes.RUNS),
+    *(ended(*case) for case in (run_mistakes.OPERANDS if has_states() else [])),
     *(words(*case) for case in first_mistakes.WORDS),
     Case(
         "a deadlock of a run that is continued", "./pct continue 7 a.pct begun | grep verdict", 0, "verdict deadlock\n",

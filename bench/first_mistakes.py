@@ -7,62 +7,98 @@ WORKER = "fn w x\nend\n"
 
 # Scripts that are refused: the name, the reason, the line, the script, and the sentence on the word.
 REFUSED = [
-    ("a string", "bad_name", 2, 'fn main x\nemit "hello"\nend\n', "There are no strings: 'emit V' takes a number"),
+    ("a string", "bad_name", 2, 'fn main x\nemit "hello"\nend\n', "There are no strings: 'emit V' takes a number", "  Mend: emit a number in its place"),
     ("a string of two words", "word_count", 2, 'fn main x\nemit "hello world"\nend\n', "and 2 words are after 'emit'", "There are no strings"),
-    ("a comparison", "word_count", 2, "fn main x\nif x == 1\nend\nend\n", "Its form is 'if V'", "'==' is an operator, and there are no expressions"),
-    ("a brace after an if", "word_count", 2, "fn main x\nif x {\nemit 1\n}\nend\n", "Its form is 'if V'", "There are no braces"),
+    (
+        "a comparison", "word_count", 2, "fn main x\nif x == 1\nend\nend\n", "Its form is 'if V'", "'==' is an operator, and there are no expressions",
+        "Mend: 'set d x' and 'add d 4294967295' (which subtracts 1), with d a further local, make d 0 if x is 1.",
+    ),
+    ("a comparison in brackets", "word_count", 2, "fn main v\nif (v == 3)\nend\nend\n", "'set d v' and 'add d 4294967293'"),
+    ("a loop as in C", "unknown_word", 2, "fn main n\nwhile(n < 3)\nend\nend\n", "it is 'while V'", "Mend: count down to 0: 'set i 3'"),
+    ("a comparison without blanks", "bad_name", 2, "fn main v\nif v==3\nend\nend\n", "'v==3' is an expression", "'set d v' and 'add d 4294967293'"),
+    ("a test for 0", "word_count", 2, "fn main v\nif v == 0\nend\nend\n", "'==' is an operator", "Mend: write 'if v', and after its 'else' what is for 0."),
+    ("a test for another value than 0", "word_count", 2, "fn main v\nif v != 0\nend\nend\n", "'!=' is an operator", "Mend: write 'if v'.\n"),
+    ("a loop that counts up", "word_count", 2, "fn main n\nwhile n < 3\nend\nend\n", "'<' is an operator", "Mend: count down to 0: 'set i 3' before the loop, 'while i'"),
+    ("a loop until a value", "word_count", 2, "fn main n\nwhile n != 3\nend\nend\n", "'add d 4294967293'", "again before its 'end'."),
+    ("a loop as long as a value", "word_count", 2, "fn main n\nwhile n == 3\nend\nend\n", "'add d 4294967293'", "an 'if d' that sets w to 0."),
+    ("an if with an order", "word_count", 2, "fn main n\nif n > 3\nend\nend\n", "'>' is an operator", "Mend: count a variable down to 0"),
+    ("a sum", "word_count", 2, "fn main n\nemit n + 1\nend\n", "'+' is an operator", "Mend: compute it before in lines of their own"),
+    ("a global with a value", "word_count", 1, "global n = 5\nfn main x\nend\n", "'=' is an operator", "write 'global n', and 'set n 5' in a function."),
+    ("a set with an equals sign", "word_count", 2, "fn main n\nset n = 5\nend\n", "'=' is an operator", "Mend: write 'set n 5'.\n"),
+    ("a semaphore without its count", "word_count", 1, "sem s\nfn main x\nend\n", "Its form is 'sem NAME N'", "Mend: write 'sem s 0', or another count"),
+    ("a state without its result", "word_count", 2, "fn main x\npthread_setcancelstate disable\nend\n", "and 1 word is after", "Mend: write 'pthread_setcancelstate disable -', or"),
+    ("a return without a value", "word_count", 2, "fn main x\nreturn\nend\n", "Its form is 'return V'", "Mend: write 'return 0', or"),
+    ("a brace after an if", "word_count", 2, "fn main x\nif x {\nemit 1\n}\nend\n", "Its form is 'if V'", "There are no braces", "Mend: leave the braces out"),
     ("a brace for an end", "unknown_word", 4, "fn main x\nif x\nemit 1\n}\nend\n", "There are no braces"),
-    ("a semicolon after a number", "bad_number", 2, "fn main x\nemit 1;\nend\n", "'1;' has the syntax of C", "semicolons"),
+    ("a semicolon after a number", "bad_number", 2, "fn main x\nemit 1;\nend\n", "'1;' has the syntax of C", "semicolons", "Mend: write 'emit 1'.\n"),
+    ("a semicolon after a name", "bad_name", 2, "fn main x\nemit x;\nend\n", "'x;' has the syntax of C", "Mend: write 'emit x'.\n"),
+    ("a lock as in C", "unknown_word", 3, "mutex m\nfn main x\npthread_mutex_lock(&m);\nend\n", "it is 'pthread_mutex_lock M'", "Mend: write 'pthread_mutex_lock m'.\n"),
+    ("a join as in C", "unknown_word", 2, "fn main t\npthread_join(t, NULL);\nend\n", "it is 'pthread_join V DEST'", "Mend: write 'pthread_join t -'.\n"),
+    (
+        "a state as in C", "unknown_word", 2, "fn main x\npthread_setcancelstate PTHREAD_CANCEL_DISABLE -\nend\n",
+        "'PTHREAD_CANCEL_DISABLE' is in the place of 'enable' or 'disable'.", "Mend: write 'pthread_setcancelstate disable -'.\n",
+    ),
     ("a semicolon after a word", "unknown_word", 2, "fn main x\nreturn;\nend\n", "it is 'return V'"),
     (
         "pthread_create as in C", "unknown_word", 4, WORKER + "fn main x t\npthread_create(&t, NULL, w, NULL);\nend\n",
-        "has the syntax of C: it is 'pthread_create DEST DEST FN V' or", "without brackets",
+        "has the syntax of C: it is 'pthread_create DEST DEST FN V' or", "without brackets", "Mend: write 'pthread_create - t worker 0', with your names.",
     ),
-    ("an address", "bad_name", 4, WORKER + "fn main x t\npthread_create - &t w 0\nend\n", "'&t' has the '&' of C"),
+    ("an address", "bad_name", 4, WORKER + "fn main x t\npthread_create - &t w 0\nend\n", "'&t' has the '&' of C", "Mend: write 't'.\n"),
+    ("an address as an argument", "bad_name", 4, WORKER + "fn main x\npthread_create - - w &x\nend\n", "'&x' has the '&' of C", "Mend: write 'x', its value."),
     (
         "pthread_create without its result", "word_count", 4, WORKER + "fn main x t\npthread_create t w 0\nend\n",
-        "Its form is 'pthread_create DEST DEST FN V'", "and 3 words are after", "or '-' to drop the result",
+        "Its form is 'pthread_create DEST DEST FN V'", "and 3 words are after", "or '-' to drop the result", "Mend: write 'pthread_create - t w 0'. The first DEST",
     ),
-    ("a join without DEST", "word_count", 2, "fn main t\npthread_join t\nend\n", "Its form is 'pthread_join V DEST', and 1 word is after"),
+    ("a join without DEST", "word_count", 2, "fn main t\npthread_join t\nend\n", "Its form is 'pthread_join V DEST', and 1 word is after", "Mend: write 'pthread_join t -', or"),
     ("a join with NULL", "unknown_name", 2, "fn main t\npthread_join t NULL\nend\n", "write '-' for a result"),
     (
         "a join of the name of a function", "unknown_name", 4, WORKER + "fn main x\npthread_join w -\nend\n",
-        "the word 'w' has to be a variable", "and it is a function,", "line 1. A thread is named by the number",
+        "the word 'w' has to be a variable", "and it is a function,", "line 1. A thread is named by the number", "Mend: write 'pthread_create - t w 0' with a local t, and 'pthread_join t'",
     ),
     (
         "a local of another function", "unknown_name", 5, "fn w x v\nset v 1\nend\nfn main x\nemit v\nend\n",
-        "the word 'v' has to be a variable, a local of 'main' or a global, and it is a local of 'w', line 1.",
+        "the word 'v' has to be a variable, a local of 'main' or a global, and it is a local of 'w', line 1.", "Mend: add 'v' to the line 'fn main'.",
+    ),
+    ("an undeclared variable", "unknown_name", 2, "fn main x\nemit v\nend\n", "nothing of this name is", "Mend: add 'v' to the line 'fn main', or"),
+    ("an undeclared mutex", "unknown_name", 2, "fn main x\npthread_mutex_lock m\nend\n", "nothing of this name is declared", "Mend: add a line 'mutex m' outside functions."),
+    ("an undeclared condition variable", "unknown_name", 2, "fn main x\npthread_cond_signal c\nend\n", "Mend: add a line 'cond c' outside functions."),
+    ("an undeclared semaphore", "unknown_name", 2, "fn main x\nsem_post s\nend\n", "Mend: add a line 'sem s 0' outside functions"),
+    ("an undeclared function", "unknown_name", 2, "fn main x\ndo f 1\nend\n", "Mend: add the function, as 'fn f x' with its 'end'"),
+    ("a mutex declared in a function", "misplaced", 2, "fn main x\nmutex m\nend\n", "The function 'main' of line 1 is open here", "Mend: move the line out of the function"),
+    (
+        "a pthread_cond_timedwait", "unknown_word", 4, "mutex m\ncond c\nfn main x\npthread_cond_timedwait c m 5\nend\n",
+        "It is planned, and not in this language yet.\n", "  Mend: write 'pthread_cond_wait C M', which waits without a limit",
     ),
     (
         "a mutex where a condition variable is needed", "unknown_name", 4, "mutex m\ncond c\nfn main x\npthread_cond_wait m c\nend\n",
-        "In 'pthread_cond_wait C M' the word 'm' has to be a condition variable, and it is a mutex, line 1.",
+        "In 'pthread_cond_wait C M' the word 'm' has to be a condition variable, and it is a mutex, line 1.", "Mend: write 'pthread_cond_wait c m'.\n",
     ),
     ("a mutex in another case", "unknown_name", 3, "mutex Lock\nfn main x\npthread_mutex_lock lock\nend\n", "line 1 declares 'Lock'."),
-    ("pthread_mutex_trylock", "unknown_word", 3, "mutex m\nfn main x\npthread_mutex_trylock m\nend\n", "It is not in this language."),
-    ("pthread_once", "unknown_word", 4, WORKER + "fn main x\npthread_once o w\nend\n", "It is planned, and not in this language yet."),
+    ("pthread_mutex_trylock", "unknown_word", 3, "mutex m\nfn main x\npthread_mutex_trylock m\nend\n", "It is not in this language.\n", "  Mend: write 'pthread_mutex_lock M'"),
+    ("pthread_once", "unknown_word", 4, WORKER + "fn main x\npthread_once o w\nend\n", "It is planned, and not in this language yet.\n", "  Mend: call the function in main by 'do FN 0'"),
     ("a signal", "unknown_word", 2, "fn main t\npthread_kill t 9\nend\n", "Scripts have no signals"),
     ("an initialized mutex", "unknown_word", 3, "mutex m\nfn main x\npthread_mutex_init m\nend\n", "it is declared outside functions, by 'mutex NAME'"),
-    ("a sleep of three seconds", "word_count", 2, "fn main x\nsleep 3\nend\n", "'sleep' is a cancellation point, called by its name alone"),
+    ("a sleep of three seconds", "word_count", 2, "fn main x\nsleep 3\nend\n", "'sleep' is a cancellation point, called by its name alone", "Mend: write 'sleep' alone.\n"),
     ("an output as in C", "unknown_word", 2, 'fn main x\nprintf("x")\nend\n', "A value is shown by 'emit V'"),
     ("a call without do", "unknown_word", 4, WORKER + "fn main x\nw 3\nend\n", "'w' is a function of this script, line 1: 'do w 3' calls it."),
     ("a call as in C", "unknown_word", 4, WORKER + "fn main x\nw(3);\nend\n", "'w' is a function of this script, line 1: 'do w V' calls it."),
-    ("an assignment", "unknown_word", 2, "fn main x\nx = 3\nend\n", "'set x V' gives x the value V"),
-    ("an increment", "unknown_word", 2, "fn main x\nx++\nend\n", "'add x V' adds V to it."),
+    ("an assignment", "unknown_word", 2, "fn main x\nx = 3\nend\n", "'set x V' gives x the value V", "Mend: write 'set x 3'.\n"),
+    ("an increment", "unknown_word", 2, "fn main x\nx++\nend\n", "'add x V' adds V to it.", "Mend: write 'add x 1'.\n"),
     ("a type", "unknown_word", 2, "fn main x\nint i\nend\n", "There are no types."),
     ("a for", "unknown_word", 2, "fn main x\nfor x\nend\nend\n", "The one loop is 'while V'"),
     ("a short name of a call", "unknown_word", 3, "mutex m\nfn main x\nlock m\nend\n", "Is it 'pthread_mutex_lock M'?"),
     ("a state that is none", "unknown_word", 2, "fn main x\npthread_setcancelstate off -\nend\n", "'off' is in the place of 'enable' or 'disable'."),
-    ("a thread created joinable", "unknown_word", 4, WORKER + "fn main x\npthread_create - - w 0 joinable\nend\n", "'joinable' is in the place of 'detached'."),
-    ("a subtraction", "bad_name", 2, "fn main x\nadd x -3\nend\n", "'-3' is a negative number, and there are none: modulo 2^32 it is 4294967293."),
+    ("a thread created joinable", "unknown_word", 4, WORKER + "fn main x\npthread_create - - w 0 joinable\nend\n", "'joinable' is in the place of 'detached'.", "Mend: leave 'joinable' out."),
+    ("a subtraction", "bad_name", 2, "fn main x\nadd x -3\nend\n", "'-3' is a negative number, and there are none: modulo 2^32 it is 4294967293.", "Mend: write 'add x 4294967293'.\n"),
     ("a count that is too large", "bad_number", 1, "sem s 32768\nfn main x\nend\n", "'32768' is above 32767"),
-    ("a function without a parameter", "word_count", 1, "fn main\nend\n", "Its form is 'fn NAME PARAM LOCAL ..', and 1 word is after 'fn'."),
+    ("a function without a parameter", "word_count", 1, "fn main\nend\n", "Its form is 'fn NAME PARAM LOCAL ..', and 1 word is after 'fn'.", "Mend: write 'fn main x'."),
     (
         "a forgotten end before a function", "misplaced", 4, "fn f x\nwhile x\nend\nfn main x\nend\n",
-        "The function 'f' of line 1 is open here. The last 'end' before, in line 3, closes the 'while' of line 2.",
+        "The function 'f' of line 1 is open here. The last 'end' before, in line 3, closes the 'while' of line 2.", "Mend: add an 'end' above this line",
     ),
     (
         "a forgotten end at the end", "unclosed", 1, "fn main x\nwhile x\nend\n",
-        "No 'end' is left for this 'fn': the last one, in line 3, closes the 'while' of line 2.",
+        "No 'end' is left for this 'fn': the last one, in line 3, closes the 'while' of line 2.", "Mend: add an 'end' where it is missing, for this 'fn'",
     ),
     ("a statement after the function", "misplaced", 3, "fn main x\nend\nemit 1\n", "the last 'end', in line 2, closes the function 'main' of line 1."),
     ("an else of a while", "stray_end", 3, "fn main x\nwhile x\nelse\nend\nend\n", "The innermost open block here is the 'while' of line 2, and an 'else' belongs to an 'if'."),
@@ -74,7 +110,7 @@ REFUSED = [
     ),
     (
         "a push whose pop is forgotten", "unclosed", 4, "fn main x\npthread_cleanup_push main 1\nemit 1\nend\n",
-        "The push of line 2 is open here: its pop has to come before this 'end'.",
+        "The push of line 2 is open here: its pop has to come before this 'end'.", "Mend: add 'pthread_cleanup_pop 1' before this line",
     ),
     (
         "a return in a push", "return_in_push", 3, "fn main x\npthread_cleanup_push main 1\nreturn 0\npthread_cleanup_pop 0\nend\n",
@@ -102,7 +138,7 @@ RUNS = [
         "a lock twice", "", "deadlock", "mutex m\nfn main x\npthread_mutex_lock m\npthread_mutex_lock m\nend\n",
         "F: deadlock after 1 step: no thread can go on, and 1 has not ended\n",
         "F:4: thread 1.1 waits for mutex m, held by 1.1: pthread_mutex_lock m\n",
-        "    thread 1.1 itself acquired m in step 1, F:3: a second lock waits for its own unlock\n",
+        "    thread 1.1 itself acquired m in step 1, F:3: a second lock waits for its own unlock\n", "  Mend: lock the mutex once",
     ),
     (
         "a lock twice, and several workers", "--workers 3", "deadlock", "mutex m\nfn main x\npthread_mutex_lock m\npthread_mutex_lock m\nend\n",
@@ -130,7 +166,7 @@ RUNS = [
     ),
     (
         "a wait without a signal", "", "deadlock", WAITER + "fn main x\ndo w 0\nend\n",
-        "F: deadlock after 3 steps", "F:5: thread 1.1 waits for condition variable c", "    no signal and no broadcast of c was made in this process\n",
+        "F: deadlock after 3 steps", "F:5: thread 1.1 waits for condition variable c", "    no signal and no broadcast of c was made in this process\n", "  Mend: let a thread set a variable and signal",
     ),
     # Threads 2 and 3 wait, and the one signal unblocks thread 2, which ends in four steps.
     (
@@ -147,7 +183,7 @@ RUNS = [
     ("a pause", "", "deadlock", "fn main x\npause\nend\n", "F:2: thread 1.1 waits for a signal: pause\n    nothing ends this wait: scripts have no signals\n"),
     (
         "a mutex that an ended thread left locked", ["1 1 1 new 2", "1 1 2 go", "1 1 2 go", "1 1 2 go", "1 1 1 go", "1 1 1 go"], "deadlock", LEFT_LOCKED,
-        "F:8: thread 1.1 waits for mutex m, held by 1.2: pthread_mutex_lock m\n    thread 1.2 acquired m in step 2, F:3, and ended in step 4 without an unlock\n",
+        "F:8: thread 1.1 waits for mutex m, held by 1.2: pthread_mutex_lock m\n    thread 1.2 acquired m in step 2, F:3, and ended in step 4 without an unlock\n", "  Mend: unlock the mutex on each way",
     ),
     # The parent returns from fork, comes to `if` and `else`, and exits; the child comes to `if`.
     (
@@ -162,13 +198,13 @@ RUNS = [
     ),
     (
         "a join of itself", "", "undefined join_self", "fn main x me\npthread_self me\npthread_join me -\nend\n",
-        "F:3: undefined join_self, step 2 of thread 1.1 in main\n    pthread_join me -\n", "  Use: a join of the calling thread.\n",
-        "  Rule: S: undefined ('pthread_join'). The stop: P, a choice of this host.\n", "Usual cause:", "Mend: let another thread join",
+        "F:3: undefined join_self, step 2 of thread 1.1 in main\n    pthread_join me -\n", "  'me' is the number of the calling thread, 1.1.\n  Use: a join of the calling thread.\n",
+        "  Rule: S: undefined ('pthread_join'). The stop: P, a choice of this host.\n  Mend: let another thread join",
     ),
     # In each order main creates, joins in two steps and stops, and the worker ends in two.
     (
         "a join twice", "", "undefined thread_id", JOINED + "pthread_join t -\npthread_join t -\nend\n",
-        "F:6: undefined thread_id, step 6 of thread 1.1 in main\n    pthread_join t -\n", "Usual cause: a second join", "Mend: join a thread once",
+        "F:6: undefined thread_id, step 6 of thread 1.1 in main\n    pthread_join t -\n", "Mend: join a thread once",
     ),
     (
         "a join of a detached thread", ["1 1 1 new 2", "1 1 1 go", "1 1 1 go"], "undefined not_joinable", JOINED + "pthread_detach t\npthread_join t -\nend\n",
@@ -177,11 +213,11 @@ RUNS = [
     (
         "an unlock by another thread", ["1 1 1 new 2", "1 1 1 go", "1 1 2 go"], "undefined not_owner",
         "mutex m\nfn w x\npthread_mutex_unlock m\nend\nfn main x t\npthread_create - t w 0\npthread_mutex_lock m\npthread_join t -\nend\n",
-        "F:3: undefined not_owner, step 3 of thread 1.2 in w\n    pthread_mutex_unlock m\n", "that another thread has locked", "Mend: lock the mutex",
+        "F:3: undefined not_owner, step 3 of thread 1.2 in w\n    pthread_mutex_unlock m\n  Mutex m is owned by thread 1.1, which acquired it in step 2, F:7.\n", "Mend: lock the mutex",
     ),
     (
         "a wait without its mutex", "", "undefined not_owner", "mutex m\ncond c\nfn main x\n  pthread_cond_wait  c m\nend\n",
-        "F:4: undefined not_owner, step 1 of thread 1.1 in main\n      pthread_cond_wait  c m\n", "a wait without a lock before",
+        "F:4: undefined not_owner, step 1 of thread 1.1 in main\n      pthread_cond_wait  c m\n  Mutex m has no owner: no thread of process 1 has locked it.\n",
     ),
     (
         "a recursion without an end", "", "profile stack_full", "fn f x\ndo f x\nend\nfn main x\ndo f 1\nend\n",
@@ -189,19 +225,20 @@ RUNS = [
     ),
     (
         "a lock with asynchronous type", "", "undefined async_call", "mutex m\nfn main x\npthread_setcanceltype asynchronous -\npthread_mutex_lock m\nend\n",
-        "F:4: undefined async_call, step 2 of thread 1.1 in main\n", "(2.9.5.4)", "Mend: set the type to deferred",
+        "F:4: undefined async_call, step 2 of thread 1.1 in main\n", "  The cancelability type of thread 1.1 is asynchronous since step 1, F:3.\n", "(2.9.5.4)", "Mend: set the type to deferred",
     ),
-    ("a key that was not created", "", "undefined key_id", "fn main x\npthread_setspecific 1 5\nend\n", "F:2: undefined key_id, step 1 of thread 1.1 in main\n", "Mend: create the key"),
+    ("a key that was not created", "", "undefined key_id", "fn main x\npthread_setspecific 1 5\nend\n", "F:2: undefined key_id, step 1 of thread 1.1 in main\n", "  No key of process 1 had this number up to here.\n", "Mend: create the key"),
     # The call of fork, the fork and the return in the child are three steps.
     (
         "a child of several threads that locks", ["1 1 1 new 2", "1 1 1 go", "1 1 1 go", "1 2 1 go", "1 2 1 go"], "profile fork_child_call",
         "mutex m\n" + WORKER + "fn main x p\npthread_create - - w 0\nfork - p\npthread_mutex_lock m\nend\n",
-        "F:7: profile fork_child_call, step 5 of thread 2.1 in main\n", "('fork')", "Mend: fork before",
+        "F:7: profile fork_child_call, step 5 of thread 2.1 in main\n",
+        "  Process 2 was forked in step 3, thread 1.1, F:6, and of the threads of its parent had not ended: 1.2.\n", "('fork')", "Mend: fork before",
     ),
     (
         "an endless loop", "--budget 30", "budget", "fn main x\nwhile 1\nnop\nend\nend\n",
         "F: the budget of 30 steps is used up, and the run could go on\n",
-        "F:2: thread 1.1 made its last 30 steps in this loop, lines 2 to 4\n    while 1\n", "'--budget N' allows up to 200000.\n",
+        "F:2: thread 1.1 made its last 30 steps in this loop, lines 2 to 4\n    while 1\n  Mend: end the loop", "'--budget N' allows up to 200000.\n",
     ),
     (
         "an endless loop with a loop in it", "--budget=60", "budget", "fn main x\nwhile 1\nset x 3\nwhile x\nadd x 4294967295\nend\nend\nend\n",

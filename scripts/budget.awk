@@ -1,12 +1,13 @@
-# Says of a run that used up its budget in which loop its last steps were. It reads the script and the answer of `trace`;
-# `budget` is the number of steps. In the environment `file` is the name of the script.
+# Says of a run that used up its budget in which loop its last steps were. It reads the script and the answers of `trace` and of
+# `choices`; `budget` is the number of steps. In the environment `file` is the name of the script, and `found` a file that gets the
+# name of a cause, if one was found. run_facts.awk has the events that explanations use.
 
-BEGIN { file = ENVIRON["file"] }
+FNR == 1 { input++ }
 
 # ---- the loops of the script
 
-FNR == NR {
-    gsub(/\r/, " ")
+input == 1 {
+    read_script()
     $0 = $0
     line[FNR] = $0
     if ($1 == "fn") { function_name = $2; function_line[$2] = FNR }
@@ -20,23 +21,29 @@ FNR == NR {
 
 # For each thread and loop: how many steps the thread had made when it was last outside the loop, and how often it has
 # come to the line `while` since.
-split($0, field, "\t") == 6 {
-    t = field[2]
-    made[t]++
-    thread_at[++steps] = t
-    if (field[3] !~ /^[A-Za-z0-9_]+:[0-9]+$/) next
-    colon = index(field[3], ":")
-    name = substr(field[3], 1, colon - 1)
-    at = substr(field[3], colon + 1) + 0
+input == 2 && split($0, field, "\t") == 6 {
+    read_step()
+    made[who]++
+    thread_at[steps] = who
+    if (where !~ /^[A-Za-z0-9_]+:[0-9]+$/) next
+    colon = index(where, ":")
+    name = substr(where, 1, colon - 1)
+    at = substr(where, colon + 1) + 0
     function_at[steps] = name
-    for (i = 1; i <= loops_in[name]; i++) follow(t, loop[name, i])
+    if (field[6] ~ /^(call|done) /) is_at_point[who] = who in requested
+    for (i = 1; i <= loops_in[name]; i++) follow(who, loop[name, i])
 }
 
+input == 3 && split($0, field, "\t") == 6 { cancelability[field[1]] = field[5] }
+
 function follow(t, start) {
-    if (at < start || at > end_of[start] || field[4] ~ /^return /) {
+    if (at < start || at > end_of[start] || doing ~ /^return /) {
         outside[t, start] = made[t]
-        rounds[t, start] = 0
-    } else if (at == start && !rounds[t, start]++) outside[t, start] = made[t] - 1
+        rounds[t, start] = rounds_since[t, start] = 0
+    } else if (at == start) {
+        if (!rounds[t, start]++) outside[t, start] = made[t] - 1
+        if (t in requested) rounds_since[t, start]++
+    }
 }
 
 END {
@@ -63,6 +70,16 @@ function innermost(t,   name, i, start, best, inside) {
 function show_loop(start) {
     printf "%s:%d: thread %s made its last %d steps in this loop, lines %d to %d\n", file, start, busiest, steps_in, start, end_of[start]
     show_line(start)
+    show_request(busiest, start)
+}
+
+# Why a thread that went through the loop with a request pending did not act on it. At an optional point it may go on.
+function show_request(t, start,   text) {
+    if (rounds_since[t, start] < 2 || cancelability[t] ~ /asynchronous/) return
+    text = on_request(t, cancelability[t], is_at_point[t] ? "" : "it came to no cancellation point in this loop")
+    if (text == "") return
+    print "  " text
+    print (cancelability[t] ~ /^disable/ ? "pending_disabled" : "pending_loop") >ENVIRON["found"]
 }
 
 # The function with the most steps of the thread in the last half of the run.

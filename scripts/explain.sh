@@ -26,23 +26,26 @@ show_line() {
     ' >&2
 }
 
-# Shows the usual cause of a refusal of this kind, for this reason, and the way to mend it.
+# Shows the usual cause of a refusal of this kind, for this reason, and the way to mend it. With a third word the usual cause is left
+# out: the explanation has the cause.
 show_reason() {
-    awk -v kind="$1" -v why="$2" '
+    awk -v kind="$1" -v why="$2" -v has_cause="$3" '
         /^[^ #]/ { is_it = $1 == kind && $2 == why }
-        is_it && /^ / { print }
+        /^  [^ ]/ { is_left_out = has_cause != "" && /^  Usual cause:/ }
+        is_it && /^ / && !is_left_out { print }
     ' "$here/docs/reasons.txt" >&2
 }
 
-# Shows which word of a refused line of a script it is about.
+# Shows which word of a refused line of a script it is about, and how to mend it. It fails if no mend of its own is known.
 show_word() {
-    script_of_input | LC_ALL=C awk -v at="$line" -v why="$why" -f "$here/scripts/refused_word.awk" "$here/docs/forms.txt" - >&2
+    script_of_input | LC_ALL=C awk -v at="$line" -v why="$why" -f "$here/scripts/refused_word.awk" -f "$here/scripts/mend_word.awk" \
+        "$here/docs/forms.txt" - >&2
 }
 
 explain_line() {
     printf '%s:%s: %s\n' "$file" "${place:-$line}" "$fault" >&2
     show_line "$line" "$kind"
-    [ "$kind" != script ] || show_word
+    if [ "$kind" = script ] && show_word; then return; fi
     show_reason "$kind" "$why"
 }
 
@@ -116,6 +119,8 @@ explain_refusal() {
         explain_line
     elif [ "$command" = replay ] && [ -z "$marker" ]; then
         [ "$kind" = schedule ] || explain_line
+        # A last line without a line end has the marker in it, and its explanation says so.
+        [ -z "$(LC_ALL=C sed -n "${line:-1}{/^[[:blank:]]*[^#[:blank:]]\{1,\}%%$carriage_return\{0,1\}\$/p;}" "$input")" ] || return
         say "$file has no line %%, so all of it is the script and the schedule is empty; './pct run $file' runs a script"
     elif [ "$command" != replay ] && [ -n "$marker" ]; then
         [ "$line" = "$marker" ] || explain_line
@@ -147,13 +152,24 @@ followed() {
     cat "$folder/report"
 }
 
-# Writes the views of the report that an explanation is read from into files. It fails if no program shows them.
+# Writes the script and the views of the report that an explanation is read from into files. It fails if no program shows them.
 look() {
     find_inspect || return
+    script_of_input >"$folder/script"
     followed >"$folder/followed"
     "$program" trace <"$folder/followed" >"$folder/trace"
-    [ "$verdict" != deadlock ] || "$program" choices <"$folder/followed" >"$folder/choices"
+    "$program" choices <"$folder/followed" >"$folder/choices"
     grep -q "^verdict $verdict" "$folder/trace"
+}
+
+# Explains what is in these files by an awk script and its variables. The cause that it finds, if any, is then in $cause.
+explain_by() {
+    rm -f "$folder/found"
+    script=$1
+    shift
+    file=$file found=$folder/found LC_ALL=C awk -f "$here/scripts/run_facts.awk" -f "$here/scripts/$script.awk" "$@" >&2
+    cause=''
+    [ ! -s "$folder/found" ] || cause=$(cat "$folder/found")
 }
 
 # Explains the report of a run that ended by a stop or a deadlock, or used up its budget.
@@ -165,7 +181,7 @@ explain_run() {
     make_folder
     written_report "$@" >"$folder/report"
     verdict=$(LC_ALL=C sed -n '/^verdict /{s///p;q;}' "$folder/report")
-    is_seen=''
+    is_seen='' cause=''
     if look; then is_seen=yes; fi
     case $verdict in
         deadlock) explain_deadlock ;;
@@ -182,7 +198,11 @@ explain_unseen() {
 
 explain_deadlock() {
     if [ -n "$is_seen" ]; then
-        file=$file LC_ALL=C awk -f "$here/scripts/deadlock.awk" "$folder/trace" "$folder/choices" >&2
+        explain_by deadlock "$folder/script" "$folder/trace" "$folder/choices"
+        if [ -n "$cause" ]; then
+            show_reason cause "$cause"
+            return
+        fi
         # The others may wait for a thread that waits so.
         for why in condition semaphore mutex process a thread; do
             if grep -q "waits for $why " "$folder/choices"; then break; fi
@@ -196,14 +216,28 @@ explain_deadlock() {
 explain_budget() {
     budget=$(LC_ALL=C sed -n '/^schedule /{s/^schedule 1 \([0-9]*\) .*/\1/p;q;}' "$folder/report")
     if [ -n "$is_seen" ]; then
-        script_of_input | file=$file LC_ALL=C awk -v budget="$budget" -f "$here/scripts/budget.awk" - "$folder/trace" >&2
+        explain_by budget budget="$budget" "$folder/script" "$folder/trace" "$folder/choices"
     else
         explain_unseen trace 'the loop that took the steps'
+    fi
+    if [ -n "$cause" ]; then
+        show_reason cause "$cause"
+        return
     fi
     case $1 in
         run) echo "  Mend: end the loop, or give the run more steps: '--budget N' allows up to 200000." >&2 ;;
         *) echo '  Mend: end the loop, or give the run more steps: BUDGET in the header of its schedule may be up to 200000.' >&2 ;;
     esac
+}
+
+# The script and the schedule without its last entry, as the views read them. A pct_inspect without `states` refuses that word.
+before_last() {
+    LC_ALL=C awk '
+        is_header && $1 == "end" { exit }
+        is_header { if (held != "") print held; held = $0; next }
+        { print; is_header = is_marker && /^schedule / }
+        $0 == "%%" { is_marker = 1 }
+    ' "$folder/followed"
 }
 
 # The last step of the trace is the one that was stopped.
@@ -213,8 +247,10 @@ explain_stop() {
         step=$(LC_ALL=C awk -F '\t' 'NF == 6 { step = $1 " of thread " $2; at = $3 } END { sub(/:.*/, "", at); print step " in " at }' "$folder/trace")
         printf '%s:%s: %s, step %s\n' "$file" "$line" "$verdict" "$step" >&2
         show_line "$line" script
+        before_last | "$program" states >"$folder/states"
+        explain_by stop stop="${verdict#* }" "$folder/script" "$folder/trace" "$folder/choices" "$folder/states"
     else
         explain_unseen trace 'the step that was stopped'
     fi
-    show_reason stop "${verdict#* }"
+    show_reason stop "${verdict#* }" "$cause"
 }

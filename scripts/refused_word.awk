@@ -1,9 +1,15 @@
-# Says of a refused line of a script which word, or which other line, the refusal is about. It reads docs/forms.txt and then
-# the script. `at` and `why` are of the answer `refused script LINE WHY`.
+# Says of a refused line of a script which word, or which other line, the refusal is about, and how to mend it where that is
+# known. It reads docs/forms.txt and then the script. `at` and `why` are of the answer `refused script LINE WHY`. The status is 1
+# if there is no way to mend it here. mend_word.awk has the functions on the mend.
 
 # ---- docs/forms.txt
 
 FNR == NR && $1 == "limit" { limit[$2] = $3; next }
+FNR == NR && $1 == "mend" {
+    name_of_fault = substr($2, 1, length($2) - 1)
+    mend[name_of_fault] = substr($0, index($0, ": ") + 2)
+    next
+}
 FNR == NR && $1 == "point" { for (i = 2; i <= NF; i++) is_point[$i] = 1; next }
 FNR == NR && $1 == "-" {
     colon = index($0, ": ")
@@ -32,7 +38,8 @@ END {
     for (n = 1; n <= lines; n++) survey(line_of[n])
     words = split(text[at], word, " ")
     sentence = sentence_on(word[1])
-    if (sentence != "") show(sentence)
+    if (sentence != "") show_mended(sentence)
+    exit !is_known
 }
 
 # What a line declares, opens and closes. Of the refused line: what is open there.
@@ -152,20 +159,25 @@ function is_accepted(w, place) {
 
 # ---- sentences on words
 
+function is_operator(w) { return w ~ /^(==|!=|<|>|<=|>=|=|\+|\*|\/|%|&&|\|\||!.*|\+=|-=)$/ }
+
 # What a word is that another language has, or nothing.
 function on_habit(w) {
-    if (w ~ /["']/) return quoted(w) " is a string or a part of one. There are no strings: 'emit V' takes a number or a variable."
-    if (w ~ /^#/) return "A comment is a line of its own: there is none after a statement."
-    if (w ~ /^(==|!=|<|>|<=|>=|=|\+|\*|\/|%|&&|\|\||!.*|\+=|-=)$/)
-        return quoted(w) " is an operator, and there are no expressions: V is one number or one variable, and counts as true if it is not 0."
-    if (w ~ /^[{}]/ || w ~ /[{}]$/) return "There are no braces: 'end' closes a function, an 'if' and a 'while'."
-    if (w ~ /^&./) return quoted(w) " has the '&' of C: a statement has the name of the variable alone."
-    if (w ~ /[(),;]/) return quoted(w) " has the syntax of C: words are separated by blanks, without brackets, commas and semicolons."
+    if (w ~ /["']/) return known("string", w) quoted(w) " is a string or a part of one. There are no strings: 'emit V' takes a number or a variable."
+    if (w ~ /^(#|\/\/|\/\*)/) return known("comment", w) "A comment is a line of its own: there is none after a statement."
+    if (is_operator(w))
+        return known(fault_of_operator(w), w) quoted(w) " is an operator, and there are no expressions: V is one number or one variable, and counts as true if it is not 0."
+    if (w ~ /^[A-Za-z0-9_]+(==|!=|<|>|=|\+|\*|\/|%)/)
+        return known(fault_of_operator(w), w) quoted(w) " is an expression, and there are none: V is one number or one variable, and counts as true if it is not 0."
+    if (w ~ /^[{}]/ || w ~ /[{}]$/) return known("brace", w) "There are no braces: 'end' closes a function, an 'if' and a 'while'."
+    if (w ~ /^&./) return known(fault_of_address(w), w) quoted(w) " has the '&' of C: a statement has the name of the variable alone."
+    if (w ~ /[(),;]/) return known(fault_of_syntax(), w) quoted(w) " has the syntax of C: words are separated by blanks, without brackets, commas and semicolons."
     return ""
 }
 
 function on_count(w,   i, sentence, all) {
-    if (w in is_point) return quoted(w) " is a cancellation point, called by its name alone, without arguments. " note[w]
+    if (w in is_point) return known("point_argument", w) quoted(w) " is a cancellation point, called by its name alone, without arguments. " note[w]
+    fault = fault_of_count(w)
     for (i = 2; i <= words && sentence == ""; i++) sentence = on_habit(word[i])
     all = "Its form is " all_forms(w) ", and " count_after(w) "."
     if (form[w, 1] ~ /DEST/) all = all " DEST is a variable, or '-' to drop the result."
@@ -181,10 +193,10 @@ function on_argument(   i, w, place, habit) {
     for (i = 2; i < words && is_accepted(word[i], place_of(i)); i++);
     w = word[i]
     place = place_of(i)
-    if (w ~ /^-[0-9]+$/) return quoted(w) " is a negative number, and there are none" (w > -4294967296 ? sprintf(": modulo 2^32 it is %.0f.", 4294967296 + w) : ".")
-    if (why == "bad_number" && w ~ /^[0-9]+$/) return quoted(w) " is above " (place == "N" ? "32767" : "4294967295") ", the largest number here."
-    if (length(w) > 31 && w ~ /^[A-Za-z_][A-Za-z0-9_]*$/) return quoted(w) " has " length(w) " bytes, and a name has at most 31."
-    if (place !~ /^[A-Z]+[?]?$/) return quoted(w) " is in the place of " choices_at(word[1], i) "."
+    if (w ~ /^-[0-9]+$/) return known("negative", w) quoted(w) " is a negative number, and there are none" (w > -4294967296 ? sprintf(": modulo 2^32 it is %.0f.", 4294967296 + w) : ".")
+    if (why == "bad_number" && w ~ /^[0-9]+$/) return known("", w) quoted(w) " is above " (place == "N" ? "32767" : "4294967295") ", the largest number here."
+    if (length(w) > 31 && w ~ /^[A-Za-z_][A-Za-z0-9_]*$/) return known("", w) quoted(w) " has " length(w) " bytes, and a name has at most 31."
+    if (place !~ /^[A-Z]+[?]?$/) return known(w == "joinable" ? w : plain_line() == "" ? "one_of" : "syntax", w) quoted(w) " is in the place of " choices_at(word[1], i) "."
     habit = on_habit(w)
     if (habit != "") return habit
     return quoted(w) " is in the place of " meaning_of(place) "."
@@ -192,36 +204,37 @@ function on_argument(   i, w, place, habit) {
 
 # A word that begins no line.
 function on_keyword(w,   base, names, i, prefix) {
-    if (w in note) return quoted(w) ": " note[w]
+    if (w ~ /.%%$/) return known("line_end", w) "The script's last line has no line end, so %% is not a line of its own."
+    if (w in note) return known("", w) quoted(w) ": " note[w]
     if (first[line_declaring(w)] == "fn") return on_function(w, words > 1 && (is_number(word[2]) || is_name(word[2])) ? word[2] : 0)
-    if (w ~ /^(\/\/|\/\*|;|--)/) return "A comment is a line that begins with '#'."
+    if (w ~ /^(\/\/|\/\*|;|--)/) return known("", w) "A comment is a line that begins with '#'."
     base = w
     sub(/[^A-Za-z0-9_].*$/, "", base)
     if (base != w && base != "") return on_base(w, base)
     base = tolower(w)
-    if (base in forms) return "It is " all_forms(base) ", in lower case."
-    if (base in is_point) return "It is " quoted(base) ", in lower case."
+    if (base in forms) return known("lower_case", w) "It is " all_forms(base) ", in lower case."
+    if (base in is_point) return known("lower_case", w) "It is " quoted(base) ", in lower case."
     if (word[2] ~ /^([+*\/-]?=|:=|\+\+|--)/) return on_assignment(w)
     names = split("pthread_ pthread_mutex_ pthread_cond_ pthread_cleanup_ sem_", prefix, " ")
-    for (i = 1; i <= names; i++) if ((prefix[i] base) in forms) return "Is it " all_forms(prefix[i] base) "?"
+    for (i = 1; i <= names; i++) if ((prefix[i] base) in forms) return known("whole_name", w) "Is it " all_forms(prefix[i] base) "?"
     if (w ~ /^["']/) return on_habit(w)
     return quoted(w) " begins no declaration and no statement."
 }
 
 function on_assignment(w) {
-    return "There is no assignment as in C: 'set " w " V' gives " w " the value V, and 'add " w " V' adds V to it."
+    return known("assignment", w) "There is no assignment as in C: 'set " w " V' gives " w " the value V, and 'add " w " V' adds V to it."
 }
 
 function on_function(w, value) {
-    return quoted(w) " is a function of this script, line " declared[w] ": 'do " w " " value "' calls it."
+    return known("", w) quoted(w) " is a function of this script, line " declared[w] ": 'do " w " " value "' calls it."
 }
 
 # A word that begins with a word of the language or of the script and goes on as in C.
 function on_base(w, base) {
     if (w ~ /=/ || w ~ /(\+\+|--);?$/) return on_assignment(base)
-    if (base in forms) return quoted(w) " has the syntax of C: it is " all_forms(base) ", without brackets, commas and semicolons."
-    if (base in note) return quoted(base) ": " note[base]
-    if (base in is_point) return quoted(w) " has the syntax of C: a cancellation point is called by its name alone, " quoted(base) "."
+    if (base in forms) return known(fault_of_syntax(), w) quoted(w) " has the syntax of C: it is " all_forms(base) ", without brackets, commas and semicolons."
+    if (base in note) return known("", w) quoted(base) ": " note[base]
+    if (base in is_point) return known("", w) quoted(w) " has the syntax of C: a cancellation point is called by its name alone, " quoted(base) "."
     if (first[line_declaring(base)] == "fn") return on_function(base, "V")
     return quoted(w) " has the syntax of C, and " quoted(base) " begins no declaration and no statement."
 }
@@ -252,9 +265,10 @@ function on_unknown_name(   i, w, kind, sentence, other) {
     for (i = 2; i < words && (place_of(i) ~ /^[a-z]+$/ || is_declared(word[i], place_of(i))); i++);
     w = word[i]
     kind = kind_at(place_of(i))
-    if (w == "NULL") return "'NULL' is no name here: write '-' for a result or a function that is not needed, and 0 for a value."
+    if (w == "NULL") return known("", w) "'NULL' is no name here: write '-' for a result or a function that is not needed, and 0 for a value."
     sentence = "In " quoted(its_form()) " the word " quoted(w) " has to be a " kind
     if (kind == "variable") sentence = sentence ", a local of " quoted(second[function_at]) " or a global"
+    known(fault_of_name(w, kind), w)
     if ((function_at, w) in is_local) return sentence ", and it is a local of " quoted(second[function_at]) ", line " function_at "."
     if (w in declared) return sentence ", and it is a " kind_of_line(declared[w]) ", line " declared[w] "." on_thread_name(w)
     if (w in local_in) return sentence ", and it is a local of " quoted(second[local_in[w]]) ", line " local_in[w] "."
@@ -288,7 +302,7 @@ function on_not_plain(   i, n, line, inside) {
 }
 
 function on_no_main(   w) {
-    for (w in declared) if (first[line_declaring(w)] == "fn" && tolower(w) == "main") return "The function of line " declared[w] " is " quoted(w) ": upper and lower case differ."
+    for (w in declared) if (first[line_declaring(w)] == "fn" && tolower(w) == "main") return known("main_case", w) "The function of line " declared[w] " is " quoted(w) ": upper and lower case differ."
     return counted["fn"] ? "The script has functions, and none of them is 'main'." : ""
 }
 
@@ -300,6 +314,8 @@ function opened(line) {
 }
 
 function on_open_function(   sentence) {
+    if (word[1] ~ /^(global|mutex|cond|sem)$/) known("declaration", word[1])
+    if (word[1] == "fn") known("missing_end", word[1])
     sentence = "The " opened(open_function) " is open here"
     if (open != open_function) sentence = sentence ", and in it the " opened(open)
     if (end_before > open_function) return sentence ". The last 'end' before, in line " end_before ", closes the " opened(closed_before) "."
@@ -324,10 +340,10 @@ function on_pop() {
 }
 
 function on_unclosed(w) {
-    if (w == "end" || w == "else") return "The push of line " open " is open here: its pop has to come before this " quoted(w) "."
+    if (w == "end" || w == "else") return known("missing_pop", w) "The push of line " open " is open here: its pop has to come before this " quoted(w) "."
     if (w == "pthread_cleanup_push") return "The text ends, and this push has no pop."
-    if (last_end > at) return "No 'end' is left for this " quoted(w) ": the last one, in line " last_end ", closes the " opened(ended_by_last) "."
-    return "The text ends, and this " quoted(w) " has no 'end'."
+    if (last_end > at) return known("last_end", w) "No 'end' is left for this " quoted(w) ": the last one, in line " last_end ", closes the " opened(ended_by_last) "."
+    return known("last_end", w) "The text ends, and this " quoted(w) " has no 'end'."
 }
 
 function on_too_many(w) {
@@ -338,6 +354,15 @@ function on_too_many(w) {
 }
 
 # ---- the output
+
+# Shows a sentence, and on a line of its own the way to mend the fault: the rest of a note after its `Mend:`, or that of the fault.
+function show_mended(text,   from, way) {
+    from = index(text, " Mend: ")
+    show(from ? substr(text, 1, from - 1) : text)
+    if (from) way = substr(text, from + 7)
+    else if (fault in mend) way = filled(mend[fault])
+    if (way != "") show("Mend: " way)
+}
 
 # Shows a text, in lines of at most 118 bytes where its words allow that.
 function show(text,   parts, part, i, line) {
