@@ -367,10 +367,11 @@ CONTINUED = [
     Case("a picture", "./pct picture a.pct begun | grep -c '<svg '", 0, "1\n", [], {"a.pct": SMALLEST, "begun": BEGUN}),
     Case("trace of one file", "./pct trace a.replay", 4, TRACE, [], {"a.replay": SMALLEST + "%%\n" + BEGUN}),
     Case("trace of standard input", "./pct trace < a.replay", 4, TRACE, [], {"a.replay": SMALLEST + "%%\n" + BEGUN}),
-    Case("trace without a prefix", "./pct trace a.pct", 4, "verdict open\n", [], {"a.pct": SMALLEST}),
+    Case("trace without a prefix", "./pct trace a.pct", 4, "verdict open\n", ["pct: there is no prefix, so the run has no step"], {"a.pct": SMALLEST}),
     Case("trace of a whole report", "./pct trace a.pct report | grep -c go", 0, "2\n", [], {"a.pct": SMALLEST, "report": REPORT}),
     Case(
-        "trace of a prefix with an entry that is not legal", "./pct trace a.pct begun", 7, TRACE + "entry 2 is not legal here\n", [],
+        "trace of a prefix with an entry that is not legal", "./pct trace a.pct begun", 7, TRACE + "entry 2 is not legal here\n",
+        ["begun:3: entry 2 is not legal\n    1 1 2 go\n", "pct: './pct choices a.pct begun 1' shows what is legal there\n"],
         {"a.pct": SMALLEST, "begun": BEGUN + "1 1 2 go\n"},
     ),
     Case(

@@ -43,7 +43,7 @@ show_word() {
 }
 
 explain_line() {
-    printf '%s:%s: %s\n' "$file" "${place:-$line}" "$fault" >&2
+    printf '%s:%s: %s\n' "$file" "$line" "$fault" >&2
     show_line "$line" "$kind"
     if [ "$kind" = script ] && show_word; then return; fi
     show_reason "$kind" "$why"
@@ -112,10 +112,7 @@ explain_refusal() {
             fault="entry $number is not legal"
             ;;
     esac
-    if [ -n "$prefix" ] && [ "$kind" = schedule ]; then
-        file=$prefix place=$(prefix_line "$number")
-        explain_line
-    elif [ "$name" = pct_inspect ]; then
+    if [ "$name" = pct_inspect ]; then
         explain_line
     elif [ "$command" = replay ] && [ -z "$marker" ]; then
         [ "$kind" = schedule ] || explain_line
