@@ -137,8 +137,14 @@ def events_of(lines):
     return [event_of(line) for line in lines]
 
 
+def table_of(page, heading):
+    """The first cells of the table below a heading of docs/FORMATS.md, whose rows begin with a form."""
+    table = page.partition(f"\n{heading}\n")[2].partition("\n### ")[0].partition("\n## ")[0]
+    return [line.split("|")[1] for line in table.splitlines() if line.startswith("| `")]
+
+
 def forms_of(page):
-    """The forms in the table of events of docs/FORMATS.md."""
-    table = page.partition("\n### Events\n")[2].partition("\n### ")[0]
-    rows = [line.split("|")[1] for line in table.splitlines() if line.startswith("| `")]
-    return [form for row in rows for form in re.findall("`([^`]+)`", row)]
+    """The forms in the table of events of docs/FORMATS.md. One row points to the table of stops, which has theirs."""
+    rows = table_of(page, "### Events") + table_of(page, "### Stops")
+    forms = [form for row in rows for form in re.findall("`([^`]+)`", row)]
+    return [form for form in forms if form not in ("profile NAME", "undefined NAME")]
