@@ -7,7 +7,9 @@
  * makes its next call all the same: it has to block there for a second. Nothing here is a cancellation point: what
  * would be one is called by syscall().
  */
+#ifndef _GNU_SOURCE
 #define _GNU_SOURCE
+#endif
 #include <errno.h>
 #include <fcntl.h>
 #include <pthread.h>

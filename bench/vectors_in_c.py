@@ -1,7 +1,7 @@
 #!/usr/bin/env python3
 """Runs the vectors of conformance/ as C programs on a C library of this machine.
 
-    bench/vectors_in_c.py [--cc COMMAND] [--filter TEXT] [--keep FOLDER]
+    bench/vectors_in_c.py [--cc COMMAND] [--libs WORDS] [--run COMMAND] [--filter TEXT] [--keep FOLDER]
 
 For each vector a C program is made: a C function for each function of the script, the calls of the script as they are,
 and before each statement a wait until it is its turn in the schedule of the vector (vectors_in_c.h). The program writes
@@ -9,6 +9,9 @@ the events that it can see, as `P.T EVENT`, and these are compared with those of
 the schedule. conformance/README.md says which events these are, and what is not comparable.
 
     --cc COMMAND   the compiler, split into words as a shell does; cc where it is not given
+    --libs WORDS   words that come after the source in the compiler's command, split in the same way: archives, objects
+                   and shared objects of a library
+    --run COMMAND  this command is put before each program, split in the same way
     --filter TEXT  only the vectors whose name has TEXT
     --keep FOLDER  leave the C programs in this folder
 
@@ -31,7 +34,7 @@ import conformance
 
 ROOT = pathlib.Path(__file__).resolve().parent.parent
 HEADER = ROOT / "bench/vectors_in_c.h"
-OPTIONS = ["-std=c11", "-O1", "-pthread", "-fno-strict-aliasing"]
+OPTIONS = ["-std=c11", "-D_GNU_SOURCE", "-O1", "-pthread", "-fno-strict-aliasing"]
 SECONDS = 5
 JOBS = 3
 # The sizes of the arrays of vectors_in_c.h.
@@ -418,10 +421,10 @@ def program_of(script, steps, verdict):
 # ---- runs
 
 
-def run(program):
+def run(command):
     """The lines that a program writes, its status, and whether it was ended after the time."""
     with subprocess.Popen(
-        [program], stdin=subprocess.DEVNULL, stdout=subprocess.PIPE, stderr=subprocess.DEVNULL, start_new_session=True
+        command, stdin=subprocess.DEVNULL, stdout=subprocess.PIPE, stderr=subprocess.DEVNULL, start_new_session=True
     ) as process:
         try:
             written, is_late = process.communicate(timeout=SECONDS)[0], False
@@ -449,7 +452,7 @@ def fault_of(steps, verdict, wanted, lines, status, is_late):
         return "the program does not end" if is_late else f"expected {ends[0]!r}, ended with {status}"
 
 
-def result_of(vector, compiler, folder):
+def result_of(vector, options, folder):
     """Whether a vector passed, failed or is not comparable, and why."""
     name, script, verdict = vector.name, vector.script, vector.verdict
     steps = [Step(*step) for step in vector.steps]
@@ -461,9 +464,9 @@ def result_of(vector, compiler, folder):
         return "not comparable", "it has no event that a program can see"
     source, program = folder / f"{name}.c", folder / name
     source.write_text(text)
-    if subprocess.run([*compiler, *OPTIONS, "-o", program, source]).returncode != 0:
+    if subprocess.run([*options.cc, *OPTIONS, "-o", program, source, *options.libs]).returncode != 0:
         return "failed", "the program cannot be built"
-    fault = fault_of(steps, verdict, wanted, *run(program))
+    fault = fault_of(steps, verdict, wanted, *run([*options.run, program]))
     program.unlink()
     return ("failed", fault) if fault else ("passed", None)
 
@@ -472,6 +475,8 @@ def main():
     parser = argparse.ArgumentParser(
         description=__doc__, formatter_class=argparse.RawDescriptionHelpFormatter, allow_abbrev=False)
     parser.add_argument("--cc", type=shlex.split, default=["cc"])
+    parser.add_argument("--libs", type=shlex.split, default=[])
+    parser.add_argument("--run", type=shlex.split, default=[])
     parser.add_argument("--filter", default="")
     parser.add_argument("--keep", type=pathlib.Path)
     options = parser.parse_args()
@@ -483,7 +488,7 @@ def main():
         folder.mkdir(parents=True, exist_ok=True)
         vectors = [vector for vector in conformance.read_source()[0] if options.filter in vector.name]
         with concurrent.futures.ThreadPoolExecutor(JOBS) as pool:
-            results = pool.map(lambda vector: result_of(vector, options.cc, folder), vectors)
+            results = pool.map(lambda vector: result_of(vector, options, folder), vectors)
             for vector, (result, why) in zip(vectors, results):
                 counts[result] += 1
                 if why:
