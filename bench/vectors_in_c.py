@@ -690,4 +690,5 @@ def main():
     sys.exit(1 if wrong or not counts[PASSED] + counts[FOLLOWED] else 0)
 
 
-conformance.with_reader(main)
+if __name__ == "__main__":
+    conformance.with_reader(main)
