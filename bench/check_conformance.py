@@ -6,6 +6,7 @@
 What --run prints is compared with what conformance/README.md says that it prints, for commands that answer rightly, with
 another event, with the right events in another report, without a line end, with another status, that crash, and that
 hang. They run in a temporary folder that has bench/conformance.py and three folders of conformance/, and nothing else.
+The parts of bench/vectors_in_c.py that compare what a program wrote are tried with made lines, without a compiler.
 Vectors of another folder are run, one of them without rule.txt, and words that the runner does not have are tried. What is
 made of a small vectors.txt is compared with what its top and README.md say, and marks with their sources.
 
@@ -21,6 +22,7 @@ import tempfile
 import time
 
 import conformance
+import vectors_in_c
 
 ROOT = pathlib.Path(__file__).resolve().parent.parent
 PROGRAM = "bench/conformance.py"
@@ -295,12 +297,63 @@ def check_made(top):
     yield "rule.txt", rule, "rule One\nmark S\nsource S: `fork`; the number: P\nsection Fork\n"
 
 
+# ---- C programs of vectors; no compiler is called
+
+WAITER = ["fn waiter x", "pthread_mutex_lock m", "if x", "end", "pthread_cond_wait c m", "end"]
+# What creates the waiters, and whether they are alike.
+CREATES = [
+    (["pthread_create - - waiter 0", "pthread_create - - waiter 0"], True),
+    (["pthread_create - - waiter 0", "pthread_create - - waiter 1"], False),
+    (["pthread_create - a waiter 0", "pthread_create - a waiter 0"], False),
+    (["pthread_create - - waiter 0"], False),
+    (["pthread_create - - waiter 0", "pthread_create - - waiter 0", "pthread_cond_wait c m"], False),
+]
+ENDS = ["1.1 go | create 2 joinable", "1.2 go | dtor 1 1 destroy 5", "1.1 go | process_end 3"]
+WANTED = ["1.1 create 2 joinable", "1.2 dtor destroy 5"]
+HANGS = "thread 1 is at a call that the schedule does not have: destroy"
+# What a program writes, its status, whether it was late, and the fault.
+ANSWERS = [
+    (WANTED, 3, False, None),
+    (WANTED, 0, False, ("process_end", "expected 'process_end 3', ended with 0")),
+    (WANTED[:1], 0, False, ("dtor", "expected '1.2 dtor destroy 5': ended with 0")),
+    (WANTED[:1], -9, True, ("dtor", "expected '1.2 dtor destroy 5': no event for 2 s")),
+    ([WANTED[0], "1.2 emit 1"], -9, False, ("dtor", "expected '1.2 dtor destroy 5', written '1.2 emit 1'")),
+    ([*WANTED, "1.2 emit 1"], -9, False, ("emit", "expected no more events, written '1.2 emit 1'")),
+    (WANTED, -9, True, ("process_end", "the program does not end")),
+    ([*WANTED, "# 1.1 destroy"], -9, True, ("process_end", HANGS)),
+    ([WANTED[0], "# 1.1 destroy"], -9, True, ("dtor", f"expected '1.2 dtor destroy 5': no event for 2 s; {HANGS}")),
+    ([*WANTED, "# 2.1 destroy"], -9, True, ("process_end", HANGS.replace("1 is", "1 of process 2 is"))),
+]
+
+
+def check_programs(_):
+    for creates, is_alike in CREATES:
+        yield f"alike: {creates}", vectors_in_c.are_alike([*WAITER, "fn main x", *creates, "end"]), is_alike
+    steps = [vectors_in_c.Step(*conformance.step_of(0, line)) for line in ENDS]
+    case = vectors_in_c.Case(None, [], steps, "verdict complete")
+    for lines, status, is_late, fault in ANSWERS:
+        ran = vectors_in_c.Ran(*vectors_in_c.told_apart(lines), status, is_late, 2)
+        yield f"written: {lines}", vectors_in_c.fault_of(case, WANTED, ran), fault
+
+
+def check_expected(top):
+    """Names that --expect may have. No compiler is called, since the words are wrong or no vector is chosen."""
+    (top / "known").write_text(f"# known to fail\n{EMIT}  # always\n\n")
+    options = vectors_in_c.options_of(["--cc", sys.executable, "--expect", str(top / "known"), "--folder", str(top / "conformance")])
+    yield "--expect", vectors_in_c.expected_failures(options), {EMIT}
+    (top / "known").write_text("no_such_vector\n")
+    words = ["--cc", sys.executable, "--expect", str(top / "known")]
+    ran = subprocess.run([sys.executable, ROOT / "bench/vectors_in_c.py", *words], stderr=subprocess.PIPE, text=True, timeout=60)
+    wanted = (2, f"{top / 'known'} names no vector: no_such_vector\n")
+    yield "--expect with another name", (ran.returncode, ran.stderr), wanted
+
+
 def main():
     passed = failed = 0
     with tempfile.TemporaryDirectory() as name:
         top = pathlib.Path(name)
         make_folders(top)
-        for check in (check_runs, check_jobs, check_folder, check_misuse, check_reader, check_marks, check_made):
+        for check in (check_runs, check_jobs, check_folder, check_misuse, check_reader, check_marks, check_expected, check_made, check_programs):
             for what, found, wanted in check(top):
                 passed += found == wanted
                 failed += found != wanted

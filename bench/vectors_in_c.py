@@ -524,14 +524,14 @@ def run(command, seconds):
             written, is_late = process.communicate(timeout=seconds)[0], False
         except subprocess.TimeoutExpired:
             written, is_late = ended(process), True
-    lines = written.decode().splitlines()
-    extra = [line.removeprefix(EXTRA).split(" ", 1) for line in lines if line.startswith(EXTRA)]
-    named = []
-    for who, name in extra:
-        number, thread = who.split(".")
-        named.append((f"thread {thread}" if number == "1" else f"thread {thread} of process {number}", name))
-    lines = [line for line in lines if not line.startswith(EXTRA)]
-    return Ran(lines, named, process.returncode, is_late, seconds)
+    return Ran(*told_apart(written.decode().splitlines()), process.returncode, is_late, seconds)
+
+
+def told_apart(lines):
+    """The events that a program wrote, and the thread and the name of each call that the schedule does not have."""
+    extra = [re.fullmatch(r"(\d+)\.(\d+) (.*)", line.removeprefix(EXTRA)).groups() for line in lines if line.startswith(EXTRA)]
+    named = [(f"thread {thread}{'' if process == '1' else f' of process {process}'}", name) for process, thread, name in extra]
+    return [line for line in lines if not line.startswith(EXTRA)], named
 
 
 def ended(process):
