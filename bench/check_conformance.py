@@ -218,7 +218,8 @@ def check_reader(top):
     """A reader that goes away ends the runner without a traceback."""
     command = shlex.join([sys.executable, "command.py", "other report", EMIT])
     words = shlex.join([sys.executable, PROGRAM, "--run", command])
-    ran = subprocess.run(["sh", "-c", f"{words} | sh -c 'exec <&-'"], cwd=top, stderr=subprocess.PIPE, text=True, timeout=60)
+    line = f"{words} | sh -c 'exec <&-'"
+    ran = subprocess.run(["sh", "-c", line], cwd=top, stderr=subprocess.PIPE, text=True, timeout=60)
     yield "a reader that goes away", ran.stderr, ""
 
 
@@ -332,18 +333,19 @@ def check_programs(_):
     steps = [vectors_in_c.Step(*conformance.step_of(0, line)) for line in ENDS]
     case = vectors_in_c.Case(None, [], steps, "verdict complete")
     for lines, status, is_late, fault in ANSWERS:
-        ran = vectors_in_c.Ran(*vectors_in_c.told_apart(lines), status, is_late, 2)
+        ran = vectors_in_c.Ran(*vectors_in_c.separated(lines), status, is_late, 2)
         yield f"written: {lines}", vectors_in_c.fault_of(case, WANTED, ran), fault
 
 
 def check_expected(top):
     """Names that --expect may have. No compiler is called, since the words are wrong or no vector is chosen."""
     (top / "known").write_text(f"# known to fail\n{EMIT}  # always\n\n")
-    options = vectors_in_c.options_of(["--cc", sys.executable, "--expect", str(top / "known"), "--folder", str(top / "conformance")])
+    words = ["--cc", sys.executable, "--expect", str(top / "known")]
+    options = vectors_in_c.options_of([*words, "--folder", str(top / "conformance")])
     yield "--expect", vectors_in_c.expected_failures(options), {EMIT}
     (top / "known").write_text("no_such_vector\n")
-    words = ["--cc", sys.executable, "--expect", str(top / "known")]
-    ran = subprocess.run([sys.executable, ROOT / "bench/vectors_in_c.py", *words], stderr=subprocess.PIPE, text=True, timeout=60)
+    command = [sys.executable, ROOT / "bench/vectors_in_c.py", *words]
+    ran = subprocess.run(command, stderr=subprocess.PIPE, text=True, timeout=60)
     wanted = (2, f"{top / 'known'} names no vector: no_such_vector\n")
     yield "--expect with another name", (ran.returncode, ran.stderr), wanted
 

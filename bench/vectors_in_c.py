@@ -524,10 +524,10 @@ def run(command, seconds):
             written, is_late = process.communicate(timeout=seconds)[0], False
         except subprocess.TimeoutExpired:
             written, is_late = ended(process), True
-    return Ran(*told_apart(written.decode().splitlines()), process.returncode, is_late, seconds)
+    return Ran(*separated(written.decode().splitlines()), process.returncode, is_late, seconds)
 
 
-def told_apart(lines):
+def separated(lines):
     """The events that a program wrote, and the thread and the name of each call that the schedule does not have."""
     extra = [re.fullmatch(r"(\d+)\.(\d+) (.*)", line.removeprefix(EXTRA)).groups() for line in lines if line.startswith(EXTRA)]
     named = [(f"thread {thread}{'' if process == '1' else f' of process {process}'}", name) for process, thread, name in extra]
