@@ -1,35 +1,43 @@
 #!/usr/bin/env python3
 """Makes the folders of conformance/ from conformance/vectors.txt, compares them, or runs them.
 
-    bench/conformance.py
+    bench/conformance.py --run COMMAND [--folder DIR] [--filter TEXT] [--only MARK] [--events] [--tap]
+                         [--timeout SECONDS] [--jobs N]
+    bench/conformance.py --write
     bench/conformance.py --check
-    bench/conformance.py --run COMMAND [--filter TEXT] [--only S|P] [--events] [--tap] [--timeout SECONDS] [--jobs N]
 
-Without a word it writes what comes from conformance/vectors.txt: a folder for each vector, the tables of
-conformance/README.md, and the cases at the end of crates/pct_cases/stdin, with their lines in crates/pct_cases/stdout.
-How vectors.txt is written is explained at its top.
-
---check writes nothing. It compares all of these with vectors.txt, and looks for folders that have no vector. It also
-compares vectors.txt with docs/POSIX.md: each row of its tables of rules belongs to a vector, or to the rules that have
-none; and the sections of docs/LIBRARIES.md that vectors.txt names exist.
+Without a word it prints this text.
 
 --run gives each vector to COMMAND, which is split into words as a shell does: script.pct, a line %% and schedule.txt on
 its standard input. What COMMAND writes to standard output must be the bytes of report.txt, and its status that of
 status.txt, or 0 where there is no such file. It reads the folders, and nothing else of this repository. For a vector
-that fails it prints the first difference, the signal that ended COMMAND or the time after which it was ended, and the
-rule, the mark and the source of the vector from rule.txt.
+that fails it prints the first difference, the signal that ended COMMAND or the time after which it was ended, the rule,
+the mark and the source of the vector from rule.txt, and where to read on.
 
+    --folder DIR       the folders of DIR in place of those of conformance/: vectors of your own, whose rule.txt may be
+                       missing
     --filter TEXT      only the vectors whose name, section or source has TEXT
-    --only S, P        only the vectors with this mark
+    --only MARK        only the vectors with this mark: S, S+P or P
     --events           compare the events, and the verdict or the refusal; the rest of the report and the status are not
                        compared
     --tap              print the results as TAP version 14
     --timeout SECONDS  end COMMAND after this time, 60 seconds where none is given
     --jobs N           run up to N vectors at once; the results are printed in order
 
-The last line is `N passed, M failed`, with --tap as a comment. The status is 1 if M is not 0 or N is 0.
+--write writes what comes from conformance/vectors.txt: a folder for each vector, the tables of conformance/README.md,
+and the cases at the end of crates/pct_cases/stdin, with their lines in crates/pct_cases/stdout. How vectors.txt is
+written is explained at its top.
+
+--check writes nothing. It compares all of these with vectors.txt, and looks for folders that have no vector, and for
+marks that their source contradicts. It also compares vectors.txt with docs/POSIX.md: each row of its tables of rules
+belongs to a vector, or to the rules that have none; and the sections of docs/LIBRARIES.md that vectors.txt names exist.
+
+After failures a line for each kind of event says how many vectors first differ there. The last line is `N passed, M
+failed`; with --tap these are comments. The status is 1 if M is not 0 or N is 0, and 2 if the words are not as above, or
+COMMAND or DIR cannot be used.
 """
 import argparse
+import collections
 import concurrent.futures
 import dataclasses
 import itertools
@@ -60,11 +68,18 @@ STATUSES = {
     "verdict complete": 0, "verdict deadlock": 1, "verdict budget": 2, "verdict undefined": 3, "verdict profile": 3,
     "verdict open": 4, "refused script": 6, "refused schedule": 7, "refused entry": 7,
 }
-# A source with one of these words names a case in which the standard does not say what happens.
-OPEN = ("undefined", "unspecified", "a choice of the schedule")
+MARKS = ("S", "S+P", "P")
+# Words of a source that name a case in which the standard leaves open what happens, or a limit.
+OPEN = re.compile(r"undefined|unspecified|application|at least|at any time|possibly|allows|choice|EDEADLK|\broom\b|order")
+# After `; ` in the source of a vector marked S: details of the report that are this host's, and change no other event.
+DETAILS = re.compile(
+    r"(that it acts at the call|(for 0, and )?the (first result and the )?(one )?(numbers?|steps?|argument|slot)"
+    r"|that it may execute no others|that only another thread can call it|that a run is complete with its last process): P")
 RULE_FIELDS = ("rule", "mark", "source", "section")
 SECONDS = 60
+MISUSED = 2
 # The lines of a report that --events compares.
+EVENT = re.compile(rb"\d+\.\d+ ")
 COMPARED = re.compile(rb"\d+\.\d+ |verdict |refused ")
 
 
@@ -73,6 +88,7 @@ class Vector:
     section: str
     name: str
     rule: str = ""
+    mark: str = ""
     source: str = ""
     libraries: str = ""
     rows: list = dataclasses.field(default_factory=list)
@@ -97,12 +113,21 @@ class Vector:
     def status(self):
         return STATUSES.get(" ".join(self.verdict.split()[:2]))
 
-    def mark(self):
-        """S if the standard says what happens in this case, and P if it is a choice of this host."""
-        return "S" if self.source.startswith("S:") and not any(words in self.source for words in OPEN) else "P"
+    def mark_fault(self):
+        """What in the source contradicts the mark, or nothing."""
+        first, *others = self.source.split("; ")
+        is_rule = first.startswith("S:")
+        if self.mark == "S" and not (is_rule and all(DETAILS.fullmatch(other) for other in others)):
+            return "marked S, and its source has more than a rule of the standard and details of the report"
+        if self.mark == "S" and OPEN.search(first.replace("application usage", "")):
+            return "marked S, and its source names what the standard leaves open"
+        if self.mark == "S+P" and not (is_rule and others and others[-1].endswith(": P")):
+            return "marked S+P, and its source does not end with what is a choice of this host"
+        if self.mark == "P" and is_rule and not re.search("undefined|unspecified|applications", self.source):
+            return "marked P, and its source is a rule of the standard"
 
     def rule_lines(self):
-        values = (self.rule, self.mark(), self.source, self.section)
+        values = (self.rule, self.mark, self.source, self.section)
         return [f"{field} {value}" for field, value in zip(RULE_FIELDS, values)]
 
     def files(self):
@@ -174,11 +199,11 @@ def read_source():
         elif place == "steps":
             if word in ("verdict", "refused"):
                 vector.verdict, place = line, "nothing"
-                if vector.status() is None or not (vector.rule and vector.source):
+                if vector.status() is None or vector.mark not in MARKS or not (vector.rule and vector.source):
                     fail(number, "the vector is not complete")
             else:
                 vector.steps.append(step_of(number, line))
-        elif place == "head" and word in ("rule", "source", "libraries"):
+        elif place == "head" and word in ("rule", "mark", "source", "libraries"):
             setattr(vector, word, rest)
         elif place == "head" and word == "row":
             vector.rows.append(rest)
@@ -211,13 +236,16 @@ def libraries_of(vector):
 
 def tables(vectors, without):
     """The text of README.md from the heading of the tables on."""
-    lines = [TABLES.rstrip(), "", f"{len(vectors)} vectors. The sections are those of [docs/POSIX.md](../docs/POSIX.md)."]
+    counts = collections.Counter(vector.mark for vector in vectors)
+    marks = ", ".join(f"{counts[mark]} marked {mark}" for mark in MARKS)
+    lines = [TABLES.rstrip(), "", f"{len(vectors)} vectors: {marks}. The sections are those of [docs/POSIX.md](../docs/POSIX.md)."]
     for section in dict.fromkeys(vector.section for vector in vectors):
-        lines += ["", f"### {section}", "", "| Rule | Source | Vector | Real libraries |", "|---|---|---|---|"]
+        lines += ["", f"### {section}", "", "| Rule | Mark | Source | Vector | Real libraries |", "|---|---|---|---|---|"]
         for vector in vectors:
             if vector.section == section:
                 folder = f"[{vector.name}]({vector.name})"
-                lines.append(f"| {vector.rule} | {vector.source} | {folder} | {libraries_of(vector)} |")
+                cells = (vector.rule, vector.mark, vector.source, folder, libraries_of(vector))
+                lines.append(f"| {' | '.join(cells)} |")
     lines += ["", "## Rules without a vector", "", "| Section | Rule | Why there is none |", "|---|---|---|"]
     lines += [f"| {section} | {rule} | {why} |" for section, _, rule, why in without]
     return text_of(lines)
@@ -288,7 +316,11 @@ def anchors(page):
     """The anchors of a page's headings."""
     for line in page.read_text().splitlines():
         if line.startswith("#"):
-            yield re.sub(r"[^a-z0-9_ -]", "", line.lstrip("# ").lower()).replace(" ", "-")
+            yield anchor_of(line.lstrip("# "))
+
+
+def anchor_of(heading):
+    return re.sub(r"[^a-z0-9_ -]", "", heading.lower()).replace(" ", "-")
 
 
 def checks():
@@ -299,8 +331,12 @@ def checks():
         yield None if has == text else f"{path.relative_to(ROOT)} is not what conformance/vectors.txt says"
     for path in stray(vectors):
         yield f"{path.relative_to(ROOT)} is in no vector"
-    known = set(anchors(LIBRARIES))
+    known, sections = set(anchors(LIBRARIES)), set(anchors(POSIX))
     for vector in vectors:
+        fault = vector.mark_fault()
+        yield f"{vector.name}: {fault}" if fault else None
+        is_section = anchor_of(vector.section) in sections
+        yield None if is_section else f"{vector.name}: docs/POSIX.md has no section {vector.section}"
         if vector.libraries:
             anchor = vector.libraries.split(" | ")[1]
             yield None if anchor in known else f"{vector.name}: docs/LIBRARIES.md has no section {anchor}"
@@ -329,35 +365,65 @@ class Answer:
 
 @dataclasses.dataclass
 class Folder:
-    """A folder of conformance/: its name, the bytes of its files, and the fields of rule.txt."""
-    name: str
+    """A folder of a vector: its path as it is printed, the bytes of its files, and the fields of rule.txt."""
+    path: str
     texts: dict
     fields: dict
 
+    @property
+    def name(self):
+        return os.path.basename(self.path)
+
     def is_chosen(self, text, mark):
-        words = (self.name, self.fields["section"], self.fields["source"])
-        return any(text in word for word in words) and mark in (None, self.fields["mark"])
+        words = (self.name, self.fields.get("section", ""), self.fields.get("source", ""))
+        return any(text in word for word in words) and mark in (None, self.fields.get("mark"))
 
     def given(self):
         return self.texts["script.pct"] + b"%%\n" + self.texts["schedule.txt"]
 
     def faults(self, answer, is_events):
-        """What is wrong with an answer, in words."""
+        """What is wrong with an answer: the kind of event where it is, and what, in words."""
         wanted, written = (lines_of(text, is_events) for text in (self.texts["report.txt"], answer.written))
         status = int(self.texts.get("status.txt", b"0"))
         if wanted != written:
             yield difference("event" if is_events else "line", wanted, written)
         if answer.cut:
-            yield answer.cut
+            yield "the end", answer.cut
         elif answer.status != status and not is_events:
-            yield f"expected status {status}, ended with {answer.status}"
+            yield "status", f"expected status {status}, ended with {answer.status}"
+
+    def about(self):
+        """Names and texts that are printed for a vector that fails."""
+        for field in RULE_FIELDS[:3]:
+            if field in self.fields:
+                yield field, self.fields[field]
+        if "section" in self.fields:
+            yield "read", f"docs/POSIX.md#{anchor_of(self.fields['section'])}"
+        yield "steps", shlex.join(["./pct", "trace", f"{self.path}/script.pct", f"{self.path}/schedule.txt"])
 
 
-def folders():
-    for path in sorted(path.parent for path in TOP.glob("*/script.pct")):
-        texts = {file.name: file.read_bytes() for file in path.iterdir()}
-        pairs = (line.split(" ", 1) for line in texts["rule.txt"].decode().splitlines())
-        yield Folder(path.name, texts, dict(pairs))
+def folders(top, shown):
+    """The vectors of a folder, which is printed as `shown`."""
+    for path in sorted(path.parent for path in top.glob("*/script.pct")):
+        texts = {file.name: file.read_bytes() for file in path.iterdir() if file.is_file()}
+        missing = [name for name in ("schedule.txt", "report.txt") if name not in texts]
+        if missing:
+            misused(f"{shown}/{path.name} has no {missing[0]}")
+        pairs = (line.partition(" ") for line in texts.get("rule.txt", b"").decode().splitlines())
+        yield Folder(f"{shown}/{path.name}", texts, {field: text for field, _, text in pairs})
+
+
+def chosen_folders(options):
+    """The vectors that the options choose."""
+    top, shown = (options.folder, str(options.folder)) if options.folder else (TOP, TOP.name)
+    if not top.is_dir():
+        misused(f"{shown} is no folder")
+    return [folder for folder in folders(top, shown) if folder.is_chosen(options.filter, options.only)]
+
+
+def misused(why):
+    print(why, file=sys.stderr)
+    sys.exit(MISUSED)
 
 
 def lines_of(text, is_events):
@@ -369,7 +435,19 @@ def difference(unit, wanted, written):
     """The first line that differs, where the lists do."""
     for number, pair in enumerate(itertools.zip_longest(wanted, written), 1):
         if pair[0] != pair[1]:
-            return f"{unit} {number}: expected {quoted(pair[0])}, written {quoted(pair[1])}"
+            return kind_of(pair[0] or pair[1]), f"{unit} {number}: expected {quoted(pair[0])}, written {quoted(pair[1])}"
+
+
+def kind_of(line):
+    """The kind of a line of a report: the word of its event, or its first word."""
+    words = line.decode(errors="replace").split() or [""]
+    return words[1] if EVENT.match(line) and len(words) > 1 else words[0]
+
+
+def counted_kinds(kinds):
+    """A line for each kind of event at which vectors first differ, the most frequent one first."""
+    for kind, count in sorted(collections.Counter(kinds).items(), key=lambda pair: (-pair[1], pair[0])):
+        yield f"{count} {'vector first differs' if count == 1 else 'vectors first differ'} at {kind!r}"
 
 
 def quoted(line):
@@ -405,8 +483,7 @@ def show(folder, faults):
     """Prints what is wrong with a vector, if anything is."""
     if faults:
         print(f"{folder.name}: {'; '.join(faults)}")
-        for field in RULE_FIELDS[:3]:
-            print(f"    {field}: {folder.fields[field]}")
+        print(*(f"    {field}: {text}" for field, text in folder.about()), sep="\n")
     sys.stdout.flush()
 
 
@@ -414,31 +491,44 @@ def show_tap(number, folder, faults):
     """Prints the result of a vector as TAP; a text in JSON is one in YAML, too."""
     print(f"{'not ok' if faults else 'ok'} {number} - {folder.name}")
     if faults:
-        fields = {"message": "; ".join(faults), **{field: folder.fields[field] for field in RULE_FIELDS[:3]}}
+        fields = {"message": "; ".join(faults), **dict(folder.about())}
         print("  ---", *(f"  {field}: {json.dumps(text)}" for field, text in fields.items()), "  ...", sep="\n")
     sys.stdout.flush()
 
 
 def run(options):
     """Runs the vectors that are chosen, prints the results, and returns whether each passed."""
-    chosen = [folder for folder in folders() if folder.is_chosen(options.filter, options.only)]
+    chosen = chosen_folders(options)
     if options.tap:
         print(f"TAP version 14\n1..{len(chosen)}")
-    passed = []
+    passed, kinds = [], []
     for number, (folder, answer) in enumerate(zip(chosen, answers_of(options, chosen)), 1):
         faults = list(folder.faults(answer, options.events))
-        show_tap(number, folder, faults) if options.tap else show(folder, faults)
+        words = [why for _, why in faults]
+        show_tap(number, folder, words) if options.tap else show(folder, words)
         passed.append(not faults)
+        kinds += [kind for kind, _ in faults[:1]]
+    for line in counted_kinds(kinds):
+        print(f"# {line}" if options.tap else line)
     return passed
 
 
 def answers_of(options, chosen):
     """The answers of the command to these vectors, in order."""
-    with concurrent.futures.ThreadPoolExecutor(options.jobs) as pool:
-        try:
-            yield from pool.map(lambda folder: answer_of(options.run, folder.given(), options.timeout), chosen)
-        except OSError as error:
-            sys.exit(f"{options.run[0]} cannot be run: {error.strerror}")
+    answer = lambda folder: answer_of(options.run, folder.given(), options.timeout)
+    try:
+        yield from in_order(options.jobs, answer, chosen)
+    except OSError as error:
+        misused(f"{options.run[0]} cannot be run: {error.strerror}")
+
+
+def in_order(jobs, function, values):
+    """What the function gives for each value, in order, with up to so many calls at once."""
+    pool = concurrent.futures.ThreadPoolExecutor(jobs)
+    try:
+        yield from pool.map(function, values)
+    finally:
+        pool.shutdown(cancel_futures=True)
 
 
 # ---- the command line
@@ -457,19 +547,30 @@ def positive(kind):
 
 def options_of(words):
     layout = argparse.RawDescriptionHelpFormatter
-    parser = argparse.ArgumentParser(description=__doc__, formatter_class=layout, allow_abbrev=False)
-    parser.add_argument("--check", action="store_true")
-    parser.add_argument("--run", type=shlex.split)
-    parser.add_argument("--filter", default="")
-    parser.add_argument("--only", choices=["S", "P"])
-    parser.add_argument("--events", action="store_true")
-    parser.add_argument("--tap", action="store_true")
-    parser.add_argument("--timeout", type=positive(float), default=SECONDS)
-    parser.add_argument("--jobs", type=positive(int), default=1)
+    parser = argparse.ArgumentParser(usage=argparse.SUPPRESS, description=__doc__, formatter_class=layout, allow_abbrev=False)
+    parser.add_argument("--check", action="store_true", help=argparse.SUPPRESS)
+    parser.add_argument("--write", action="store_true", help=argparse.SUPPRESS)
+    parser.add_argument("--run", type=shlex.split, help=argparse.SUPPRESS)
+    add_choice(parser)
+    parser.add_argument("--events", action="store_true", help=argparse.SUPPRESS)
+    parser.add_argument("--tap", action="store_true", help=argparse.SUPPRESS)
+    add_limits(parser, SECONDS, 1)
     options = parser.parse_args(words)
-    if words and words != ["--check"] and (options.check or not options.run):
-        parser.error("--check is alone, and the other options need --run COMMAND")
+    if words not in ([], ["--check"], ["--write"]) and (options.check or options.write or not options.run):
+        parser.error("--check and --write are alone, and the other options need --run COMMAND")
     return options
+
+
+def add_choice(parser):
+    """The options that choose vectors."""
+    parser.add_argument("--folder", type=pathlib.Path, help=argparse.SUPPRESS)
+    parser.add_argument("--filter", default="", help=argparse.SUPPRESS)
+    parser.add_argument("--only", choices=MARKS, help=argparse.SUPPRESS)
+
+
+def add_limits(parser, seconds, jobs):
+    parser.add_argument("--timeout", type=positive(float), default=seconds, help=argparse.SUPPRESS)
+    parser.add_argument("--jobs", type=positive(int), default=jobs, help=argparse.SUPPRESS)
 
 
 def main():
@@ -480,14 +581,27 @@ def main():
         wrongs = list(checks())
         print(*filter(None, wrongs), sep="\n", end="\n" if any(wrongs) else "")
         results = [wrong is None for wrong in wrongs]
+    elif options.write:
+        return write()
     else:
-        write()
-        return
+        return print(__doc__, end="")
     passed = sum(results)
     failed = len(results) - passed
     print(f"{'# ' if options.tap else ''}{passed} passed, {failed} failed")
     sys.exit(1 if failed or not passed else 0)
 
 
+def with_reader(function):
+    """Calls the function; if nobody reads its output any more, it ends quietly, as a program that SIGPIPE ends."""
+    try:
+        try:
+            function()
+        finally:
+            sys.stdout.flush()
+    except BrokenPipeError:
+        os.dup2(os.open(os.devnull, os.O_WRONLY), sys.stdout.fileno())
+        sys.exit(128 + signal.SIGPIPE)
+
+
 if __name__ == "__main__":
-    main()
+    with_reader(main)

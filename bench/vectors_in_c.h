@@ -7,7 +7,9 @@
  * makes its next call all the same: it has to block there for a second. Nothing here is a cancellation point: what
  * would be one is called by syscall().
  */
+#ifndef _GNU_SOURCE
 #define _GNU_SOURCE
+#endif
 #include <errno.h>
 #include <fcntl.h>
 #include <pthread.h>
@@ -36,6 +38,8 @@ struct entry {
     enum kind kind;
     unsigned number; /* of the new thread, key or process */
     int is_event;    /* the event that a suspended thread awaits comes now */
+    int is_acquired; /* a condition wait ends here, and its mutex has an event `acquire` */
+    int is_alike;    /* any thread that returns from this wait may be the one of the entry */
 };
 
 static const struct entry entries[];
@@ -49,10 +53,11 @@ static const int wanted_count;
 struct place {
     volatile pid_t pid, tid;
     volatile int is_in_call;
+    const char *volatile at; /* the function that the library calls and that waits for its turn */
 };
 
 static struct shared {
-    volatile int turn, shown, events_made, is_over;
+    volatile int turn, shown, events_made, is_over, is_asked;
     volatile pid_t pids[PROCESSES];
     struct place places[PROCESSES][THREADS];
 } *shared;
@@ -60,7 +65,11 @@ static struct shared {
 static int process = 1;
 static __thread int thread;
 static __thread int is_popping;
+/* The thread is back from a condition wait, and has not been given its turn yet. */
+static __thread int is_back;
 static pthread_t handles[THREADS];
+/* Where each thread has its number. */
+static int *numbers[THREADS];
 static pthread_key_t keys[KEYS];
 static int pipes[PROCESSES][THREADS][2];
 
@@ -149,15 +158,34 @@ static void progress(void)
     }
 }
 
+/* Threads that wait alike exchange their numbers: which of them gets the mutex first is open. The other one is in its
+ * call, and reads its number only after that. */
+static void exchange(int other)
+{
+    struct place *places = shared->places[process], place = places[thread];
+    pthread_t handle = handles[thread];
+    int own = thread;
+    places[own] = places[other];
+    places[other] = place;
+    handles[own] = handles[other];
+    handles[other] = handle;
+    numbers[own] = numbers[other];
+    numbers[other] = &thread;
+    *numbers[own] = own;
+    thread = other;
+}
+
 /* Waits until the entry at `turn` is one of the calling thread. */
 static const struct entry *take(void)
 {
-    struct place *place = &shared->places[process][thread];
-    place->is_in_call = 0;
+    shared->places[process][thread].is_in_call = 0;
     for (;;) {
         progress();
         int turn = shared->turn;
         const struct entry *entry = &entries[turn];
+        if (is_back && entry->is_alike && entry->process == process && entry->thread != thread
+            && shared->places[process][entry->thread].is_in_call)
+            exchange(entry->thread);
         if (turn == entry_count && verdict == DEADLOCK)
             return entry;
         if (turn < entry_count && entry->process == process && entry->thread == thread && entry->kind <= ACT
@@ -172,6 +200,39 @@ static void pass(void)
     if (shared->turn < entry_count)
         __sync_fetch_and_add(&shared->turn, 1);
     progress();
+}
+
+/* take() of a function that the library calls. */
+static void take_call(const char *name)
+{
+    struct place *place = &shared->places[process][thread];
+    place->at = name;
+    take();
+    place->at = NULL;
+}
+
+/* Whether the schedule has a step of this thread at `turn` or later. */
+static int has_step(int number, int other)
+{
+    for (int turn = shared->turn; turn < entry_count; turn++)
+        if (entries[turn].process == number && entries[turn].thread == other && entries[turn].kind <= ACT)
+            return 1;
+    return 0;
+}
+
+/* The program is late: writes which calls wait for a step that the schedule does not have. */
+static void answer_where(int unused)
+{
+    (void)unused;
+    if (__sync_bool_compare_and_swap(&shared->is_asked, 0, 1))
+        for (int i = 1; i < PROCESSES; i++)
+            for (int j = 1; j < THREADS; j++)
+                if (shared->places[i][j].at && !has_step(i, j)) {
+                    char line[160];
+                    int length = snprintf(line, sizeof line, "# %d.%d %s\n", i, j, shared->places[i][j].at);
+                    syscall(SYS_write, STDOUT_FILENO, line, length);
+                }
+    finish();
 }
 
 /* Writes the event of the calling thread. The first one that is not wanted is the last that is written. */
@@ -225,10 +286,44 @@ static void acted(void *unused)
     take(); \
     pthread_cleanup_pop(0)
 
+/* A condition wait, as a POINT. When it has returned, and in the first handler when it was canceled, its mutex has an
+ * owner: a lock that does not wait gives EBUSY, also to the owner. */
+struct wait {
+    pthread_mutex_t *mutex;
+    const char *name;
+};
+
+static void end_wait(const struct wait *wait)
+{
+    is_back = 1;
+    int is_acquired = take()->is_acquired;
+    is_back = 0;
+    if (pthread_mutex_trylock(wait->mutex) != EBUSY)
+        show("no owner of %s", wait->name);
+    if (is_acquired)
+        show("acquire %s", wait->name);
+}
+
+static void acted_in_wait(void *given)
+{
+    end_wait(given);
+    show("ending canceled");
+    pass();
+}
+
+#define WAIT(call, the_mutex, the_name) \
+    struct wait wait = {&the_mutex, the_name}; \
+    pthread_cleanup_push(acted_in_wait, &wait); \
+    begin_call(); \
+    call; \
+    end_wait(&wait); \
+    pthread_cleanup_pop(0)
+
 static void settle(int number)
 {
     struct place *place = &shared->places[process][number];
     thread = number;
+    numbers[number] = &thread;
     place->pid = getpid();
     place->tid = syscall(SYS_gettid);
 }
@@ -330,5 +425,6 @@ static void setup(void)
             && pipe(pipes[entries[i].process][entries[i].thread]) != 0)
             exit(99);
     signal(SIGALRM, finish_at);
+    signal(SIGTERM, answer_where);
     pthread_atfork(before_fork, in_parent, in_child);
 }

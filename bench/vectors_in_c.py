@@ -1,22 +1,38 @@
 #!/usr/bin/env python3
 """Runs the vectors of conformance/ as C programs on a C library of this machine.
 
-    bench/vectors_in_c.py [--cc COMMAND] [--filter TEXT] [--keep FOLDER]
+    bench/vectors_in_c.py [--cc COMMAND] [--libs WORDS] [--run COMMAND] [--folder DIR] [--filter TEXT] [--only MARK]
+                          [--expect FILE] [--timeout SECONDS] [--jobs N] [--keep FOLDER]
 
 For each vector a C program is made: a C function for each function of the script, the calls of the script as they are,
 and before each statement a wait until it is its turn in the schedule of the vector (vectors_in_c.h). The program writes
 the events that it can see, as `P.T EVENT`, and these are compared with those of report.txt, up to the stop or the end of
 the schedule. conformance/README.md says which events these are, and what is not comparable.
 
-    --cc COMMAND   the compiler, split into words as a shell does; cc where it is not given
-    --filter TEXT  only the vectors whose name has TEXT
-    --keep FOLDER  leave the C programs in this folder
+    --cc COMMAND       the compiler, split into words as a shell does; cc where it is not given
+    --libs WORDS       words that come after the source in the compiler's command, split in the same way: archives,
+                       objects and shared objects of a library
+    --run COMMAND      this command is put before each program, split in the same way
+    --folder DIR       the folders of DIR in place of those of conformance/; ./pct trace says which events are of which
+                       step
+    --filter TEXT      only the vectors whose name, section or source has TEXT
+    --only MARK        only the vectors with this mark: S, S+P or P
+    --expect FILE      names of vectors that are known to fail, one a line; what follows a # is a comment
+    --timeout SECONDS  end a program after this time, 5 seconds where none is given
+    --jobs N           run up to N programs at once, 3 where it is not given; the results are printed in order
+    --keep FOLDER      leave the C programs in this folder
 
-For each vector that fails, and for each that is not comparable, a line says why. The last line is `N passed, M failed,
-K not comparable`. The status is 0 unless no vector passed: libraries may differ where a vector is marked P.
+One program is built first. If that fails, the compiler's first error is printed, and no other program is built.
+
+For each vector that fails, and for each that is not comparable, a line says why; after a failure come the rule, the mark
+and the source of the vector, and where to read on. After that a line for each kind of event says how many vectors first
+differ there. The last line is `P passed, Q followed up to the stop, M failed, K not comparable`: P vectors whose events
+were all as expected, and Q whose events were as expected up to a stop, which the program has no counterpart of. The
+status is 1 if a vector failed that FILE does not name, or P and Q are 0, and 2 if the words are not as above, or the
+compiler, a folder, FILE or the first program cannot be used.
 """
 import argparse
-import concurrent.futures
+import dataclasses
 import os
 import pathlib
 import re
@@ -31,7 +47,7 @@ import conformance
 
 ROOT = pathlib.Path(__file__).resolve().parent.parent
 HEADER = ROOT / "bench/vectors_in_c.h"
-OPTIONS = ["-std=c11", "-O1", "-pthread", "-fno-strict-aliasing"]
+OPTIONS = ["-std=c11", "-D_GNU_SOURCE", "-O1", "-pthread", "-fno-strict-aliasing"]
 SECONDS = 5
 JOBS = 3
 # The sizes of the arrays of vectors_in_c.h.
@@ -60,8 +76,10 @@ class Step:
 
 # ---- what a program can see
 
+# The calls of the library that a schedule may lack are written after this, when a program is ended.
+EXTRA = "# "
 SEEN = set("""emit push pop create joined detach state type done request key key_delete take post fork reap answer handler
-exit at_exit prepare parent child process_end""".split())
+acquire exit at_exit prepare parent child process_end""".split())
 
 
 def seen(step, kind):
@@ -77,7 +95,7 @@ def seen(step, kind):
             shown = f"dtor {rest[2]} {rest[3]}"
         elif word == "ending":
             shown = " ".join(["ending", *rest[:1 if rest[0] == "canceled" else 2]])
-        elif word in ("acquire", "release"):
+        elif word == "release":
             shown = None if is_wait else event
         else:
             shown = event if word in SEEN else None
@@ -139,10 +157,31 @@ def no_program(script, steps, verdict):
         return "too many threads, keys or processes"
 
 
+def are_alike(script):
+    """Whether all threads that come to a condition wait execute the same function with the same number, and no thread
+    has their ids: then nothing can tell which of them is which, and the program lets them exchange their numbers."""
+    words = words_of(script)
+    functions = [line for line in words if line[0] == "fn"]
+    waiting = [name for name, lines in bodies(words) if any(line[0] == "pthread_cond_wait" for line in lines)]
+    if len(waiting) != 1 or sum(line[0] == "pthread_cond_wait" for line in words) != 1:
+        return False
+    creates = [line for line in words if line[0] == "pthread_create" and line[3] == waiting[0]]
+    has_one_variable = any(line[1] == waiting[0] and len(line) == 3 for line in functions)
+    return has_one_variable and len(creates) > 1 and all(line == creates[0] and line[2] == "-" for line in creates)
+
+
+def bodies(words):
+    """The name and the lines of each function."""
+    starts = [number for number, line in enumerate(words) if line[0] == "fn"]
+    for start, end in zip(starts, [*starts[1:], len(words)]):
+        yield words[start][1], words[start:end]
+
+
 class Threads:
     """What is known of the threads of a run, from its events."""
 
-    def __init__(self):
+    def __init__(self, are_alike):
+        self.are_alike = are_alike
         self.calls, self.requested, self.disabled = {}, {}, set()
         self.ended, self.posts, self.unblocked = {}, {}, {}
 
@@ -155,13 +194,15 @@ class Threads:
             return "a thread with a request pending returns from its call"
         if call and step.choice == "act" and self.may_return(who, call):
             return "a thread acts in a call that may return"
-        if step.has("signal") and sum(self.calls[other] == "pthread_cond_wait" for other in others) > 1:
+        waits = sum(self.calls[other] == "pthread_cond_wait" for other in others)
+        if step.has("signal") and waits > 1 and not self.are_alike:
             return "which of several threads a signal wakes"
         if step.has("take") and any(self.calls[other] == "sem_wait" for other in others):
             return "which of several threads takes a post"
         if step.has("reap") and any(self.calls[other] == "waitpid" for other in others):
             return "which of several threads reaps a child"
-        if step.has("acquire") and any(other != who for other in self.unblocked):
+        is_alike = self.are_alike and who in self.unblocked
+        if step.has("acquire") and any(other != who for other in self.unblocked) and not is_alike:
             return "which of several threads gets a mutex"
         return None
 
@@ -203,9 +244,9 @@ class Threads:
                 self.unblocked[who] = True
 
 
-def not_forced(steps):
+def not_forced(script, steps):
     """Why the steps of a vector cannot be brought about, or nothing."""
-    threads, passes = Threads(), {}
+    threads, passes = Threads(are_alike(script)), {}
     for number, step in enumerate(steps, 1):
         for event in step.events:
             if event.startswith("dtor "):
@@ -328,20 +369,20 @@ WRAPPERS = """static uint32_t fn_NAME(enum frame frame, uint32_t v);
 static void handler_NAME(void *given)
 {
     uint32_t value = (uint32_t)(uintptr_t)given;
-    if (!is_popping) { take(); show("handler NAME %u", value); pass(); }
+    if (!is_popping) { take_call("NAME"); show("handler NAME %u", value); pass(); }
     is_popping = 0;
     fn_NAME(OTHER, value);
 }
 static void dtor_NAME(void *given)
 {
     uint32_t value = (uint32_t)(uintptr_t)given;
-    take(); show("dtor NAME %u", value); pass();
+    take_call("NAME"); show("dtor NAME %u", value); pass();
     fn_NAME(OTHER, value);
 }
-static void exit_NAME(void) { take(); show("at_exit NAME"); pass(); fn_NAME(OTHER, 0); }
-static void prepare_NAME(void) { take(); show("prepare NAME"); pass(); fn_NAME(OTHER, 0); }
-static void parent_NAME(void) { take(); show("parent NAME"); pass(); fn_NAME(OTHER, 0); }
-static void child_NAME(void) { take(); show("child NAME"); pass(); fn_NAME(OTHER, 0); }
+static void exit_NAME(void) { take_call("NAME"); show("at_exit NAME"); pass(); fn_NAME(OTHER, 0); }
+static void prepare_NAME(void) { take_call("NAME"); show("prepare NAME"); pass(); fn_NAME(OTHER, 0); }
+static void parent_NAME(void) { take_call("NAME"); show("parent NAME"); pass(); fn_NAME(OTHER, 0); }
+static void child_NAME(void) { take_call("NAME"); show("child NAME"); pass(); fn_NAME(OTHER, 0); }
 """
 # The statement, and what its words are: v a value, d where a result goes, n a name. The step is taken before it.
 STATEMENTS = {
@@ -370,7 +411,7 @@ STATEMENTS = {
     "pthread_getspecific": ("$1 = (uint32_t)(uintptr_t)pthread_getspecific(keys[$2]);", "dv"),
     "pthread_mutex_lock": ('show_result(pthread_mutex_lock(&m_$1), "acquire $1", 0);', "n"),
     "pthread_mutex_unlock": ('show_result(pthread_mutex_unlock(&m_$1), "release $1", 0);', "n"),
-    "pthread_cond_wait": ('int error; POINT(error = pthread_cond_wait(&c_$1, &m_$2)); '
+    "pthread_cond_wait": ('int error; WAIT(error = pthread_cond_wait(&c_$1, &m_$2), m_$2, "$2"); '
                           'show_result(error, "done pthread_cond_wait", 0);', "nn"),
     "pthread_cond_signal": ('show_result(pthread_cond_signal(&c_$1), "signal $1", 0);', "n"),
     "pthread_cond_broadcast": ('show_result(pthread_cond_broadcast(&c_$1), "broadcast $1", 0);', "n"),
@@ -392,18 +433,20 @@ STATEMENTS = {
 VERDICTS = {"verdict complete": "COMPLETE", "verdict deadlock": "DEADLOCK"}
 
 
-def table_of(steps, verdict):
+def table_of(script, steps, verdict):
     """The arrays that vectors_in_c.h declares, and the lines that the program should write."""
     kinds = list(kinds_of(steps))
     lines = [line for step, kind in zip(steps, kinds) for line in seen(step, kind)]
-    rows = []
+    rows, alike = [], are_alike(script)
     for step, kind in zip(steps, kinds):
         number = step.number
         for event in step.events:
             if event.startswith("fork "):
                 number = int(event.split()[1])
-        rows.append(f"    {{{step.process}, {step.thread}, {kind}, {number}, {int('done read' in step.events)}}},")
-    text = ["static const struct entry entries[] = {", *rows, "    {0, 0, STEP, 0, 0}};",
+        is_return = step.has("done") and step.has("acquire")
+        flags = "done read" in step.events, is_return or step.has("ending") and step.has("acquire"), is_return and alike
+        rows.append(f"    {{{step.process}, {step.thread}, {kind}, {number}, {', '.join(str(int(f)) for f in flags)}}},")
+    text = ["static const struct entry entries[] = {", *rows, "    {0, 0, STEP, 0, 0, 0, 0}};",
             f"static const int entry_count = {len(steps)}, wanted_count = {len(lines)};",
             f"static const enum verdict verdict = {VERDICTS.get(verdict, 'OTHER_VERDICT')};",
             "static const char *const wanted[] = {", *(f'    "{line}",' for line in lines), "    NULL};"]
@@ -411,85 +454,241 @@ def table_of(steps, verdict):
 
 
 def program_of(script, steps, verdict):
-    table, wanted = table_of(steps, verdict)
+    table, wanted = table_of(script, steps, verdict)
     return f'#include "{HEADER}"\n\n{table}\n\n{Writer(script).program()}\n', wanted
+
+
+# ---- the vectors
+
+
+@dataclasses.dataclass
+class Case:
+    """A vector: its folder, and what is known of its run."""
+    folder: conformance.Folder
+    script: list
+    steps: list
+    verdict: str
+
+    def is_stopped(self):
+        return self.verdict.startswith(("verdict undefined", "verdict profile"))
+
+
+def cases(options):
+    """The vectors that the options choose."""
+    vectors = {} if options.folder else {vector.name: vector for vector in conformance.read_source()[0]}
+    for folder in conformance.chosen_folders(options):
+        vector = vectors.get(folder.name)
+        steps, verdict = (vector.steps, vector.verdict) if vector else traced(folder)
+        yield Case(folder, folder.texts["script.pct"].decode().splitlines(), [Step(*step) for step in steps], verdict)
+
+
+def traced(folder):
+    """The steps of an own vector with their events, and its verdict, as ./pct trace shows them."""
+    wanted = [line.decode().rstrip("\n") for line in conformance.lines_of(folder.texts["report.txt"], True)]
+    if wanted and wanted[0].startswith("refused"):
+        return [], wanted[0]
+    texts = (f"{folder.path}/{name}" for name in ("script.pct", "schedule.txt"))
+    ran = subprocess.run([ROOT / "pct", "trace", *texts], stdout=subprocess.PIPE, text=True)
+    lines = [line.split("\t") for line in ran.stdout.splitlines()]
+    steps = [(*line[1].split("."), line[4], [event for event in line[5].split(", ") if event not in ("", "-")])
+             for line in lines if len(line) == 6]
+    events = [f"{process}.{thread} {event}" for process, thread, _, found in steps for event in found]
+    verdict = next((line[0] for line in lines if line[0].startswith("verdict")), "no verdict")
+    if wanted != [*events, verdict]:
+        conformance.misused(f"{folder.path}: report.txt is not what ./pct trace shows")
+    return steps, verdict
 
 
 # ---- runs
 
 
-def run(program):
-    """The lines that a program writes, its status, and whether it was ended after the time."""
+@dataclasses.dataclass
+class Ran:
+    lines: list
+    # For each call that waits for a turn which the schedule does not have: its thread and its function.
+    extra: list
+    status: int
+    is_late: bool
+    seconds: float
+
+    def at(self):
+        return "".join(f"; {who} is at a call that the schedule does not have: {name}" for who, name in self.extra)
+
+
+def run(command, seconds):
+    """What a program wrote, and how it ended. After the time it is asked where its threads are, and ended."""
     with subprocess.Popen(
-        [program], stdin=subprocess.DEVNULL, stdout=subprocess.PIPE, stderr=subprocess.DEVNULL, start_new_session=True
+        command, stdin=subprocess.DEVNULL, stdout=subprocess.PIPE, stderr=subprocess.DEVNULL, start_new_session=True
     ) as process:
         try:
-            written, is_late = process.communicate(timeout=SECONDS)[0], False
+            written, is_late = process.communicate(timeout=seconds)[0], False
         except subprocess.TimeoutExpired:
-            os.killpg(process.pid, signal.SIGKILL)
-            written, is_late = process.communicate()[0], True
-    return written.decode().splitlines(), process.returncode, is_late
+            written, is_late = ended(process), True
+    return Ran(*separated(written.decode().splitlines()), process.returncode, is_late, seconds)
 
 
-def fault_of(steps, verdict, wanted, lines, status, is_late):
-    """What differs from the report, or nothing."""
+def separated(lines):
+    """The events that a program wrote, and the thread and the name of each call that the schedule does not have."""
+    extra = [re.fullmatch(r"(\d+)\.(\d+) (.*)", line.removeprefix(EXTRA)).groups() for line in lines if line.startswith(EXTRA)]
+    named = [(f"thread {thread}{'' if process == '1' else f' of process {process}'}", name) for process, thread, name in extra]
+    return [line for line in lines if not line.startswith(EXTRA)], named
+
+
+def ended(process):
+    for number in (signal.SIGTERM, signal.SIGKILL):
+        os.killpg(process.pid, number)
+        try:
+            return process.communicate(timeout=1)[0]
+        except subprocess.TimeoutExpired:
+            pass
+    return process.communicate()[0]
+
+
+def fault_of(case, wanted, ran):
+    """What differs from the report: the kind of event, and what, in words; or nothing."""
     for number, line in enumerate(wanted):
-        found = lines[number] if number < len(lines) else None
+        found = ran.lines[number] if number < len(ran.lines) else None
         if found is None:
-            how = f"no event for {SECONDS} s" if is_late else f"ended with {status}"
-            return f"expected {line!r}: {how}"
+            how = f"no event for {ran.seconds:g} s" if ran.is_late else f"ended with {ran.status}"
+            return kind_of(line), f"expected {line!r}: {how}{ran.at()}"
         if found != line:
-            return f"expected {line!r}, written {found!r}"
-    if len(lines) > len(wanted):
-        return f"expected no more events, written {lines[len(wanted)]!r}"
-    if verdict != "verdict complete":
+            return kind_of(line), f"expected {line!r}, written {found!r}"
+    if len(ran.lines) > len(wanted):
+        line = ran.lines[len(wanted)]
+        return kind_of(line), f"expected no more events, written {line!r}"
+    if case.verdict != "verdict complete":
         return None
-    ends = [event for step in steps if step.process == 1 for event in step.events if event.startswith("process_end")]
-    if is_late or ends and status != int(ends[0].split()[1]):
-        return "the program does not end" if is_late else f"expected {ends[0]!r}, ended with {status}"
+    events = [event for step in case.steps if step.process == 1 for event in step.events]
+    ends = [event for event in events if event.startswith("process_end")]
+    if ran.is_late:
+        return "process_end", ran.at().removeprefix("; ") or "the program does not end"
+    if ends and ran.status != int(ends[0].split()[1]):
+        return "process_end", f"expected {ends[0]!r}, ended with {ran.status}"
 
 
-def result_of(vector, compiler, folder):
-    """Whether a vector passed, failed or is not comparable, and why."""
-    name, script, verdict = vector.name, vector.script, vector.verdict
-    steps = [Step(*step) for step in vector.steps]
-    why = no_program(script, steps, verdict) or not_forced(steps)
+def kind_of(line):
+    return conformance.kind_of(line.encode())
+
+
+@dataclasses.dataclass
+class Program:
+    """The C program of a vector, or why there is none."""
+    case: Case
+    why_not: str
+    text: str = ""
+    wanted: list = dataclasses.field(default_factory=list)
+
+    def build(self, options, folder):
+        """Builds the program; gives its path, and the compiler's first error or nothing."""
+        source, program = folder / f"{self.case.folder.name}.c", folder / self.case.folder.name
+        source.write_text(self.text)
+        command = [*options.cc, *OPTIONS, "-o", program, source, *options.libs]
+        built = subprocess.run(command, stdout=subprocess.PIPE, stderr=subprocess.STDOUT, text=True, errors="replace")
+        lines = [line for line in built.stdout.splitlines() if line]
+        errors = [line for line in lines if re.search("error|undefined|cannot", line)] or lines or ["no word from the compiler"]
+        return program, errors[0] if built.returncode else None
+
+    def result(self, options, folder):
+        """Whether the vector passed, was followed up to a stop, failed or is not comparable; the kind, and why."""
+        if self.why_not:
+            return NOT_COMPARABLE, "", self.why_not
+        program, error = self.build(options, folder)
+        if error:
+            return FAILED, "build", f"the program cannot be built: {error}"
+        fault = fault_of(self.case, self.wanted, run([*options.run, program], options.timeout))
+        program.unlink()
+        return (FAILED, *fault) if fault else (FOLLOWED if self.case.is_stopped() else PASSED, "", "")
+
+
+def program_for(case):
+    why = no_program(case.script, case.steps, case.verdict) or not_forced(case.script, case.steps)
     if why:
-        return "not comparable", why
-    text, wanted = program_of(script, steps, verdict)
-    if not wanted:
-        return "not comparable", "it has no event that a program can see"
-    source, program = folder / f"{name}.c", folder / name
-    source.write_text(text)
-    if subprocess.run([*compiler, *OPTIONS, "-o", program, source]).returncode != 0:
-        return "failed", "the program cannot be built"
-    fault = fault_of(steps, verdict, wanted, *run(program))
-    program.unlink()
-    return ("failed", fault) if fault else ("passed", None)
+        return Program(case, why)
+    text, wanted = program_of(case.script, case.steps, case.verdict)
+    return Program(case, "" if wanted else "it has no event that a program can see", text, wanted)
+
+
+# ---- the command line
+
+PASSED, FOLLOWED, FAILED, NOT_COMPARABLE = "passed", "followed up to the stop", "failed", "not comparable"
+
+
+def options_of(words):
+    layout = argparse.RawDescriptionHelpFormatter
+    parser = argparse.ArgumentParser(
+        usage=argparse.SUPPRESS, description=__doc__, formatter_class=layout, allow_abbrev=False)
+    parser.add_argument("--cc", type=shlex.split, default=["cc"], help=argparse.SUPPRESS)
+    parser.add_argument("--libs", type=shlex.split, default=[], help=argparse.SUPPRESS)
+    parser.add_argument("--run", type=shlex.split, default=[], help=argparse.SUPPRESS)
+    parser.add_argument("--expect", type=pathlib.Path, help=argparse.SUPPRESS)
+    parser.add_argument("--keep", type=pathlib.Path, help=argparse.SUPPRESS)
+    conformance.add_choice(parser)
+    conformance.add_limits(parser, SECONDS, JOBS)
+    options = parser.parse_args(words)
+    for command in (options.cc, options.run or options.cc):
+        if not command or not shutil.which(command[0]):
+            conformance.misused(f"{' '.join(command[:1]) or 'an empty word'} is not in the PATH")
+    return options
+
+
+def expected_failures(options):
+    """The names in the file of --expect."""
+    if not options.expect:
+        return set()
+    try:
+        lines = options.expect.read_text().splitlines()
+    except OSError as error:
+        conformance.misused(f"{options.expect} cannot be read: {error.strerror}")
+    names = {line.partition("#")[0].strip() for line in lines} - {""}
+    top = options.folder or conformance.TOP
+    unknown = sorted(name for name in names if not (top / name / "script.pct").is_file())
+    if unknown:
+        conformance.misused(f"{options.expect} names no vector: {', '.join(unknown)}")
+    return names
+
+
+def show(case, result, why, is_expected):
+    name = case.folder.name
+    if result == FAILED and is_expected:
+        print(f"{name}: failed, as expected: {why}")
+    elif result == FAILED:
+        print(f"{name}: failed: {why}", *(f"    {field}: {text}" for field, text in case.folder.about()), sep="\n")
+    elif is_expected:
+        print(f"{name}: {result}{f': {why}' if why else ''}, and was expected to fail")
+    elif why:
+        print(f"{name}: {result}: {why}")
+    sys.stdout.flush()
+
+
+def run_all(options, folder):
+    """Runs the vectors, and gives the count of each result, and how many failed unexpectedly."""
+    expected = expected_failures(options)
+    programs = [program_for(case) for case in cases(options)]
+    first = next((program for program in programs if not program.why_not), None)
+    error = first.build(options, folder)[1] if first else None
+    if error:
+        conformance.misused(f"{first.case.folder.name}: the program cannot be built, and no other one is tried: {error}")
+    counts, kinds, wrong = dict.fromkeys((PASSED, FOLLOWED, FAILED, NOT_COMPARABLE), 0), [], 0
+    results = conformance.in_order(options.jobs, lambda program: program.result(options, folder), programs)
+    for program, (result, kind, why) in zip(programs, results):
+        is_expected = program.case.folder.name in expected
+        show(program.case, result, why, is_expected)
+        counts[result] += 1
+        kinds += [kind] if result == FAILED else []
+        wrong += result == FAILED and not is_expected
+    print(*conformance.counted_kinds(kinds), sep="\n", end="\n" if kinds else "")
+    return counts, wrong
 
 
 def main():
-    parser = argparse.ArgumentParser(
-        description=__doc__, formatter_class=argparse.RawDescriptionHelpFormatter, allow_abbrev=False)
-    parser.add_argument("--cc", type=shlex.split, default=["cc"])
-    parser.add_argument("--filter", default="")
-    parser.add_argument("--keep", type=pathlib.Path)
-    options = parser.parse_args()
-    if not shutil.which(options.cc[0]):
-        sys.exit(f"{options.cc[0]} is not in the PATH")
-    counts = dict.fromkeys(("passed", "failed", "not comparable"), 0)
+    options = options_of(sys.argv[1:])
     with tempfile.TemporaryDirectory() as name:
         folder = options.keep or pathlib.Path(name)
         folder.mkdir(parents=True, exist_ok=True)
-        vectors = [vector for vector in conformance.read_source()[0] if options.filter in vector.name]
-        with concurrent.futures.ThreadPoolExecutor(JOBS) as pool:
-            results = pool.map(lambda vector: result_of(vector, options.cc, folder), vectors)
-            for vector, (result, why) in zip(vectors, results):
-                counts[result] += 1
-                if why:
-                    print(f"{vector.name}: {result}: {why}", flush=True)
+        counts, wrong = run_all(options, folder)
     print(", ".join(f"{count} {result}" for result, count in counts.items()))
-    sys.exit(0 if counts["passed"] else 1)
+    sys.exit(1 if wrong or not counts[PASSED] + counts[FOLLOWED] else 0)
 
 
-main()
+if __name__ == "__main__":
+    conformance.with_reader(main)
