@@ -1,5 +1,5 @@
 -- Every run keeps the laws of its events, and ends in a state that keeps the invariant.
-use Rattle.std.proofs.Common.{◌≡◌, ℕ, false, List, Some, option_and_then, sym, ap, ◌∙◌}
+use Rattle.std.proofs.Common.{◌≡◌, ℕ, false, ◌&&◌, List, Some, option_and_then, sym, ap, ◌∙◌}
 use Rattle.std.proofs.lemmas.List.Elements.{All-from_recursion}
 use Rattle.std.proofs.lemmas.Option.{option_and_then_some}
 use Rattle.pct_model.specs.declared.script.Script.{Script}
@@ -12,6 +12,8 @@ use Rattle.pct_model.specs.Ends.{EachMayBegin, KeepsValues}
 use Rattle.pct_model.specs.Kept.{IsPlainFunction, IsSuspendedInJoin}
 use Rattle.pct_model.specs.Run.{Run, run}
 use Rattle.pct_model.specs.World.{Thread, made_process, made_thread, thread_with}
+use Rattle.pct_laws.specs.CondLaw.{owners_allow, waits_allow, hand_ons_allow}
+use Rattle.pct_ending_laws.proofs.lift.EachAllowed.{each_both}
 use Rattle.pct_ending_laws.specs.EndingLaws.{RunsKeepLaws, StatesAreKept}
 use Rattle.pct_ending_laws.proofs.exits.RegisteredFunctions.{registered_of_run}
 use Rattle.pct_ending_laws.proofs.ForksOfRun.{forks_of_run}
@@ -89,7 +91,7 @@ every_run_keeps_laws script config entries r is = record {
     awakened = awakened_of_run script config entries r is;
   };
   joins = joins_of_run script config entries r is;
-  conds = record { owners = owners_of_run script config entries r is; waits = waits_of_run script config entries r is; hand_ons = hand_ons_of_run script config entries r is };
+  conds = each_both owners_allow (λ e earlier. waits_allow e earlier && hand_ons_allow e earlier) r.events (owners_of_run script config entries r is) (each_both waits_allow hand_ons_allow r.events (waits_of_run script config entries r is) (hand_ons_of_run script config entries r is));
   creations = slots_of_run script config entries r is;
   processes = processes_of_run script config entries r is;
 }

@@ -11,6 +11,7 @@ pub mod MadeThreads
 pub mod InheritedThreads
 pub mod ProcessIds
 pub mod ReportedBy
+pub mod EachAllowed
 pub mod ThreadsAfter
 pub mod EveryProcess
 pub mod EveryThread

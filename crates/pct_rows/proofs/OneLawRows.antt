@@ -2,7 +2,7 @@
 -- from the others. But for one: the law of handlers that ran follows from two others, and the list that it refuses here is also refused by
 -- one of them. No such list breaks the sentence that a thread that has ended joins none: the law of what follows an end refuses it, too. The
 -- lists are newest first.
-use Rattle.std.proofs.Common.{◌≡◌, ℕ, zero, suc, ◌<◌, Bool, true, false, ◌&&◌, ◌||◌, List, [], ◌∷◌, length, slice_index_or, nat_eq, refl, sym, ap, ◌∙◌, arith}
+use Rattle.std.proofs.Common.{◌≡◌, ℕ, zero, suc, Bool, true, false, ◌&&◌, ◌||◌, List, [], ◌∷◌, length, slice_index_or, nat_eq, refl, sym, ap, ◌∙◌, arith}
 use Rattle.std.specs.Prelude.{None}
 use Rattle.std.proofs.lemmas.Bool.{false≢true, and_parts}
 use Rattle.pct_model.specs.declared.event.Caller.TheVariants as caller
@@ -15,18 +15,19 @@ use Rattle.pct_model.specs.Calls.{KeysLaw}
 use Rattle.pct_model.specs.CancelCalls.{point_kind, testcancel_point}
 use Rattle.pct_model.specs.CancelLaw.{RequestsLaw}
 use Rattle.pct_model.specs.CondCalls.{cond_wait_point}
-use Rattle.pct_model.specs.CondLaw.{CondLaw}
+use Rattle.pct_laws.specs.Each.{each as allowed}
+use Rattle.pct_laws.specs.Once as Once
+use Rattle.pct_laws.specs.SlotLaw as SlotLaw
+use Rattle.pct_laws.specs.CondLaw as CondLaw
 use Rattle.pct_model.specs.Ends.{LeftoverEnds}
 use Rattle.pct_model.specs.ForkCalls.{waitpid_point}
 use Rattle.pct_model.specs.JoinLaw.{JoinLaw}
-use Rattle.pct_model.specs.Once.{Once}
 use Rattle.pct_model.specs.Points.{points}
-use Rattle.pct_model.specs.ProcessLaw.{ProcessLaw}
+use Rattle.pct_laws.specs.ProcessLaw as ProcessLaw
 use Rattle.pct_model.specs.RanAll.{RanAll}
 use Rattle.pct_model.specs.SemCalls.{sem_wait_point}
-use Rattle.pct_model.specs.SlotLaw.{SlotLaw}
 use Rattle.pct_model.specs.ThreadCalls.{join_point}
-use Rattle.pct_rows.proofs.LawTests.{each, once_test, once_kept, ran_test, ran_kept, after_test, after_kept, keys_test, keys_kept, left_test, left_kept, requests_test, requests_kept, joins_test, joins_kept, conds_test, conds_kept, slots_test, slots_kept, processes_test, processes_kept}
+use Rattle.pct_rows.proofs.LawTests.{each, ran_test, ran_kept, after_test, after_kept, keys_test, keys_kept, left_test, left_kept, requests_test, requests_kept, joins_test, joins_kept}
 
 -- ---- the laws
 
@@ -57,40 +58,40 @@ number Processes = 9
 
 -- the events keep the law, and pass its test
 abbrev Keeps : Law → List Event → Type 0
-Keeps Handlers events = Once 4 events
+Keeps Handlers events = allowed (Once.allows 4) events ≡ true
 Keeps AllRan events = RanAll events
 Keeps AfterEnds events = AfterEnd events
 Keeps KeysOfEvents events = KeysLaw events
 Keeps ValuesLeft events = LeftoverEnds None events
 Keeps Requests events = RequestsLaw events
 Keeps Joins events = JoinLaw events
-Keeps Conds events = CondLaw events
-Keeps Slots events = SlotLaw 64 events
-Keeps Processes events = ProcessLaw events
+Keeps Conds events = allowed CondLaw.allows events ≡ true
+Keeps Slots events = allowed (SlotLaw.allows 64) events ≡ true
+Keeps Processes events = allowed ProcessLaw.allows events ≡ true
 
 abbrev passes : Law → List Event → Bool
-passes Handlers events = each once_test events
+passes Handlers events = allowed (Once.allows 4) events
 passes AllRan events = each (ran_test events) events
 passes AfterEnds events = each after_test events
 passes KeysOfEvents events = each keys_test events
 passes ValuesLeft events = each left_test events
 passes Requests events = each requests_test events
 passes Joins events = each joins_test events
-passes Conds events = each conds_test events
-passes Slots events = each slots_test events
-passes Processes events = each processes_test events
+passes Conds events = allowed CondLaw.allows events
+passes Slots events = allowed (SlotLaw.allows 64) events
+passes Processes events = allowed ProcessLaw.allows events
 
 kept : (law : Law) (events : List Event) → passes law events ≡ true → Keeps law events
-kept Handlers events is = once_kept events is
+kept Handlers events is = is
 kept AllRan events is = ran_kept events is
 kept AfterEnds events is = after_kept events is
 kept KeysOfEvents events is = keys_kept events is
 kept ValuesLeft events is = left_kept None events is
 kept Requests events is = requests_kept events is
 kept Joins events is = joins_kept events is
-kept Conds events is = conds_kept events is
-kept Slots events is = slots_kept events is
-kept Processes events is = processes_kept events is
+kept Conds events is = is
+kept Slots events is = is
+kept Processes events is = is
 
 -- the law is the other one
 abbrev is_law : Law → Law → Bool
@@ -157,7 +158,7 @@ replica w = record { pid = 2; tid = 1; what = w }
 
 -- a handler is popped that was not pushed
 popped_without_a_push : OnlyRefuses Handlers (event (what.Popped 1 10 true) ∷ [])
-popped_without_a_push = only refl (λ law. absurd (cc law.0.0))
+popped_without_a_push = only refl false≢true
 
 -- the destructor of a key is called that was not made
 destructor_without_a_key : OnlyRefuses KeysOfEvents (event (what.DtorRun 1 1 4 7) ∷ event (what.PassBegun 1) ∷ event (what.EndingExit 5) ∷ [])
@@ -259,53 +260,53 @@ requested_without_a_thread = only refl (λ law. absurd (false≢true law.0.known
 
 -- a mutex is released that its thread does not own
 released_without_an_owner : OnlyRefuses Conds (event (what.Released 0) ∷ [])
-released_without_an_owner = only refl (λ law. let n : ◌≡◌ {A = ℕ} 0 1 = law.owners.0 in omega arith)
+released_without_an_owner = only refl false≢true
 
 -- a thread is created with the id of the initial thread
 created_again : OnlyRefuses Slots (event (what.Created 1 false) ∷ [])
-created_again = only refl (λ law. absurd (false≢true (sym law.0.fresh)))
+created_again = only refl false≢true
 
 -- ---- processes
 
 -- a thread goes on after the end of its process
 emits_after_the_end_of_its_process : OnlyRefuses Processes (event (what.Emit 5) ∷ event (what.ProcessEnded 0) ∷ [])
-emits_after_the_end_of_its_process = only refl (λ law. absurd (false≢true (sym law.0.live)))
+emits_after_the_end_of_its_process = only refl false≢true
 
 -- the run goes on after a stop
 emits_after_a_stop : OnlyRefuses Processes (event (what.Emit 5) ∷ event (what.Stopped why.ThreadId) ∷ [])
-emits_after_a_stop = only refl (λ law. absurd (false≢true (sym law.0.running)))
+emits_after_a_stop = only refl false≢true
 
 -- an event is one of a thread that was not created
 emits_unknown : OnlyRefuses Processes (other (what.Emit 5) ∷ [])
-emits_unknown = only refl (λ law. absurd (false≢true law.0.known))
+emits_unknown = only refl false≢true
 
 -- exit begins twice
 exits_twice : OnlyRefuses Processes (other (what.ExitBegun 7) ∷ event (what.ExitBegun 7) ∷ event (what.Created 2 false) ∷ [])
-exits_twice = only refl (λ law. absurd (false≢true (sym law.0.change)))
+exits_twice = only refl false≢true
 
 -- the status of a process has nine bits
 ended_with_9_bits : OnlyRefuses Processes (event (what.ProcessEnded 256) ∷ [])
-ended_with_9_bits = only refl (λ law. let n : 256 < 256 = law.0.change.0 in omega arith)
+ended_with_9_bits = only refl false≢true
 
 -- the status is not that of exit
 ended_with_another_value : OnlyRefuses Processes (event (what.ProcessEnded 2) ∷ event (what.ExitBegun 257) ∷ [])
-ended_with_another_value = only refl (λ law. let n : ◌≡◌ {A = ℕ} 2 1 = law.0.change.1 257 refl in omega arith)
+ended_with_another_value = only refl false≢true
 
 -- a process is made twice
 forked_twice : OnlyRefuses Processes (event (what.Forked 2) ∷ event (what.Forked 2) ∷ [])
-forked_twice = only refl (λ law. absurd (false≢true (sym law.0.change.0)))
+forked_twice = only refl false≢true
 
 -- a process is reaped that was not made
 reaped_without_a_child : OnlyRefuses Processes (event (what.Reaped 2 5) ∷ event (what.Called waitpid_point) ∷ [])
-reaped_without_a_child = only refl (λ law. absurd (false≢true law.0.change.0))
+reaped_without_a_child = only refl false≢true
 
 -- a child is reaped that has not ended
 reaped_before_its_end : OnlyRefuses Processes (event (what.Reaped 2 5) ∷ event (what.Called waitpid_point) ∷ event (what.Forked 2) ∷ [])
-reaped_before_its_end = only refl (λ law. absurd (false≢true law.0.change.1))
+reaped_before_its_end = only refl false≢true
 
 -- a child is reaped twice
 reaped_twice : OnlyRefuses Processes (event (what.Reaped 2 5) ∷ event (what.Called waitpid_point) ∷ event (what.Reaped 2 5) ∷ event (what.Called waitpid_point) ∷ replica (what.ProcessEnded 5) ∷ event (what.Forked 2) ∷ [])
-reaped_twice = only refl (λ law. absurd (false≢true (sym law.0.change.2)))
+reaped_twice = only refl false≢true
 
 -- ---- the law of handlers that ran
 
@@ -329,5 +330,5 @@ made_too_late_is_kept Processes other = absurd (false≢true (sym other))
 made_too_late_is_refused : RanAll made_too_late → ⊥
 made_too_late_is_refused law = let n : ◌≡◌ {A = ℕ} 0 1 = ap (λ (handlers : List (ℕ × ℕ)). length handlers) (law 2 1 refl).ran in omega arith
 
-made_too_late_is_refused_twice : ProcessLaw made_too_late → ⊥
-made_too_late_is_refused_twice law = absurd (false≢true (sym law.1.0.change.1))
+made_too_late_is_refused_twice : allowed ProcessLaw.allows made_too_late ≡ false
+made_too_late_is_refused_twice = refl

@@ -1,17 +1,21 @@
 -- The law of handlers that ran follows from the law of cleanup handlers and destructors, where each fork comes before the events of the
 -- process that it makes. This is over lists of events alone.
-use Rattle.std.proofs.Common.{◌≡◌, ℕ, ◌<◌, Bool, true, false, ◌&&◌, ◌||◌, cond, List, [], ◌∷◌, ◌++◌, length, nat_eq, Some, refl, sym, ap, ◌∙◌, subst, append-nil, append_assoc, length-append, eqb-true, arith}
+use Rattle.std.proofs.Common.{◌≡◌, ℕ, ◌<◌, Bool, true, false, ◌&&◌, ◌||◌, cond, List, [], ◌∷◌, ◌++◌, length, nat_eq, inl, inr, not, ap₂, refl, sym, ap, ◌∙◌, subst, append-nil, append_assoc, length-append, eqb-true, arith}
 use Rattle.std.specs.List.{list_any}
-use Rattle.std.proofs.lemmas.Bool.{false≢true, and_parts, or_right}
-use Rattle.std.proofs.lemmas.Option.{none-some, same_Some}
+use Rattle.std.proofs.lemmas.Bool.{false≢true, and_parts, or_right, or_cases, not-true, ltb-true}
 use Rattle.pct_model.specs.declared.event.Event.{Event}
 use Rattle.pct_model.specs.declared.event.What.{What}
 use Rattle.pct_model.specs.declared.event.What.TheVariants as what
 use Rattle.pct_model.specs.declared.state.Reason.{Reason}
 use Rattle.pct_model.specs.Actions.{without_first}
-use Rattle.pct_model.specs.KnownThreads.{is_in, is_own, is_fork_of, makes_process, has_own, reports_end}
-use Rattle.pct_model.specs.Once.{newest, MayCome, Once}
-use Rattle.pct_model.specs.ProcessLaw.{MayChange, ProcessLaw}
+use Rattle.pct_model.specs.KnownThreads.{is_known, is_in, is_own, is_fork_of, makes_process, has_own, reports_end}
+use Rattle.pct_laws.specs.Each.{each}
+use Rattle.pct_model.specs.LineParsing.{is_empty}
+use Rattle.pct_laws.specs.Once.{is_newest, may_come}
+use Rattle.pct_laws.specs.Once as Once
+use Rattle.pct_model.specs.ProcessLaw.{is_stop, ends_process, has_in}
+use Rattle.pct_laws.specs.ProcessLaw.{may_change}
+use Rattle.pct_laws.specs.ProcessLaw as ProcessLaw
 use Rattle.pct_model.specs.RanAll.{begins_to_end, open_at_ending, handler_run, handlers_run, HasRunAll, RanAll}
 use Rattle.pct_model.specs.StopTable.{has_begun_to_end}
 use Rattle.pct_model.specs.ThreadSummary.{ThreadSummary, with_event, summary_of}
@@ -40,9 +44,14 @@ none_pushed handlers [] left parts same = parts
 none_pushed handlers (h ∷ pushed) left parts same = absurd (omega (arith, same, ap length parts, length-append pushed left))
 
 -- the newest of some handlers, and the others
-newest_first : (handlers : List (ℕ × ℕ)) (handler : ℕ × ℕ) → newest handlers ≡ Some handler → handlers ≡ handler ∷ without_first handlers
-newest_first [] handler is = absurd (none-some handler is)
-newest_first (h ∷ handlers) handler is = ap (λ (x : ℕ × ℕ). x ∷ handlers) (same_Some h handler is)
+newest_first : (handlers : List (ℕ × ℕ)) (f a : ℕ) → is_newest f a handlers ≡ true → handlers ≡ (f, a) ∷ without_first handlers
+newest_first [] f a is = absurd (false≢true is)
+newest_first ((g, b) ∷ handlers) f a is = let p = and_parts (nat_eq g f) (nat_eq b a) is in ap₂ (λ (x y : ℕ). (x, y) ∷ handlers) (eqb-true g f p.0) (eqb-true b a p.1)
+
+-- no handler is open
+none_open : (handlers : List (ℕ × ℕ)) → is_empty handlers ≡ true → handlers ≡ []
+none_open [] is = refl
+none_open (h ∷ handlers) is = absurd (false≢true is)
 
 -- where no handler is open, none is left
 none_left : (handlers pushed left : List (ℕ × ℕ)) → handlers ≡ pushed ++ left → handlers ≡ [] → left ≡ []
@@ -64,40 +73,50 @@ module _ (passes : ℕ) (s : ThreadSummary) (opened ran : List (ℕ × ℕ)) (be
   not_begun : has_begun_to_end s.reason ≡ false → has_begun_to_end s.reason ≡ true → ⊥
   not_begun none begun = false≢true (sym none ∙ begun)
 
+  -- after the ending event, a pop removes a handler that was pushed since then
+  more : (f a : ℕ) (run : Bool) → may_come passes (what.Popped f a run) s ≡ true → has_begun_to_end s.reason ≡ true → length s.left < length s.handlers
+  more f a run may begun = elim (or_cases (not (has_begun_to_end s.reason)) _ (and_parts (is_newest f a s.handlers) _ may).1) [
+    | inl not_yet ↦ absurd (not_begun (not-true (has_begun_to_end s.reason) not_yet) begun)
+    | inr fewer ↦ ltb-true _ _ fewer
+  ]
+
   -- of a thread that has not begun to end
-  own_before : (w : What) → MayCome passes w s → has_begun_to_end s.reason ≡ false → s.left ≡ [] → ran ≡ [] → ended ≡ false → After w
-  own_before (what.HandlerRun f a) may none left none_ran not_ended = absurd (not_begun none may.1)
-  own_before (what.EndedWith v) may none left none_ran not_ended = absurd (not_begun none may.0)
+  own_before : (w : What) → may_come passes w s ≡ true → has_begun_to_end s.reason ≡ false → s.left ≡ [] → ran ≡ [] → ended ≡ false → After w
+  own_before (what.HandlerRun f a) may none left none_ran not_ended = absurd (not_begun none (and_parts _ _ (and_parts _ _ may).1).0)
+  own_before (what.EndedWith v) may none left none_ran not_ended = absurd (not_begun none (and_parts _ _ may).0)
   own_before (what.EndingExit v) may none left none_ran not_ended = ending refl [] refl (ap (λ (r : List (ℕ × ℕ)). (r ++ []) ++ s.handlers) none_ran) refl refl (λ has. absurd (false≢true (sym not_ended ∙ has)))
   own_before what.EndingCanceled may none left none_ran not_ended = ending refl [] refl (ap (λ (r : List (ℕ × ℕ)). (r ++ []) ++ s.handlers) none_ran) refl refl (λ has. absurd (false≢true (sym not_ended ∙ has)))
   own_before (what.EndingInWait c m) may none left none_ran not_ended = ending refl [] refl (ap (λ (r : List (ℕ × ℕ)). (r ++ []) ++ s.handlers) none_ran) refl refl (λ has. absurd (false≢true (sym not_ended ∙ has)))
   own_before _ may none left none_ran not_ended = before_end none left (ap (λ (r : List (ℕ × ℕ)). r ++ []) none_ran) not_ended
 
   -- of one that has
-  own_ending : (w : What) → MayCome passes w s → has_begun_to_end s.reason ≡ true → (pushed : List (ℕ × ℕ)) → s.handlers ≡ pushed ++ s.left → ran ++ s.left ≡ opened → began ≡ true → (ended ≡ true → s.left ≡ []) → After w
+  own_ending : (w : What) → may_come passes w s ≡ true → has_begun_to_end s.reason ≡ true → (pushed : List (ℕ × ℕ)) → s.handlers ≡ pushed ++ s.left → ran ++ s.left ≡ opened → began ≡ true → (ended ≡ true → s.left ≡ []) → After w
   own_ending (what.Pushed f a) may begun pushed parts all is none = ending begun ((f, a) ∷ pushed) (ap (λ (hs : List (ℕ × ℕ)). (f, a) ∷ hs) parts) (same_ran ran s.left opened all) is refl none
-  own_ending (what.Popped f a run) may begun pushed parts all is none = let fewer = popped s.handlers pushed s.left parts (may.1 begun) in ending begun fewer.0 fewer.1 (same_ran ran s.left opened all) is refl none
+  own_ending (what.Popped f a run) may begun pushed parts all is none = let fewer = popped s.handlers pushed s.left parts (more f a run may begun) in ending begun fewer.0 fewer.1 (same_ran ran s.left opened all) is refl none
   own_ending (what.HandlerRun f a) may begun pushed parts all is none =
-      let same : s.handlers ≡ s.left = none_pushed s.handlers pushed s.left parts may.2 in
-      let first : s.left ≡ (f, a) ∷ without_first s.left = newest_first s.left (f, a) (ap newest (sym same) ∙ may.0) in
+      let same : s.handlers ≡ s.left = none_pushed s.handlers pushed s.left parts (eqb-true _ _ (and_parts _ _ (and_parts _ _ may).1).1) in
+      let first : s.left ≡ (f, a) ∷ without_first s.left = newest_first s.left f a (ap (is_newest f a) (sym same) ∙ (and_parts _ _ may).0) in
       ending begun [] (ap without_first same) (append_assoc ran ((f, a) ∷ []) (without_first s.left) ∙ ap (λ (l : List (ℕ × ℕ)). ran ++ l) (sym first) ∙ all) is refl (λ has. ap without_first (none has))
-  own_ending (what.EndedWith v) may begun pushed parts all is none = ending begun pushed parts (same_ran ran s.left opened all) is refl (λ has. none_left s.handlers pushed s.left parts may.2)
-  own_ending (what.EndingExit v) may begun pushed parts all is none = absurd (not_begun (ap has_begun_to_end may) begun)
-  own_ending what.EndingCanceled may begun pushed parts all is none = absurd (not_begun (ap has_begun_to_end may) begun)
-  own_ending (what.EndingInWait c m) may begun pushed parts all is none = absurd (not_begun (ap has_begun_to_end may) begun)
+  own_ending (what.EndedWith v) may begun pushed parts all is none = ending begun pushed parts (same_ran ran s.left opened all) is refl (λ has. none_left s.handlers pushed s.left parts (none_open s.handlers (and_parts _ _ (and_parts _ _ (and_parts _ _ may).1).1).0))
+  own_ending (what.EndingExit v) may begun pushed parts all is none = absurd (not_begun (not-true (has_begun_to_end s.reason) may) begun)
+  own_ending what.EndingCanceled may begun pushed parts all is none = absurd (not_begun (not-true (has_begun_to_end s.reason) may) begun)
+  own_ending (what.EndingInWait c m) may begun pushed parts all is none = absurd (not_begun (not-true (has_begun_to_end s.reason) may) begun)
   own_ending _ may begun pushed parts all is none = ending begun pushed parts (same_ran ran s.left opened all) is refl none
 
   -- of any thread
-  own_fits : (w : What) → MayCome passes w s → HandlersFit s.handlers s.left s.reason opened ran began ended present → After w
+  own_fits : (w : What) → may_come passes w s ≡ true → HandlersFit s.handlers s.left s.reason opened ran began ended present → After w
   own_fits w may (before_end none left none_ran not_ended) = own_before w may none left none_ran not_ended
   own_fits w may (ending begun pushed parts all is here none) = own_ending w may begun pushed parts all is none
 
 -- ---- events
 
 -- a fork that makes a process comes before each event of the process
-makes_first : (w : What) (by pid tid : ℕ) (earlier : List Event) → MayChange w by tid earlier → makes_process pid w ≡ true → list_any (is_in pid) earlier ≡ false
-makes_first (what.Forked child) by pid tid earlier may makes = subst (λ (n : ℕ). list_any (is_in n) earlier ≡ false) (eqb-true child pid makes) may.1
+makes_first : (w : What) (by pid tid : ℕ) (earlier : List Event) → may_change w by tid earlier ≡ true → makes_process pid w ≡ true → list_any (is_in pid) earlier ≡ false
+makes_first (what.Forked child) by pid tid earlier may makes = subst (λ (n : ℕ). list_any (is_in n) earlier ≡ false) (eqb-true child pid makes) (not-true (list_any (is_in child) earlier) (and_parts _ _ may).1)
 makes_first _ by pid tid earlier may makes = absurd (false≢true makes)
+
+change_of : (e : Event) (earlier : List Event) → ProcessLaw.allows e earlier ≡ true → may_change e.what e.pid e.tid earlier ≡ true
+change_of e earlier may = (and_parts (is_known e.pid e.tid earlier) (may_change e.what e.pid e.tid earlier) (and_parts (not (has_in ends_process e.pid earlier)) _ (and_parts (not (list_any (λ x. is_stop x.what) earlier)) _ may).1).1).1
 
 module _ (passes pid tid : ℕ) where
   -- thread tid of process pid after some events
@@ -128,20 +147,20 @@ module _ (passes pid tid : ℕ) where
         ending begun pushed parts (same_ran (handlers_run pid tid earlier) s.left (open_at_ending pid tid earlier) all) is (or_right here (list_any (is_in pid) earlier) present) none
 
     -- after any event
-    event_fits : (own forks here : Bool) → (own ≡ true → here ≡ true) → (own ≡ true → MayCome passes e.what s) → (forks ≡ true → list_any (is_in pid) earlier ≡ false) → Fits earlier → FitsAfter own forks here
+    event_fits : (own forks here : Bool) → (own ≡ true → here ≡ true) → (own ≡ true → may_come passes e.what s ≡ true) → (forks ≡ true → list_any (is_in pid) earlier ≡ false) → Fits earlier → FitsAfter own forks here
     event_fits true forks true in_process may first fits =
         own_fits passes s (open_at_ending pid tid earlier) (handlers_run pid tid earlier) (has_own begins_to_end pid tid earlier) (has_own reports_end pid tid earlier) (list_any (is_in pid) earlier) e.what (may refl) fits
     event_fits true forks false in_process may first fits = absurd (false≢true (in_process refl))
     event_fits false forks here in_process may first fits = other_fits forks here first fits
 
   -- the thread after events that keep both laws
-  fits_events : (events : List Event) → Once passes events → ProcessLaw events → Fits events
+  fits_events : (events : List Event) → each (Once.allows passes) events ≡ true → each ProcessLaw.allows events ≡ true → Fits events
   fits_events [] once law = before_end refl refl refl refl
   fits_events (e ∷ earlier) once law =
       event_fits e earlier (is_own pid tid e) (is_fork_of pid tid e) (is_in pid e) (λ own. (and_parts (nat_eq e.pid pid) (nat_eq e.tid tid) own).0)
       (λ own. let same = and_parts (nat_eq e.pid pid) (nat_eq e.tid tid) own in
-      subst (λ (n : ℕ). MayCome passes e.what (summary_of n tid earlier)) (eqb-true e.pid pid same.0) (subst (λ (n : ℕ). MayCome passes e.what (summary_of e.pid n earlier)) (eqb-true e.tid tid same.1) once.0))
-      (λ forks. makes_first e.what e.pid pid e.tid earlier law.0.change (and_parts (nat_eq e.tid tid) (makes_process pid e.what) forks).1) (fits_events earlier once.1 law.1)
+      ap₂ (λ (p n : ℕ). may_come passes e.what (summary_of p n earlier)) (sym (eqb-true e.pid pid same.0)) (sym (eqb-true e.tid tid same.1)) ∙ (and_parts (Once.allows passes e earlier) (each (Once.allows passes) earlier) once).0)
+      (λ forks. makes_first e.what e.pid pid e.tid earlier (change_of e earlier (and_parts (ProcessLaw.allows e earlier) (each ProcessLaw.allows earlier) law).0) (and_parts (nat_eq e.tid tid) (makes_process pid e.what) forks).1) (fits_events earlier (and_parts (Once.allows passes e earlier) (each (Once.allows passes) earlier) once).1 (and_parts (ProcessLaw.allows e earlier) (each ProcessLaw.allows earlier) law).1)
 
   -- if the thread has ended, the handlers that ran are those that were open
   has_run_all : (events : List Event) → has_own reports_end pid tid events ≡ true → Fits events → HasRunAll pid tid events
@@ -152,5 +171,5 @@ module _ (passes pid tid : ℕ) where
   }
 
 -- the law of handlers that ran holds of each list of events of which the laws of cleanup handlers and destructors and of processes hold
-pub ran_all : (passes : ℕ) (events : List Event) → Once passes events → ProcessLaw events → RanAll events
+pub ran_all : (passes : ℕ) (events : List Event) → each (Once.allows passes) events ≡ true → each ProcessLaw.allows events ≡ true → RanAll events
 ran_all passes events once law pid tid has = has_run_all passes pid tid events has (fits_events passes pid tid events once law)

@@ -1,7 +1,7 @@
 -- The law of processes holds of the events of every run.
-use Rattle.std.proofs.Common.{◌≡◌, ℕ, ◌%◌, ◌<◌, true, false, ◌&&◌, List, [], ◌∷◌, ◌++◌, map, reverse, Some, refl, arith}
+use Rattle.std.proofs.Common.{◌≡◌, ℕ, ◌%◌, true, false, ◌&&◌, List, [], ◌∷◌, ◌++◌, map, reverse, Some, refl, arith, not, nat_eq, nat_lt, sym, ap, ◌∙◌, inl, inr, eq-eqb, ne_eqb}
 use Rattle.std.specs.List.{list_any}
-use Rattle.std.proofs.lemmas.Bool.{false≢true, or_parts, or_from, and_right}
+use Rattle.std.proofs.lemmas.Bool.{false≢true, or_parts, or_from, and_right, and_from, and_parts, or_cases, or_left, or_right, not-true, false_from_ne_true, lt-ltb}
 use Rattle.std.proofs.lemmas.Nat.{mod_below}
 use Rattle.pct_model.specs.declared.event.Event.{Event}
 use Rattle.pct_model.specs.declared.event.What.{What}
@@ -16,11 +16,13 @@ use Rattle.pct_model.specs.declared.statement.Stmt.{Stmt}
 use Rattle.pct_model.specs.declared.transition.Transition.{Transition}
 use Rattle.pct_model.specs.Actions.{without_first}
 use Rattle.pct_model.specs.AfterEnd.{begins_exit}
-use Rattle.pct_model.specs.KnownThreads.{is_in, has_own}
+use Rattle.pct_model.specs.KnownThreads.{is_in, is_own, has_own}
 use Rattle.pct_model.specs.LineKinds.{syntax_of}
 use Rattle.pct_model.specs.NextStatement.{NextStatement, next_of, body_at}
 use Rattle.pct_model.specs.OtherThreads.{Others, others_of}
-use Rattle.pct_model.specs.ProcessLaw.{ends_process, exits_with, is_stop, has_in, was_made, JoinsKnown, MayChange, ProcessLaw}
+use Rattle.pct_model.specs.ProcessLaw.{ends_process, exits_with, is_stop, has_in}
+use Rattle.pct_laws.specs.Each.{each}
+use Rattle.pct_laws.specs.ProcessLaw.{exits_otherwise, may_change, changes_allow, allows}
 use Rattle.pct_model.specs.Run.{Run, event_of, run}
 use Rattle.pct_model.specs.Statements.{encode}
 use Rattle.pct_model.specs.TransitionTable.{transition_by}
@@ -33,7 +35,7 @@ use Rattle.pct_ending_laws.proofs.lift.HandlerEvents.{of_each_phase}
 use Rattle.pct_ending_laws.proofs.lift.TakenSteps.{IsTaken, with_step, AfterEveryRun, every_run}
 use Rattle.pct_ending_laws.proofs.processes.EndedProcesses.{live_of_run}
 use Rattle.pct_ending_laws.proofs.processes.EndStatuses.{status_of_exit, exits_plain}
-use Rattle.pct_ending_laws.proofs.processes.ExitValues.{ExitsOnce, begins_with, own_weaker}
+use Rattle.pct_ending_laws.proofs.processes.ExitValues.{ExitsOnce, own_weaker}
 use Rattle.pct_ending_laws.proofs.processes.ExitedOnce.{exits_once_of_run, once_later}
 use Rattle.pct_ending_laws.proofs.processes.JoinedThreads.{joins_known}
 use Rattle.pct_ending_laws.proofs.processes.MadeProcesses.{next_unmade, known_by}
@@ -44,41 +46,58 @@ use Rattle.pct_ending_laws.proofs.processes.StoppedRuns.{none_later, is_closing,
 
 -- each event of a run may change what it changes, by those before it
 abbrev pub ChangesLaw : List Event → Type 0
-ChangesLaw [] = Unit {0}
-ChangesLaw (e ∷ earlier) = MayChange e.what e.pid e.tid earlier × ChangesLaw earlier
+ChangesLaw events = each changes_allow events ≡ true
+
+-- a thread that exits with another status exits with a value
+otherwise_value : (n pid tid : ℕ) (events : List Event) → has_own (exits_otherwise n) pid tid events ≡ true → (u : ℕ) × (has_own (exits_with u) pid tid events ≡ true) × (nat_eq n (u % 256) ≡ false)
+otherwise_value n pid tid [] is = absurd (false≢true is)
+otherwise_value n pid tid (e ∷ earlier) is = elim (or_cases (is_own pid tid e && exits_otherwise n e.what) (has_own (exits_otherwise n) pid tid earlier) is) [
+  | inl here ↦ let p = and_parts (is_own pid tid e) (exits_otherwise n e.what) here in let v = its_value n e.what p.1 in (v.0, or_left _ _ (and_from _ _ p.0 v.1), v.2)
+  | inr before ↦ let v = otherwise_value n pid tid earlier before in (v.0, or_right (is_own pid tid e && exits_with v.0 e.what) _ v.1, v.2)
+]
+  where
+    its_value : (n : ℕ) (w : What) → exits_otherwise n w ≡ true → (u : ℕ) × (exits_with u w ≡ true) × (nat_eq n (u % 256) ≡ false)
+    its_value n (what.ExitBegun v) is = (v, eq-eqb v v refl, not-true (nat_eq n (v % 256)) is)
+    its_value n _ is = absurd (false≢true is)
+
+otherwise_begins : (n : ℕ) (w : What) → exits_otherwise n w ≡ true → begins_exit w ≡ true
+otherwise_begins n (what.ExitBegun v) is = refl
+otherwise_begins n _ is = is
 
 module _ (passes : ℕ) (body : List Stmt) (shared : SharedState) (t : Thread) (others : Others) (e : Entry) (earlier : List Event) where
   -- what is known of a thread with a status, at a statement, and of the events before its transition
   record IsReady (next : NextStatement) (s : Status) : Type 0 where
     -- the next process was not made, and has no event
-    forks : (new : ℕ) → others.family.new_pid ≡ Some new → (was_made new earlier ≡ false) × (list_any (is_in new) earlier ≡ false)
+    forks : (new : ℕ) → others.family.new_pid ≡ Some new → may_change (what.Forked new) e.pid e.tid earlier ≡ true
     -- a thread that is joined is known, and another one
-    joins : (id : ℕ) (target : Thread) → s ≡ status.Joining id → others.named id ≡ Some target → JoinsKnown e.pid e.tid id earlier
+    joins : (id v : ℕ) (target : Thread) → s ≡ status.Joining id → others.named id ≡ Some target → may_change (what.Joined id v) e.pid e.tid earlier ≡ true
     -- a child that has ended may be reaped
-    reaps : (pid n : ℕ) (child : Child) → others.family.child pid ≡ Some child → child.ended ≡ Some n → MayChange (what.Reaped pid n) e.pid e.tid earlier
+    reaps : (pid n : ℕ) (child : Child) → others.family.child pid ≡ Some child → child.ended ≡ Some n → may_change (what.Reaped pid n) e.pid e.tid earlier ≡ true
     -- the exit value of the process is that of the thread, if it exits
-    exit_status : (v : ℕ) → shared.exit_value ≡ Some v → (u : ℕ) → has_own (exits_with u) e.pid e.tid earlier ≡ true → v % 256 ≡ u % 256
+    exit_status : (v : ℕ) → shared.exit_value ≡ Some v → has_own (exits_otherwise (v % 256)) e.pid e.tid earlier ≡ false
     -- a thread that exits runs plain functions alone
-    plain : s ≡ status.Running → (u : ℕ) → has_own (exits_with u) e.pid e.tid earlier ≡ true → is_plain_next next ≡ true
+    plain : s ≡ status.Running → has_own begins_exit e.pid e.tid earlier ≡ true → is_plain_next next ≡ true
 
   -- a status has eight bits
-  below_256 : (n : ℕ) → n % 256 < 256
-  below_256 n = mod_below n 256 (omega arith)
+  below_256 : (n : ℕ) → nat_lt (n % 256) 256 ≡ true
+  below_256 n = lt-ltb _ _ (mod_below n 256 (omega arith))
 
   -- the events of a transition, where exit begins at most once
   case_changes : {next : NextStatement} {s : Status} {o : Transition} → TransitionCase passes body shared t others true next s o → IsReady next s
       → ExitsOnce (map (event_of e) (reverse o.events) ++ earlier) → ChangesLaw earlier → ChangesLaw (map (event_of e) (reverse o.events) ++ earlier)
   unfolding encode syntax_of
-  case_changes (main_returned frame s v returns is none) ready once law = (once.0, law)
-  case_changes (process_exited frame v none) ready once law = (once.0, law)
-  case_changes (last_ended next no_handlers is_last no_keys left) ready once law = (once.0, (tt, law))
-  case_changes (last_ended_with_keys next n no_handlers is_last some limit due left) ready once law = (once.0, (tt, (tt, law)))
-  case_changes (process_forked next index count answer new is) ready once law = (ready.forks new is, law)
-  case_changes (join_ended frame operand d id v target is ended) ready once law = (ready.joins id target refl is, law)
-  case_changes (child_reaped frame result d operand pid n child is ended) ready once law = (ready.reaps pid n child is ended, law)
-  case_changes (process_ended_now frame v) ready once law = ((below_256 (value_of shared.globals frame v), λ u exits. absurd (false≢true (ready.plain refl u exits))), law)
-  case_changes (process_ended next v is none) ready once law = ((below_256 v, ready.exit_status v is), law)
-  case_changes (fork_handler_called next at call is) ready once law = of_each_phase (λ (w : What). ChangesLaw (event_of e w ∷ earlier)) call.func (tt, law) (tt, law) (tt, law) at.phase
+  case_changes (main_returned frame s v returns is none) ready once law = and_from _ _ (ap not once.0) law
+  case_changes (process_exited frame v none) ready once law = and_from _ _ (ap not once.0) law
+  case_changes (last_ended next no_handlers is_last no_keys left) ready once law = and_from _ _ (ap not once.0) law
+  case_changes (last_ended_with_keys next n no_handlers is_last some limit due left) ready once law = and_from _ _ (ap not once.0) law
+  case_changes (process_forked next index count answer new is) ready once law = and_from _ _ (ready.forks new is) law
+  case_changes (join_ended frame operand d id v target is ended) ready once law = and_from _ _ (ready.joins id v target refl is) law
+  case_changes (child_reaped frame result d operand pid n child is ended) ready once law = and_from _ _ (ready.reaps pid n child is ended) law
+  case_changes (process_ended_now frame v) ready once law =
+      let n : ℕ = value_of shared.globals frame v % 256 in
+      and_from _ _ (and_from _ _ (below_256 (value_of shared.globals frame v)) (ap not (false_from_ne_true (has_own (exits_otherwise n) e.pid e.tid earlier) (λ exits. false≢true (ready.plain refl (own_weaker (exits_otherwise n) begins_exit (otherwise_begins n) e.pid e.tid earlier exits)))))) law
+  case_changes (process_ended next v is none) ready once law = and_from _ _ (and_from _ _ (below_256 v) (ap not (ready.exit_status v is))) law
+  case_changes (fork_handler_called next at call is) ready once law = of_each_phase (λ (w : What). ChangesLaw (event_of e w ∷ earlier)) call.func law law law at.phase
   case_changes _ ready once law = assumption
 
 -- ---- the events of a step
@@ -112,11 +131,11 @@ module _ (script : Script) (config : Config) where
     is_ready : IsReady config.passes (body_at script t.frames) p.shared t (others_of config.slots r.world p t.id) e r.events (next_of script t.frames) t.status
     unfolding others_of
     is_ready = record {
-      forks = λ new next. next_unmade script config before r is e p t taken new (gives_next script config r.world p t e.alt taken.offered new next);
-      joins = λ id target s named. joins_known script config before r is e p t taken id target s named;
-      reaps = λ pid n child found ended. reaps_child script config before r is e p t taken pid n child found ended;
-      exit_status = λ v value u exits. status_of_exit script config before r is e p t taken v value u exits;
-      plain = λ runs u exits. exits_plain script config before r is e p t taken runs (own_weaker (exits_with u) begins_exit (begins_with u) e.pid e.tid r.events exits);
+      forks = λ new next. let made = next_unmade script config before r is e p t taken new (gives_next script config r.world p t e.alt taken.offered new next) in and_from _ _ (ap not made.0) (ap not made.1);
+      joins = λ id v target s named. let j = joins_known script config before r is e p t taken id target s named in and_from _ _ j.known (and_from _ _ (ap not (ne_eqb id e.tid j.other)) (ap not j.alive));
+      reaps = λ pid n child found ended. let c = reaps_child script config before r is e p t taken pid n child found ended in and_from _ _ c.0 (and_from _ _ c.1 (ap not c.2));
+      exit_status = λ v value. false_from_ne_true _ (λ exits. let u = otherwise_value (v % 256) e.pid e.tid r.events exits in false≢true (sym u.2 ∙ eq-eqb (v % 256) (u.0 % 256) (status_of_exit script config before r is e p t taken v value u.0 u.1)));
+      plain = λ runs exits. exits_plain script config before r is e p t taken runs exits;
     }
 
     -- each event of a step may change what it changes
@@ -128,25 +147,21 @@ module _ (script : Script) (config : Config) where
         is_ready (once_later script config before r is e p t taken (exits_once_of_run script config before r is)) law
 
     -- the law after the events of a step
-    law_later : (added : List What) → list_any is_closing (without_first added) ≡ false → ChangesLaw (map (event_of e) added ++ r.events) → ProcessLaw r.events → ProcessLaw (map (event_of e) added ++ r.events)
+    law_later : (added : List What) → list_any is_closing (without_first added) ≡ false → ChangesLaw (map (event_of e) added ++ r.events) → each allows r.events ≡ true → each allows (map (event_of e) added ++ r.events) ≡ true
     law_later [] none changes law = law
-    law_later (w ∷ added) none changes law = (
-      record {
-        running = none_later is_stop e added r.events (none_stops added none) (running_of_run script config before r is taken.running);
-        live = none_ends e r.events (live_of_run script config before r is e p t taken) added none;
-        known = known_by script config before r is e p t taken added;
-        change = changes.0;
-      },
-      law_later added (but_newest added none) changes.1 law,
-    )
+    law_later (w ∷ added) none changes law =
+        let parts = and_parts (may_change w e.pid e.tid (map (event_of e) added ++ r.events)) _ changes in
+        and_from _ _ (and_from _ _ (ap not (none_later is_stop e added r.events (none_stops added none) (running_of_run script config before r is taken.running)))
+        (and_from _ _ (ap not (none_ends e r.events (live_of_run script config before r is e p t taken) added none)) (and_from _ _ (known_by script config before r is e p t taken added) parts.0)))
+        (law_later added (but_newest added none) parts.1 law)
 
   -- ---- every run
 
   -- each event may change what it changes
   pub changes_of_run : AfterEveryRun script config (λ r. ChangesLaw r.events)
-  changes_of_run = every_run script config (λ r. ChangesLaw r.events) (λ before r is e p t taken law. changes_later before r is e p t taken law) (λ some. tt)
+  changes_of_run = every_run script config (λ r. ChangesLaw r.events) (λ before r is e p t taken law. changes_later before r is e p t taken law) (λ some. refl)
 
   -- the law of processes
-  pub processes_of_run : AfterEveryRun script config (λ r. ProcessLaw r.events)
-  processes_of_run = every_run script config (λ r. ProcessLaw r.events) (λ before r is e p t taken law.
-      law_later before r is e p t taken (reverse (transition_by script config r.world p t e.alt).events) (closes_last script config r.world p t e.alt) (changes_later before r is e p t taken (changes_of_run before r is)) law) (λ some. tt)
+  pub processes_of_run : AfterEveryRun script config (λ r. each allows r.events ≡ true)
+  processes_of_run = every_run script config (λ r. each allows r.events ≡ true) (λ before r is e p t taken law.
+      law_later before r is e p t taken (reverse (transition_by script config r.world p t e.alt).events) (closes_last script config r.world p t e.alt) (changes_later before r is e p t taken (changes_of_run before r is)) law) (λ some. refl)

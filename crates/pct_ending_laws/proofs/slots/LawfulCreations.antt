@@ -1,7 +1,7 @@
 -- The law of thread ids and slots holds of the events of every run.
-use Rattle.std.proofs.Common.{◌≡◌, ℕ, true, List, [], ◌∷◌, ◌++◌, map, reverse, nat_eq, Some, refl}
+use Rattle.std.proofs.Common.{◌≡◌, ℕ, true, List, [], ◌∷◌, ◌++◌, map, reverse, nat_eq, Some, Bool, false, not, ◌||◌, refl, sym, ap, ◌∙◌, eqb-true}
 use Rattle.std.specs.List.{list_all, list_any}
-use Rattle.std.proofs.lemmas.Bool.{false≢true, and_parts}
+use Rattle.std.proofs.lemmas.Bool.{false≢true, and_parts, and_from, false_from_ne_true}
 use Rattle.pct_model.specs.declared.event.Event.{Event}
 use Rattle.pct_model.specs.declared.event.What.{What}
 use Rattle.pct_model.specs.declared.event.What.TheVariants as what
@@ -12,7 +12,12 @@ use Rattle.pct_model.specs.declared.transition.NewThread.{NewThread}
 use Rattle.pct_model.specs.declared.transition.Transition.{Transition}
 use Rattle.pct_model.specs.CancelCalls.{requests, acts_on_request}
 use Rattle.pct_model.specs.Run.{Run, event_of, run}
-use Rattle.pct_model.specs.SlotLaw.{TakesFreeSlot, MayCreate, SlotLaw}
+use Rattle.pct_laws.specs.Each.{each}
+use Rattle.pct_laws.specs.KnownIds.{known_ids}
+use Rattle.pct_laws.specs.SlotLaw.{leaves_slot, may_create, allows}
+use Rattle.pct_model.specs.KnownThreads.{is_known, is_reclaimed}
+use Rattle.pct_model.specs.ThreadSlots.{slot_of}
+use Rattle.pct_ending_laws.proofs.slots.KnownIds.{is_among, all_from_members, among_known}
 use Rattle.pct_model.specs.ThreadCalls.{creates, begins_join, ends_join, detaches}
 use Rattle.pct_model.specs.ThreadSlots.{free_ids}
 use Rattle.pct_model.specs.TransitionTable.{transition_by}
@@ -27,17 +32,11 @@ use Rattle.pct_ending_laws.proofs.slots.ReclaimedThreads.{IsPresent, known_prese
 
 -- ---- events that create no thread
 
--- an event that names no thread may come at any time
-silent_may : (slots : ℕ) (w : What) → names_none w ≡ true → (pid : ℕ) (earlier : List Event) → MayCreate slots w pid earlier
-silent_may slots (what.Created id detached) none pid earlier = absurd (false≢true none)
-silent_may slots w none pid earlier = tt
-
--- and so may such events
-silent_lawful : (slots : ℕ) (e : Entry) (added : List What) → list_all names_none added ≡ true → (earlier : List Event) → SlotLaw slots earlier → SlotLaw slots (map (event_of e) added ++ earlier)
+-- events that name no thread may come at any time
+silent_lawful : (slots : ℕ) (e : Entry) (added : List What) → list_all names_none added ≡ true → (earlier : List Event) → each (allows slots) earlier ≡ true → each (allows slots) (map (event_of e) added ++ earlier) ≡ true
 silent_lawful slots e [] all earlier law = law
-silent_lawful slots e (w ∷ added) all earlier law =
-    let parts = and_parts (names_none w) (list_all names_none added) all in
-    (silent_may slots w parts.0 e.pid (map (event_of e) added ++ earlier), silent_lawful slots e added parts.1 earlier law)
+silent_lawful slots e (what.Created id detached ∷ added) all earlier law = absurd (false≢true all)
+silent_lawful slots e (w ∷ added) all earlier law = silent_lawful slots e added (and_parts (names_none w) (list_all names_none added) all).1 earlier law
 
 -- ---- a step
 
@@ -47,31 +46,33 @@ module _ (script : Script) (config : Config) (before : List Entry) (r : Run) (is
   process_is = process_taken script config before r is e p t taken
 
   -- a thread that is created with the next id of a free slot
-  takes_free_slot : (new : NewThread) → IsOnFreeSlot config.slots p.threads new.id → TakesFreeSlot config.slots e.pid new.id r.events
-  takes_free_slot new free = record {
-    fresh = is_fresh_id script config before r is e.pid p process_is new free;
-    free = λ tid known same.
-        let it : IsPresent (thread_with tid p) = known_present script config before r is e.pid p process_is tid known in
-        let over = is_reclaimed_thread config.slots p.threads new.id free tid it.thread it.is same it.here in
-        reclaimed_of_run script config before r is e.pid p process_is tid it.thread it.is it.here over.0 over.1;
-  }
+  takes_free_slot : (new : NewThread) → IsOnFreeSlot config.slots p.threads new.id → may_create config.slots (what.Created new.id new.detached) e.pid r.events ≡ true
+  takes_free_slot new free =
+      and_from _ _ (ap not (is_fresh_id script config before r is e.pid p process_is new free)) (all_from_members (leaves_slot config.slots e.pid new.id r.events) (known_ids e.pid r.events) (λ tid among. on_slot tid (sym (among_known tid e.pid r.events) ∙ among) (nat_eq (slot_of config.slots tid) (slot_of config.slots new.id)) refl))
+    where
+      on_slot : (tid : ℕ) → is_known e.pid tid r.events ≡ true → (same : Bool) → nat_eq (slot_of config.slots tid) (slot_of config.slots new.id) ≡ same → (not same || is_reclaimed e.pid tid r.events) ≡ true
+      on_slot tid known false differs = refl
+      on_slot tid known true same =
+          let it : IsPresent (thread_with tid p) = known_present script config before r is e.pid p process_is tid known in
+          let over = is_reclaimed_thread config.slots p.threads new.id free tid it.thread it.is (eqb-true _ _ same) it.here in
+          reclaimed_of_run script config before r is e.pid p process_is tid it.thread it.is it.here over.0 over.1
 
   -- the events of the step, of a transition that creates a thread only with an id that is free
-  lawful_by : (o : Transition) → Kind t.id p.threads t.status o → ((new : NewThread) → o.created ≡ Some new → list_any (nat_eq new.id) (free_ids config.slots p.threads) ≡ true) → SlotLaw config.slots r.events
-      → SlotLaw config.slots (map (event_of e) (reverse o.events) ++ r.events)
+  lawful_by : (o : Transition) → Kind t.id p.threads t.status o → ((new : NewThread) → o.created ≡ Some new → list_any (nat_eq new.id) (free_ids config.slots p.threads) ≡ true) → each (allows config.slots) r.events ≡ true
+      → each (allows config.slots) (map (event_of e) (reverse o.events) ++ r.events) ≡ true
   unfolding creates begins_join ends_join detaches requests acts_on_request
   lawful_by o (quiet silent nothing) offered law = silent_lawful config.slots e (reverse o.events) silent.events r.events law
   lawful_by o (creates_one next result id new f v detached s) offered law =
       let created : NewThread = record { id = new; detached = detached; func = f; arg = v } in
-      (takes_free_slot created (is_on_free_slot config.slots p.threads new (offered created refl)), law)
-  lawful_by o _ offered law = (tt, law)
+      and_from _ _ (takes_free_slot created (is_on_free_slot config.slots p.threads new (offered created refl))) law
+  lawful_by o _ offered law = law
 
   -- the law is kept
-  slots_kept : SlotLaw config.slots r.events → SlotLaw config.slots (with_step e (transition_by script config r.world p t e.alt) r).events
+  slots_kept : each (allows config.slots) r.events ≡ true → each (allows config.slots) (with_step e (transition_by script config r.world p t e.alt) r).events ≡ true
   slots_kept = lawful_by (transition_by script config r.world p t e.alt) (kind_of script config r.world p t e.alt) (creates_with_next_id script config r.world p t e.alt taken.offered)
 
 -- ---- every run
 
 -- the law of thread ids and slots
-pub slots_of_run : (script : Script) (config : Config) → AfterEveryRun script config (λ r. SlotLaw config.slots r.events)
-slots_of_run script config = every_run script config (λ r. SlotLaw config.slots r.events) (slots_kept script config) (λ some. tt)
+pub slots_of_run : (script : Script) (config : Config) → AfterEveryRun script config (λ r. each (allows config.slots) r.events ≡ true)
+slots_of_run script config = every_run script config (λ r. each (allows config.slots) r.events ≡ true) (slots_kept script config) (λ some. refl)

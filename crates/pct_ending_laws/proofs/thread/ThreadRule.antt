@@ -23,7 +23,8 @@ use Rattle.pct_model.specs.NextStatement.{next_of}
 use Rattle.pct_model.specs.StopTable.{has_begun_to_end}
 use Rattle.pct_model.specs.ThreadSummary.{ThreadSummary, no_events, with_event, summary_of}
 use Rattle.pct_model.specs.World.{Thread, body_of}
-use Rattle.pct_model.specs.Once.{MayCome}
+use Rattle.pct_laws.specs.Once.{may_come}
+use Rattle.pct_ending_laws.proofs.lift.EachAllowed.{all_may}
 use Rattle.pct_ending_laws.proofs.lift.ReportedBy.{after_all, reported_by, ThreadReading, of_thread, is_thread_reading}
 use Rattle.pct_ending_laws.proofs.thread.Passes.{PassesFit}
 
@@ -38,8 +39,7 @@ summary_reading tid = is_thread_reading summary tid (λ pid events. summary_of p
 
 -- each of some events of a thread, newest first, may come after those before it, with a limit on the passes over destructors
 abbrev pub AllMayCome : ℕ → List What → ThreadSummary → Type 0
-AllMayCome passes [] s = Unit {0}
-AllMayCome passes (w ∷ added) s = MayCome passes w (after_all summary added s) × AllMayCome passes added s
+AllMayCome passes added s = all_may summary (may_come passes) added s ≡ true
 
 -- these events are that a function registered with atexit is called
 abbrev pub calls_exit_function : List What → Bool
