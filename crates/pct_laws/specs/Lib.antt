@@ -1,7 +1,14 @@
 pub mod Each
 pub mod KnownIds
+pub mod NewestEvents
 pub mod Once
-pub mod SlotLaw
+pub mod RanAll
+pub mod AfterEnd
+pub mod KeysLaw
+pub mod LeftoverLaw
+pub mod RequestsLaw
+pub mod JoinLaw
 pub mod CondLaw
+pub mod SlotLaw
 pub mod ProcessLaw
 pub mod Laws

@@ -1,0 +1,32 @@
+-- The law of what follows the end of a thread: the next event of a thread after its end, if it has one, is that it exits its process with 0,
+-- and then each thread of the process has ended (XSH pthread_exit); and a thread that exits its process does no more than its exit functions
+-- do, which are plain by a choice of this host (XSH exit). So a thread that has ended, or exits its process, neither pushes nor pops nor runs
+-- cleanup handlers, calls no destructor, and neither begins to end nor ends again (XSH pthread_exit, _exit). It speaks of the events of a run
+-- alone.
+use Rattle.std.specs.Prelude.{ℕ, Bool, true, false, ◌&&◌, if◌then◌else◌, List, is_some, nat_eq}
+use Rattle.std.specs.List.{list_all}
+use Rattle.pct_model.specs.declared.event.Event.{Event}
+use Rattle.pct_model.specs.declared.event.What.{What}
+use Rattle.pct_model.specs.declared.event.What.TheVariants as what
+use Rattle.pct_model.specs.AfterEnd.{begins_exit_with_0, is_of_exit}
+use Rattle.pct_model.specs.KnownThreads.{has_own, reports_end}
+use Rattle.pct_model.specs.ThreadSummary.{ThreadSummary, summary_of}
+use Rattle.pct_laws.specs.KnownIds.{known_ids}
+
+-- each known thread of process pid has ended
+abbrev pub all_have_ended : ℕ → List Event → Bool
+all_have_ended pid events = list_all (λ tid. has_own reports_end pid tid events) (known_ids pid events)
+
+-- what the law asks of an event of a thread of process pid, by the summary of the thread before it
+abbrev pub may_follow : What → ThreadSummary → ℕ → List Event → Bool
+may_follow w s pid earlier =
+    -- while the thread exits its process, it is one of the exit
+    if s.exiting then is_of_exit w
+    -- after its end it is that the thread begins to exit its process with 0, as each thread of the process has ended
+    else if is_some s.ended then begins_exit_with_0 w && all_have_ended pid earlier
+    -- the law asks nothing before
+    else true
+
+-- an event may come after those before it
+abbrev pub allows : Event → List Event → Bool
+allows e earlier = may_follow e.what (summary_of e.pid e.tid earlier) e.pid earlier
