@@ -6,10 +6,12 @@ use Rattle.pct_model.specs.declared.script.Script.{Script}
 use Rattle.pct_model.specs.declared.schedule.Config.{Config}
 use Rattle.pct_model.specs.declared.schedule.Entry.{Entry}
 use Rattle.pct_model.specs.declared.state.Status.TheVariants as status
-use Rattle.pct_model.specs.Calls.{EachIsCalled, SaysCalls, KeepsExitFunctions, KeepsKeys}
-use Rattle.pct_model.specs.CancelLaw.{EachMayAct, ActsAtCalls}
-use Rattle.pct_model.specs.Ends.{EachMayBegin, KeepsValues}
-use Rattle.pct_model.specs.Kept.{IsPlainFunction, IsSuspendedInJoin}
+use Rattle.pct_model.specs.declared.event.What.TheVariants.{Called}
+use Rattle.pct_model.specs.ThreadCalls.{join_point}
+use Rattle.pct_laws.specs.Calls.{EachIsCalled, SaysCalls, KeepsExitFunctions, KeepsKeys}
+use Rattle.pct_laws.specs.CancelLaw.{EachMayAct, ActsAtCalls}
+use Rattle.pct_laws.specs.Ends.{EachMayBegin, KeepsValues}
+use Rattle.pct_laws.specs.Kept.{IsPlainFunction, IsSuspendedInJoin}
 use Rattle.pct_model.specs.Run.{Run, run}
 use Rattle.pct_model.specs.World.{Thread, made_process, made_thread, thread_with}
 use Rattle.pct_laws.specs.CondLaw.{owners_allow, waits_allow, hand_ons_allow}
@@ -23,7 +25,7 @@ use Rattle.pct_ending_laws.proofs.ends.HandlersRun.{ran_all}
 use Rattle.pct_ending_laws.proofs.ends.LeftoverValues.{leftovers_of_run}
 use Rattle.pct_ending_laws.proofs.lift.MadeNumbers.{numbers_of_run}
 use Rattle.pct_ending_laws.proofs.joins.JoinTransitions.{is_in_join}
-use Rattle.pct_ending_laws.proofs.joins.NewestEvents.{newest_of_run}
+use Rattle.pct_ending_laws.proofs.requests.SuspendedCalls.{call_event, newest_call_of_run}
 use Rattle.pct_ending_laws.proofs.joins.JoiningThreads.{JoinsOne, joins_of_processes}
 use Rattle.pct_ending_laws.proofs.joins.ReportedFlags.{known_of_run, joined_of_run, detached_of_run}
 use Rattle.pct_ending_laws.proofs.joins.LawfulJoins.{joins_of_run}
@@ -56,7 +58,7 @@ kept_joins_of_run script config entries r is pid tid t made here id joins =
     let one : JoinsOne p.threads tid id = (joins_of_processes script config entries r is pid p process_is).joins tid t thread_is here id joins in
     let in_process : (n : ℕ) → made_thread pid n r.world ≡ thread_with n p = λ n. ap (option_and_then (thread_with n)) process_is in
     record {
-      newest = newest_of_run script config entries r is pid tid t made here (ap is_in_join joins);
+      newest = newest_call_of_run script config entries r is pid tid t made here (Called join_point) (ap call_event joins);
       target = one.target;
       made = in_process id ∙ one.made;
       here = one.here;
@@ -82,7 +84,8 @@ every_run_keeps_laws script config entries r is = record {
   ends = record {
     stages = each_step script config (EachMayBegin config.passes) (each_may_begin_of_run script config) entries;
     values = each_step script config (KeepsValues script) (keeps_values_of_run script config) entries;
-    left = leftovers_of_run script config entries r is;
+    left = (leftovers_of_run script config entries r is).0;
+    ended = (leftovers_of_run script config entries r is).1;
   };
   cancels = record {
     requests = requests_of_run script config entries r is;

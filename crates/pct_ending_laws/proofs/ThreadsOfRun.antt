@@ -17,7 +17,8 @@ use Rattle.pct_model.specs.declared.transition.Action.TheVariants as action
 use Rattle.pct_model.specs.Actions.{named_after}
 use Rattle.pct_model.specs.ChoiceTable.{choices_of, offers}
 use Rattle.pct_model.specs.CondCalls.{is_waiting_on, unblocked}
-use Rattle.pct_model.specs.Kept.{is_exiting, is_forking, has_left_wait, ThreadKept, KeysKept}
+use Rattle.pct_model.specs.Kept.{is_forking, has_left_wait}
+use Rattle.pct_laws.specs.Kept.{is_exiting, ThreadKept, KeysKept}
 use Rattle.pct_model.specs.Keys.{key_place}
 use Rattle.pct_model.specs.Names.{main_of, names_of}
 use Rattle.pct_laws.specs.Each.{each}
@@ -25,7 +26,7 @@ use Rattle.pct_laws.specs.Once.{may_come, allows}
 use Rattle.pct_ending_laws.proofs.lift.EachAllowed.{each_later}
 use Rattle.pct_model.specs.Run.{Run, run}
 use Rattle.pct_model.specs.ThreadSlots.{is_ended_status, is_live_thread}
-use Rattle.pct_model.specs.ThreadSummary.{ThreadSummary, no_events, summary_of}
+use Rattle.pct_laws.specs.ThreadSummary.{ThreadSummary, no_events, summary_of}
 use Rattle.pct_model.specs.TransitionTable.{transition_by}
 use Rattle.pct_model.specs.World.{Thread, Process, World, made_process, thread_with}
 use Rattle.pct_ending_laws.proofs.StaticPushes.{push_matches}

@@ -8,10 +8,29 @@ use Rattle.std.specs.List.{list_all}
 use Rattle.pct_model.specs.declared.event.Event.{Event}
 use Rattle.pct_model.specs.declared.event.What.{What}
 use Rattle.pct_model.specs.declared.event.What.TheVariants as what
-use Rattle.pct_model.specs.AfterEnd.{begins_exit_with_0, is_of_exit}
-use Rattle.pct_model.specs.KnownThreads.{has_own, reports_end}
-use Rattle.pct_model.specs.ThreadSummary.{ThreadSummary, summary_of}
+use Rattle.pct_laws.specs.KnownThreads.{has_own, reports_end}
+use Rattle.pct_laws.specs.ThreadSummary.{ThreadSummary, summary_of}
 use Rattle.pct_laws.specs.KnownIds.{known_ids}
+
+-- the event is that exit begins
+abbrev pub begins_exit : What → Bool
+begins_exit (what.ExitBegun v) = true
+begins_exit _ = false
+
+-- the event is that exit begins with 0
+abbrev pub begins_exit_with_0 : What → Bool
+begins_exit_with_0 (what.ExitBegun v) = nat_eq v 0
+begins_exit_with_0 _ = false
+
+-- the event is one of a thread that exits its process: its exit functions are called, and may emit and use mutexes; and the process ends
+abbrev pub is_of_exit : What → Bool
+is_of_exit (what.Emit v) = true
+is_of_exit (what.ExitRun f) = true
+is_of_exit (what.Acquired m) = true
+is_of_exit (what.Released m) = true
+is_of_exit (what.ProcessEnded n) = true
+is_of_exit (what.Stopped why) = true
+is_of_exit _ = false
 
 -- each known thread of process pid has ended
 abbrev pub all_have_ended : ℕ → List Event → Bool

@@ -7,9 +7,9 @@ use Rattle.std.specs.Prelude.{ℕ, Bool, true, false, ◌&&◌, List, [], ◌∷
 use Rattle.pct_model.specs.declared.event.Event.{Event}
 use Rattle.pct_model.specs.declared.event.What.{What}
 use Rattle.pct_model.specs.declared.event.What.TheVariants as what
-use Rattle.pct_model.specs.KnownThreads.{is_own}
-use Rattle.pct_model.specs.MutexOwners.{owner_of}
-use Rattle.pct_model.specs.WaitStages.{wait_stage, may_follow}
+use Rattle.pct_laws.specs.KnownThreads.{is_own}
+use Rattle.pct_laws.specs.MutexOwners.{owner_of}
+use Rattle.pct_laws.specs.WaitStages.{wait_stage, may_follow}
 
 -- ---- owners
 

@@ -6,7 +6,7 @@ use Rattle.std.specs.Prelude.{ℕ, Bool, true, not, ◌&&◌, List}
 use Rattle.pct_model.specs.declared.event.Event.{Event}
 use Rattle.pct_model.specs.declared.event.What.{What}
 use Rattle.pct_model.specs.declared.event.What.TheVariants as what
-use Rattle.pct_model.specs.KnownThreads.{is_known, is_detached, is_joined, ends_with, has_own, is_reclaimed}
+use Rattle.pct_laws.specs.KnownThreads.{is_known, is_detached, is_joined, ends_with, has_own, is_reclaimed}
 use Rattle.pct_model.specs.ThreadCalls.{join_point}
 use Rattle.pct_laws.specs.NewestEvents.{newest_is, calls_point}
 

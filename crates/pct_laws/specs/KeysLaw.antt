@@ -4,7 +4,7 @@ use Rattle.std.specs.Prelude.{ℕ, Bool, true, not, ◌&&◌, List, nat_eq}
 use Rattle.pct_model.specs.declared.event.Event.{Event}
 use Rattle.pct_model.specs.declared.event.What.{What}
 use Rattle.pct_model.specs.declared.event.What.TheVariants as what
-use Rattle.pct_model.specs.KeyEvents.{has_key}
+use Rattle.pct_laws.specs.KeyEvents.{has_key}
 
 -- what the law asks of an event of process pid, by those before it
 abbrev pub may_destroy : What → ℕ → List Event → Bool

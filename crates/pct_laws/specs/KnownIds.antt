@@ -4,7 +4,7 @@ use Rattle.std.specs.Prelude.{ℕ, if◌then◌else◌, List, [], ◌∷◌, ◌
 use Rattle.pct_model.specs.declared.event.Event.{Event}
 use Rattle.pct_model.specs.declared.event.What.{What}
 use Rattle.pct_model.specs.declared.event.What.TheVariants as what
-use Rattle.pct_model.specs.KnownThreads.{is_in, makes_process}
+use Rattle.pct_laws.specs.KnownThreads.{is_in, makes_process}
 
 -- the id of the thread that an event of its process creates, if it creates one
 abbrev pub created_ids : What → List ℕ

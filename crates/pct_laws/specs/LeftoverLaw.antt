@@ -4,7 +4,7 @@ use Rattle.std.specs.Prelude.{Bool, true, false, not, ◌&&◌, ◌||◌, List, 
 use Rattle.pct_model.specs.declared.event.Event.{Event}
 use Rattle.pct_model.specs.declared.event.What.{What}
 use Rattle.pct_model.specs.declared.event.What.TheVariants as what
-use Rattle.pct_model.specs.KnownThreads.{is_own, reports_end}
+use Rattle.pct_laws.specs.KnownThreads.{is_own, reports_end}
 
 -- the event is that values are left
 abbrev pub is_leftover : What → Bool

@@ -4,7 +4,7 @@ use Rattle.std.specs.Option.{option_map_or}
 use Rattle.pct_model.specs.declared.event.Event.{Event}
 use Rattle.pct_model.specs.declared.event.What.{What}
 use Rattle.pct_model.specs.declared.event.What.TheVariants as what
-use Rattle.pct_model.specs.KnownThreads.{newest_event}
+use Rattle.pct_laws.specs.KnownThreads.{newest_event}
 
 -- thread tid of process pid has an event, and the newest passes a test
 abbrev pub newest_is : (What → Bool) → ℕ → ℕ → List Event → Bool

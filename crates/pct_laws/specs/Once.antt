@@ -9,10 +9,13 @@ use Rattle.pct_model.specs.declared.event.Event.{Event}
 use Rattle.pct_model.specs.declared.event.What.{What}
 use Rattle.pct_model.specs.declared.event.What.TheVariants as what
 use Rattle.pct_model.specs.LineParsing.{is_empty}
-use Rattle.pct_model.specs.Once.{is_pair}
 use Rattle.pct_model.specs.StopTable.{has_begun_to_end}
 use Rattle.pct_model.specs.ThreadEnds.{end_value}
-use Rattle.pct_model.specs.ThreadSummary.{ThreadSummary, summary_of}
+use Rattle.pct_laws.specs.ThreadSummary.{ThreadSummary, summary_of}
+
+-- the pair of a pass and a key, or of a function and its argument
+abbrev pub is_pair : ℕ → ℕ → (ℕ × ℕ) → Bool
+is_pair pass key pair = nat_eq pair.0 pass && nat_eq pair.1 key
 
 -- the newest of some handlers is this one, with its argument
 abbrev pub is_newest : ℕ → ℕ → List (ℕ × ℕ) → Bool

@@ -3,14 +3,41 @@
 -- this host stops the run), and the thread that exits it ends it with the low eight bits of its value, if no other thread does (XSH exit,
 -- _exit); waitpid gives the status of a child to its parent, after the end of the child and once (XSH wait); and a thread joins another
 -- known one, before its own end (XSH pthread_join). It speaks of the events of a run alone.
-use Rattle.std.specs.Prelude.{ℕ, ◌%◌, Bool, true, false, not, ◌&&◌, List, nat_eq, nat_lt}
+use Rattle.std.specs.Prelude.{ℕ, ◌%◌, Bool, true, false, not, ◌&&◌, ◌||◌, List, nat_eq, nat_lt}
 use Rattle.std.specs.List.{list_any}
 use Rattle.pct_model.specs.declared.event.Event.{Event}
 use Rattle.pct_model.specs.declared.event.What.{What}
 use Rattle.pct_model.specs.declared.event.What.TheVariants as what
-use Rattle.pct_model.specs.AfterEnd.{begins_exit}
-use Rattle.pct_model.specs.KnownThreads.{is_in, makes_process, is_known, has_own, reports_end}
-use Rattle.pct_model.specs.ProcessLaw.{ends_process, is_stop, has_in, ends_process_with, reaps_process, was_made}
+use Rattle.pct_laws.specs.AfterEnd.{begins_exit}
+use Rattle.pct_laws.specs.KnownThreads.{is_in, makes_process, is_known, has_own, reports_end}
+
+-- the event is the end of a process
+abbrev pub ends_process : What → Bool
+ends_process (what.ProcessEnded n) = true
+ends_process _ = false
+
+-- the event is a stop
+abbrev pub is_stop : What → Bool
+is_stop (what.Stopped why) = true
+is_stop _ = false
+
+-- process pid has an event that passes a test
+abbrev pub has_in : (What → Bool) → ℕ → List Event → Bool
+has_in test pid events = list_any (λ e. is_in pid e && test e.what) events
+
+-- the event is the end of a process with a status
+abbrev pub ends_process_with : ℕ → What → Bool
+ends_process_with n (what.ProcessEnded m) = nat_eq m n
+ends_process_with n _ = false
+
+-- the event is that process pid is reaped
+abbrev pub reaps_process : ℕ → What → Bool
+reaps_process pid (what.Reaped q n) = nat_eq q pid
+reaps_process pid _ = false
+
+-- process pid was made: it is the first one, or a fork made it
+abbrev pub was_made : ℕ → List Event → Bool
+was_made pid events = nat_eq 1 pid || list_any (λ e. makes_process pid e.what) events
 
 -- the event is that exit begins, with a value of which the low eight bits are not n
 abbrev pub exits_otherwise : ℕ → What → Bool

@@ -5,9 +5,9 @@ use Rattle.std.specs.Prelude.{if◌then◌else◌, ℕ, Bool, true, false, ◌&&
 use Rattle.pct_model.specs.declared.event.Event.{Event}
 use Rattle.pct_model.specs.declared.event.What.{What}
 use Rattle.pct_model.specs.declared.event.What.TheVariants as what
-use Rattle.pct_model.specs.KnownThreads.{is_own, has_own}
-use Rattle.pct_model.specs.Once.{is_pair}
-use Rattle.pct_model.specs.ThreadSummary.{summary_of}
+use Rattle.pct_laws.specs.KnownThreads.{is_own, has_own}
+use Rattle.pct_laws.specs.Once.{is_pair}
+use Rattle.pct_laws.specs.ThreadSummary.{summary_of}
 
 -- the event is an ending event: a thread begins to end
 abbrev pub begins_to_end : What → Bool

@@ -9,12 +9,12 @@ use Rattle.pct_model.specs.declared.event.Event.{Event}
 use Rattle.pct_model.specs.declared.event.What.{What}
 use Rattle.pct_model.specs.declared.event.What.TheVariants as what
 use Rattle.pct_model.specs.CancelCalls.{is_required, point_kind, testcancel_point}
-use Rattle.pct_model.specs.CancelEvents.{has_not_begun, has_to_act}
+use Rattle.pct_laws.specs.CancelEvents.{has_not_begun, has_to_act}
 use Rattle.pct_model.specs.CondCalls.{cond_wait_point}
 use Rattle.pct_model.specs.ForkCalls.{waitpid_point}
 use Rattle.pct_model.specs.SemCalls.{sem_wait_point}
 use Rattle.pct_model.specs.ThreadCalls.{join_point}
-use Rattle.pct_model.specs.WaitStages.{WaitStage, InWait, ToReturn, ToEnd, wait_stage}
+use Rattle.pct_laws.specs.WaitStages.{WaitStage, InWait, ToReturn, ToEnd, wait_stage}
 use Rattle.pct_laws.specs.NewestEvents.{newest_is, calls_point}
 
 -- ---- stages of condition waits

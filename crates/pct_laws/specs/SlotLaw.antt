@@ -6,7 +6,7 @@ use Rattle.std.specs.List.{list_all}
 use Rattle.pct_model.specs.declared.event.Event.{Event}
 use Rattle.pct_model.specs.declared.event.What.{What}
 use Rattle.pct_model.specs.declared.event.What.TheVariants as what
-use Rattle.pct_model.specs.KnownThreads.{is_known, is_reclaimed}
+use Rattle.pct_laws.specs.KnownThreads.{is_known, is_reclaimed}
 use Rattle.pct_model.specs.ThreadSlots.{slot_of}
 use Rattle.pct_laws.specs.KnownIds.{known_ids}
 

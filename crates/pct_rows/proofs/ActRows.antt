@@ -25,13 +25,14 @@ use Rattle.pct_model.specs.declared.statement.Operand.TheVariants as operand
 use Rattle.pct_model.specs.declared.statement.Stmt.{Stmt}
 use Rattle.pct_model.specs.declared.statement.Stmt.TheVariants as statement
 use Rattle.pct_model.specs.declared.stop.Why.TheVariants as why
-use Rattle.pct_model.specs.CancelEvents.{has_to_act}
-use Rattle.pct_model.specs.CancelLaw.{calls_cancellation_point, is_at_cancellation_point, ActsAt, EachMayAct, ActsAtCalls, is_suspended, is_to_act, Awakened}
+use Rattle.pct_laws.specs.CancelEvents.{has_to_act}
+use Rattle.pct_model.specs.CancelLaw.{calls_cancellation_point, is_at_cancellation_point}
+use Rattle.pct_laws.specs.CancelLaw.{ActsAt, EachMayAct, ActsAtCalls, is_suspended, is_to_act, Awakened}
 use Rattle.pct_model.specs.ChoiceTable.{choices_of}
 use Rattle.pct_model.specs.NextStatement.{NoStatement, StatementIn}
 use Rattle.pct_model.specs.RunOptions.{default_config}
 use Rattle.pct_model.specs.Static.{is_static}
-use Rattle.pct_model.specs.ThreadSteps.{ThreadStep}
+use Rattle.pct_laws.specs.ThreadSteps.{ThreadStep}
 use Rattle.pct_model.specs.World.{Thread, Process, World, thread_with, new_frame, new_thread, first_process}
 use Rattle.pct_rows.proofs.OnLiterals.{checks_on_literals, runs_on_literals}
 

@@ -24,11 +24,11 @@ use Rattle.pct_model.specs.declared.statement.Operand.TheVariants as operand
 use Rattle.pct_model.specs.declared.statement.Stmt.{Stmt}
 use Rattle.pct_model.specs.declared.statement.Stmt.TheVariants as statement
 use Rattle.pct_model.specs.Actions.{without_first}
-use Rattle.pct_model.specs.Calls.{IsCall, RunsAbove, by_exit, by_call, IsCalled, EachIsCalled, SaysCalls, KeepsExitFunctions, KeepsKeys, KeysLaw}
+use Rattle.pct_laws.specs.Calls.{IsCall, RunsAbove, by_exit, by_call, IsCalled, EachIsCalled, SaysCalls, KeepsExitFunctions, KeepsKeys, KeysLaw}
 use Rattle.pct_model.specs.Keys.{Key, KeyPlace}
 use Rattle.pct_model.specs.NextStatement.{NextStatement, StatementIn}
 use Rattle.pct_model.specs.Static.{is_static}
-use Rattle.pct_model.specs.ThreadSteps.{ThreadStep}
+use Rattle.pct_laws.specs.ThreadSteps.{ThreadStep}
 use Rattle.pct_model.specs.World.{Thread, Process, value_of, new_frame, new_thread, new_shared, first_process}
 use Rattle.pct_rows.proofs.OnLiterals.{checks_on_literals, runs_on_literals}
 

@@ -8,7 +8,7 @@ use Rattle.pct_model.specs.declared.event.What.TheVariants as what
 use Rattle.pct_model.specs.CondCalls.{cond_wait_point}
 use Rattle.pct_laws.specs.Each.{each}
 use Rattle.pct_laws.specs.CondLaw.{allows}
-use Rattle.pct_model.specs.WaitStages.{NoWait, AtCall, InWait, ToReturn, Leaving, LeavingSignal, ToEnd, wait_stage}
+use Rattle.pct_laws.specs.WaitStages.{NoWait, AtCall, InWait, ToReturn, Leaving, LeavingSignal, ToEnd, wait_stage}
 
 -- the events keep the law
 abbrev keeps : List Event → Bool

@@ -8,11 +8,11 @@ use Rattle.pct_model.specs.declared.event.Event.{Event}
 use Rattle.pct_model.specs.declared.event.What.{What}
 use Rattle.pct_model.specs.declared.event.What.TheVariants as what
 use Rattle.pct_model.specs.declared.stop.Why.TheVariants as why
-use Rattle.pct_model.specs.AfterEnd.{is_of_life, is_of_exit, ExitsAtItsEnd, MayFollowEnd, AfterEnd}
-use Rattle.pct_model.specs.Ends.{LeftoverEnds}
-use Rattle.pct_model.specs.KnownThreads.{is_own, is_known, has_own, reports_end}
-use Rattle.pct_model.specs.RanAll.{HasRunAll, RanAll}
-use Rattle.pct_model.specs.ThreadSummary.{summary_of}
+use Rattle.pct_laws.specs.AfterEnd.{is_of_life, is_of_exit, ExitsAtItsEnd, MayFollowEnd, AfterEnd}
+use Rattle.pct_laws.specs.Ends.{LeftoverEnds}
+use Rattle.pct_laws.specs.KnownThreads.{is_own, is_known, has_own, reports_end}
+use Rattle.pct_laws.specs.RanAll.{HasRunAll, RanAll}
+use Rattle.pct_laws.specs.ThreadSummary.{summary_of}
 
 -- an event of thread 1 of process 1, of its thread 2, and of the replica of thread 1 in process 2
 abbrev event : What → Event

@@ -5,7 +5,7 @@ use Rattle.std.proofs.lemmas.Bool.{false≢true}
 use Rattle.pct_model.specs.declared.event.Event.{Event}
 use Rattle.pct_model.specs.declared.event.What.{What}
 use Rattle.pct_model.specs.declared.event.What.TheVariants as what
-use Rattle.pct_model.specs.JoinLaw.{JoinLaw}
+use Rattle.pct_laws.specs.JoinLaw.{JoinLaw}
 use Rattle.pct_model.specs.ThreadCalls.{join_point}
 
 -- an event of a thread of process 1

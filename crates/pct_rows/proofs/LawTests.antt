@@ -7,17 +7,17 @@ use Rattle.pct_model.specs.declared.event.Caller.TheVariants as caller
 use Rattle.pct_model.specs.declared.event.Event.{Event}
 use Rattle.pct_model.specs.declared.event.What.{What}
 use Rattle.pct_model.specs.declared.event.What.TheVariants as what
-use Rattle.pct_model.specs.AfterEnd.{is_of_life, is_of_exit, MayFollowEnd, AfterEnd}
-use Rattle.pct_model.specs.Calls.{MayDestroy, KeysLaw}
-use Rattle.pct_model.specs.CancelEvents.{is_requested, is_enabled_by, has_not_begun, has_to_act}
-use Rattle.pct_model.specs.CancelLaw.{MayCancel, RequestsLaw}
-use Rattle.pct_model.specs.Ends.{is_leftover, LeftoverEnds}
+use Rattle.pct_laws.specs.AfterEnd.{is_of_life, is_of_exit, MayFollowEnd, AfterEnd}
+use Rattle.pct_laws.specs.Calls.{MayDestroy, KeysLaw}
+use Rattle.pct_laws.specs.CancelEvents.{is_requested, is_enabled_by, has_not_begun, has_to_act}
+use Rattle.pct_laws.specs.CancelLaw.{MayCancel, RequestsLaw}
+use Rattle.pct_laws.specs.Ends.{is_leftover, LeftoverEnds}
 use Rattle.pct_model.specs.ForkCalls.{waitpid_point}
-use Rattle.pct_model.specs.JoinLaw.{MayName, JoinLaw}
-use Rattle.pct_model.specs.KeyEvents.{has_key}
-use Rattle.pct_model.specs.KnownThreads.{is_known, has_own, is_reclaimed, newest_event}
-use Rattle.pct_model.specs.RanAll.{begins_to_end, open_at_ending, handlers_run, RanAll}
-use Rattle.pct_model.specs.ThreadSummary.{ThreadSummary, summary_of}
+use Rattle.pct_laws.specs.JoinLaw.{MayName, JoinLaw}
+use Rattle.pct_laws.specs.KeyEvents.{has_key}
+use Rattle.pct_laws.specs.KnownThreads.{is_known, has_own, is_reclaimed, newest_event}
+use Rattle.pct_laws.specs.RanAll.{begins_to_end, open_at_ending, handlers_run, RanAll}
+use Rattle.pct_laws.specs.ThreadSummary.{ThreadSummary, summary_of}
 use Rattle.pct_rows.proofs.EndRows.{EndRanAll, EachEndRanAll, ran_all, goes, exits}
 
 -- ---- parts of tests

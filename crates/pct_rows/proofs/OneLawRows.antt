@@ -10,21 +10,21 @@ use Rattle.pct_model.specs.declared.event.Event.{Event}
 use Rattle.pct_model.specs.declared.event.What.{What}
 use Rattle.pct_model.specs.declared.event.What.TheVariants as what
 use Rattle.pct_model.specs.declared.stop.Why.TheVariants as why
-use Rattle.pct_model.specs.AfterEnd.{AfterEnd}
-use Rattle.pct_model.specs.Calls.{KeysLaw}
+use Rattle.pct_laws.specs.AfterEnd.{AfterEnd}
+use Rattle.pct_laws.specs.Calls.{KeysLaw}
 use Rattle.pct_model.specs.CancelCalls.{point_kind, testcancel_point}
-use Rattle.pct_model.specs.CancelLaw.{RequestsLaw}
+use Rattle.pct_laws.specs.CancelLaw.{RequestsLaw}
 use Rattle.pct_model.specs.CondCalls.{cond_wait_point}
 use Rattle.pct_laws.specs.Each.{each as allowed}
 use Rattle.pct_laws.specs.Once as Once
 use Rattle.pct_laws.specs.SlotLaw as SlotLaw
 use Rattle.pct_laws.specs.CondLaw as CondLaw
-use Rattle.pct_model.specs.Ends.{LeftoverEnds}
+use Rattle.pct_laws.specs.Ends.{LeftoverEnds}
 use Rattle.pct_model.specs.ForkCalls.{waitpid_point}
-use Rattle.pct_model.specs.JoinLaw.{JoinLaw}
+use Rattle.pct_laws.specs.JoinLaw.{JoinLaw}
 use Rattle.pct_model.specs.Points.{points}
 use Rattle.pct_laws.specs.ProcessLaw as ProcessLaw
-use Rattle.pct_model.specs.RanAll.{RanAll}
+use Rattle.pct_laws.specs.RanAll.{RanAll}
 use Rattle.pct_model.specs.SemCalls.{sem_wait_point}
 use Rattle.pct_model.specs.ThreadCalls.{join_point}
 use Rattle.pct_rows.proofs.LawTests.{each, ran_test, ran_kept, after_test, after_kept, keys_test, keys_kept, left_test, left_kept, requests_test, requests_kept, joins_test, joins_kept}

@@ -18,10 +18,10 @@ use Rattle.pct_model.specs.declared.state.Status.TheVariants as status
 use Rattle.pct_model.specs.declared.statement.Operand.TheVariants as operand
 use Rattle.pct_model.specs.declared.statement.Stmt.{Stmt}
 use Rattle.pct_model.specs.declared.statement.Stmt.TheVariants as statement
-use Rattle.pct_model.specs.Ends.{count_due, HasRunHandlers, MayBegin, EachMayBegin, KeepsValue, KeepsValues}
+use Rattle.pct_laws.specs.Ends.{count_due, HasRunHandlers, MayBegin, EachMayBegin, KeepsValue, KeepsValues}
 use Rattle.pct_model.specs.Keys.{KeyPlace, is_due, value_at}
 use Rattle.pct_model.specs.Static.{is_static}
-use Rattle.pct_model.specs.ThreadSteps.{ThreadStep}
+use Rattle.pct_laws.specs.ThreadSteps.{ThreadStep}
 use Rattle.pct_model.specs.World.{Thread, Process, thread_with, new_frame, new_thread, new_shared, first_process}
 use Rattle.pct_rows.proofs.ExampleScripts.{smallest}
 use Rattle.pct_rows.proofs.OnLiterals.{checks_on_literals, runs_on_literals}

@@ -14,13 +14,13 @@ use Rattle.pct_model.specs.declared.statement.Stmt.TheVariants as statement
 use Rattle.pct_model.specs.declared.transition.Action.TheVariants as action
 use Rattle.pct_model.specs.declared.transition.Transition.{Transition}
 use Rattle.pct_model.specs.Actions.{frames_written, thread_at, thread_after}
-use Rattle.pct_model.specs.Kept.{is_exit_kind, IsPlainFunction}
+use Rattle.pct_laws.specs.Kept.{is_exit_kind, IsPlainFunction}
 use Rattle.pct_model.specs.LineKinds.{syntax_of}
 use Rattle.pct_model.specs.NextStatement.{NextStatement}
 use Rattle.pct_model.specs.OtherThreads.{Others}
 use Rattle.pct_model.specs.Statements.{encode}
 use Rattle.pct_model.specs.StopTable.{has_begun_to_end}
-use Rattle.pct_model.specs.ThreadSummary.{ThreadSummary}
+use Rattle.pct_laws.specs.ThreadSummary.{ThreadSummary}
 use Rattle.pct_model.specs.Transitions.{acts}
 use Rattle.pct_model.specs.World.{Thread, SharedState, body_of}
 use Rattle.pct_transition_cases.proofs.OfferedChoices.{deliverable_enabled}

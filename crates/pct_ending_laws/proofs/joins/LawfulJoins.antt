@@ -2,7 +2,7 @@
 use Rattle.std.proofs.Common.{◌≡◌, ℕ, Bool, true, false, not, ◌&&◌, ◌||◌, cond, List, [], ◌∷◌, ◌++◌, map, reverse, nat_eq, is_some, Option, Some, None, option_and_then, refl, sym, ap, ◌∙◌, eq-eqb}
 use Rattle.std.specs.List.{list_all}
 use Rattle.std.specs.Option.{option_map_or}
-use Rattle.std.proofs.lemmas.Bool.{false≢true, true≢false, and_parts, or_left, true_from_ne_false, false_from_ne_true}
+use Rattle.std.proofs.lemmas.Bool.{false≢true, true≢false, and_parts, and_from, or_left, true_from_ne_false, false_from_ne_true}
 use Rattle.std.proofs.lemmas.Option.{none-some, same_Some}
 use Rattle.pct_model.specs.declared.script.Script.{Script}
 use Rattle.pct_model.specs.declared.schedule.Config.{Config}
@@ -13,14 +13,16 @@ use Rattle.pct_model.specs.declared.event.What.TheVariants as what
 use Rattle.pct_model.specs.declared.state.Status.TheVariants as status
 use Rattle.pct_model.specs.declared.transition.Transition.{Transition}
 use Rattle.pct_model.specs.CancelCalls.{requests, acts_on_request}
-use Rattle.pct_model.specs.JoinLaw.{NamesLive, JoinsEnded, MayName, JoinLaw}
-use Rattle.pct_model.specs.Kept.{ThreadKept}
-use Rattle.pct_model.specs.KnownThreads.{is_own, is_fork_of, is_joined, is_detached, ends_with, reports_end, has_own}
+use Rattle.pct_laws.specs.Each.{each}
+use Rattle.pct_laws.specs.JoinLaw.{is_live, can_be_joined, may_name, allows}
+use Rattle.pct_laws.specs.NewestEvents.{newest_is, calls_point}
+use Rattle.pct_laws.specs.Kept.{ThreadKept}
+use Rattle.pct_laws.specs.KnownThreads.{is_own, is_fork_of, is_joined, is_detached, ends_with, reports_end, has_own}
 use Rattle.pct_model.specs.World.{made_process, thread_with, made_thread, Thread, Process}
 use Rattle.pct_model.specs.Run.{Run, event_of, run}
-use Rattle.pct_model.specs.ThreadCalls.{creates, begins_join, ends_join, detaches}
+use Rattle.pct_model.specs.ThreadCalls.{join_point, creates, begins_join, ends_join, detaches}
 use Rattle.pct_model.specs.ThreadSlots.{is_ended_status, with_id}
-use Rattle.pct_model.specs.ThreadSummary.{ThreadSummary, with_event, summary_of}
+use Rattle.pct_laws.specs.ThreadSummary.{ThreadSummary, with_event, summary_of}
 use Rattle.pct_model.specs.TransitionTable.{transition_by}
 use Rattle.pct_ending_laws.proofs.ThreadsOfRun.{threads_fit, threads_kept}
 use Rattle.pct_ending_laws.proofs.LastThreads.{last_exits}
@@ -31,9 +33,9 @@ use Rattle.pct_ending_laws.proofs.lift.MadeThreads.{IsLive, live_thread}
 use Rattle.pct_ending_laws.proofs.lift.EveryProcess.{process_taken, ids_of_run}
 use Rattle.pct_ending_laws.proofs.thread.EndingSteps.{goes_on}
 use Rattle.pct_ending_laws.proofs.thread.ThreadRule.{summary, FitsAny}
-use Rattle.pct_ending_laws.proofs.joins.JoinTransitions.{is_in_join, names_none, Kind, quiet, ends, detaches_one, requests_one, kind_of}
+use Rattle.pct_ending_laws.proofs.joins.JoinTransitions.{names_none, Kind, quiet, ends, detaches_one, requests_one, kind_of}
 use Rattle.pct_ending_laws.proofs.joins.ReportedFlags.{known_of_run, joined_of_run, detached_of_run}
-use Rattle.pct_ending_laws.proofs.joins.NewestEvents.{newest_of_run}
+use Rattle.pct_ending_laws.proofs.requests.SuspendedCalls.{call_event, newest_call_of_run}
 use Rattle.pct_ending_laws.proofs.joins.JoiningThreads.{JoinsOne, joins_of_processes}
 
 -- ---- the event of the end of a thread
@@ -77,18 +79,13 @@ unreclaimed_by gone true false true holds has_status = absurd (false≢true (has
 
 -- ---- a step
 
-silent_may : (w : What) → names_none w ≡ true → (pid tid : ℕ) (earlier : List Event) → MayName w pid tid earlier
-silent_may (what.Joined id v) none pid tid earlier = absurd (false≢true none)
-silent_may (what.Request id) none pid tid earlier = absurd (false≢true none)
-silent_may (what.Detached id) none pid tid earlier = absurd (false≢true none)
-silent_may w none pid tid earlier = tt
-
 -- events that name no thread may come at any time
-silent_lawful : (e : Entry) (added : List What) → list_all names_none added ≡ true → (earlier : List Event) → JoinLaw earlier → JoinLaw (map (event_of e) added ++ earlier)
+silent_lawful : (e : Entry) (added : List What) → list_all names_none added ≡ true → (earlier : List Event) → each allows earlier ≡ true → each allows (map (event_of e) added ++ earlier) ≡ true
 silent_lawful e [] all earlier law = law
-silent_lawful e (w ∷ added) all earlier law =
-    let parts = and_parts (names_none w) (list_all names_none added) all in
-    (silent_may w parts.0 e.pid e.tid (map (event_of e) added ++ earlier), silent_lawful e added parts.1 earlier law)
+silent_lawful e (what.Joined id v ∷ added) all earlier law = absurd (false≢true all)
+silent_lawful e (what.Request id ∷ added) all earlier law = absurd (false≢true all)
+silent_lawful e (what.Detached id ∷ added) all earlier law = absurd (false≢true all)
+silent_lawful e (w ∷ added) all earlier law = silent_lawful e added (and_parts (names_none w) (list_all names_none added) all).1 earlier law
 
 module _ (script : Script) (config : Config) (before : List Entry) (r : Run) (is : run script config before ≡ Some r) (e : Entry) (p : Process) (t : Thread) (taken : IsTaken script config r.world e p t) where
   process_is : made_process e.pid r.world ≡ Some p
@@ -116,48 +113,45 @@ module _ (script : Script) (config : Config) (before : List Entry) (r : Run) (is
   not_ended silent = false_from_ne_true t.ended (λ ended. false≢true (silent ended))
 
   -- a thread that another one names, which has not ended
-  names_live : (id : ℕ) (u : Thread) → t.ended ≡ false → with_id id p.threads ≡ Some u → NamesLive e.pid id r.events
+  names_live : (id : ℕ) (u : Thread) → t.ended ≡ false → with_id id p.threads ≡ Some u → is_live e.pid id r.events ≡ true
   names_live id u alive is_u =
       let target : IsLive p id u = live id u is_u in
       let kept : ThreadKept script p.shared.keys u (summary_of e.pid id r.events) = threads_kept script config before r is e.pid id p u process_is target.found target.here in
       let has_status : u.ended ≡ true → is_ended_status u.status ≡ true = λ ended. true_from_ne_false (is_ended_status u.status) (λ exits.
       true≢false (sym (last_exits script config (threads_fit script config) before r is e.pid p process_is id u target.found (target.here, ended, exits) e.tid t it.found it.here) ∙ alive)) in
-      record {
-        known = known_of_run script config before r is e.pid id ∙ ap (λ (found : Option Thread). option_map_or (λ x. not x.gone) found false) (made id u is_u) ∙ ap not target.here;
-        unreclaimed =
-            ap (λ (b : Bool). b && (is_joined e.pid id r.events || is_detached e.pid id r.events)) (sym (end_reported e.pid id r.events) ∙ kept.ended)
-            ∙ ap (λ (b : Bool). u.ended && (b || is_detached e.pid id r.events)) (sym (joined_of_run script config before r is e.pid id u (made id u is_u) target.here))
-            ∙ ap (λ (b : Bool). u.ended && (u.joined || b)) (sym (detached_of_run script config before r is e.pid id u (made id u is_u) target.here))
-            ∙ unreclaimed_by u.gone u.ended (is_ended_status u.status) (u.joined || u.detached) target.holds has_status;
-      }
+      and_from _ _ (known_of_run script config before r is e.pid id ∙ ap (λ (found : Option Thread). option_map_or (λ x. not x.gone) found false) (made id u is_u) ∙ ap not target.here)
+      (ap not (
+          ap (λ (b : Bool). b && (is_joined e.pid id r.events || is_detached e.pid id r.events)) (sym (end_reported e.pid id r.events) ∙ kept.ended)
+          ∙ ap (λ (b : Bool). u.ended && (b || is_detached e.pid id r.events)) (sym (joined_of_run script config before r is e.pid id u (made id u is_u) target.here))
+          ∙ ap (λ (b : Bool). u.ended && (u.joined || b)) (sym (detached_of_run script config before r is e.pid id u (made id u is_u) target.here))
+          ∙ unreclaimed_by u.gone u.ended (is_ended_status u.status) (u.joined || u.detached) target.holds has_status
+      ))
 
   -- a thread that is joined
-  joins_ended : (id v : ℕ) (u : Thread) → t.status ≡ status.Joining id → with_id id p.threads ≡ Some u → u.status ≡ status.Ended v → JoinsEnded e.pid e.tid id v r.events
+  joins_ended : (id v : ℕ) (u : Thread) → t.status ≡ status.Joining id → with_id id p.threads ≡ Some u → u.status ≡ status.Ended v → may_name (what.Joined id v) e.pid e.tid r.events ≡ true
   joins_ended id v u joins is_u ended =
       let target : IsLive p id u = live id u is_u in
       let kept : ThreadKept script p.shared.keys u (summary_of e.pid id r.events) = threads_kept script config before r is e.pid id p u process_is target.found target.here in
       let one : JoinsOne p.threads e.tid id = (joins_of_processes script config before r is e.pid p process_is).joins e.tid t it.found it.here id joins in
       let same : one.target ≡ u = same_Some one.target u (sym one.made ∙ target.found) in
-      record {
-        ended = value_reported v e.pid id r.events (kept.value v ended);
-        not_joined = sym (joined_of_run script config before r is e.pid id u (made id u is_u) target.here) ∙ ap (λ (x : Thread). x.joined) (sym same) ∙ one.not_joined;
-        joinable = sym (detached_of_run script config before r is e.pid id u (made id u is_u) target.here) ∙ ap (λ (x : Thread). x.detached) (sym same) ∙ one.joinable;
-        suspended = newest_of_run script config before r is e.pid e.tid t it_made it.here (ap is_in_join joins);
-      }
+      and_from _ _ (and_from _ _ (value_reported v e.pid id r.events (kept.value v ended)) (and_from _ _
+          (ap not (sym (joined_of_run script config before r is e.pid id u (made id u is_u) target.here) ∙ ap (λ (x : Thread). x.joined) (sym same) ∙ one.not_joined))
+          (ap not (sym (detached_of_run script config before r is e.pid id u (made id u is_u) target.here) ∙ ap (λ (x : Thread). x.detached) (sym same) ∙ one.joinable))))
+      (ap (λ (o : Option What). option_map_or (calls_point join_point) o false) (newest_call_of_run script config before r is e.pid e.tid t it_made it.here (what.Called join_point) (ap call_event joins)))
 
   -- the events of the step
-  lawful_by : (o : Transition) → Kind t.id p.threads t.status o → (t.ended ≡ true → list_all names_none (reverse o.events) ≡ true) → JoinLaw r.events → JoinLaw (map (event_of e) (reverse o.events) ++ r.events)
+  lawful_by : (o : Transition) → Kind t.id p.threads t.status o → (t.ended ≡ true → list_all names_none (reverse o.events) ≡ true) → each allows r.events ≡ true → each allows (map (event_of e) (reverse o.events) ++ r.events) ≡ true
   unfolding creates begins_join ends_join detaches requests acts_on_request
   lawful_by o (quiet is nothing) silent law = silent_lawful e (reverse o.events) is.events r.events law
-  lawful_by o (ends next d n v target s is_target ended) silent law = (joins_ended n v target s is_target ended, law)
-  lawful_by o (detaches_one next n target s is_target alone) silent law = (names_live n target (not_ended silent) is_target, law)
-  lawful_by o (requests_one next n target s is_target) silent law = (names_live n target (not_ended silent) is_target, law)
-  lawful_by o _ silent law = (tt, law)
+  lawful_by o (ends next d n v target s is_target ended) silent law = and_from _ _ (joins_ended n v target s is_target ended) law
+  lawful_by o (detaches_one next n target s is_target alone) silent law = and_from _ _ (names_live n target (not_ended silent) is_target) law
+  lawful_by o (requests_one next n target s is_target) silent law = and_from _ _ (names_live n target (not_ended silent) is_target) law
+  lawful_by o _ silent law = law
 
 -- ---- every run
 
 -- the law of joins
-pub joins_of_run : (script : Script) (config : Config) (entries : List Entry) (r : Run) → run script config entries ≡ Some r → JoinLaw r.events
+pub joins_of_run : (script : Script) (config : Config) (entries : List Entry) (r : Run) → run script config entries ≡ Some r → each allows r.events ≡ true
 joins_of_run script config entries r is =
-    every_run script config (λ r. JoinLaw r.events)
-    (λ before r is e p t taken law. lawful_by script config before r is e p t taken (transition_by script config r.world p t e.alt) (kind_of script config r.world p t e.alt) (ended_silent script config before r is e p t taken) law) (λ some. tt) entries r is
+    every_run script config (λ r. each allows r.events ≡ true)
+    (λ before r is e p t taken law. lawful_by script config before r is e p t taken (transition_by script config r.world p t e.alt) (kind_of script config r.world p t e.alt) (ended_silent script config before r is e p t taken) law) (λ some. refl) entries r is

@@ -17,9 +17,9 @@ use Rattle.pct_model.specs.Actions.{shared_after, for_each}
 use Rattle.pct_model.specs.CondCalls.{cond_wait_point}
 use Rattle.pct_laws.specs.Each.{each}
 use Rattle.pct_laws.specs.CondLaw.{owners_allow}
-use Rattle.pct_model.specs.Kept.{IsSuspendedAt}
+use Rattle.pct_laws.specs.Kept.{IsSuspendedAt}
 use Rattle.pct_model.specs.MutexCalls.{owns}
-use Rattle.pct_model.specs.MutexOwners.{owner_after, owner_of}
+use Rattle.pct_laws.specs.MutexOwners.{owner_after, owner_of}
 use Rattle.pct_model.specs.NextStatement.{NextStatement}
 use Rattle.pct_model.specs.OtherThreads.{Others}
 use Rattle.pct_model.specs.Run.{event_of}

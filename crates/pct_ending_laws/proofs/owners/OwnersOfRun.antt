@@ -11,7 +11,7 @@ use Rattle.pct_model.specs.declared.transition.Transition.{Transition}
 use Rattle.pct_model.specs.Actions.{child_of, changed}
 use Rattle.pct_laws.specs.Each.{each}
 use Rattle.pct_laws.specs.CondLaw.{owners_allow}
-use Rattle.pct_model.specs.Kept.{IsSuspendedAt, EachProcess, OwnersKept}
+use Rattle.pct_laws.specs.Kept.{IsSuspendedAt, EachProcess, OwnersKept}
 use Rattle.pct_model.specs.NextStatement.{next_of, body_at}
 use Rattle.pct_model.specs.OtherThreads.{Others, others_of}
 use Rattle.pct_model.specs.Run.{event_of}

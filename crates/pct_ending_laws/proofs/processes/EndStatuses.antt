@@ -10,13 +10,12 @@ use Rattle.pct_model.specs.declared.schedule.Entry.{Entry}
 use Rattle.pct_model.specs.declared.script.Script.{Script}
 use Rattle.pct_model.specs.declared.state.Status.{Status}
 use Rattle.pct_model.specs.declared.state.Status.TheVariants as status
-use Rattle.pct_model.specs.AfterEnd.{begins_exit}
-use Rattle.pct_model.specs.Kept.{is_exiting, is_exit_kind, IsPlainFunction, ThreadKept}
-use Rattle.pct_model.specs.KnownThreads.{has_own}
+use Rattle.pct_laws.specs.AfterEnd.{begins_exit}
+use Rattle.pct_laws.specs.Kept.{is_exiting, is_exit_kind, IsPlainFunction, ThreadKept}
+use Rattle.pct_laws.specs.KnownThreads.{has_own}
 use Rattle.pct_model.specs.NextStatement.{next_of}
-use Rattle.pct_model.specs.ProcessLaw.{exits_with}
 use Rattle.pct_model.specs.Run.{Run, run}
-use Rattle.pct_model.specs.ThreadSummary.{summary_of}
+use Rattle.pct_laws.specs.ThreadSummary.{summary_of}
 use Rattle.pct_model.specs.World.{Thread, Process, made_process}
 use Rattle.pct_transition_cases.proofs.PlacedStatements.{is_placed}
 use Rattle.pct_ending_laws.proofs.ThreadsOfRun.{threads_kept}
@@ -24,7 +23,7 @@ use Rattle.pct_ending_laws.proofs.exits.PlainFunctions.{is_plain_next, plain_nex
 use Rattle.pct_ending_laws.proofs.lift.EveryProcess.{process_taken}
 use Rattle.pct_ending_laws.proofs.lift.MadeThreads.{IsLive}
 use Rattle.pct_ending_laws.proofs.lift.TakenSteps.{IsTaken}
-use Rattle.pct_ending_laws.proofs.processes.ExitValues.{exit_value_of_run, exits_with_newest, own_in, exiting_reported}
+use Rattle.pct_ending_laws.proofs.processes.ExitValues.{exits_with, exit_value_of_run, exits_with_newest, own_in, exiting_reported}
 use Rattle.pct_ending_laws.proofs.processes.ExitedOnce.{exits_once_of_run}
 use Rattle.pct_ending_laws.proofs.processes.MadeProcesses.{it_is}
 

@@ -12,11 +12,11 @@ use Rattle.pct_model.specs.declared.transition.Action.{Action}
 use Rattle.pct_model.specs.declared.transition.Action.TheVariants as action
 use Rattle.pct_model.specs.declared.transition.Transition.{Transition}
 use Rattle.pct_model.specs.Actions.{has_ended, orphaned, as_reaped, other_process_after, process_after, for_each, child_of, changed, is_live_process, threads_moved, shared_after}
-use Rattle.pct_model.specs.Kept.{EachProcess}
-use Rattle.pct_model.specs.KnownThreads.{is_in}
+use Rattle.pct_laws.specs.Kept.{EachProcess}
+use Rattle.pct_laws.specs.KnownThreads.{is_in}
 use Rattle.pct_model.specs.NextStatement.{NextStatement, next_of, body_at}
 use Rattle.pct_model.specs.OtherThreads.{Others, others_of}
-use Rattle.pct_model.specs.ProcessLaw.{ends_process, has_in}
+use Rattle.pct_laws.specs.ProcessLaw.{ends_process, has_in}
 use Rattle.pct_model.specs.Run.{Run, event_of, run}
 use Rattle.pct_model.specs.TransitionTable.{transition_by}
 use Rattle.pct_model.specs.World.{Thread, SharedState, ProcessEnd, Process, World}

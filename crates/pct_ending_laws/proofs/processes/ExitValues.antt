@@ -12,14 +12,14 @@ use Rattle.pct_model.specs.declared.state.Status.{Status}
 use Rattle.pct_model.specs.declared.statement.Stmt.{Stmt}
 use Rattle.pct_model.specs.declared.transition.Transition.{Transition}
 use Rattle.pct_model.specs.Actions.{for_each, child_of, changed, shared_after}
-use Rattle.pct_model.specs.AfterEnd.{begins_exit}
-use Rattle.pct_model.specs.Kept.{EachProcess}
-use Rattle.pct_model.specs.KnownThreads.{is_in, is_own, is_fork_of, has_own}
+use Rattle.pct_laws.specs.AfterEnd.{begins_exit}
+use Rattle.pct_laws.specs.Kept.{EachProcess}
+use Rattle.pct_laws.specs.KnownThreads.{is_in, is_own, is_fork_of, has_own}
 use Rattle.pct_model.specs.NextStatement.{NextStatement, next_of, body_at}
 use Rattle.pct_model.specs.OtherThreads.{Others, others_of}
-use Rattle.pct_model.specs.ProcessLaw.{exits_with, has_in}
+use Rattle.pct_laws.specs.ProcessLaw.{has_in}
 use Rattle.pct_model.specs.Run.{event_of}
-use Rattle.pct_model.specs.ThreadSummary.{ThreadSummary, with_event, summary_of}
+use Rattle.pct_laws.specs.ThreadSummary.{ThreadSummary, with_event, summary_of}
 use Rattle.pct_model.specs.TransitionTable.{transition_by}
 use Rattle.pct_model.specs.World.{Thread, SharedState, Process, World}
 use Rattle.pct_transition_cases.proofs.CaseOfTransition.{case_of}
@@ -40,6 +40,11 @@ exit_after _ before = before
 -- the exit value of a process, which no fork passes on
 abbrev pub exit_reading : Reading (Option ℕ)
 exit_reading = record { start = λ initial. None; next = λ e k. exit_after e.what k; inherits = λ e. false; born = λ parent k. k }
+
+-- the event is that exit begins with a value
+abbrev pub exits_with : ℕ → What → Bool
+exits_with v (what.ExitBegun w) = nat_eq w v
+exits_with v _ = false
 
 -- the value of the newest event that exit begins in process pid
 abbrev pub newest_exit : ℕ → List Event → Option ℕ

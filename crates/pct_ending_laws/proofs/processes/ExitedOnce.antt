@@ -17,17 +17,17 @@ use Rattle.pct_model.specs.declared.state.Status.{Status}
 use Rattle.pct_model.specs.declared.state.Status.TheVariants as status
 use Rattle.pct_model.specs.declared.statement.Stmt.{Stmt}
 use Rattle.pct_model.specs.declared.transition.Transition.{Transition}
-use Rattle.pct_model.specs.AfterEnd.{begins_exit}
-use Rattle.pct_model.specs.Kept.{is_exiting, ThreadKept}
-use Rattle.pct_model.specs.KnownThreads.{is_in, is_own, has_own}
+use Rattle.pct_laws.specs.AfterEnd.{begins_exit}
+use Rattle.pct_laws.specs.Kept.{is_exiting, ThreadKept}
+use Rattle.pct_laws.specs.KnownThreads.{is_in, is_own, has_own}
 use Rattle.pct_model.specs.NextStatement.{NextStatement, next_of, body_at}
 use Rattle.pct_model.specs.OtherThreads.{Others, others_of}
-use Rattle.pct_model.specs.ProcessLaw.{has_in}
+use Rattle.pct_laws.specs.ProcessLaw.{has_in}
 use Rattle.pct_model.specs.Run.{Run, event_of, run}
 use Rattle.pct_model.specs.ThreadEnds.{end_value}
 use Rattle.pct_model.specs.ThreadNumbers.{IsOfThread}
 use Rattle.pct_model.specs.ThreadSlots.{is_ended_status, holds_slot}
-use Rattle.pct_model.specs.ThreadSummary.{summary_of}
+use Rattle.pct_laws.specs.ThreadSummary.{summary_of}
 use Rattle.pct_model.specs.TransitionTable.{transition_by}
 use Rattle.pct_model.specs.World.{Thread, SharedState, Process, World, made_process, thread_with, made_thread}
 use Rattle.pct_transition_cases.proofs.CaseOfTransition.{case_of}

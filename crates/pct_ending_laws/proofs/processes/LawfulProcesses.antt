@@ -15,12 +15,12 @@ use Rattle.pct_model.specs.declared.state.Status.TheVariants as status
 use Rattle.pct_model.specs.declared.statement.Stmt.{Stmt}
 use Rattle.pct_model.specs.declared.transition.Transition.{Transition}
 use Rattle.pct_model.specs.Actions.{without_first}
-use Rattle.pct_model.specs.AfterEnd.{begins_exit}
-use Rattle.pct_model.specs.KnownThreads.{is_in, is_own, has_own}
+use Rattle.pct_laws.specs.AfterEnd.{begins_exit}
+use Rattle.pct_laws.specs.KnownThreads.{is_in, is_own, has_own}
 use Rattle.pct_model.specs.LineKinds.{syntax_of}
 use Rattle.pct_model.specs.NextStatement.{NextStatement, next_of, body_at}
 use Rattle.pct_model.specs.OtherThreads.{Others, others_of}
-use Rattle.pct_model.specs.ProcessLaw.{ends_process, exits_with, is_stop, has_in}
+use Rattle.pct_laws.specs.ProcessLaw.{ends_process, is_stop, has_in}
 use Rattle.pct_laws.specs.Each.{each}
 use Rattle.pct_laws.specs.ProcessLaw.{exits_otherwise, may_change, changes_allow, allows}
 use Rattle.pct_model.specs.Run.{Run, event_of, run}
@@ -35,7 +35,7 @@ use Rattle.pct_ending_laws.proofs.lift.HandlerEvents.{of_each_phase}
 use Rattle.pct_ending_laws.proofs.lift.TakenSteps.{IsTaken, with_step, AfterEveryRun, every_run}
 use Rattle.pct_ending_laws.proofs.processes.EndedProcesses.{live_of_run}
 use Rattle.pct_ending_laws.proofs.processes.EndStatuses.{status_of_exit, exits_plain}
-use Rattle.pct_ending_laws.proofs.processes.ExitValues.{ExitsOnce, own_weaker}
+use Rattle.pct_ending_laws.proofs.processes.ExitValues.{exits_with, ExitsOnce, own_weaker}
 use Rattle.pct_ending_laws.proofs.processes.ExitedOnce.{exits_once_of_run, once_later}
 use Rattle.pct_ending_laws.proofs.processes.JoinedThreads.{joins_known}
 use Rattle.pct_ending_laws.proofs.processes.MadeProcesses.{next_unmade, known_by}
@@ -132,8 +132,8 @@ module _ (script : Script) (config : Config) where
     unfolding others_of
     is_ready = record {
       forks = λ new next. let made = next_unmade script config before r is e p t taken new (gives_next script config r.world p t e.alt taken.offered new next) in and_from _ _ (ap not made.0) (ap not made.1);
-      joins = λ id v target s named. let j = joins_known script config before r is e p t taken id target s named in and_from _ _ j.known (and_from _ _ (ap not (ne_eqb id e.tid j.other)) (ap not j.alive));
-      reaps = λ pid n child found ended. let c = reaps_child script config before r is e p t taken pid n child found ended in and_from _ _ c.0 (and_from _ _ c.1 (ap not c.2));
+      joins = λ id v target s named. joins_known script config before r is e p t taken id target s named v;
+      reaps = reaps_child script config before r is e p t taken;
       exit_status = λ v value. false_from_ne_true _ (λ exits. let u = otherwise_value (v % 256) e.pid e.tid r.events exits in false≢true (sym u.2 ∙ eq-eqb (v % 256) (u.0 % 256) (status_of_exit script config before r is e p t taken v value u.0 u.1)));
       plain = λ runs exits. exits_plain script config before r is e p t taken runs exits;
     }

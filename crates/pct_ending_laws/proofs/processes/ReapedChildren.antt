@@ -5,7 +5,7 @@ use Rattle.std.proofs.Common.{◌≡◌, ◌≢◌, ℕ, ◌+◌, ◌%◌, Bool,
 use Rattle.std.specs.Prelude.{IfSome}
 use Rattle.std.specs.List.{list_any, position_or_len}
 use Rattle.std.specs.Option.{IsSomeAnd, option_or}
-use Rattle.std.proofs.lemmas.Bool.{false≢true, true≢false, and_parts, and_right, or_left, or_right, or_cases, not-true, false_from_ne_true}
+use Rattle.std.proofs.lemmas.Bool.{false≢true, true≢false, and_parts, and_from, and_right, or_left, or_right, or_cases, not-true, false_from_ne_true}
 use Rattle.std.proofs.lemmas.List.Folds.{list_any-append}
 use Rattle.std.proofs.lemmas.Option.{none-some, same_Some}
 use Rattle.pct_model.specs.declared.event.Event.{Event}
@@ -22,12 +22,12 @@ use Rattle.pct_model.specs.declared.transition.Action.{Action}
 use Rattle.pct_model.specs.declared.transition.Action.TheVariants as action
 use Rattle.pct_model.specs.declared.transition.Transition.{Transition}
 use Rattle.pct_model.specs.Actions.{has_ended, orphaned, as_reaped, other_process_after, process_after, shared_after, for_each, child_of, threads_moved, changed, is_live_process, process_moved, after_transition}
-use Rattle.pct_model.specs.Kept.{EachProcess}
-use Rattle.pct_model.specs.KnownThreads.{is_in, makes_process}
+use Rattle.pct_laws.specs.Kept.{EachProcess}
+use Rattle.pct_laws.specs.KnownThreads.{is_in, makes_process}
 use Rattle.pct_model.specs.NextStatement.{NextStatement, next_of, body_at}
 use Rattle.pct_model.specs.OtherProcesses.{is_unreaped, relative_of, family_among, family_of}
 use Rattle.pct_model.specs.OtherThreads.{Others, others_of}
-use Rattle.pct_model.specs.ProcessLaw.{has_in, ends_process_with, reaps_process, MayChange}
+use Rattle.pct_laws.specs.ProcessLaw.{has_in, ends_process_with, reaps_process, may_change}
 use Rattle.pct_model.specs.Run.{Run, event_of, run}
 use Rattle.pct_model.specs.TransitionTable.{transition_by}
 use Rattle.pct_model.specs.World.{Thread, SharedState, ProcessEnd, Process, World, was_reaped, made_process, value_of}
@@ -371,12 +371,11 @@ module _ (script : Script) (config : Config) where
         absurd (omega (arith, number, none))
 
     -- what the law asks of the event
-    pub reaps_child : (pid n : ℕ) (child : Child) → (others_of config.slots r.world p t.id).family.child pid ≡ Some child → child.ended ≡ Some n → MayChange (what.Reaped pid n) e.pid e.tid r.events
+    pub reaps_child : (pid n : ℕ) (child : Child) → (others_of config.slots r.world p t.id).family.child pid ≡ Some child → child.ended ≡ Some n → may_change (what.Reaped pid n) e.pid e.tid r.events ≡ true
     unfolding others_of
     reaps_child pid n child is_child ended =
         let found : IsEndedChild r.world p.pid pid n = ended_child r.world (have_pids script config before r is).distinct p.pid pid n child is_child ended in
-        let same : p.pid ≡ e.pid = have_pid script config before r is e p t taken in (
-          subst (λ (parent : ℕ). has_in (makes_process pid) parent r.events ≡ true) (found.its_parent ∙ same) (parents_of_run script config before r is pid found.child found.made (λ none. some_pid (sym found.its_parent ∙ none))),
-          subst (λ (m : ℕ). has_in (ends_process_with m) pid r.events ≡ true) found.its_status (end_status_of_run script config before r is pid found.child found.made found.end found.has_end),
-          false_from_ne_true (list_any (λ e. reaps_process pid e.what) r.events) (λ reaped. true≢false (sym (subst (λ (q : Option Process). IsSomeAnd q (λ q. was_reaped q.ended ≡ true)) found.made (reaped_of_run before r is pid reaped)) ∙ found.unreaped)),
-        )
+        let same : p.pid ≡ e.pid = have_pid script config before r is e p t taken in
+        and_from _ _ (subst (λ (parent : ℕ). has_in (makes_process pid) parent r.events ≡ true) (found.its_parent ∙ same) (parents_of_run script config before r is pid found.child found.made (λ none. some_pid (sym found.its_parent ∙ none))))
+        (and_from _ _ (subst (λ (m : ℕ). has_in (ends_process_with m) pid r.events ≡ true) found.its_status (end_status_of_run script config before r is pid found.child found.made found.end found.has_end))
+        (ap not (false_from_ne_true (list_any (λ e. reaps_process pid e.what) r.events) (λ reaped. true≢false (sym (subst (λ (q : Option Process). IsSomeAnd q (λ q. was_reaped q.ended ≡ true)) found.made (reaped_of_run before r is pid reaped)) ∙ found.unreaped)))))

@@ -17,7 +17,7 @@ use Rattle.pct_model.specs.declared.transition.Transition.{Transition}
 use Rattle.pct_model.specs.Actions.{without_first, stop_after, for_each, after_transition}
 use Rattle.pct_model.specs.NextStatement.{NextStatement, next_of, body_at}
 use Rattle.pct_model.specs.OtherThreads.{Others, others_of}
-use Rattle.pct_model.specs.ProcessLaw.{ends_process, is_stop}
+use Rattle.pct_laws.specs.ProcessLaw.{ends_process, is_stop}
 use Rattle.pct_model.specs.Run.{Run, event_of}
 use Rattle.pct_model.specs.TransitionTable.{transition_by}
 use Rattle.pct_model.specs.World.{Thread, SharedState, Process, World}

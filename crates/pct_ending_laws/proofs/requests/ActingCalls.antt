@@ -14,7 +14,7 @@ use Rattle.pct_model.specs.declared.statement.Stmt.TheVariants as statement
 use Rattle.pct_model.specs.declared.stop.Why.{Why}
 use Rattle.pct_model.specs.Cancelability.{is_deliverable}
 use Rattle.pct_model.specs.CancelCalls.{called_kind, is_required, acts_on_request}
-use Rattle.pct_model.specs.CancelLaw.{calls_required_point, acts_or_stops, ActsAtCalls}
+use Rattle.pct_laws.specs.CancelLaw.{calls_required_point, acts_or_stops, ActsAtCalls}
 use Rattle.pct_model.specs.ChoiceTable.{choices_at, offers}
 use Rattle.pct_model.specs.NextStatement.{NextStatement, NoStatement, StatementIn, next_of, body_at}
 use Rattle.pct_model.specs.OtherThreads.{Others, others_of}

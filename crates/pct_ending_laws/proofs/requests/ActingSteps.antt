@@ -13,12 +13,13 @@ use Rattle.pct_model.specs.declared.state.Status.{Status}
 use Rattle.pct_model.specs.declared.statement.Stmt.{Stmt}
 use Rattle.pct_model.specs.declared.transition.Transition.{Transition}
 use Rattle.pct_model.specs.Cancelability.{is_deliverable}
-use Rattle.pct_model.specs.CancelEvents.{is_asynchronous_last}
-use Rattle.pct_model.specs.CancelLaw.{is_at_cancellation_point, ActsWhereItMay, ActsAt, EachMayAct}
+use Rattle.pct_laws.specs.CancelEvents.{is_asynchronous_last}
+use Rattle.pct_model.specs.CancelLaw.{is_at_cancellation_point}
+use Rattle.pct_laws.specs.CancelLaw.{ActsWhereItMay, ActsAt, EachMayAct}
 use Rattle.pct_model.specs.NextStatement.{NextStatement, next_of, body_at}
 use Rattle.pct_model.specs.OtherThreads.{Others, others_of}
 use Rattle.pct_model.specs.Run.{Run, run}
-use Rattle.pct_model.specs.ThreadSteps.{ThreadStep}
+use Rattle.pct_laws.specs.ThreadSteps.{ThreadStep}
 use Rattle.pct_model.specs.World.{Thread, Process, SharedState}
 use Rattle.pct_transition_cases.proofs.TransitionCases.{TransitionCase, canceled, canceled_at_point, canceled_in_join, canceled_in_sem_wait, canceled_in_waitpid, canceled_in_wait, canceled_after_wait, signal_handed_on, fork_handler_called}
 use Rattle.pct_ending_laws.proofs.lift.EveryProcess.{moves_of_run}

@@ -7,7 +7,7 @@ use Rattle.std.proofs.Math.Bool.{or_assoc, or-false}
 use Rattle.pct_model.specs.declared.event.Event.{Event}
 use Rattle.pct_model.specs.declared.event.What.{What}
 use Rattle.pct_model.specs.declared.event.What.TheVariants as what
-use Rattle.pct_model.specs.KnownThreads.{is_in, makes_process, is_fork_of, creates_id, is_known}
+use Rattle.pct_laws.specs.KnownThreads.{is_in, makes_process, is_fork_of, creates_id, is_known}
 use Rattle.pct_laws.specs.KnownIds.{created_ids, new_ids, known_ids}
 
 -- the id is one of some

@@ -15,7 +15,7 @@ use Rattle.pct_model.specs.Run.{Run, event_of, run}
 use Rattle.pct_laws.specs.Each.{each}
 use Rattle.pct_laws.specs.KnownIds.{known_ids}
 use Rattle.pct_laws.specs.SlotLaw.{leaves_slot, may_create, allows}
-use Rattle.pct_model.specs.KnownThreads.{is_known, is_reclaimed}
+use Rattle.pct_laws.specs.KnownThreads.{is_known, is_reclaimed}
 use Rattle.pct_model.specs.ThreadSlots.{slot_of}
 use Rattle.pct_ending_laws.proofs.slots.KnownIds.{is_among, all_from_members, among_known}
 use Rattle.pct_model.specs.ThreadCalls.{creates, begins_join, ends_join, detaches}

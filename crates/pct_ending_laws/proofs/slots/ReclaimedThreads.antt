@@ -7,11 +7,11 @@ use Rattle.pct_model.specs.declared.schedule.Config.{Config}
 use Rattle.pct_model.specs.declared.schedule.Entry.{Entry}
 use Rattle.pct_model.specs.declared.state.Status.{Status}
 use Rattle.pct_model.specs.declared.state.Status.TheVariants as status
-use Rattle.pct_model.specs.Kept.{ThreadKept}
-use Rattle.pct_model.specs.KnownThreads.{is_known, is_detached, is_joined, reports_end, has_own, is_reclaimed}
+use Rattle.pct_laws.specs.Kept.{ThreadKept}
+use Rattle.pct_laws.specs.KnownThreads.{is_known, is_detached, is_joined, reports_end, has_own, is_reclaimed}
 use Rattle.pct_model.specs.Run.{Run, run}
 use Rattle.pct_model.specs.ThreadSlots.{is_ended_status}
-use Rattle.pct_model.specs.ThreadSummary.{summary_of}
+use Rattle.pct_laws.specs.ThreadSummary.{summary_of}
 use Rattle.pct_model.specs.World.{Thread, Process, made_process, thread_with, made_thread}
 use Rattle.pct_ending_laws.proofs.ThreadsOfRun.{threads_kept}
 use Rattle.pct_ending_laws.proofs.joins.ReportedFlags.{known_of_run, joined_of_run, detached_of_run}

@@ -22,18 +22,18 @@ use Rattle.pct_model.specs.declared.transition.Transition.{Transition}
 use Rattle.pct_model.specs.declared.transition.Action.{Action}
 use Rattle.pct_model.specs.declared.transition.Action.TheVariants as action
 use Rattle.pct_model.specs.Actions.{without_first, thread_moved}
-use Rattle.pct_model.specs.AfterEnd.{begins_exit_with_0}
+use Rattle.pct_laws.specs.AfterEnd.{begins_exit_with_0}
 use Rattle.pct_model.specs.CancelCalls.{acts_on_request}
-use Rattle.pct_model.specs.Ends.{count_due, NoneLeft, reports_left, IsAtStage, HasRunHandlers, EndsThread, MayBegin, EachMayBegin}
-use Rattle.pct_model.specs.Kept.{KeysKept}
+use Rattle.pct_laws.specs.Ends.{count_due, NoneLeft, reports_left, IsAtStage, HasRunHandlers, EndsThread, MayBegin, EachMayBegin}
+use Rattle.pct_laws.specs.Kept.{KeysKept}
 use Rattle.pct_model.specs.Keys.{Key, KeyPlace, KeyValues, key_at, number_at, value_at, with_pass, is_due, is_left, due_places, left_places, left_keys}
-use Rattle.pct_model.specs.KnownThreads.{reports_end}
+use Rattle.pct_laws.specs.KnownThreads.{reports_end}
 use Rattle.pct_model.specs.NextStatement.{NextStatement, NoStatement, StatementIn, next_of, body_at}
 use Rattle.pct_model.specs.OtherThreads.{Others, is_last, others_of}
 use Rattle.pct_model.specs.Run.{Run, run}
 use Rattle.pct_model.specs.ThreadEnds.{ends_thread, calls_destructor, goes_on_ending}
-use Rattle.pct_model.specs.ThreadSteps.{ThreadStep}
-use Rattle.pct_model.specs.ThreadSummary.{ThreadSummary}
+use Rattle.pct_laws.specs.ThreadSteps.{ThreadStep}
+use Rattle.pct_laws.specs.ThreadSummary.{ThreadSummary}
 use Rattle.pct_model.specs.Transitions.{acts}
 use Rattle.pct_model.specs.TransitionTable.{acts_or, transition_at, transition_by}
 use Rattle.pct_model.specs.World.{Thread, SharedState, Process, thread_with}

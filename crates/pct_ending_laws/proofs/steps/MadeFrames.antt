@@ -15,7 +15,7 @@ use Rattle.pct_model.specs.declared.transition.Action.{Action}
 use Rattle.pct_model.specs.declared.transition.Action.TheVariants as action
 use Rattle.pct_model.specs.declared.transition.Transition.{Transition}
 use Rattle.pct_model.specs.Actions.{at_pc, without_first, frames_written, thread_at, thread_after, named_after, for_each, moved, thread_moved}
-use Rattle.pct_model.specs.Calls.{says_call, calls_function, SaysCalls}
+use Rattle.pct_laws.specs.Calls.{says_call, calls_function, SaysCalls}
 use Rattle.pct_model.specs.NextStatement.{NextStatement, next_of, body_at}
 use Rattle.pct_model.specs.OtherThreads.{Others, others_of}
 use Rattle.pct_model.specs.Run.{Run, run}

@@ -12,15 +12,15 @@ use Rattle.pct_model.specs.declared.state.Status.TheVariants as status
 use Rattle.pct_model.specs.declared.transition.Action.TheVariants as action
 use Rattle.pct_model.specs.Actions.{without_first, thread_at, thread_after}
 use Rattle.pct_model.specs.Cancelability.{ending_state, ending_mode, is_deliverable}
-use Rattle.pct_model.specs.Kept.{AreOpen, open_functions, IsSuspendedAt}
+use Rattle.pct_laws.specs.Kept.{AreOpen, open_functions, IsSuspendedAt}
 use Rattle.pct_model.specs.Keys.{key_place, value_at, with_pass}
 use Rattle.pct_model.specs.NextStatement.{next_of}
 use Rattle.pct_model.specs.LineParsing.{is_empty}
 use Rattle.pct_laws.specs.Once.{is_newest, may_come}
-use Rattle.pct_model.specs.OpenPushes.{open_pushes}
+use Rattle.pct_laws.specs.OpenPushes.{open_pushes}
 use Rattle.pct_model.specs.StopTable.{has_begun_to_end}
 use Rattle.pct_model.specs.ThreadEnds.{end_value}
-use Rattle.pct_model.specs.ThreadSummary.{ThreadSummary, with_ending}
+use Rattle.pct_laws.specs.ThreadSummary.{ThreadSummary, with_ending}
 use Rattle.pct_model.specs.Transitions.{acts}
 use Rattle.pct_model.specs.World.{Thread, body_of}
 use Rattle.pct_ending_laws.proofs.StaticPushes.{PushesMatch}

@@ -12,7 +12,7 @@ use Rattle.pct_model.specs.declared.transition.Action.TheVariants as action
 use Rattle.pct_model.specs.declared.transition.Transition.{Transition}
 use Rattle.pct_model.specs.Actions.{thread_at, thread_after}
 use Rattle.pct_model.specs.ForkCalls.{in_fork, while_called, handler_event}
-use Rattle.pct_model.specs.ThreadSummary.{ThreadSummary}
+use Rattle.pct_laws.specs.ThreadSummary.{ThreadSummary}
 use Rattle.pct_model.specs.Transitions.{acts}
 use Rattle.pct_model.specs.World.{Thread, body_of, statement_at, new_frame}
 use Rattle.pct_transition_cases.proofs.TransitionCases.{Returns}

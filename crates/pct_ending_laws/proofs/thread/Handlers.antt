@@ -9,12 +9,12 @@ use Rattle.pct_model.specs.declared.statement.Operand.{Operand}
 use Rattle.pct_model.specs.declared.statement.Stmt.TheVariants as statement
 use Rattle.pct_model.specs.declared.transition.Action.TheVariants as action
 use Rattle.pct_model.specs.Actions.{without_first, thread_at, thread_after}
-use Rattle.pct_model.specs.Kept.{AreOpen, open_functions}
+use Rattle.pct_laws.specs.Kept.{AreOpen, open_functions}
 use Rattle.pct_model.specs.StopTable.{has_begun_to_end}
 use Rattle.std.proofs.lemmas.Bool.{and_from, lt-ltb, or_right}
 use Rattle.pct_laws.specs.Once.{is_newest}
-use Rattle.pct_model.specs.OpenPushes.{open_pushes}
-use Rattle.pct_model.specs.ThreadSummary.{ThreadSummary, with_event}
+use Rattle.pct_laws.specs.OpenPushes.{open_pushes}
+use Rattle.pct_laws.specs.ThreadSummary.{ThreadSummary, with_event}
 use Rattle.pct_model.specs.Transitions.{goes_on}
 use Rattle.pct_model.specs.World.{Thread, body_of, statement_at, new_frame}
 use Rattle.pct_ending_laws.proofs.StaticPushes.{PushesMatch}

@@ -22,9 +22,9 @@ use Rattle.pct_model.specs.declared.transition.Action.TheVariants as action
 use Rattle.pct_model.specs.Actions.{thread_at, thread_after}
 use Rattle.pct_model.specs.CancelCalls.{state_number, state_if}
 use Rattle.pct_model.specs.Jumps.{is_end}
-use Rattle.pct_model.specs.OpenPushes.{pushes_after, open_pushes}
+use Rattle.pct_laws.specs.OpenPushes.{pushes_after, open_pushes}
 use Rattle.pct_model.specs.StopTable.{has_begun_to_end, is_handler_kind, is_in_handler}
-use Rattle.pct_model.specs.ThreadSummary.{ThreadSummary, no_events}
+use Rattle.pct_laws.specs.ThreadSummary.{ThreadSummary, no_events}
 use Rattle.pct_model.specs.Transitions.{goes_on, acts}
 use Rattle.pct_model.specs.World.{Thread, body_of, statement_at, value_of, new_frame, new_thread}
 use Rattle.pct_transition_cases.proofs.TransitionCases.{Leads, past_nop, past_if, past_while, past_else, past_end, Returns, by_return, by_end}

@@ -18,10 +18,11 @@ use Rattle.pct_model.specs.declared.event.Event.{Event}
 use Rattle.pct_model.specs.declared.event.What.{What}
 use Rattle.pct_model.specs.declared.event.What.TheVariants as what
 use Rattle.pct_model.specs.Actions.{moved}
-use Rattle.pct_model.specs.Kept.{AreOpen, open_functions, is_join, is_call_of, is_at_fork, IsSuspendedAt, has_left_wait, IsPlainFunction}
+use Rattle.pct_model.specs.Kept.{has_left_wait}
+use Rattle.pct_laws.specs.Kept.{AreOpen, open_functions, is_join, is_call_of, is_at_fork, IsSuspendedAt, IsPlainFunction}
 use Rattle.pct_model.specs.NextStatement.{next_of}
 use Rattle.pct_model.specs.StopTable.{has_begun_to_end}
-use Rattle.pct_model.specs.ThreadSummary.{ThreadSummary, no_events, with_event, summary_of}
+use Rattle.pct_laws.specs.ThreadSummary.{ThreadSummary, no_events, with_event, summary_of}
 use Rattle.pct_model.specs.World.{Thread, body_of}
 use Rattle.pct_laws.specs.Once.{may_come}
 use Rattle.pct_ending_laws.proofs.lift.EachAllowed.{all_may}

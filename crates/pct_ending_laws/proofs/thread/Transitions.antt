@@ -25,11 +25,11 @@ use Rattle.pct_model.specs.CancelCalls.{mode_number, mode_if, testcancel_point, 
 use Rattle.pct_model.specs.ChoiceTable.{choices_of, offers}
 use Rattle.pct_model.specs.CondCalls.{cond_wait_point}
 use Rattle.pct_model.specs.ForkCalls.{in_fork}
-use Rattle.pct_model.specs.Kept.{is_join, is_call_of, is_sem_wait_of, is_at_fork, is_at_waitpid, is_cond_wait_of, KeysKept, IsPlainFunction}
+use Rattle.pct_laws.specs.Kept.{is_join, is_call_of, is_sem_wait_of, is_at_fork, is_at_waitpid, is_cond_wait_of, KeysKept, IsPlainFunction}
 use Rattle.pct_model.specs.NextStatement.{NextStatement, next_in, next_of, body_at}
 use Rattle.pct_model.specs.OtherThreads.{Others, others_of}
 use Rattle.pct_model.specs.ThreadEnds.{end_value}
-use Rattle.pct_model.specs.ThreadSummary.{ThreadSummary, no_events}
+use Rattle.pct_laws.specs.ThreadSummary.{ThreadSummary, no_events}
 use Rattle.pct_model.specs.TransitionTable.{transition_by}
 use Rattle.pct_model.specs.World.{Thread, SharedState, Process, World, value_of, new_frame, new_thread}
 use Rattle.pct_transition_cases.proofs.CaseOfTransition.{case_of}

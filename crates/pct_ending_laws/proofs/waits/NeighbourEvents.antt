@@ -15,7 +15,7 @@ use Rattle.pct_model.specs.declared.statement.Stmt.{Stmt}
 use Rattle.pct_model.specs.declared.transition.Transition.{Transition}
 use Rattle.pct_laws.specs.Each.{each}
 use Rattle.pct_laws.specs.CondLaw.{hand_ons_allow}
-use Rattle.pct_model.specs.Kept.{is_wait_call, is_release, IsReleaseAfter, CallsRelease}
+use Rattle.pct_laws.specs.Kept.{is_wait_call, is_release, IsReleaseAfter, CallsRelease}
 use Rattle.pct_model.specs.NextStatement.{NextStatement, next_of, body_at}
 use Rattle.pct_model.specs.OtherThreads.{Others, others_of}
 use Rattle.pct_model.specs.Run.{event_of}

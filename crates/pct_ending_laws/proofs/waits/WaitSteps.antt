@@ -20,13 +20,14 @@ use Rattle.pct_model.specs.declared.transition.Transition.{Transition}
 use Rattle.pct_model.specs.Actions.{thread_at, thread_after, named_after, moved}
 use Rattle.pct_model.specs.CondCalls.{is_waiting_on, unblocked}
 use Rattle.pct_model.specs.ForkCalls.{in_fork, while_called}
-use Rattle.pct_model.specs.Kept.{WaitKept, is_leaving, has_left_wait}
+use Rattle.pct_model.specs.Kept.{has_left_wait}
+use Rattle.pct_laws.specs.Kept.{WaitKept, is_leaving}
 use Rattle.pct_model.specs.NextStatement.{NextStatement, next_of, body_at}
 use Rattle.pct_model.specs.OtherThreads.{Others, others_of}
 use Rattle.pct_model.specs.ThreadSlots.{is_live_thread}
 use Rattle.pct_model.specs.Transitions.{acts}
 use Rattle.pct_model.specs.TransitionTable.{transition_by}
-use Rattle.pct_model.specs.WaitStages.{WaitStage, NoWait, AtCall, InWait, Leaving, LeavingSignal, stage_after, wait_stage, may_follow}
+use Rattle.pct_laws.specs.WaitStages.{WaitStage, NoWait, AtCall, InWait, Leaving, LeavingSignal, stage_after, wait_stage, may_follow}
 use Rattle.pct_model.specs.World.{Thread, SharedState, Process, World}
 use Rattle.pct_transition_cases.proofs.CaseOfTransition.{case_of}
 use Rattle.pct_transition_cases.proofs.PlacedStatements.{IsPlaced, is_placed, statement_placed}

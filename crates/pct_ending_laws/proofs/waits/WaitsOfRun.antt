@@ -8,10 +8,10 @@ use Rattle.pct_laws.specs.Each.{each}
 use Rattle.pct_laws.specs.CondLaw.{waits_allow, hand_ons_allow}
 use Rattle.pct_model.specs.declared.state.Status.{Status}
 use Rattle.pct_model.specs.Actions.{in_child}
-use Rattle.pct_model.specs.Kept.{WaitKept, CallsRelease}
+use Rattle.pct_laws.specs.Kept.{WaitKept, CallsRelease}
 use Rattle.pct_model.specs.Run.{Run, run}
 use Rattle.pct_model.specs.TransitionTable.{transition_by}
-use Rattle.pct_model.specs.WaitStages.{WaitStage, NoWait, wait_stage, may_follow}
+use Rattle.pct_laws.specs.WaitStages.{WaitStage, NoWait, wait_stage, may_follow}
 use Rattle.pct_model.specs.World.{Thread, Process, made_thread, thread_with}
 use Rattle.pct_ending_laws.proofs.lift.TakenSteps.{IsTaken, with_step, AfterEveryRun, every_run}
 use Rattle.pct_ending_laws.proofs.lift.ThreadsAfter.{Moves, mover}
