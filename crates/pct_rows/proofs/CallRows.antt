@@ -24,7 +24,10 @@ use Rattle.pct_model.specs.declared.statement.Operand.TheVariants as operand
 use Rattle.pct_model.specs.declared.statement.Stmt.{Stmt}
 use Rattle.pct_model.specs.declared.statement.Stmt.TheVariants as statement
 use Rattle.pct_model.specs.Actions.{without_first}
-use Rattle.pct_laws.specs.Calls.{IsCall, RunsAbove, by_exit, by_call, IsCalled, EachIsCalled, SaysCalls, KeepsExitFunctions, KeepsKeys, KeysLaw}
+use Rattle.pct_laws.specs.Calls.{IsCall, RunsAbove, by_exit, by_call, IsCalled, EachIsCalled, SaysCalls, KeepsExitFunctions, KeepsKeys}
+use Rattle.pct_laws.specs.Each.{each}
+use Rattle.pct_laws.specs.KeysLaw.{allows}
+use Rattle.pct_rows.proofs.Refusals.{refuses}
 use Rattle.pct_model.specs.Keys.{Key, KeyPlace}
 use Rattle.pct_model.specs.NextStatement.{NextStatement, StatementIn}
 use Rattle.pct_model.specs.Static.{is_static}
@@ -54,46 +57,46 @@ destroys = what.DtorRun 1 1 4 7
 abbrev fork : Event
 fork = event (what.Forked 2)
 
-destroyed : KeysLaw (event destroys ∷ event makes ∷ [])
-destroyed = ((λ (null : ◌≡◌ {A = ℕ} 7 0). omega arith, refl), (tt, tt))
+destroyed : each allows (event destroys ∷ event makes ∷ []) ≡ true
+destroyed = refl
 
 -- another key is deleted meanwhile
-another_is_deleted : KeysLaw (event destroys ∷ event (what.KeyGone 2) ∷ event makes ∷ event (what.KeyMade 2) ∷ [])
-another_is_deleted = ((λ (null : ◌≡◌ {A = ℕ} 7 0). omega arith, refl), (tt, (tt, (tt, tt))))
+another_is_deleted : each allows (event destroys ∷ event (what.KeyGone 2) ∷ event makes ∷ event (what.KeyMade 2) ∷ []) ≡ true
+another_is_deleted = refl
 
 -- a child has the keys of its parent, and keeps them
-destroyed_in_a_child : KeysLaw (replica destroys ∷ event deletes ∷ fork ∷ event makes ∷ [])
-destroyed_in_a_child = ((λ (null : ◌≡◌ {A = ℕ} 7 0). omega arith, refl), (tt, (tt, (tt, tt))))
+destroyed_in_a_child : each allows (replica destroys ∷ event deletes ∷ fork ∷ event makes ∷ []) ≡ true
+destroyed_in_a_child = refl
 
-destroyed_in_the_parent : KeysLaw (event destroys ∷ replica deletes ∷ fork ∷ event makes ∷ [])
-destroyed_in_the_parent = ((λ (null : ◌≡◌ {A = ℕ} 7 0). omega arith, refl), (tt, (tt, (tt, tt))))
+destroyed_in_the_parent : each allows (event destroys ∷ replica deletes ∷ fork ∷ event makes ∷ []) ≡ true
+destroyed_in_the_parent = refl
 
-no_destructor_is_called_with_NULL : KeysLaw (event (what.DtorRun 1 1 4 0) ∷ event makes ∷ []) → ⊥
-no_destructor_is_called_with_NULL law = law.0.0 refl
+no_destructor_is_called_with_NULL : refuses allows (event (what.DtorRun 1 1 4 0) ∷ event makes ∷ []) ≡ true
+no_destructor_is_called_with_NULL = refl
 
-its_key_was_made : KeysLaw (event destroys ∷ []) → ⊥
-its_key_was_made law = absurd (false≢true law.0.1)
+its_key_was_made : refuses allows (event destroys ∷ []) ≡ true
+its_key_was_made = refl
 
-not_another_key : KeysLaw (event destroys ∷ event (what.KeyMade 2) ∷ []) → ⊥
-not_another_key law = absurd (false≢true law.0.1)
+not_another_key : refuses allows (event destroys ∷ event (what.KeyMade 2) ∷ []) ≡ true
+not_another_key = refl
 
-before_the_call : KeysLaw (event makes ∷ event destroys ∷ []) → ⊥
-before_the_call law = absurd (false≢true law.1.0.1)
+before_the_call : each allows (event makes ∷ event destroys ∷ []) ≡ false
+before_the_call = refl
 
-and_not_deleted : KeysLaw (event destroys ∷ event deletes ∷ event makes ∷ []) → ⊥
-and_not_deleted law = absurd (false≢true law.0.1)
+and_not_deleted : refuses allows (event destroys ∷ event deletes ∷ event makes ∷ []) ≡ true
+and_not_deleted = refl
 
-a_child_has_no_key_that_was_deleted_before_the_fork : KeysLaw (replica destroys ∷ fork ∷ event deletes ∷ event makes ∷ []) → ⊥
-a_child_has_no_key_that_was_deleted_before_the_fork law = absurd (false≢true law.0.1)
+a_child_has_no_key_that_was_deleted_before_the_fork : refuses allows (replica destroys ∷ fork ∷ event deletes ∷ event makes ∷ []) ≡ true
+a_child_has_no_key_that_was_deleted_before_the_fork = refl
 
-nor_one_that_its_parent_made_after_the_fork : KeysLaw (replica destroys ∷ event makes ∷ fork ∷ []) → ⊥
-nor_one_that_its_parent_made_after_the_fork law = absurd (false≢true law.0.1)
+nor_one_that_its_parent_made_after_the_fork : refuses allows (replica destroys ∷ event makes ∷ fork ∷ []) ≡ true
+nor_one_that_its_parent_made_after_the_fork = refl
 
-nor_one_that_it_deleted : KeysLaw (replica destroys ∷ replica deletes ∷ fork ∷ event makes ∷ []) → ⊥
-nor_one_that_it_deleted law = absurd (false≢true law.0.1)
+nor_one_that_it_deleted : refuses allows (replica destroys ∷ replica deletes ∷ fork ∷ event makes ∷ []) ≡ true
+nor_one_that_it_deleted = refl
 
-a_parent_has_no_key_of_its_child : KeysLaw (event destroys ∷ replica makes ∷ fork ∷ []) → ⊥
-a_parent_has_no_key_of_its_child law = absurd (false≢true law.0.1)
+a_parent_has_no_key_of_its_child : refuses allows (event destroys ∷ replica makes ∷ fork ∷ []) ≡ true
+a_parent_has_no_key_of_its_child = refl
 
 -- ---- a script
 

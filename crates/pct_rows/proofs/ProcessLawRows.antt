@@ -6,6 +6,7 @@ use Rattle.pct_model.specs.declared.event.What.{What}
 use Rattle.pct_model.specs.declared.event.What.TheVariants as what
 use Rattle.pct_model.specs.declared.stop.Why.TheVariants as why
 use Rattle.pct_laws.specs.Each.{each}
+use Rattle.pct_rows.proofs.Refusals.{refuses}
 use Rattle.pct_laws.specs.ProcessLaw.{allows}
 
 -- an event of thread 1 of process 1, of another thread of it, and of a thread of process 2
@@ -21,6 +22,10 @@ elsewhere tid w = record { pid = 2; tid = tid; what = w }
 -- the events keep the law
 abbrev keeps : List Event → Bool
 keeps events = each allows events
+
+-- they do not: the newest is refused
+abbrev refused : List Event → Bool
+refused events = refuses allows events
 
 -- thread 1 creates thread 2
 abbrev created : List Event
@@ -46,19 +51,19 @@ child_ended = elsewhere 1 (what.ProcessEnded 5) ∷ forked
 stopped : keeps (event (what.Stopped why.ThreadId) ∷ event (what.Emit 5) ∷ []) ≡ true
 stopped = refl
 
-after_a_stop_no_event_comes : keeps (event (what.Emit 5) ∷ event (what.Stopped why.ThreadId) ∷ []) ≡ false
+after_a_stop_no_event_comes : refused (event (what.Emit 5) ∷ event (what.Stopped why.ThreadId) ∷ []) ≡ true
 after_a_stop_no_event_comes = refl
 
-nor_one_of_another_process : keeps (elsewhere 1 (what.Emit 5) ∷ event (what.Stopped why.ThreadId) ∷ forked) ≡ false
+nor_one_of_another_process : refused (elsewhere 1 (what.Emit 5) ∷ event (what.Stopped why.ThreadId) ∷ forked) ≡ true
 nor_one_of_another_process = refl
 
-after_the_end_of_its_process_no_event_comes : keeps (event (what.Emit 5) ∷ event (what.ProcessEnded 0) ∷ []) ≡ false
+after_the_end_of_its_process_no_event_comes : refused (event (what.Emit 5) ∷ event (what.ProcessEnded 0) ∷ []) ≡ true
 after_the_end_of_its_process_no_event_comes = refl
 
-nor_one_of_another_thread : keeps (other 2 (what.Emit 5) ∷ event (what.ProcessEnded 0) ∷ created) ≡ false
+nor_one_of_another_thread : refused (other 2 (what.Emit 5) ∷ event (what.ProcessEnded 0) ∷ created) ≡ true
 nor_one_of_another_thread = refl
 
-nor_a_second_end : keeps (event (what.ProcessEnded 0) ∷ event (what.ProcessEnded 0) ∷ []) ≡ false
+nor_a_second_end : refused (event (what.ProcessEnded 0) ∷ event (what.ProcessEnded 0) ∷ []) ≡ true
 nor_a_second_end = refl
 
 -- the other process goes on, whichever of them ends
@@ -74,22 +79,22 @@ the_parent_goes_on = refl
 known_threads : keeps (elsewhere 2 (what.Emit 5) ∷ other 2 (what.Forked 2) ∷ other 2 (what.Emit 5) ∷ created) ≡ true
 known_threads = refl
 
-the_thread_of_an_event_was_created : keeps (other 2 (what.Emit 5) ∷ []) ≡ false
+the_thread_of_an_event_was_created : refused (other 2 (what.Emit 5) ∷ []) ≡ true
 the_thread_of_an_event_was_created = refl
 
 it_was_created_before_the_event : keeps (event (what.Created 2 false) ∷ other 2 (what.Emit 5) ∷ []) ≡ false
 it_was_created_before_the_event = refl
 
-its_process_was_made : keeps (elsewhere 1 (what.Emit 5) ∷ []) ≡ false
+its_process_was_made : refused (elsewhere 1 (what.Emit 5) ∷ []) ≡ true
 its_process_was_made = refl
 
-a_thread_is_created_in_its_process : keeps (elsewhere 2 (what.Emit 5) ∷ elsewhere 1 (what.Emit 5) ∷ event (what.Created 2 false) ∷ forked) ≡ false
+a_thread_is_created_in_its_process : refused (elsewhere 2 (what.Emit 5) ∷ elsewhere 1 (what.Emit 5) ∷ event (what.Created 2 false) ∷ forked) ≡ true
 a_thread_is_created_in_its_process = refl
 
-a_child_has_the_thread_that_called_fork_alone : keeps (elsewhere 2 (what.Emit 5) ∷ event (what.Forked 2) ∷ created) ≡ false
+a_child_has_the_thread_that_called_fork_alone : refused (elsewhere 2 (what.Emit 5) ∷ event (what.Forked 2) ∷ created) ≡ true
 a_child_has_the_thread_that_called_fork_alone = refl
 
-nor_has_it_an_initial_thread : keeps (elsewhere 1 (what.Emit 5) ∷ other 2 (what.Forked 2) ∷ created) ≡ false
+nor_has_it_an_initial_thread : refused (elsewhere 1 (what.Emit 5) ∷ other 2 (what.Forked 2) ∷ created) ≡ true
 nor_has_it_an_initial_thread = refl
 
 -- ---- forks
@@ -98,13 +103,13 @@ nor_has_it_an_initial_thread = refl
 forks : keeps (elsewhere 1 (what.Forked 4) ∷ event (what.Forked 3) ∷ forked) ≡ true
 forks = refl
 
-a_process_is_made_by_one_fork : keeps (event (what.Forked 2) ∷ forked) ≡ false
+a_process_is_made_by_one_fork : refused (event (what.Forked 2) ∷ forked) ≡ true
 a_process_is_made_by_one_fork = refl
 
-not_by_its_own : keeps (elsewhere 1 (what.Forked 2) ∷ forked) ≡ false
+not_by_its_own : refused (elsewhere 1 (what.Forked 2) ∷ forked) ≡ true
 not_by_its_own = refl
 
-no_fork_makes_the_first_process : keeps (event (what.Forked 1) ∷ []) ≡ false
+no_fork_makes_the_first_process : refused (event (what.Forked 1) ∷ []) ≡ true
 no_fork_makes_the_first_process = refl
 
 -- an event of the child before it is made also breaks the sentence on known threads
@@ -125,16 +130,16 @@ another_thread_ends_it = refl
 exit_begins_in_each : keeps (elsewhere 2 (what.ExitBegun 2) ∷ other 2 (what.Forked 2) ∷ event (what.ExitBegun 1) ∷ created) ≡ true
 exit_begins_in_each = refl
 
-exit_begins_once : keeps (event (what.ExitBegun 1) ∷ event (what.ExitBegun 1) ∷ []) ≡ false
+exit_begins_once : refused (event (what.ExitBegun 1) ∷ event (what.ExitBegun 1) ∷ []) ≡ true
 exit_begins_once = refl
 
-also_by_another_thread : keeps (other 2 (what.ExitBegun 1) ∷ event (what.ExitBegun 1) ∷ created) ≡ false
+also_by_another_thread : refused (other 2 (what.ExitBegun 1) ∷ event (what.ExitBegun 1) ∷ created) ≡ true
 also_by_another_thread = refl
 
-a_status_has_8_bits : keeps (event (what.ProcessEnded 256) ∷ []) ≡ false
+a_status_has_8_bits : refused (event (what.ProcessEnded 256) ∷ []) ≡ true
 a_status_has_8_bits = refl
 
-the_status_is_that_of_exit : keeps (event (what.ProcessEnded 2) ∷ event (what.ExitBegun 257) ∷ []) ≡ false
+the_status_is_that_of_exit : refused (event (what.ProcessEnded 2) ∷ event (what.ExitBegun 257) ∷ []) ≡ true
 the_status_is_that_of_exit = refl
 
 -- ---- waitpid
@@ -143,16 +148,16 @@ the_status_is_that_of_exit = refl
 reaped : keeps (event (what.Reaped 3 6) ∷ event (what.Reaped 2 5) ∷ record { pid = 3; tid = 1; what = what.ProcessEnded 6 } ∷ elsewhere 1 (what.ProcessEnded 5) ∷ event (what.Forked 3) ∷ forked) ≡ true
 reaped = refl
 
-waitpid_is_for_a_child : keeps (event (what.Reaped 3 6) ∷ record { pid = 3; tid = 1; what = what.ProcessEnded 6 } ∷ elsewhere 1 (what.Forked 3) ∷ forked) ≡ false
+waitpid_is_for_a_child : refused (event (what.Reaped 3 6) ∷ record { pid = 3; tid = 1; what = what.ProcessEnded 6 } ∷ elsewhere 1 (what.Forked 3) ∷ forked) ≡ true
 waitpid_is_for_a_child = refl
 
-waitpid_waits_for_the_end : keeps (event (what.Reaped 2 0) ∷ forked) ≡ false
+waitpid_waits_for_the_end : refused (event (what.Reaped 2 0) ∷ forked) ≡ true
 waitpid_waits_for_the_end = refl
 
-waitpid_gives_the_status : keeps (event (what.Reaped 2 6) ∷ child_ended) ≡ false
+waitpid_gives_the_status : refused (event (what.Reaped 2 6) ∷ child_ended) ≡ true
 waitpid_gives_the_status = refl
 
-waitpid_gives_it_once : keeps (event (what.Reaped 2 5) ∷ event (what.Reaped 2 5) ∷ child_ended) ≡ false
+waitpid_gives_it_once : refused (event (what.Reaped 2 5) ∷ event (what.Reaped 2 5) ∷ child_ended) ≡ true
 waitpid_gives_it_once = refl
 
 -- ---- joins
@@ -161,11 +166,11 @@ waitpid_gives_it_once = refl
 joined : keeps (event (what.Joined 2 7) ∷ other 2 (what.EndedWith 7) ∷ created) ≡ true
 joined = refl
 
-a_join_is_of_a_known_thread : keeps (event (what.Joined 3 7) ∷ created) ≡ false
+a_join_is_of_a_known_thread : refused (event (what.Joined 3 7) ∷ created) ≡ true
 a_join_is_of_a_known_thread = refl
 
-a_join_is_of_another_thread : keeps (event (what.Joined 1 7) ∷ []) ≡ false
+a_join_is_of_another_thread : refused (event (what.Joined 1 7) ∷ []) ≡ true
 a_join_is_of_another_thread = refl
 
-a_thread_that_has_ended_joins_none : keeps (event (what.Joined 2 7) ∷ event (what.EndedWith 0) ∷ created) ≡ false
+a_thread_that_has_ended_joins_none : refused (event (what.Joined 2 7) ∷ event (what.EndedWith 0) ∷ created) ≡ true
 a_thread_that_has_ended_joins_none = refl

@@ -6,12 +6,17 @@ use Rattle.pct_model.specs.declared.event.Event.{Event}
 use Rattle.pct_model.specs.declared.event.What.{What}
 use Rattle.pct_model.specs.declared.event.What.TheVariants as what
 use Rattle.pct_laws.specs.Each.{each}
+use Rattle.pct_rows.proofs.Refusals.{refuses}
 use Rattle.pct_laws.specs.SlotLaw.{allows}
 use Rattle.pct_model.specs.ThreadCalls.{join_point}
 
 -- the events keep the law
 abbrev keeps : List Event → Bool
 keeps events = each (allows 2) events
+
+-- they do not: the newest is refused
+abbrev refused : List Event → Bool
+refused events = refuses (allows 2) events
 
 -- ---- lists of events
 
@@ -71,33 +76,33 @@ on_the_slot_of_a_detached_replica = refl
 -- ---- refused
 
 -- the initial thread, a running thread, and one that was joined have had their ids
-the_initial_thread_has_its_id : keeps (create 1 ∷ []) ≡ false
+the_initial_thread_has_its_id : refused (create 1 ∷ []) ≡ true
 the_initial_thread_has_its_id = refl
 
-an_id_is_given_once : keeps (create 2 ∷ create 2 ∷ []) ≡ false
+an_id_is_given_once : refused (create 2 ∷ create 2 ∷ []) ≡ true
 an_id_is_given_once = refl
 
-and_not_again_after_a_join : keeps (create 2 ∷ joined) ≡ false
+and_not_again_after_a_join : refused (create 2 ∷ joined) ≡ true
 and_not_again_after_a_join = refl
 
-the_initial_thread_holds_its_slot : keeps (create 3 ∷ []) ≡ false
+the_initial_thread_holds_its_slot : refused (create 3 ∷ []) ≡ true
 the_initial_thread_holds_its_slot = refl
 
-a_thread_holds_its_slot : keeps (create 4 ∷ create 2 ∷ []) ≡ false
+a_thread_holds_its_slot : refused (create 4 ∷ create 2 ∷ []) ≡ true
 a_thread_holds_its_slot = refl
 
-a_detached_thread_holds_its_slot_until_its_end : keeps (create 4 ∷ event 2 (what.EndingExit 7) ∷ event 1 (what.Created 2 true) ∷ []) ≡ false
+a_detached_thread_holds_its_slot_until_its_end : refused (create 4 ∷ event 2 (what.EndingExit 7) ∷ event 1 (what.Created 2 true) ∷ []) ≡ true
 a_detached_thread_holds_its_slot_until_its_end = refl
 
-a_thread_that_has_ended_holds_its_slot : keeps (create 4 ∷ ended) ≡ false
+a_thread_that_has_ended_holds_its_slot : refused (create 4 ∷ ended) ≡ true
 a_thread_that_has_ended_holds_its_slot = refl
 
 -- thread 2 is canceled while it joins thread 1, and its handler creates a thread after the end of thread 1
-a_canceled_join_frees_no_slot : keeps (event 2 (what.Created 3 false) ∷ event 2 (what.HandlerRun 0 0) ∷ event 1 (what.EndedWith 7) ∷ event 1 (what.EndingExit 7) ∷ event 2 what.EndingCanceled ∷ event 1 (what.Request 2) ∷ event 2 (what.Called join_point) ∷ event 2 (what.Pushed 0 0) ∷ create 2 ∷ []) ≡ false
+a_canceled_join_frees_no_slot : refused (event 2 (what.Created 3 false) ∷ event 2 (what.HandlerRun 0 0) ∷ event 1 (what.EndedWith 7) ∷ event 1 (what.EndingExit 7) ∷ event 2 what.EndingCanceled ∷ event 1 (what.Request 2) ∷ event 2 (what.Called join_point) ∷ event 2 (what.Pushed 0 0) ∷ create 2 ∷ []) ≡ true
 a_canceled_join_frees_no_slot = refl
 
 -- of the threads on a slot the last one counts, whatever became of the others
-the_last_thread_of_a_slot_holds_it : keeps (create 6 ∷ create 4 ∷ joined) ≡ false
+the_last_thread_of_a_slot_holds_it : refused (create 6 ∷ create 4 ∷ joined) ≡ true
 the_last_thread_of_a_slot_holds_it = refl
 
 -- each event counts, not the newest one alone
@@ -105,22 +110,22 @@ no_event_is_passed_over : keeps (event 1 (what.Joined 4 7) ∷ event 4 (what.End
 no_event_is_passed_over = refl
 
 -- the replica of thread 1 has its id and its slot in process 2
-a_replica_has_its_id : keeps (elsewhere 1 (what.Created 1 false) ∷ event 1 (what.Forked 2) ∷ []) ≡ false
+a_replica_has_its_id : refused (elsewhere 1 (what.Created 1 false) ∷ event 1 (what.Forked 2) ∷ []) ≡ true
 a_replica_has_its_id = refl
 
-a_replica_holds_its_slot : keeps (elsewhere 1 (what.Created 3 false) ∷ event 1 (what.Forked 2) ∷ []) ≡ false
+a_replica_holds_its_slot : refused (elsewhere 1 (what.Created 3 false) ∷ event 1 (what.Forked 2) ∷ []) ≡ true
 a_replica_holds_its_slot = refl
 
 -- threads of process 2 that were created after the fork are on slots of process 2
-a_thread_of_a_new_process_holds_its_slot : keeps (elsewhere 1 (what.Created 4 false) ∷ elsewhere 1 (what.Created 2 false) ∷ event 1 (what.Forked 2) ∷ joined) ≡ false
+a_thread_of_a_new_process_holds_its_slot : refused (elsewhere 1 (what.Created 4 false) ∷ elsewhere 1 (what.Created 2 false) ∷ event 1 (what.Forked 2) ∷ joined) ≡ true
 a_thread_of_a_new_process_holds_its_slot = refl
 
 -- what becomes of thread 2 of process 1 after the fork frees no slot of process 2: its end, a detach, and a join
-no_end_in_another_process_counts : keeps (elsewhere 2 (what.Created 4 false) ∷ event 1 (what.Joined 2 7) ∷ event 2 (what.EndedWith 7) ∷ event 2 (what.Forked 2) ∷ create 2 ∷ []) ≡ false
+no_end_in_another_process_counts : refused (elsewhere 2 (what.Created 4 false) ∷ event 1 (what.Joined 2 7) ∷ event 2 (what.EndedWith 7) ∷ event 2 (what.Forked 2) ∷ create 2 ∷ []) ≡ true
 no_end_in_another_process_counts = refl
 
-nor_does_a_detach : keeps (elsewhere 3 (what.Created 4 false) ∷ replica_ended_after (event 1 (what.Detached 2) ∷ []) (create 2 ∷ [])) ≡ false
+nor_does_a_detach : refused (elsewhere 3 (what.Created 4 false) ∷ replica_ended_after (event 1 (what.Detached 2) ∷ []) (create 2 ∷ [])) ≡ true
 nor_does_a_detach = refl
 
-nor_does_a_join : keeps (elsewhere 3 (what.Created 4 false) ∷ replica_ended_after (event 1 (what.Joined 2 7) ∷ event 2 (what.EndedWith 7) ∷ event 2 (what.EndingExit 7) ∷ event 1 (what.Called join_point) ∷ []) (create 2 ∷ [])) ≡ false
+nor_does_a_join : refused (elsewhere 3 (what.Created 4 false) ∷ replica_ended_after (event 1 (what.Joined 2 7) ∷ event 2 (what.EndedWith 7) ∷ event 2 (what.EndingExit 7) ∷ event 1 (what.Called join_point) ∷ []) (create 2 ∷ [])) ≡ true
 nor_does_a_join = refl

@@ -121,10 +121,10 @@ module _ (script : Script) (config : Config) (before : List Entry) (r : Run) (is
       true≢false (sym (last_exits script config (threads_fit script config) before r is e.pid p process_is id u target.found (target.here, ended, exits) e.tid t it.found it.here) ∙ alive)) in
       and_from _ _ (known_of_run script config before r is e.pid id ∙ ap (λ (found : Option Thread). option_map_or (λ x. not x.gone) found false) (made id u is_u) ∙ ap not target.here)
       (ap not (
-          ap (λ (b : Bool). b && (is_joined e.pid id r.events || is_detached e.pid id r.events)) (sym (end_reported e.pid id r.events) ∙ kept.ended)
-          ∙ ap (λ (b : Bool). u.ended && (b || is_detached e.pid id r.events)) (sym (joined_of_run script config before r is e.pid id u (made id u is_u) target.here))
-          ∙ ap (λ (b : Bool). u.ended && (u.joined || b)) (sym (detached_of_run script config before r is e.pid id u (made id u is_u) target.here))
-          ∙ unreclaimed_by u.gone u.ended (is_ended_status u.status) (u.joined || u.detached) target.holds has_status
+      ap (λ (b : Bool). b && (is_joined e.pid id r.events || is_detached e.pid id r.events)) (sym (end_reported e.pid id r.events) ∙ kept.ended)
+      ∙ ap (λ (b : Bool). u.ended && (b || is_detached e.pid id r.events)) (sym (joined_of_run script config before r is e.pid id u (made id u is_u) target.here))
+      ∙ ap (λ (b : Bool). u.ended && (u.joined || b)) (sym (detached_of_run script config before r is e.pid id u (made id u is_u) target.here))
+      ∙ unreclaimed_by u.gone u.ended (is_ended_status u.status) (u.joined || u.detached) target.holds has_status
       ))
 
   -- a thread that is joined
@@ -135,8 +135,8 @@ module _ (script : Script) (config : Config) (before : List Entry) (r : Run) (is
       let one : JoinsOne p.threads e.tid id = (joins_of_processes script config before r is e.pid p process_is).joins e.tid t it.found it.here id joins in
       let same : one.target ≡ u = same_Some one.target u (sym one.made ∙ target.found) in
       and_from _ _ (and_from _ _ (value_reported v e.pid id r.events (kept.value v ended)) (and_from _ _
-          (ap not (sym (joined_of_run script config before r is e.pid id u (made id u is_u) target.here) ∙ ap (λ (x : Thread). x.joined) (sym same) ∙ one.not_joined))
-          (ap not (sym (detached_of_run script config before r is e.pid id u (made id u is_u) target.here) ∙ ap (λ (x : Thread). x.detached) (sym same) ∙ one.joinable))))
+      (ap not (sym (joined_of_run script config before r is e.pid id u (made id u is_u) target.here) ∙ ap (λ (x : Thread). x.joined) (sym same) ∙ one.not_joined))
+      (ap not (sym (detached_of_run script config before r is e.pid id u (made id u is_u) target.here) ∙ ap (λ (x : Thread). x.detached) (sym same) ∙ one.joinable))))
       (ap (λ (o : Option What). option_map_or (calls_point join_point) o false) (newest_call_of_run script config before r is e.pid e.tid t it_made it.here (what.Called join_point) (ap call_event joins)))
 
   -- the events of the step
