@@ -17,7 +17,7 @@ use Rattle.pct_model.specs.declared.transition.Action.TheVariants as action
 use Rattle.pct_model.specs.Actions.{named_after}
 use Rattle.pct_model.specs.ChoiceTable.{choices_of, offers}
 use Rattle.pct_model.specs.CondCalls.{is_waiting_on, unblocked}
-use Rattle.pct_model.specs.Kept.{is_forking, has_left_wait}
+use Rattle.pct_model.specs.StatusKinds.{is_forking, has_left_wait}
 use Rattle.pct_laws.specs.Kept.{is_exiting, ThreadKept, KeysKept}
 use Rattle.pct_model.specs.Keys.{key_place}
 use Rattle.pct_model.specs.Names.{main_of, names_of}

@@ -26,7 +26,7 @@ use Rattle.pct_laws.specs.KnownThreads.{newest_event}
 use Rattle.pct_model.specs.NextStatement.{NextStatement, NoStatement, StatementIn, next_of}
 use Rattle.pct_laws.specs.ThreadSteps.{ThreadStep, EachStep}
 use Rattle.pct_laws.specs.Kept.{EachProcess, EachThreadOf}
-use Rattle.pct_model.specs.CancelLaw.{is_at_cancellation_point}
+use Rattle.pct_model.specs.StatusKinds.{is_at_cancellation_point}
 use Rattle.pct_model.specs.Run.{Run}
 use Rattle.pct_laws.specs.Each.{each}
 use Rattle.pct_laws.specs.RequestsLaw as RequestsLaw

@@ -28,7 +28,7 @@ use Rattle.pct_model.specs.ForkCalls.{is_fork}
 use Rattle.pct_laws.specs.KeyEvents.{has_key}
 use Rattle.pct_model.specs.Keys.{Key, KeyPlace, key_at, key_with, value_at}
 use Rattle.pct_laws.specs.KnownThreads.{is_known, is_detached, is_joined, newest_event}
-use Rattle.pct_model.specs.Kept.{is_forking, has_left_wait, has_no_frame}
+use Rattle.pct_model.specs.StatusKinds.{is_forking, has_left_wait, has_no_frame}
 use Rattle.pct_model.specs.LineParsing.{is_empty}
 use Rattle.pct_laws.specs.MutexOwners.{owner_of}
 use Rattle.pct_model.specs.NextStatement.{NextStatement, StatementIn, next_of}

@@ -26,7 +26,7 @@ use Rattle.pct_model.specs.declared.statement.Stmt.{Stmt}
 use Rattle.pct_model.specs.declared.statement.Stmt.TheVariants as statement
 use Rattle.pct_model.specs.declared.stop.Why.TheVariants as why
 use Rattle.pct_laws.specs.CancelEvents.{has_to_act}
-use Rattle.pct_model.specs.CancelLaw.{calls_cancellation_point, is_at_cancellation_point}
+use Rattle.pct_model.specs.StatusKinds.{calls_cancellation_point, is_at_cancellation_point}
 use Rattle.pct_laws.specs.CancelLaw.{ActsAt, EachMayAct, ActsAtCalls, is_suspended, is_to_act, Awakened}
 use Rattle.pct_model.specs.ChoiceTable.{choices_of}
 use Rattle.pct_model.specs.NextStatement.{NoStatement, StatementIn}

@@ -14,7 +14,7 @@ use Rattle.pct_model.specs.declared.statement.Stmt.{Stmt}
 use Rattle.pct_model.specs.declared.transition.Transition.{Transition}
 use Rattle.pct_model.specs.Cancelability.{is_deliverable}
 use Rattle.pct_laws.specs.CancelEvents.{is_asynchronous_last}
-use Rattle.pct_model.specs.CancelLaw.{is_at_cancellation_point}
+use Rattle.pct_model.specs.StatusKinds.{is_at_cancellation_point}
 use Rattle.pct_laws.specs.CancelLaw.{ActsWhereItMay, ActsAt, EachMayAct}
 use Rattle.pct_model.specs.NextStatement.{NextStatement, next_of, body_at}
 use Rattle.pct_model.specs.OtherThreads.{Others, others_of}

@@ -12,7 +12,7 @@ use Rattle.pct_model.specs.declared.transition.Transition.{Transition}
 use Rattle.pct_model.specs.Actions.{thread_at, thread_after, named_after, moved}
 use Rattle.pct_model.specs.CancelCalls.{state_if, mode_if}
 use Rattle.pct_laws.specs.CancelEvents.{enabled_after, is_enabled_last, asynchronous_after, is_asynchronous_last, has_not_begun}
-use Rattle.pct_model.specs.Kept.{is_forking}
+use Rattle.pct_model.specs.StatusKinds.{is_forking}
 use Rattle.pct_laws.specs.Kept.{EachThread}
 use Rattle.pct_laws.specs.KnownThreads.{is_own, is_fork_of}
 use Rattle.pct_model.specs.NextStatement.{NextStatement, next_of, body_at}

@@ -30,7 +30,7 @@ use Rattle.pct_laws.specs.NewestEvents.{newest_is, calls_point}
 use Rattle.pct_laws.specs.RequestsLaw.{is_in_wait, is_to_return, is_to_end, has_own_return, may_return, may_act, allows}
 use Rattle.pct_model.specs.CondCalls.{cond_wait_point}
 use Rattle.pct_model.specs.ForkCalls.{waitpid_point}
-use Rattle.pct_model.specs.Kept.{has_left_wait}
+use Rattle.pct_model.specs.StatusKinds.{has_left_wait}
 use Rattle.pct_laws.specs.Kept.{is_call_of, is_leaving, WaitKept}
 use Rattle.pct_laws.specs.KnownThreads.{is_own, newest_event}
 use Rattle.pct_model.specs.NextStatement.{NextStatement, StatementIn, next_of}

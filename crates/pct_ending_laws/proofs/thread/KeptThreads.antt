@@ -15,7 +15,7 @@ use Rattle.pct_model.specs.declared.state.Status.{Status}
 use Rattle.pct_model.specs.declared.state.Status.TheVariants as status
 use Rattle.pct_model.specs.Actions.{without_first}
 use Rattle.pct_model.specs.Keys.{KeyPlace}
-use Rattle.pct_model.specs.Kept.{has_no_frame, is_forking, has_left_wait}
+use Rattle.pct_model.specs.StatusKinds.{has_no_frame, is_forking, has_left_wait}
 use Rattle.pct_laws.specs.Kept.{KeysKept, AreOpen, open_functions, HasOneBottom, bottom_kind, is_bottom_kind, is_end_kind, is_exit_kind, is_ending_status, is_exiting, is_in_fork_handler, is_at_fork, IsSuspendedAt, IsPlainFunction, ThreadKept}
 use Rattle.pct_model.specs.LineParsing.{is_empty}
 use Rattle.pct_model.specs.NextStatement.{next_of}

@@ -8,7 +8,7 @@ use Rattle.pct_model.specs.declared.state.Reason.TheVariants as reason
 use Rattle.pct_model.specs.declared.state.Status.{Status}
 use Rattle.pct_model.specs.declared.state.Status.TheVariants as status
 use Rattle.pct_model.specs.Actions.{in_child, replica_of}
-use Rattle.pct_model.specs.Kept.{is_forking}
+use Rattle.pct_model.specs.StatusKinds.{is_forking}
 use Rattle.pct_laws.specs.Kept.{AreOpen, open_functions, is_at_fork}
 use Rattle.pct_model.specs.NextStatement.{next_of}
 use Rattle.pct_model.specs.StopTable.{has_begun_to_end}

@@ -18,7 +18,7 @@ use Rattle.pct_model.specs.declared.event.Event.{Event}
 use Rattle.pct_model.specs.declared.event.What.{What}
 use Rattle.pct_model.specs.declared.event.What.TheVariants as what
 use Rattle.pct_model.specs.Actions.{moved}
-use Rattle.pct_model.specs.Kept.{has_left_wait}
+use Rattle.pct_model.specs.StatusKinds.{has_left_wait}
 use Rattle.pct_laws.specs.Kept.{AreOpen, open_functions, is_join, is_call_of, is_at_fork, IsSuspendedAt, IsPlainFunction}
 use Rattle.pct_model.specs.NextStatement.{next_of}
 use Rattle.pct_model.specs.StopTable.{has_begun_to_end}

@@ -20,7 +20,7 @@ use Rattle.pct_model.specs.declared.transition.Transition.{Transition}
 use Rattle.pct_model.specs.Actions.{thread_at, thread_after, named_after, moved}
 use Rattle.pct_model.specs.CondCalls.{is_waiting_on, unblocked}
 use Rattle.pct_model.specs.ForkCalls.{in_fork, while_called}
-use Rattle.pct_model.specs.Kept.{has_left_wait}
+use Rattle.pct_model.specs.StatusKinds.{has_left_wait}
 use Rattle.pct_laws.specs.Kept.{WaitKept, is_leaving}
 use Rattle.pct_model.specs.NextStatement.{NextStatement, next_of, body_at}
 use Rattle.pct_model.specs.OtherThreads.{Others, others_of}
