@@ -24,7 +24,6 @@ use Rattle.pct_ending_laws.proofs.ends.AfterTheEnd.{after_end_of_run}
 use Rattle.pct_ending_laws.proofs.ends.HandlersRun.{ran_all}
 use Rattle.pct_ending_laws.proofs.ends.LeftoverValues.{leftovers_of_run}
 use Rattle.pct_ending_laws.proofs.lift.MadeNumbers.{numbers_of_run}
-use Rattle.pct_ending_laws.proofs.joins.JoinTransitions.{is_in_join}
 use Rattle.pct_ending_laws.proofs.requests.SuspendedCalls.{call_event, newest_call_of_run}
 use Rattle.pct_ending_laws.proofs.joins.JoiningThreads.{JoinsOne, joins_of_processes}
 use Rattle.pct_ending_laws.proofs.joins.ReportedFlags.{known_of_run, joined_of_run, detached_of_run}
@@ -32,7 +31,7 @@ use Rattle.pct_ending_laws.proofs.joins.LawfulJoins.{joins_of_run}
 use Rattle.pct_ending_laws.proofs.keys.KeyEvents.{key_events_of_run, keys_law_of_run}
 use Rattle.pct_ending_laws.proofs.owners.OwnersOfRun.{owners_of_run, owners_kept}
 use Rattle.pct_ending_laws.proofs.processes.EndedProcesses.{process_ended_of_run}
-use Rattle.pct_ending_laws.proofs.processes.ExitValues.{exits_of_run}
+use Rattle.pct_ending_laws.proofs.processes.ExitValues.{exit_value_of_run}
 use Rattle.pct_ending_laws.proofs.processes.LawfulProcesses.{processes_of_run}
 use Rattle.pct_ending_laws.proofs.requests.ActingCalls.{acts_at_calls_of_run}
 use Rattle.pct_ending_laws.proofs.requests.ActingSteps.{each_may_act_of_run}
@@ -107,7 +106,7 @@ every_state_is_kept script config entries r is = record {
   keys = keys_kept script config entries r is;
   reported_keys = key_events_of_run script config entries r is;
   ended = process_ended_of_run script config entries r is;
-  exits = exits_of_run script config entries r is;
+  exits = exit_value_of_run script config entries r is;
   exit_functions = λ pid p made. All-from_recursion (IsPlainFunction script) p.shared.exit_functions (registered_of_run script config entries r is pid p made).exit_functions;
   fork_handlers = λ pid p made. (registered_of_run script config entries r is pid p made).fork_handlers;
   forks = forks_of_run script config entries r is;

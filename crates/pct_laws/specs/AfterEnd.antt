@@ -8,14 +8,8 @@ use Rattle.std.specs.List.{list_all}
 use Rattle.pct_model.specs.declared.event.Event.{Event}
 use Rattle.pct_model.specs.declared.event.What.{What}
 use Rattle.pct_model.specs.declared.event.What.TheVariants as what
-use Rattle.pct_laws.specs.KnownThreads.{has_own, reports_end}
-use Rattle.pct_laws.specs.ThreadSummary.{ThreadSummary, summary_of}
+use Rattle.pct_laws.specs.ThreadSummary.{ThreadSummary, summary_of, thread_ended}
 use Rattle.pct_laws.specs.KnownIds.{known_ids}
-
--- the event is that exit begins
-abbrev pub begins_exit : What → Bool
-begins_exit (what.ExitBegun v) = true
-begins_exit _ = false
 
 -- the event is that exit begins with 0
 abbrev pub begins_exit_with_0 : What → Bool
@@ -34,7 +28,7 @@ is_of_exit _ = false
 
 -- each known thread of process pid has ended
 abbrev pub all_have_ended : ℕ → List Event → Bool
-all_have_ended pid events = list_all (λ tid. has_own reports_end pid tid events) (known_ids pid events)
+all_have_ended pid events = list_all (λ tid. thread_ended pid tid events) (known_ids pid events)
 
 -- what the law asks of an event of a thread of process pid, by the summary of the thread before it
 abbrev pub may_follow : What → ThreadSummary → ℕ → List Event → Bool

@@ -3,9 +3,8 @@
 -- cancellation point, and is suspended in none: it acts on the request (XSH 2.9.5.2); with cancelability deferred it acts only at a
 -- cancellation point (XSH 2.9.5.1, 2.9.5.2), and in a condition wait by the stages of the wait (XSH pthread_cond_wait); one that was
 -- suspended before is awakened (XSH 2.9.5.2); and a thread that has begun to end enables cancelability no more (XSH 2.9.5.3).
-use Rattle.std.specs.Prelude.{◌≡◌, ℕ, Bool, true, false, not, ◌&&◌, ◌||◌, List, [], ◌∷◌, All, Some, is_some, nat_eq}
+use Rattle.std.specs.Prelude.{◌≡◌, Bool, true, false, List, [], ◌∷◌, All}
 use Rattle.std.specs.List.{list_any}
-use Rattle.pct_model.specs.declared.event.Caller.TheVariants as caller
 use Rattle.pct_model.specs.declared.event.Event.{Event}
 use Rattle.pct_model.specs.declared.event.What.{What}
 use Rattle.pct_model.specs.declared.event.What.TheVariants as what
@@ -17,12 +16,9 @@ use Rattle.pct_model.specs.declared.script.Script.{Script}
 use Rattle.pct_model.specs.declared.state.Cause.TheVariants as cause
 use Rattle.pct_model.specs.declared.state.Status.{Status}
 use Rattle.pct_model.specs.declared.state.Status.TheVariants as status
-use Rattle.pct_model.specs.CancelCalls.{called_kind, is_required, point_kind, testcancel_point}
+use Rattle.pct_model.specs.CancelCalls.{called_kind, is_required}
 use Rattle.pct_model.specs.ChoiceTable.{choices_of}
-use Rattle.pct_laws.specs.CancelEvents.{is_requested, is_enabled_by, is_asynchronous_last, has_not_begun, has_to_act}
-use Rattle.pct_model.specs.CondCalls.{cond_wait_point}
-use Rattle.pct_model.specs.ForkCalls.{waitpid_point}
-use Rattle.pct_laws.specs.KnownThreads.{newest_event}
+use Rattle.pct_laws.specs.CancelEvents.{is_asynchronous_last, has_to_act}
 use Rattle.pct_model.specs.NextStatement.{NextStatement, NoStatement, StatementIn, next_of}
 use Rattle.pct_laws.specs.ThreadSteps.{ThreadStep, EachStep}
 use Rattle.pct_laws.specs.Kept.{EachProcess, EachThreadOf}
@@ -30,9 +26,6 @@ use Rattle.pct_model.specs.StatusKinds.{is_at_cancellation_point}
 use Rattle.pct_model.specs.Run.{Run}
 use Rattle.pct_laws.specs.Each.{each}
 use Rattle.pct_laws.specs.RequestsLaw as RequestsLaw
-use Rattle.pct_model.specs.SemCalls.{sem_wait_point}
-use Rattle.pct_model.specs.ThreadCalls.{join_point}
-use Rattle.pct_laws.specs.WaitStages.{WaitStage, InWait, ToReturn, ToEnd, wait_stage}
 use Rattle.pct_model.specs.World.{World}
 
 -- ---- the law of a step

@@ -3,9 +3,8 @@
 -- the next one begins only if keys are due; a thread ends only if none is due or all passes were made, and then reports how many are due;
 -- and the last thread of a process exits it as it ends (XSH 2.9.5.3, pthread_exit, pthread_key_create). A step changes the
 -- value of a key of its own thread only at pthread_setspecific of this key, as its destructor is called, or as it is deleted.
-use Rattle.std.specs.Prelude.{◌≡◌, ◌≢◌, ℕ, suc, ◌<◌, ◌≤◌, Bool, true, false, List, [], ◌∷◌, length, filter, Option, Some, None, All, slice_get, nat_eq}
+use Rattle.std.specs.Prelude.{◌≡◌, ◌≢◌, ℕ, suc, ◌<◌, ◌≤◌, Bool, true, false, List, [], length, filter, Some, All, slice_get, nat_eq}
 use Rattle.std.specs.List.{range_with_len, list_any}
-use Rattle.std.specs.Option.{IsSomeAnd}
 use Rattle.pct_model.specs.declared.event.Event.{Event}
 use Rattle.pct_model.specs.declared.event.What.{What}
 use Rattle.pct_model.specs.declared.event.What.TheVariants as what

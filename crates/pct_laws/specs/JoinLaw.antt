@@ -6,13 +6,14 @@ use Rattle.std.specs.Prelude.{ℕ, Bool, true, not, ◌&&◌, List}
 use Rattle.pct_model.specs.declared.event.Event.{Event}
 use Rattle.pct_model.specs.declared.event.What.{What}
 use Rattle.pct_model.specs.declared.event.What.TheVariants as what
-use Rattle.pct_laws.specs.KnownThreads.{is_known, is_detached, is_joined, ends_with, has_own, is_reclaimed}
+use Rattle.pct_laws.specs.KnownThreads.{is_known, is_detached, is_joined}
 use Rattle.pct_model.specs.ThreadCalls.{join_point}
 use Rattle.pct_laws.specs.NewestEvents.{newest_is, calls_point}
+use Rattle.pct_laws.specs.ThreadSummary.{thread_ended_with, is_reclaimed}
 
 -- thread id of process pid has ended with a value; it was not joined, and is not detached
 abbrev pub can_be_joined : ℕ → ℕ → ℕ → List Event → Bool
-can_be_joined pid id v events = has_own (ends_with v) pid id events && (not (is_joined pid id events) && not (is_detached pid id events))
+can_be_joined pid id v events = thread_ended_with v pid id events && (not (is_joined pid id events) && not (is_detached pid id events))
 
 -- thread id of process pid is known, and the lifetime of its id is not over
 abbrev pub is_live : ℕ → ℕ → List Event → Bool

@@ -20,7 +20,7 @@ use Rattle.pct_model.specs.declared.state.Status.{Status}
 use Rattle.pct_model.specs.declared.state.Status.TheVariants as status
 use Rattle.pct_model.specs.declared.statement.Stmt.TheVariants as statement
 use Rattle.pct_model.specs.Actions.{has_ended, without_first}
-use Rattle.pct_laws.specs.AfterEnd.{begins_exit}
+use Rattle.pct_laws.specs.ExitValues.{exit_value}
 use Rattle.pct_model.specs.CancelCalls.{point_kind, is_required, state_if, mode_if}
 use Rattle.pct_laws.specs.CancelEvents.{is_requested, is_enabled_last, is_asynchronous_last, has_not_begun}
 use Rattle.pct_model.specs.CondCalls.{cond_wait_point}
@@ -378,9 +378,9 @@ pub record Kept (script : Script) (config : Config) (w : World) (events : List E
   pub keys : EachProcess w (λ pid p. KeysKept script p.shared.keys)
   -- there is a key with a number in a process exactly if the events report so
   pub reported_keys : EachProcess w (λ pid p. (key : ℕ) → is_some (key_with key p.shared.keys) ≡ has_key pid key events)
-  -- a process has ended, and exit has begun in it, exactly if the events report so
+  -- a process has ended exactly if the events report so, and its exit value is the one that they report
   pub ended : EachProcess w (λ pid p. has_ended p ≡ has_in ends_process pid events)
-  pub exits : EachProcess w (λ pid p. is_some p.shared.exit_value ≡ has_in begins_exit pid events)
+  pub exits : EachProcess w (λ pid p. p.shared.exit_value ≡ exit_value pid events)
   -- the functions that are registered with atexit are plain functions of the script
   pub exit_functions : EachProcess w (λ pid p. All (IsPlainFunction script) p.shared.exit_functions)
   -- the fork handlers that are registered are plain functions of the script

@@ -66,23 +66,10 @@ joins_id tid _ = false
 abbrev pub is_joined : ℕ → ℕ → List Event → Bool
 is_joined pid tid events = list_any (λ e. is_in pid e && joins_id tid e.what) events
 
--- the event is that of the end of a thread with a value
-abbrev pub ends_with : ℕ → What → Bool
-ends_with v (what.EndedWith w) = nat_eq w v
-ends_with v _ = false
-
 -- the event is that of the end of a thread
 abbrev pub reports_end : What → Bool
 reports_end (what.EndedWith v) = true
 reports_end _ = false
-
--- thread tid of process pid has an event that passes a test
-abbrev pub has_own : (What → Bool) → ℕ → ℕ → List Event → Bool
-has_own test pid tid events = list_any (λ e. is_own pid tid e && test e.what) events
-
--- the lifetime of the id of thread tid of process pid is over: the thread has ended, and was joined or is detached (XSH 2.9.2)
-abbrev pub is_reclaimed : ℕ → ℕ → List Event → Bool
-is_reclaimed pid tid events = has_own reports_end pid tid events && (is_joined pid tid events || is_detached pid tid events)
 
 -- ---- the newest event of a thread
 

@@ -5,6 +5,7 @@ pub mod NewestEvents
 pub mod ThreadSummary
 pub mod CancelEvents
 pub mod KeyEvents
+pub mod ExitValues
 pub mod MutexOwners
 pub mod WaitStages
 pub mod OpenPushes

@@ -3,13 +3,15 @@
 -- this host stops the run), and the thread that exits it ends it with the low eight bits of its value, if no other thread does (XSH exit,
 -- _exit); waitpid gives the status of a child to its parent, after the end of the child and once (XSH wait); and a thread joins another
 -- known one, before its own end (XSH pthread_join). It speaks of the events of a run alone.
-use Rattle.std.specs.Prelude.{ℕ, ◌%◌, Bool, true, false, not, ◌&&◌, ◌||◌, List, nat_eq, nat_lt}
+use Rattle.std.specs.Prelude.{ℕ, ◌%◌, Bool, true, false, not, ◌&&◌, ◌||◌, List, Option, is_none, nat_eq, nat_lt}
+use Rattle.std.specs.Option.{option_map_or}
 use Rattle.std.specs.List.{list_any}
 use Rattle.pct_model.specs.declared.event.Event.{Event}
 use Rattle.pct_model.specs.declared.event.What.{What}
 use Rattle.pct_model.specs.declared.event.What.TheVariants as what
-use Rattle.pct_laws.specs.AfterEnd.{begins_exit}
-use Rattle.pct_laws.specs.KnownThreads.{is_in, makes_process, is_known, has_own, reports_end}
+use Rattle.pct_laws.specs.ExitValues.{exit_value}
+use Rattle.pct_laws.specs.KnownThreads.{is_in, makes_process, is_known}
+use Rattle.pct_laws.specs.ThreadSummary.{summary_of, thread_ended}
 
 -- the event is the end of a process
 abbrev pub ends_process : What → Bool
@@ -39,24 +41,23 @@ reaps_process pid _ = false
 abbrev pub was_made : ℕ → List Event → Bool
 was_made pid events = nat_eq 1 pid || list_any (λ e. makes_process pid e.what) events
 
--- the event is that exit begins, with a value of which the low eight bits are not n
-abbrev pub exits_otherwise : ℕ → What → Bool
-exits_otherwise n (what.ExitBegun v) = not (nat_eq n (v % 256))
-exits_otherwise n _ = false
+-- the status is that of an exit with a value: its low eight bits
+abbrev pub is_status_of : ℕ → Option ℕ → Bool
+is_status_of n value = option_map_or (λ v. nat_eq n (v % 256)) value false
 
 -- what the law asks of an event of thread tid of process pid, by its kind
 abbrev pub may_change : What → ℕ → ℕ → List Event → Bool
 -- exit begins at most once
-may_change (what.ExitBegun v) pid tid earlier = not (has_in begins_exit pid earlier)
--- the status has 8 bits, and is that of the exit value of the thread, if it exits the process (XSH exit, _exit)
-may_change (what.ProcessEnded n) pid tid earlier = nat_lt n 256 && not (has_own (exits_otherwise n) pid tid earlier)
+may_change (what.ExitBegun v) pid tid earlier = is_none (exit_value pid earlier)
+-- the status has 8 bits, and is that of the exit value, if the thread exits the process (XSH exit, _exit)
+may_change (what.ProcessEnded n) pid tid earlier = nat_lt n 256 && (not (summary_of pid tid earlier).exiting || is_status_of n (exit_value pid earlier))
 -- a fork makes a process that was not made, and had no event (XSH fork)
 may_change (what.Forked child) pid tid earlier = not (was_made child earlier) && not (list_any (is_in child) earlier)
 -- waitpid gives the status of a child that has ended, and was not reaped (XSH wait)
 may_change (what.Reaped q n) pid tid earlier =
     has_in (makes_process q) pid earlier && (has_in (ends_process_with n) q earlier && not (list_any (λ e. reaps_process q e.what) earlier))
 -- a join is of another thread that is known, by a thread that has not ended (XSH pthread_join)
-may_change (what.Joined id v) pid tid earlier = is_known pid id earlier && (not (nat_eq id tid) && not (has_own reports_end pid tid earlier))
+may_change (what.Joined id v) pid tid earlier = is_known pid id earlier && (not (nat_eq id tid) && not (thread_ended pid tid earlier))
 -- the law asks nothing of the other events
 may_change _ pid tid earlier = true
 

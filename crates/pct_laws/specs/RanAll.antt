@@ -5,7 +5,8 @@ use Rattle.std.specs.Prelude.{if◌then◌else◌, ℕ, Bool, true, false, ◌&&
 use Rattle.pct_model.specs.declared.event.Event.{Event}
 use Rattle.pct_model.specs.declared.event.What.{What}
 use Rattle.pct_model.specs.declared.event.What.TheVariants as what
-use Rattle.pct_laws.specs.KnownThreads.{is_own, has_own}
+use Rattle.pct_model.specs.StopTable.{has_begun_to_end}
+use Rattle.pct_laws.specs.KnownThreads.{is_own}
 use Rattle.pct_laws.specs.Once.{is_pair}
 use Rattle.pct_laws.specs.ThreadSummary.{summary_of}
 
@@ -42,7 +43,7 @@ are_same _ _ = false
 -- what the law asks of an event of thread tid of process pid, by those before it
 abbrev pub may_end : What → ℕ → ℕ → List Event → Bool
 -- the thread began to end, and the handlers that ran are those that were open then
-may_end (what.EndedWith v) pid tid earlier = has_own begins_to_end pid tid earlier && are_same (handlers_run pid tid earlier) (open_at_ending pid tid earlier)
+may_end (what.EndedWith v) pid tid earlier = has_begun_to_end (summary_of pid tid earlier).reason && are_same (handlers_run pid tid earlier) (open_at_ending pid tid earlier)
 -- the law asks nothing of the other events
 may_end _ pid tid earlier = true
 

@@ -6,9 +6,10 @@ use Rattle.std.specs.List.{list_all}
 use Rattle.pct_model.specs.declared.event.Event.{Event}
 use Rattle.pct_model.specs.declared.event.What.{What}
 use Rattle.pct_model.specs.declared.event.What.TheVariants as what
-use Rattle.pct_laws.specs.KnownThreads.{is_known, is_reclaimed}
+use Rattle.pct_laws.specs.KnownThreads.{is_known}
 use Rattle.pct_model.specs.ThreadSlots.{slot_of}
 use Rattle.pct_laws.specs.KnownIds.{known_ids}
+use Rattle.pct_laws.specs.ThreadSummary.{is_reclaimed}
 
 module _ (slots : ℕ) where
   -- a thread of process pid leaves the slot of thread id free: it has another slot, or the lifetime of its id is over

@@ -2,7 +2,7 @@
 -- from the others. But for one: the law of handlers that ran follows from two others, and the list that it refuses here is also refused by
 -- one of them. No such list breaks the sentence that a thread that has ended joins none: the law of what follows an end refuses it, too. The
 -- lists are newest first.
-use Rattle.std.proofs.Common.{◌≡◌, ℕ, Bool, true, false, not, ◌&&◌, List, [], ◌∷◌, ◌++◌, map, replicate, refl}
+use Rattle.std.proofs.Common.{◌≡◌, Bool, true, false, not, ◌&&◌, List, [], ◌∷◌, ◌++◌, map, replicate, refl}
 use Rattle.pct_model.specs.declared.event.Caller.TheVariants as caller
 use Rattle.pct_model.specs.declared.event.Event.{Event}
 use Rattle.pct_model.specs.declared.event.What.{What}

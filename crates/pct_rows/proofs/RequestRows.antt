@@ -6,13 +6,12 @@ use Rattle.pct_model.specs.declared.event.Event.{Event}
 use Rattle.pct_model.specs.declared.event.What.{What}
 use Rattle.pct_model.specs.declared.event.What.TheVariants as what
 use Rattle.pct_model.specs.CancelCalls.{point_kind, testcancel_point}
-use Rattle.pct_laws.specs.CancelEvents.{is_requested, is_enabled_by, is_asynchronous_last, has_to_act}
+use Rattle.pct_laws.specs.CancelEvents.{is_asynchronous_last}
 use Rattle.pct_laws.specs.Each.{each}
 use Rattle.pct_laws.specs.RequestsLaw.{allows}
 use Rattle.pct_rows.proofs.Refusals.{refuses}
 use Rattle.pct_model.specs.CondCalls.{cond_wait_point}
 use Rattle.pct_model.specs.ForkCalls.{waitpid_point}
-use Rattle.pct_laws.specs.KnownThreads.{newest_event}
 use Rattle.pct_model.specs.Points.{points}
 use Rattle.pct_model.specs.SemCalls.{sem_wait_point}
 use Rattle.pct_model.specs.ThreadCalls.{join_point}

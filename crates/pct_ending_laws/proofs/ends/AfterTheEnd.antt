@@ -4,9 +4,8 @@ use mathlib.Core.Bool.{and-false, or-false}
 use Rattle.std.proofs.Common.{◌≡◌, ℕ, Bool, true, false, not, ◌&&◌, ◌||◌, cond, List, [], ◌∷◌, ◌++◌, map, reverse, nat_eq, Option, Some, None, option_and_then, ◌⊎◌, inl, inr, refl, sym, ap, ap₂, ◌∙◌, subst, eqb-true, eq-eqb}
 use Rattle.std.specs.Prelude.{is_some}
 use Rattle.std.specs.List.{list_all, list_any}
-use Rattle.std.specs.Option.{IsSomeAnd}
 use Rattle.std.proofs.Math.Bool.{or_assoc}
-use Rattle.std.proofs.lemmas.Bool.{false≢true, true≢false, and_parts, and_from, and_left, or_left, or_right, eqb-false, not-true, false_from_ne_true}
+use Rattle.std.proofs.lemmas.Bool.{false≢true, true≢false, and_parts, and_from, and_left, or_left, or_right, eqb-false, false_from_ne_true}
 use Rattle.pct_model.specs.declared.event.Event.{Event}
 use Rattle.pct_model.specs.declared.event.What.{What}
 use Rattle.pct_model.specs.declared.event.What.TheVariants as what
@@ -21,11 +20,11 @@ use Rattle.pct_model.specs.declared.state.Status.{Status}
 use Rattle.pct_model.specs.declared.state.Status.TheVariants as status
 use Rattle.pct_model.specs.declared.statement.Stmt.{Stmt}
 use Rattle.pct_model.specs.declared.transition.Transition.{Transition}
-use Rattle.pct_laws.specs.AfterEnd.{begins_exit, begins_exit_with_0, is_of_exit, all_have_ended, allows}
+use Rattle.pct_laws.specs.AfterEnd.{begins_exit_with_0, is_of_exit, all_have_ended, allows}
 use Rattle.pct_laws.specs.Each.{each}
 use Rattle.pct_laws.specs.KnownIds.{known_ids}
 use Rattle.pct_laws.specs.Kept.{is_exit_kind}
-use Rattle.pct_laws.specs.KnownThreads.{is_own, makes_process, is_fork_of, creates_id, is_known, has_own, reports_end, newest_event}
+use Rattle.pct_laws.specs.KnownThreads.{makes_process, is_fork_of, creates_id, is_known, reports_end}
 use Rattle.pct_model.specs.LineKinds.{syntax_of}
 use Rattle.pct_model.specs.NextStatement.{NextStatement, next_of, body_at}
 use Rattle.pct_model.specs.OtherThreads.{Others, others_of}
@@ -33,7 +32,7 @@ use Rattle.pct_model.specs.Run.{Run, event_of, run}
 use Rattle.pct_model.specs.Statements.{encode}
 use Rattle.pct_model.specs.StopTable.{has_begun_to_end}
 use Rattle.pct_model.specs.ThreadSlots.{holds_slot, is_live_thread}
-use Rattle.pct_laws.specs.ThreadSummary.{ThreadSummary, with_event, summary_of}
+use Rattle.pct_laws.specs.ThreadSummary.{ThreadSummary, with_event, summary_of, thread_ended}
 use Rattle.pct_model.specs.TransitionTable.{transition_by}
 use Rattle.pct_model.specs.World.{Thread, SharedState, Process, made_process, thread_with}
 use Rattle.pct_transition_cases.proofs.CaseOfTransition.{case_of}
@@ -42,7 +41,6 @@ use Rattle.pct_transition_cases.proofs.PlacedStatements.{IsPlaced, on_top, is_pl
 use Rattle.pct_transition_cases.proofs.TransitionCases.{TransitionCase, rests, main_returned, start_returned, canceled, fork_handler_called, last_ended, last_ended_with_keys}
 use Rattle.pct_ending_laws.proofs.LastThreads.{LastExits, last_exits, others_if_last}
 use Rattle.pct_ending_laws.proofs.ThreadsOfRun.{threads_fit, threads_kept}
-use Rattle.pct_ending_laws.proofs.joins.LawfulJoins.{end_reported}
 use Rattle.pct_ending_laws.proofs.slots.KnownIds.{all_from_members, among_known}
 use Rattle.pct_ending_laws.proofs.slots.ReclaimedThreads.{IsPresent, known_present}
 use Rattle.pct_ending_laws.proofs.exits.PlainFunctions.{is_plain_next, plain_next}
@@ -51,6 +49,7 @@ use Rattle.pct_ending_laws.proofs.lift.EveryThread.{OfItsThreads, of_its_threads
 use Rattle.pct_ending_laws.proofs.lift.HandlerEvents.{of_each_phase}
 use Rattle.pct_ending_laws.proofs.lift.TakenSteps.{IsTaken, AfterEveryRun, every_run}
 use Rattle.pct_ending_laws.proofs.lift.KeyedLists.{found_passes}
+use Rattle.pct_ending_laws.proofs.lift.SummaryEnds.{begins_exit, ended_after, exiting_after, ended_stays}
 use Rattle.pct_ending_laws.proofs.lift.ThreadsAfter.{Moves, mover}
 use Rattle.pct_ending_laws.proofs.thread.Ends.{not_both}
 use Rattle.pct_ending_laws.proofs.thread.ThreadRule.{summary, summary_reading, HasFrames, ByStatus, RunsExitFunction, ByAnyStatus, FitsAny}
@@ -150,15 +149,6 @@ module _ (passes : ℕ) (shared : SharedState) (t : Thread) (others : Others) wh
 
 -- ---- the events of a run
 
--- whether a thread has ended, and has begun to exit its process, after an event of it
-ended_after : (w : What) (s : ThreadSummary) → is_some (with_event w s).ended ≡ (reports_end w || is_some s.ended)
-ended_after (what.EndedWith v) s = refl
-ended_after _ s = refl
-
-exiting_after : (w : What) (s : ThreadSummary) → (with_event w s).exiting ≡ (begins_exit w || s.exiting)
-exiting_after (what.ExitBegun v) s = refl
-exiting_after _ s = refl
-
 -- an event that makes no thread creates none, and makes no process
 creates_none : (id : ℕ) (w : What) → makes_none w ≡ true → creates_id id w ≡ false
 creates_none id (what.Created new detached) none = absurd (false≢true none)
@@ -215,7 +205,7 @@ module _ (e : Entry) (earlier : List Event) where
 
   -- each other known thread of the process has ended
   abbrev OthersEnded : Type 0
-  OthersEnded = (id : ℕ) → is_known e.pid id earlier ≡ true → nat_eq e.tid id ≡ false → has_own reports_end e.pid id earlier ≡ true
+  OthersEnded = (id : ℕ) → is_known e.pid id earlier ≡ true → nat_eq e.tid id ≡ false → thread_ended e.pid id earlier ≡ true
 
   -- events that make no thread leave the known ones
   known_later : (id : ℕ) (added : List What) → list_all makes_none added ≡ true → is_known e.pid id (later added) ≡ is_known e.pid id earlier
@@ -227,27 +217,16 @@ module _ (e : Entry) (earlier : List Event) where
       ∙ known_later id added parts.1
 
   -- a thread that has ended has ended later
-  ended_still : (id : ℕ) (added : List What) → has_own reports_end e.pid id earlier ≡ true → has_own reports_end e.pid id (later added) ≡ true
+  ended_still : (id : ℕ) (added : List What) → thread_ended e.pid id earlier ≡ true → thread_ended e.pid id (later added) ≡ true
   ended_still id [] ended = ended
-  ended_still id (w ∷ added) ended = or_right (is_own e.pid id (event_of e w) && reports_end w) (has_own reports_end e.pid id (later added)) (ended_still id added ended)
-
-  -- so has the thread of the entry, where an event of the step is its end
-  own_ended : (added : List What) → list_any reports_end added ≡ true → has_own reports_end e.pid e.tid (later added) ≡ true
-  own_ended [] ends = absurd (false≢true ends)
-  own_ended (w ∷ added) ends =
-      ap (λ (own : Bool). (own && reports_end w) || has_own reports_end e.pid e.tid (later added)) own_event
-      ∙ or_by (reports_end w) (list_any reports_end added) (has_own reports_end e.pid e.tid (later added)) ends (own_ended added)
-    where
-      or_by : (a b c : Bool) → (a || b) ≡ true → (b ≡ true → c ≡ true) → (a || c) ≡ true
-      or_by true b c is then = refl
-      or_by false b c is then = then is
+  ended_still id (w ∷ added) ended = ended_stays e.pid id (event_of e w) (later added) (ended_still id added ended)
 
   -- then each known thread of the process has, if each other one had ended
   each_ended : (added : List What) → list_any reports_end added ≡ true → list_all makes_none added ≡ true → OthersEnded → all_have_ended e.pid (later added) ≡ true
-  each_ended added ends none others = all_from_members (λ (id : ℕ). has_own reports_end e.pid id (later added)) (known_ids e.pid (later added)) (λ id among. by id (sym (among_known id e.pid (later added)) ∙ among) (nat_eq e.tid id) refl)
+  each_ended added ends none others = all_from_members (λ (id : ℕ). thread_ended e.pid id (later added)) (known_ids e.pid (later added)) (λ id among. by id (sym (among_known id e.pid (later added)) ∙ among) (nat_eq e.tid id) refl)
     where
-      by : (id : ℕ) → is_known e.pid id (later added) ≡ true → (same : Bool) → nat_eq e.tid id ≡ same → has_own reports_end e.pid id (later added) ≡ true
-      by id known true same = subst (λ (n : ℕ). has_own reports_end e.pid n (later added) ≡ true) (eqb-true e.tid id same) (own_ended added ends)
+      by : (id : ℕ) → is_known e.pid id (later added) ≡ true → (same : Bool) → nat_eq e.tid id ≡ same → thread_ended e.pid id (later added) ≡ true
+      by id known true same = subst (λ (n : ℕ). thread_ended e.pid n (later added) ≡ true) (eqb-true e.tid id same) (ended_later added ∙ or_left (list_any reports_end added) (is_some before.ended) ends)
       by id known false other = ended_still id added (others id (sym (known_later id added none) ∙ known) other)
 
   -- ---- the law
@@ -298,7 +277,7 @@ module _ (script : Script) (config : Config) (before : List Entry) (r : Run) (is
       let number : u.id ≡ id = eqb-true u.id id (found_passes (λ (x : Thread). nat_eq x.id id) p.threads u it.is) in
       let not_it : is_live_thread e.tid u ≡ false = and_left (nat_eq u.id e.tid) (holds_slot u) (false_from_ne_true (nat_eq u.id e.tid) (λ same. eqb-false e.tid id other (sym (eqb-true u.id e.tid same) ∙ number))) in
       let ended : u.ended ≡ true = others_if_last script config r.world p e t of_threads moves exits last id u it.is it.here not_it in
-      sym (end_reported e.pid id r.events) ∙ (threads_kept script config before r is e.pid id p u made it.is it.here).ended ∙ ended
+      (threads_kept script config before r is e.pid id p u made it.is it.here).ended ∙ ended
 
   -- the events of a legal entry, by what is reported of its thread before
   follow_end : FollowEnd (others_of config.slots r.world p t.id).is_last (summary_of e.pid e.tid r.events) (reverse (transition_by script config r.world p t e.alt).events)

@@ -8,7 +8,7 @@ use Rattle.pct_model.specs.declared.event.What.{What}
 use Rattle.pct_model.specs.declared.event.What.TheVariants as what
 use Rattle.pct_model.specs.declared.state.Reason.{Reason}
 use Rattle.pct_model.specs.Actions.{without_first}
-use Rattle.pct_laws.specs.KnownThreads.{is_known, is_in, is_own, is_fork_of, makes_process, has_own}
+use Rattle.pct_laws.specs.KnownThreads.{is_known, is_in, is_own, is_fork_of, makes_process}
 use Rattle.pct_laws.specs.Each.{each}
 use Rattle.pct_model.specs.LineParsing.{is_empty}
 use Rattle.pct_laws.specs.Once.{is_newest, may_come}
@@ -24,12 +24,12 @@ use Rattle.pct_laws.specs.ThreadSummary.{ThreadSummary, with_event, summary_of}
 -- ---- the handlers of a thread
 
 -- of a thread, by what events report of it: its open handlers, those that are left, and its reason to end; those that were open at its
--- ending event, and those that ran; and whether it has an ending event, and whether its process has an event
-data HandlersFit (handlers left : List (ℕ × ℕ)) (why : Reason) (opened ran : List (ℕ × ℕ)) (began present : Bool) : Type 0 where
+-- ending event, and those that ran; and whether its process has an event
+data HandlersFit (handlers left : List (ℕ × ℕ)) (why : Reason) (opened ran : List (ℕ × ℕ)) (present : Bool) : Type 0 where
   -- it has not begun to end
-  before_end : has_begun_to_end why ≡ false → left ≡ [] → ran ≡ [] → HandlersFit handlers left why opened ran began present
+  before_end : has_begun_to_end why ≡ false → left ≡ [] → ran ≡ [] → HandlersFit handlers left why opened ran present
   -- it has, and the handlers that were open then are those that ran and those that are left, above which others were pushed
-  ending : has_begun_to_end why ≡ true → (pushed : List (ℕ × ℕ)) → handlers ≡ pushed ++ left → ran ++ left ≡ opened → began ≡ true → present ≡ true → HandlersFit handlers left why opened ran began present
+  ending : has_begun_to_end why ≡ true → (pushed : List (ℕ × ℕ)) → handlers ≡ pushed ++ left → ran ++ left ≡ opened → present ≡ true → HandlersFit handlers left why opened ran present
 
 -- ---- lists
 
@@ -71,10 +71,10 @@ same_ran ran left opened all = ap (λ (r : List (ℕ × ℕ)). r ++ left) (appen
 
 -- ---- an event of the thread
 
-module _ (passes : ℕ) (s : ThreadSummary) (opened ran : List (ℕ × ℕ)) (began present : Bool) where
+module _ (passes : ℕ) (s : ThreadSummary) (opened ran : List (ℕ × ℕ)) (present : Bool) where
   -- the handlers after an event of the thread
   abbrev After : What → Type 0
-  After w = HandlersFit (with_event w s).handlers (with_event w s).left (with_event w s).reason (cond (begins_to_end w) s.handlers opened) (ran ++ handler_run w) (begins_to_end w || began) true
+  After w = HandlersFit (with_event w s).handlers (with_event w s).left (with_event w s).reason (cond (begins_to_end w) s.handlers opened) (ran ++ handler_run w) true
 
   -- the thread has not both begun to end and not
   not_begun : has_begun_to_end s.reason ≡ false → has_begun_to_end s.reason ≡ true → ⊥
@@ -90,35 +90,35 @@ module _ (passes : ℕ) (s : ThreadSummary) (opened ran : List (ℕ × ℕ)) (be
   -- of a thread that has not begun to end
   own_before : (w : What) → may_come passes w s ≡ true → has_begun_to_end s.reason ≡ false → s.left ≡ [] → ran ≡ [] → After w
   own_before (what.HandlerRun f a) may none left none_ran = absurd (not_begun none (and_parts _ _ (and_parts _ _ may).1).0)
-  own_before (what.EndingExit v) may none left none_ran = ending refl [] refl (ap (λ (r : List (ℕ × ℕ)). (r ++ []) ++ s.handlers) none_ran) refl refl
-  own_before what.EndingCanceled may none left none_ran = ending refl [] refl (ap (λ (r : List (ℕ × ℕ)). (r ++ []) ++ s.handlers) none_ran) refl refl
-  own_before (what.EndingInWait c m) may none left none_ran = ending refl [] refl (ap (λ (r : List (ℕ × ℕ)). (r ++ []) ++ s.handlers) none_ran) refl refl
+  own_before (what.EndingExit v) may none left none_ran = ending refl [] refl (ap (λ (r : List (ℕ × ℕ)). (r ++ []) ++ s.handlers) none_ran) refl
+  own_before what.EndingCanceled may none left none_ran = ending refl [] refl (ap (λ (r : List (ℕ × ℕ)). (r ++ []) ++ s.handlers) none_ran) refl
+  own_before (what.EndingInWait c m) may none left none_ran = ending refl [] refl (ap (λ (r : List (ℕ × ℕ)). (r ++ []) ++ s.handlers) none_ran) refl
   own_before _ may none left none_ran = before_end none left (ap (λ (r : List (ℕ × ℕ)). r ++ []) none_ran)
 
   -- of one that has
-  own_ending : (w : What) → may_come passes w s ≡ true → has_begun_to_end s.reason ≡ true → (pushed : List (ℕ × ℕ)) → s.handlers ≡ pushed ++ s.left → ran ++ s.left ≡ opened → began ≡ true → After w
-  own_ending (what.Pushed f a) may begun pushed parts all is = ending begun ((f, a) ∷ pushed) (ap (λ (hs : List (ℕ × ℕ)). (f, a) ∷ hs) parts) (same_ran ran s.left opened all) is refl
-  own_ending (what.Popped f a run) may begun pushed parts all is = let fewer = popped s.handlers pushed s.left parts (more f a run may begun) in ending begun fewer.0 fewer.1 (same_ran ran s.left opened all) is refl
-  own_ending (what.HandlerRun f a) may begun pushed parts all is =
+  own_ending : (w : What) → may_come passes w s ≡ true → has_begun_to_end s.reason ≡ true → (pushed : List (ℕ × ℕ)) → s.handlers ≡ pushed ++ s.left → ran ++ s.left ≡ opened → After w
+  own_ending (what.Pushed f a) may begun pushed parts all = ending begun ((f, a) ∷ pushed) (ap (λ (hs : List (ℕ × ℕ)). (f, a) ∷ hs) parts) (same_ran ran s.left opened all) refl
+  own_ending (what.Popped f a run) may begun pushed parts all = let fewer = popped s.handlers pushed s.left parts (more f a run may begun) in ending begun fewer.0 fewer.1 (same_ran ran s.left opened all) refl
+  own_ending (what.HandlerRun f a) may begun pushed parts all =
       let same : s.handlers ≡ s.left = none_pushed s.handlers pushed s.left parts (eqb-true _ _ (and_parts _ _ (and_parts _ _ may).1).1) in
       let first : s.left ≡ (f, a) ∷ without_first s.left = newest_first s.left f a (ap (is_newest f a) (sym same) ∙ (and_parts _ _ may).0) in
-      ending begun [] (ap without_first same) (append_assoc ran ((f, a) ∷ []) (without_first s.left) ∙ ap (λ (l : List (ℕ × ℕ)). ran ++ l) (sym first) ∙ all) is refl
-  own_ending (what.EndingExit v) may begun pushed parts all is = absurd (not_begun (not-true (has_begun_to_end s.reason) may) begun)
-  own_ending what.EndingCanceled may begun pushed parts all is = absurd (not_begun (not-true (has_begun_to_end s.reason) may) begun)
-  own_ending (what.EndingInWait c m) may begun pushed parts all is = absurd (not_begun (not-true (has_begun_to_end s.reason) may) begun)
-  own_ending _ may begun pushed parts all is = ending begun pushed parts (same_ran ran s.left opened all) is refl
+      ending begun [] (ap without_first same) (append_assoc ran ((f, a) ∷ []) (without_first s.left) ∙ ap (λ (l : List (ℕ × ℕ)). ran ++ l) (sym first) ∙ all) refl
+  own_ending (what.EndingExit v) may begun pushed parts all = absurd (not_begun (not-true (has_begun_to_end s.reason) may) begun)
+  own_ending what.EndingCanceled may begun pushed parts all = absurd (not_begun (not-true (has_begun_to_end s.reason) may) begun)
+  own_ending (what.EndingInWait c m) may begun pushed parts all = absurd (not_begun (not-true (has_begun_to_end s.reason) may) begun)
+  own_ending _ may begun pushed parts all = ending begun pushed parts (same_ran ran s.left opened all) refl
 
   -- of any thread
-  own_fits : (w : What) → may_come passes w s ≡ true → HandlersFit s.handlers s.left s.reason opened ran began present → After w
+  own_fits : (w : What) → may_come passes w s ≡ true → HandlersFit s.handlers s.left s.reason opened ran present → After w
   own_fits w may (before_end none left none_ran) = own_before w may none left none_ran
-  own_fits w may (ending begun pushed parts all is here) = own_ending w may begun pushed parts all is
+  own_fits w may (ending begun pushed parts all here) = own_ending w may begun pushed parts all
 
   -- as the thread ends, the handlers that ran are those that were open
-  end_allowed : (v : ℕ) → may_come passes (what.EndedWith v) s ≡ true → HandlersFit s.handlers s.left s.reason opened ran began present → (began && are_same ran opened) ≡ true
+  end_allowed : (v : ℕ) → may_come passes (what.EndedWith v) s ≡ true → HandlersFit s.handlers s.left s.reason opened ran present → (has_begun_to_end s.reason && are_same ran opened) ≡ true
   end_allowed v may (before_end none left none_ran) = absurd (not_begun none (and_parts _ _ may).0)
-  end_allowed v may (ending begun pushed parts all is here) =
+  end_allowed v may (ending begun pushed parts all here) =
       let none : s.left ≡ [] = none_left s.handlers pushed s.left parts (none_open s.handlers (and_parts _ _ (and_parts _ _ (and_parts _ _ may).1).1).0) in
-      and_from _ _ is (same_handlers ran opened (sym (append-nil ran) ∙ ap (λ (l : List (ℕ × ℕ)). ran ++ l) (sym none) ∙ all))
+      and_from _ _ begun (same_handlers ran opened (sym (append-nil ran) ∙ ap (λ (l : List (ℕ × ℕ)). ran ++ l) (sym none) ∙ all))
 
 -- ---- events
 
@@ -133,7 +133,7 @@ change_of e earlier may = (and_parts (is_known e.pid e.tid earlier) (may_change 
 module _ (passes pid tid : ℕ) where
   -- thread tid of process pid after some events
   abbrev Fits : List Event → Type 0
-  Fits events = HandlersFit (summary_of pid tid events).handlers (summary_of pid tid events).left (summary_of pid tid events).reason (open_at_ending pid tid events) (handlers_run pid tid events) (has_own begins_to_end pid tid events) (list_any (is_in pid) events)
+  Fits events = HandlersFit (summary_of pid tid events).handlers (summary_of pid tid events).left (summary_of pid tid events).reason (open_at_ending pid tid events) (handlers_run pid tid events) (list_any (is_in pid) events)
 
   module _ (e : Event) (earlier : List Event) where
     abbrev s : ThreadSummary
@@ -148,20 +148,20 @@ module _ (passes pid tid : ℕ) where
     FitsAfter own forks here =
         HandlersFit (cond own (with_event e.what s) (with_handlers forks)).handlers (cond own (with_event e.what s) (with_handlers forks)).left (cond own (with_event e.what s) (with_handlers forks)).reason
         (cond (own && begins_to_end e.what) s.handlers (open_at_ending pid tid earlier)) (handlers_run pid tid earlier ++ cond own (handler_run e.what) [])
-        ((own && begins_to_end e.what) || has_own begins_to_end pid tid earlier) (here || list_any (is_in pid) earlier)
+        (here || list_any (is_in pid) earlier)
 
     -- after an event of another thread
     other_fits : (forks here : Bool) → (forks ≡ true → list_any (is_in pid) earlier ≡ false) → Fits earlier → FitsAfter false forks here
     other_fits true here first (before_end none left none_ran) = before_end none left (ap (λ (r : List (ℕ × ℕ)). r ++ []) none_ran)
     other_fits false here first (before_end none left none_ran) = before_end none left (ap (λ (r : List (ℕ × ℕ)). r ++ []) none_ran)
-    other_fits true here first (ending begun pushed parts all is present) = absurd (false≢true (sym (first refl) ∙ present))
-    other_fits false here first (ending begun pushed parts all is present) =
-        ending begun pushed parts (same_ran (handlers_run pid tid earlier) s.left (open_at_ending pid tid earlier) all) is (or_right here (list_any (is_in pid) earlier) present)
+    other_fits true here first (ending begun pushed parts all present) = absurd (false≢true (sym (first refl) ∙ present))
+    other_fits false here first (ending begun pushed parts all present) =
+        ending begun pushed parts (same_ran (handlers_run pid tid earlier) s.left (open_at_ending pid tid earlier) all) (or_right here (list_any (is_in pid) earlier) present)
 
     -- after any event
     event_fits : (own forks here : Bool) → (own ≡ true → here ≡ true) → (own ≡ true → may_come passes e.what s ≡ true) → (forks ≡ true → list_any (is_in pid) earlier ≡ false) → Fits earlier → FitsAfter own forks here
     event_fits true forks true in_process may first fits =
-        own_fits passes s (open_at_ending pid tid earlier) (handlers_run pid tid earlier) (has_own begins_to_end pid tid earlier) (list_any (is_in pid) earlier) e.what (may refl) fits
+        own_fits passes s (open_at_ending pid tid earlier) (handlers_run pid tid earlier) (list_any (is_in pid) earlier) e.what (may refl) fits
     event_fits true forks false in_process may first fits = absurd (false≢true (in_process refl))
     event_fits false forks here in_process may first fits = other_fits forks here first fits
 
@@ -177,7 +177,7 @@ module _ (passes pid tid : ℕ) where
   -- an event of the thread keeps the law
   event_allowed : (w : What) (earlier : List Event) → may_come passes w (summary_of pid tid earlier) ≡ true → Fits earlier → may_end w pid tid earlier ≡ true
   event_allowed (what.EndedWith v) earlier may fits =
-      end_allowed passes (summary_of pid tid earlier) (open_at_ending pid tid earlier) (handlers_run pid tid earlier) (has_own begins_to_end pid tid earlier) (list_any (is_in pid) earlier) v may fits
+      end_allowed passes (summary_of pid tid earlier) (open_at_ending pid tid earlier) (handlers_run pid tid earlier) (list_any (is_in pid) earlier) v may fits
   event_allowed _ earlier may fits = refl
 
 -- the law of handlers that ran holds of each list of events of which the laws of cleanup handlers and destructors and of processes hold

@@ -1,9 +1,9 @@
 -- The law of joins holds of the events of every run.
-use Rattle.std.proofs.Common.{◌≡◌, ℕ, Bool, true, false, not, ◌&&◌, ◌||◌, cond, List, [], ◌∷◌, ◌++◌, map, reverse, nat_eq, is_some, Option, Some, None, option_and_then, refl, sym, ap, ◌∙◌, eq-eqb}
+use Rattle.std.proofs.Common.{◌≡◌, ℕ, Bool, true, false, not, ◌&&◌, ◌||◌, List, [], ◌∷◌, ◌++◌, map, reverse, nat_eq, Option, Some, option_and_then, refl, sym, ap, ◌∙◌, eq-eqb}
 use Rattle.std.specs.List.{list_all}
 use Rattle.std.specs.Option.{option_map_or}
-use Rattle.std.proofs.lemmas.Bool.{false≢true, true≢false, and_parts, and_from, or_left, true_from_ne_false, false_from_ne_true}
-use Rattle.std.proofs.lemmas.Option.{none-some, same_Some}
+use Rattle.std.proofs.lemmas.Bool.{false≢true, true≢false, and_parts, and_from, true_from_ne_false, false_from_ne_true}
+use Rattle.std.proofs.lemmas.Option.{same_Some}
 use Rattle.pct_model.specs.declared.script.Script.{Script}
 use Rattle.pct_model.specs.declared.schedule.Config.{Config}
 use Rattle.pct_model.specs.declared.schedule.Entry.{Entry}
@@ -14,15 +14,15 @@ use Rattle.pct_model.specs.declared.state.Status.TheVariants as status
 use Rattle.pct_model.specs.declared.transition.Transition.{Transition}
 use Rattle.pct_model.specs.CancelCalls.{requests, acts_on_request}
 use Rattle.pct_laws.specs.Each.{each}
-use Rattle.pct_laws.specs.JoinLaw.{is_live, can_be_joined, may_name, allows}
-use Rattle.pct_laws.specs.NewestEvents.{newest_is, calls_point}
+use Rattle.pct_laws.specs.JoinLaw.{is_live, may_name, allows}
+use Rattle.pct_laws.specs.NewestEvents.{calls_point}
 use Rattle.pct_laws.specs.Kept.{ThreadKept}
-use Rattle.pct_laws.specs.KnownThreads.{is_own, is_fork_of, is_joined, is_detached, ends_with, reports_end, has_own}
+use Rattle.pct_laws.specs.KnownThreads.{is_joined, is_detached}
 use Rattle.pct_model.specs.World.{made_process, thread_with, made_thread, Thread, Process}
 use Rattle.pct_model.specs.Run.{Run, event_of, run}
 use Rattle.pct_model.specs.ThreadCalls.{join_point, creates, begins_join, ends_join, detaches}
 use Rattle.pct_model.specs.ThreadSlots.{is_ended_status, with_id}
-use Rattle.pct_laws.specs.ThreadSummary.{ThreadSummary, with_event, summary_of}
+use Rattle.pct_laws.specs.ThreadSummary.{ThreadSummary, summary_of}
 use Rattle.pct_model.specs.TransitionTable.{transition_by}
 use Rattle.pct_ending_laws.proofs.ThreadsOfRun.{threads_fit, threads_kept}
 use Rattle.pct_ending_laws.proofs.LastThreads.{last_exits}
@@ -37,35 +37,6 @@ use Rattle.pct_ending_laws.proofs.joins.JoinTransitions.{names_none, Kind, quiet
 use Rattle.pct_ending_laws.proofs.joins.ReportedFlags.{known_of_run, joined_of_run, detached_of_run}
 use Rattle.pct_ending_laws.proofs.requests.SuspendedCalls.{call_event, newest_call_of_run}
 use Rattle.pct_ending_laws.proofs.joins.JoiningThreads.{JoinsOne, joins_of_processes}
-
--- ---- the event of the end of a thread
-
--- what each event of the thread keeps of its summary and of whether it has an event that passes a test, holds of them after every event
-module _ (test : What → Bool) (Q : Option ℕ → Bool → Type 0) (start : Q None false) (next : (w : What) (s : ThreadSummary) (k : Bool) → Q s.ended k → Q (with_event w s).ended (test w || k)) where
-  end_by : (own fork : Bool) (w : What) (s parent : ThreadSummary) (k : Bool) → Q s.ended k → Q (cond own (with_event w s) (cond fork (record s { handlers = parent.handlers }) s)).ended ((own && test w) || k)
-  end_by true fork w s parent k holds = next w s k holds
-  end_by false true w s parent k holds = holds
-  end_by false false w s parent k holds = holds
-
-  end_after : (pid tid : ℕ) (events : List Event) → Q (summary_of pid tid events).ended (has_own test pid tid events)
-  end_after pid tid [] = start
-  end_after pid tid (e ∷ earlier) = end_by (is_own pid tid e) (is_fork_of pid tid e) e.what (summary_of pid tid earlier) (summary_of e.pid tid earlier) (has_own test pid tid earlier) (end_after pid tid earlier)
-
--- the summary of a thread has a value exactly if the thread has an event of its end
-reported_after : (w : What) (s : ThreadSummary) (earlier : Bool) → is_some s.ended ≡ earlier → is_some (with_event w s).ended ≡ (reports_end w || earlier)
-reported_after (what.EndedWith v) s earlier same = refl
-reported_after w s earlier same = same
-
-pub end_reported : (pid tid : ℕ) (events : List Event) → is_some (summary_of pid tid events).ended ≡ has_own reports_end pid tid events
-end_reported = end_after reports_end (λ value k. is_some value ≡ k) refl reported_after
-
--- it has an event of its end with this value
-value_after : (v : ℕ) (w : What) (s : ThreadSummary) (earlier : Bool) → (s.ended ≡ Some v → earlier ≡ true) → (with_event w s).ended ≡ Some v → (ends_with v w || earlier) ≡ true
-value_after v (what.EndedWith n) s earlier before is = or_left (nat_eq n v) earlier (eq-eqb n v (same_Some n v is))
-value_after v w s earlier before is = before is
-
-value_reported : (v pid tid : ℕ) (events : List Event) → (summary_of pid tid events).ended ≡ Some v → has_own (ends_with v) pid tid events ≡ true
-value_reported v = end_after (ends_with v) (λ value k. value ≡ Some v → k ≡ true) (λ none. absurd (none-some v none)) (value_after v)
 
 -- ---- one thread
 
@@ -121,7 +92,7 @@ module _ (script : Script) (config : Config) (before : List Entry) (r : Run) (is
       true≢false (sym (last_exits script config (threads_fit script config) before r is e.pid p process_is id u target.found (target.here, ended, exits) e.tid t it.found it.here) ∙ alive)) in
       and_from _ _ (known_of_run script config before r is e.pid id ∙ ap (λ (found : Option Thread). option_map_or (λ x. not x.gone) found false) (made id u is_u) ∙ ap not target.here)
       (ap not (
-      ap (λ (b : Bool). b && (is_joined e.pid id r.events || is_detached e.pid id r.events)) (sym (end_reported e.pid id r.events) ∙ kept.ended)
+      ap (λ (b : Bool). b && (is_joined e.pid id r.events || is_detached e.pid id r.events)) kept.ended
       ∙ ap (λ (b : Bool). u.ended && (b || is_detached e.pid id r.events)) (sym (joined_of_run script config before r is e.pid id u (made id u is_u) target.here))
       ∙ ap (λ (b : Bool). u.ended && (u.joined || b)) (sym (detached_of_run script config before r is e.pid id u (made id u is_u) target.here))
       ∙ unreclaimed_by u.gone u.ended (is_ended_status u.status) (u.joined || u.detached) target.holds has_status
@@ -134,7 +105,7 @@ module _ (script : Script) (config : Config) (before : List Entry) (r : Run) (is
       let kept : ThreadKept script p.shared.keys u (summary_of e.pid id r.events) = threads_kept script config before r is e.pid id p u process_is target.found target.here in
       let one : JoinsOne p.threads e.tid id = (joins_of_processes script config before r is e.pid p process_is).joins e.tid t it.found it.here id joins in
       let same : one.target ≡ u = same_Some one.target u (sym one.made ∙ target.found) in
-      and_from _ _ (and_from _ _ (value_reported v e.pid id r.events (kept.value v ended)) (and_from _ _
+      and_from _ _ (and_from _ _ (ap (λ (value : Option ℕ). option_map_or (λ n. nat_eq n v) value false) (kept.value v ended) ∙ eq-eqb v v refl) (and_from _ _
       (ap not (sym (joined_of_run script config before r is e.pid id u (made id u is_u) target.here) ∙ ap (λ (x : Thread). x.joined) (sym same) ∙ one.not_joined))
       (ap not (sym (detached_of_run script config before r is e.pid id u (made id u is_u) target.here) ∙ ap (λ (x : Thread). x.detached) (sym same) ∙ one.joinable))))
       (ap (λ (o : Option What). option_map_or (calls_point join_point) o false) (newest_call_of_run script config before r is e.pid e.tid t it_made it.here (what.Called join_point) (ap call_event joins)))

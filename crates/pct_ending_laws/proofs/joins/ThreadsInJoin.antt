@@ -1,29 +1,17 @@
 -- A thread that is suspended in pthread_join after its transition was so before, or begins to join in it.
-use Rattle.std.proofs.Common.{◌≡◌, ℕ, true, false, List, [], ◌∷◌, reverse, Option, Some, None, refl, sym, ap, ◌∙◌}
+use Rattle.std.proofs.Common.{◌≡◌, ℕ, true, false, List, [], ◌∷◌, Option, Some, None, refl, sym, ap, ◌∙◌}
 use Rattle.std.specs.List.{list_all}
 use Rattle.std.proofs.lemmas.Bool.{false≢true, true≢false, and_parts, not-true}
-use Rattle.pct_model.specs.declared.script.Script.{Script}
-use Rattle.pct_model.specs.declared.schedule.Config.{Config}
-use Rattle.pct_model.specs.declared.schedule.Entry.{Entry}
-use Rattle.pct_model.specs.declared.event.Event.{Event}
-use Rattle.pct_model.specs.declared.event.What.{What}
-use Rattle.pct_model.specs.declared.event.What.TheVariants.{Called}
 use Rattle.pct_model.specs.declared.state.Status.{Status}
 use Rattle.pct_model.specs.declared.state.Status.TheVariants as status
 use Rattle.pct_model.specs.declared.transition.Action.{Action}
 use Rattle.pct_model.specs.declared.transition.Action.TheVariants as action
 use Rattle.pct_model.specs.declared.transition.Transition.{Transition}
-use Rattle.pct_model.specs.Actions.{thread_at, thread_after, for_each, in_child, moved}
+use Rattle.pct_model.specs.Actions.{thread_at, thread_after, for_each, moved}
 use Rattle.pct_model.specs.CancelCalls.{requests, acts_on_request}
-use Rattle.pct_laws.specs.KnownThreads.{newest_event}
-use Rattle.pct_model.specs.Run.{Run, run}
-use Rattle.pct_model.specs.ThreadCalls.{creates, join_point, begins_join, ends_join, detaches}
-use Rattle.pct_model.specs.TransitionTable.{transition_by}
-use Rattle.pct_model.specs.World.{Thread, made_thread}
-use Rattle.pct_ending_laws.proofs.lift.ChangedThreads.{same_settled, named_keeps}
-use Rattle.pct_ending_laws.proofs.lift.ReportedBy.{reported_by, ThreadReading, of_thread, is_thread_reading, after_all}
-use Rattle.pct_ending_laws.proofs.lift.EveryThread.{of_made_thread, IsThreadRule, every_thread}
-use Rattle.pct_ending_laws.proofs.joins.JoinTransitions.{is_in_join, is_quiet, MayJoin, Kind, quiet, begins, kind_of}
+use Rattle.pct_model.specs.ThreadCalls.{creates, begins_join, ends_join, detaches}
+use Rattle.pct_model.specs.World.{Thread}
+use Rattle.pct_ending_laws.proofs.joins.JoinTransitions.{is_in_join, is_quiet, MayJoin, Kind, quiet, begins}
 use Rattle.pct_ending_laws.proofs.joins.NamedThreads.{releases, naming}
 
 -- ---- the thread that moves

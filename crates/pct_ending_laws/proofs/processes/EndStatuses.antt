@@ -1,18 +1,15 @@
--- The status with which a process ends: eight bits, and those of the exit value of the thread, if it exits the process.
-use Rattle.std.proofs.Common.{◌≡◌, ℕ, ◌%◌, true, List, [], ◌∷◌, Some, sym, ap, ◌∙◌}
+-- A thread that exits its process and runs is at a statement of a plain function.
+use Rattle.std.proofs.Common.{◌≡◌, true, List, [], ◌∷◌, Some, sym, ap, ◌∙◌}
 use Rattle.std.specs.Prelude.{All}
 use Rattle.std.proofs.lemmas.Bool.{false≢true}
 use Rattle.std.proofs.lemmas.List.Elements.{All-head}
-use Rattle.std.proofs.lemmas.Option.{same_Some}
 use Rattle.pct_model.specs.declared.frame.Frame.{Frame}
 use Rattle.pct_model.specs.declared.schedule.Config.{Config}
 use Rattle.pct_model.specs.declared.schedule.Entry.{Entry}
 use Rattle.pct_model.specs.declared.script.Script.{Script}
 use Rattle.pct_model.specs.declared.state.Status.{Status}
 use Rattle.pct_model.specs.declared.state.Status.TheVariants as status
-use Rattle.pct_laws.specs.AfterEnd.{begins_exit}
 use Rattle.pct_laws.specs.Kept.{is_exiting, is_exit_kind, IsPlainFunction, ThreadKept}
-use Rattle.pct_laws.specs.KnownThreads.{has_own}
 use Rattle.pct_model.specs.NextStatement.{next_of}
 use Rattle.pct_model.specs.Run.{Run, run}
 use Rattle.pct_laws.specs.ThreadSummary.{summary_of}
@@ -23,8 +20,6 @@ use Rattle.pct_ending_laws.proofs.exits.PlainFunctions.{is_plain_next, plain_nex
 use Rattle.pct_ending_laws.proofs.lift.EveryProcess.{process_taken}
 use Rattle.pct_ending_laws.proofs.lift.MadeThreads.{IsLive}
 use Rattle.pct_ending_laws.proofs.lift.TakenSteps.{IsTaken}
-use Rattle.pct_ending_laws.proofs.processes.ExitValues.{exits_with, exit_value_of_run, exits_with_newest, own_in, exiting_reported}
-use Rattle.pct_ending_laws.proofs.processes.ExitedOnce.{exits_once_of_run}
 use Rattle.pct_ending_laws.proofs.processes.MadeProcesses.{it_is}
 
 -- a thread that exits its process and runs is at a statement of a plain function
@@ -38,17 +33,9 @@ module _ (script : Script) (config : Config) (before : List Entry) (r : Run) (is
   process_is : made_process e.pid r.world ≡ Some p
   process_is = process_taken script config before r is e p t taken
 
-  -- if the thread began to exit its process with a value, this is the exit value of the process
-  pub own_value : (v : ℕ) → has_own (exits_with v) e.pid e.tid r.events ≡ true → p.shared.exit_value ≡ Some v
-  own_value v exits = exit_value_of_run script config before r is e.pid p process_is ∙ exits_with_newest v e.pid r.events (exits_once_of_run script config before r is) (own_in (exits_with v) e.pid e.tid r.events exits)
-
-  -- the status of an exit with the exit value of the process
-  pub status_of_exit : (v : ℕ) → p.shared.exit_value ≡ Some v → (u : ℕ) → has_own (exits_with u) e.pid e.tid r.events ≡ true → v % 256 ≡ u % 256
-  status_of_exit v is_value u exits = ap (λ (n : ℕ). n % 256) (same_Some v u (sym is_value ∙ own_value u exits))
-
   -- a thread that began to exit its process and runs is at a statement of a plain function
-  pub exits_plain : t.status ≡ status.Running → has_own begins_exit e.pid e.tid r.events ≡ true → is_plain_next (next_of script t.frames) ≡ true
+  pub exits_plain : t.status ≡ status.Running → (summary_of e.pid e.tid r.events).exiting ≡ true → is_plain_next (next_of script t.frames) ≡ true
   exits_plain runs exits =
       let it : IsLive p e.tid t = it_is script config before r is e p t taken in
       let kept : ThreadKept script p.shared.keys t (summary_of e.pid e.tid r.events) = threads_kept script config before r is e.pid e.tid p t process_is it.found it.here in
-      plain_if_exits script t.frames (ap (λ (s : Status). is_exiting s t.frames) (sym runs) ∙ sym kept.exiting ∙ exiting_reported e.pid e.tid r.events ∙ exits) kept.exit_frames
+      plain_if_exits script t.frames (ap (λ (s : Status). is_exiting s t.frames) (sym runs) ∙ sym kept.exiting ∙ exits) kept.exit_frames

@@ -1,10 +1,9 @@
--- Exit begins at most once in each process: as a thread returns from `main` or calls exit, it has not begun; and as the last thread of a
--- process ends, no other one exits.
-use Rattle.std.proofs.Common.{◌≡◌, ℕ, Bool, true, false, not, ◌&&◌, ◌||◌, List, [], ◌∷◌, ◌++◌, map, reverse, nat_eq, Option, Some, None, is_some, inl, inr, option_and_then, refl, sym, ap, ◌∙◌, subst, eq-eqb, eqb-true, ne_eqb}
+-- As the last thread of a process ends, no other one exits, so that exit has not begun in the process.
+use Rattle.std.proofs.Common.{◌≡◌, ℕ, Bool, true, false, not, ◌&&◌, ◌||◌, List, [], ◌∷◌, nat_eq, Option, Some, None, is_some, cond, ◌⊎◌, inl, inr, option_and_then, refl, sym, ap, ◌∙◌, subst, eq-eqb, eqb-true, ne_eqb}
 use Rattle.std.specs.Prelude.{All}
 use Rattle.std.specs.List.{position_or_len}
 use Rattle.std.specs.Option.{IsSomeAnd}
-use Rattle.std.proofs.lemmas.Bool.{false≢true, true≢false, and_parts, and_from, and_right, or_from, or_left, or_right, or_cases, false_from_ne_true}
+use Rattle.std.proofs.lemmas.Bool.{false≢true, true≢false, and_from, or_left, false_from_ne_true}
 use Rattle.std.proofs.lemmas.List.Elements.{All-head, All-tail}
 use Rattle.std.proofs.lemmas.Option.{same_Some}
 use Rattle.pct_model.specs.declared.event.Event.{Event}
@@ -15,80 +14,55 @@ use Rattle.pct_model.specs.declared.schedule.Entry.{Entry}
 use Rattle.pct_model.specs.declared.script.Script.{Script}
 use Rattle.pct_model.specs.declared.state.Status.{Status}
 use Rattle.pct_model.specs.declared.state.Status.TheVariants as status
-use Rattle.pct_model.specs.declared.statement.Stmt.{Stmt}
-use Rattle.pct_model.specs.declared.transition.Transition.{Transition}
-use Rattle.pct_laws.specs.AfterEnd.{begins_exit}
+use Rattle.pct_laws.specs.ExitValues.{exit_after, exit_value}
 use Rattle.pct_laws.specs.Kept.{is_exiting, ThreadKept}
-use Rattle.pct_laws.specs.KnownThreads.{is_in, is_own, has_own}
-use Rattle.pct_model.specs.NextStatement.{NextStatement, next_of, body_at}
-use Rattle.pct_model.specs.OtherThreads.{Others, others_of}
-use Rattle.pct_laws.specs.ProcessLaw.{has_in}
-use Rattle.pct_model.specs.Run.{Run, event_of, run}
-use Rattle.pct_model.specs.ThreadEnds.{end_value}
+use Rattle.pct_laws.specs.KnownThreads.{is_in, is_own, is_fork_of}
+use Rattle.pct_model.specs.OtherThreads.{others_of}
+use Rattle.pct_model.specs.Run.{Run, run}
 use Rattle.pct_model.specs.ThreadNumbers.{IsOfThread}
 use Rattle.pct_model.specs.ThreadSlots.{is_ended_status, holds_slot}
-use Rattle.pct_laws.specs.ThreadSummary.{summary_of}
-use Rattle.pct_model.specs.TransitionTable.{transition_by}
-use Rattle.pct_model.specs.World.{Thread, SharedState, Process, World, made_process, thread_with, made_thread}
-use Rattle.pct_transition_cases.proofs.CaseOfTransition.{case_of}
-use Rattle.pct_transition_cases.proofs.TransitionCases.{TransitionCase, main_returned, last_ended, last_ended_with_keys, process_exited, fork_handler_called}
+use Rattle.pct_laws.specs.ThreadSummary.{ThreadSummary, with_event, summary_of}
+use Rattle.pct_model.specs.World.{Thread, Process, World, made_process, thread_with, made_thread}
 use Rattle.pct_ending_laws.proofs.ThreadsOfRun.{exiting_alive, threads_kept, last_kept}
 use Rattle.pct_ending_laws.proofs.lift.EveryProcess.{process_taken}
-use Rattle.pct_ending_laws.proofs.lift.HandlerEvents.{of_each_phase}
 use Rattle.pct_ending_laws.proofs.lift.KeyedLists.{found_at, found_passes, item_passes}
 use Rattle.pct_ending_laws.proofs.lift.MadeNumbers.{numbers_of_run}
 use Rattle.pct_ending_laws.proofs.lift.MadeThreads.{IsLive}
-use Rattle.pct_ending_laws.proofs.lift.TakenSteps.{IsTaken, with_step, AfterEveryRun, every_run}
-use Rattle.pct_ending_laws.proofs.processes.ExitValues.{exits_of_run, exiting_reported, ExitsOnce}
+use Rattle.pct_ending_laws.proofs.lift.TakenSteps.{IsTaken}
+use Rattle.pct_ending_laws.proofs.lift.SummaryEnds.{begins_exit, exiting_after, exiting_stays}
+use Rattle.pct_ending_laws.proofs.processes.ExitValues.{exit_value_of_run}
 use Rattle.pct_ending_laws.proofs.processes.MadeProcesses.{it_is}
-
--- ---- the table
-
-module _ (passes : ℕ) (body : List Stmt) (shared : SharedState) (t : Thread) (others : Others) (e : Entry) (earlier : List Event) where
-  -- exit has not begun in the process, if it has no exit value
-  module _ (none : is_some shared.exit_value ≡ false → has_in begins_exit e.pid earlier ≡ false) where
-    -- nor as its last thread ends, after this event
-    after_end : (v : ℕ) → is_some shared.exit_value ≡ false → has_in begins_exit e.pid (event_of e (what.EndedWith v) ∷ earlier) ≡ false
-    after_end v no_value = or_from (is_in e.pid (event_of e (what.EndedWith v)) && false) (has_in begins_exit e.pid earlier) (and_right (is_in e.pid (event_of e (what.EndedWith v))) false refl) (none no_value)
-
-    -- and after the one that values are left
-    after_both : (v n : ℕ) → is_some shared.exit_value ≡ false → has_in begins_exit e.pid (event_of e (what.EndedWith v) ∷ event_of e (what.Leftover n) ∷ earlier) ≡ false
-    after_both v n no_value =
-        or_from (is_in e.pid (event_of e (what.EndedWith v)) && false) (has_in begins_exit e.pid (event_of e (what.Leftover n) ∷ earlier)) (and_right (is_in e.pid (event_of e (what.EndedWith v))) false refl)
-        (or_from (is_in e.pid (event_of e (what.Leftover n)) && false) (has_in begins_exit e.pid earlier) (and_right (is_in e.pid (event_of e (what.Leftover n))) false refl) (none no_value))
-
-    -- the events of a transition
-    case_once : {next : NextStatement} {s : Status} {o : Transition} → TransitionCase passes body shared t others true next s o → (others.is_last ≡ true → s ≡ status.Ending → is_some shared.exit_value ≡ false)
-        → ExitsOnce earlier → ExitsOnce (map (event_of e) (reverse o.events) ++ earlier)
-    case_once (main_returned frame s v returns is no_value) last once = (none no_value, once)
-    case_once (process_exited frame v no_value) last once = (none no_value, once)
-    case_once (last_ended next no_handlers is_last no_keys left) last once = (after_end (end_value t.reason) (last is_last refl), (tt, once))
-    case_once (last_ended_with_keys next n no_handlers is_last some limit due left) last once = (after_both (end_value t.reason) n (last is_last refl), (tt, (tt, once)))
-    case_once (fork_handler_called next at call is) last once = of_each_phase (λ (w : What). ExitsOnce (event_of e w ∷ earlier)) call.func (tt, once) (tt, once) (tt, once) at.phase
-    case_once _ last once = assumption
 
 -- ---- the thread that exits
 
--- a thread of a process that has an event which passes a test
-record SomeThread (test : What → Bool) (pid : ℕ) (w : World) (events : List Event) : Type 0 where
+-- a thread of a process that has begun to exit it
+record SomeThread (pid : ℕ) (w : World) (events : List Event) : Type 0 where
   tid : ℕ
-  event : has_own test pid tid events ≡ true
+  exits : (summary_of pid tid events).exiting ≡ true
   made : IsSomeAnd (made_thread pid tid w) (λ t. t.gone ≡ false)
 
--- it was made, and its process inherited it
-some_thread : (test : What → Bool) (pid : ℕ) (w : World) (events : List Event) → All (IsOfThread w) events → has_in test pid events ≡ true → SomeThread test pid w events
-some_thread test pid w [] of is = absurd (false≢true is)
-some_thread test pid w (e ∷ earlier) of is = elim (or_cases (is_in pid e && test e.what) (has_in test pid earlier) is) [
-  | inl here ↦
-      let parts = and_parts (is_in pid e) (test e.what) here in
+-- an exit value comes with an event of the process, or was reported before it
+value_by : (here : Bool) (w : What) (k : Option ℕ) → is_some (cond here (exit_after w k) k) ≡ true → ((here ≡ true) × (begins_exit w ≡ true)) ⊎ (is_some k ≡ true)
+value_by true (what.ExitBegun v) k is = inl (refl, refl)
+value_by true _ k is = inr is
+value_by false w k is = inr is
+
+-- where the process has an exit value, there is such a thread; it was made, and its process inherited it
+some_thread : (pid : ℕ) (w : World) (events : List Event) → All (IsOfThread w) events → is_some (exit_value pid events) ≡ true → SomeThread pid w events
+some_thread pid w [] of is = absurd (false≢true is)
+some_thread pid w (e ∷ earlier) of is = elim (value_by (is_in pid e) e.what (exit_value pid earlier) is) [
+  | inl begins ↦
+      let s : ThreadSummary = summary_of pid e.tid earlier in
+      let other : ThreadSummary = cond (is_fork_of pid e.tid e) (record s { handlers = (summary_of e.pid e.tid earlier).handlers }) s in
+      let own : is_own pid e.tid e ≡ true = and_from (is_in pid e) (nat_eq e.tid e.tid) begins.0 (eq-eqb e.tid e.tid refl) in
       record {
         tid = e.tid;
-        event = or_left (is_own pid e.tid e && test e.what) (has_own test pid e.tid earlier) (and_from (is_own pid e.tid e) (test e.what) (and_from (is_in pid e) (nat_eq e.tid e.tid) parts.0 (eq-eqb e.tid e.tid refl)) parts.1);
-        made = subst (λ (n : ℕ). IsSomeAnd (made_thread n e.tid w) (λ t. t.gone ≡ false)) (eqb-true e.pid pid parts.0) (All-head (IsOfThread w) e earlier of);
+        exits = ap (λ (own : Bool). (cond own (with_event e.what s) other).exiting) own ∙ exiting_after e.what s ∙ or_left (begins_exit e.what) s.exiting begins.1;
+        made = subst (λ (n : ℕ). IsSomeAnd (made_thread n e.tid w) (λ t. t.gone ≡ false)) (eqb-true e.pid pid begins.0) (All-head (IsOfThread w) e earlier of);
       }
   | inr before ↦
-      let x : SomeThread test pid w earlier = some_thread test pid w earlier (All-tail (IsOfThread w) e earlier of) before in
-      record { tid = x.tid; event = or_right (is_own pid x.tid e && test e.what) (has_own test pid x.tid earlier) x.event; made = x.made }
+      let x : SomeThread pid w earlier = some_thread pid w earlier (All-tail (IsOfThread w) e earlier of) before in
+      record { tid = x.tid; exits = exiting_stays pid x.tid e earlier x.exits; made = x.made }
 ]
 
 -- a thread that is found
@@ -128,10 +102,9 @@ module _ (script : Script) (config : Config) (before : List Entry) (r : Run) (is
       false_from_ne_true t.ended (λ ended. false≢true (ap is_ended_status (sym ends) ∙ of_it.ended_status ended (of_it.exiting ∙ ending_not_exiting ends)))
 
   -- as the last thread of a process ends, no thread of it exits
-  none_exits : (others_of config.slots r.world p t.id).is_last ≡ true → t.status ≡ status.Ending → (tid : ℕ) (u : Thread) → thread_with tid p ≡ Some u → u.gone ≡ false → has_own begins_exit e.pid tid r.events ≡ true → ⊥
+  none_exits : (others_of config.slots r.world p t.id).is_last ≡ true → t.status ≡ status.Ending → (tid : ℕ) (u : Thread) → thread_with tid p ≡ Some u → u.gone ≡ false → (summary_of e.pid tid r.events).exiting ≡ true → ⊥
   unfolding others_of
-  none_exits last ends tid u found here event =
-      let exits : (summary_of e.pid tid r.events).exiting ≡ true = exiting_reported e.pid tid r.events ∙ event in
+  none_exits last ends tid u found here exits =
       let is_exit : is_exiting u.status u.frames ≡ true = sym (kept tid u found here).exiting ∙ exits in
       let number : u.id ≡ tid = eqb-true u.id tid (found_passes (λ (x : Thread). nat_eq x.id tid) p.threads u found) in
       let differs : nat_eq u.id t.id ≡ false = ne_eqb u.id t.id (λ same.
@@ -144,19 +117,8 @@ module _ (script : Script) (config : Config) (before : List Entry) (r : Run) (is
       true≢false (sym (last_kept script config before r is e.pid p process_is tid u found here ended exits e.tid t it.found it.here) ∙ ending_not_ended ends)
 
   -- so the process has no exit value then
-  last_has_none : (others_of config.slots r.world p t.id).is_last ≡ true → t.status ≡ status.Ending → is_some p.shared.exit_value ≡ false
+  pub last_has_none : (others_of config.slots r.world p t.id).is_last ≡ true → t.status ≡ status.Ending → is_some p.shared.exit_value ≡ false
   last_has_none last ends = false_from_ne_true (is_some p.shared.exit_value) (λ some.
-      let x : SomeThread begins_exit e.pid r.world r.events = some_thread begins_exit e.pid r.world r.events (numbers_of_run script config before r is).of_threads (sym (exits_of_run script config before r is e.pid p process_is) ∙ some) in
+      let x : SomeThread e.pid r.world r.events = some_thread e.pid r.world r.events (numbers_of_run script config before r is).of_threads (ap (λ (v : Option ℕ). is_some v) (sym (exit_value_of_run script config before r is e.pid p process_is)) ∙ some) in
       let u = found_thread (thread_with x.tid p) (subst (λ (found : Option Process). IsSomeAnd (option_and_then (thread_with x.tid) found) (λ t. t.gone ≡ false)) process_is x.made) in
-      none_exits last ends x.tid u.0 u.1 u.2 x.event)
-
-  -- the events of a step
-  pub once_later : ExitsOnce r.events → ExitsOnce (with_step e (transition_by script config r.world p t e.alt) r).events
-  once_later once =
-      let others : Others = others_of config.slots r.world p t.id in
-      case_once config.passes (body_at script t.frames) p.shared t others e r.events (λ none. sym (exits_of_run script config before r is e.pid p process_is) ∙ none)
-      (case_of config.passes (body_at script t.frames) p.shared t others true e.alt (next_of script t.frames) t.status (λ known. taken.offered)) last_has_none once
-
--- exit begins at most once in each process
-pub exits_once_of_run : (script : Script) (config : Config) → AfterEveryRun script config (λ r. ExitsOnce r.events)
-exits_once_of_run script config = every_run script config (λ r. ExitsOnce r.events) (λ before r is e p t taken once. once_later script config before r is e p t taken once) (λ some. tt)
+      none_exits last ends x.tid u.0 u.1 u.2 x.exits)

@@ -16,7 +16,6 @@ use Rattle.pct_laws.specs.ThreadSummary.{summary_of}
 use Rattle.pct_model.specs.World.{Thread, Process, made_process, thread_with}
 use Rattle.pct_ending_laws.proofs.ThreadsOfRun.{threads_kept}
 use Rattle.pct_ending_laws.proofs.joins.JoiningThreads.{joins_of_processes}
-use Rattle.pct_ending_laws.proofs.joins.LawfulJoins.{end_reported}
 use Rattle.pct_ending_laws.proofs.joins.ReportedFlags.{known_of_run}
 use Rattle.pct_ending_laws.proofs.lift.EveryProcess.{process_taken, ids_of_run}
 use Rattle.pct_ending_laws.proofs.lift.MadeThreads.{IsLive, live_thread}
@@ -45,4 +44,4 @@ module _ (script : Script) (config : Config) (before : List Entry) (r : Run) (is
       let kept : ThreadKept script p.shared.keys t (summary_of e.pid e.tid r.events) = threads_kept script config before r is e.pid e.tid p t process_is it.found it.here in
       and_from _ _ (known_of_run script config before r is e.pid id ∙ ap (λ (found : Option Thread). option_map_or (λ x. not x.gone) found false) (ap (option_and_then (thread_with id)) process_is ∙ target.found) ∙ ap not target.here)
       (and_from _ _ (ap not (ne_eqb id e.tid ((joins_of_processes script config before r is e.pid p process_is).joins e.tid t it.found it.here id joins).other))
-      (ap not (sym (end_reported e.pid e.tid r.events) ∙ kept.ended ∙ joining_alive id joins)))
+      (ap not (kept.ended ∙ joining_alive id joins)))

@@ -1,7 +1,7 @@
 -- The law of processes holds of the events of every run.
-use Rattle.std.proofs.Common.{◌≡◌, ℕ, ◌%◌, true, false, ◌&&◌, List, [], ◌∷◌, ◌++◌, map, reverse, Some, refl, arith, not, nat_eq, nat_lt, sym, ap, ◌∙◌, inl, inr, eq-eqb, ne_eqb}
+use Rattle.std.proofs.Common.{◌≡◌, ℕ, ◌%◌, true, false, ◌&&◌, List, [], ◌∷◌, ◌++◌, map, reverse, Option, Some, None, Bool, cond, is_some, is_none, refl, arith, not, nat_eq, nat_lt, sym, ap, ◌∙◌, eq-eqb}
 use Rattle.std.specs.List.{list_any}
-use Rattle.std.proofs.lemmas.Bool.{false≢true, or_parts, or_from, and_right, and_from, and_parts, or_cases, or_left, or_right, not-true, false_from_ne_true, lt-ltb}
+use Rattle.std.proofs.lemmas.Bool.{false≢true, or_parts, or_from, and_right, and_from, and_parts, or_left, or_right, false_from_ne_true, lt-ltb}
 use Rattle.std.proofs.lemmas.Nat.{mod_below}
 use Rattle.pct_model.specs.declared.event.Event.{Event}
 use Rattle.pct_model.specs.declared.event.What.{What}
@@ -15,14 +15,15 @@ use Rattle.pct_model.specs.declared.state.Status.TheVariants as status
 use Rattle.pct_model.specs.declared.statement.Stmt.{Stmt}
 use Rattle.pct_model.specs.declared.transition.Transition.{Transition}
 use Rattle.pct_model.specs.Actions.{without_first}
-use Rattle.pct_laws.specs.AfterEnd.{begins_exit}
-use Rattle.pct_laws.specs.KnownThreads.{is_in, is_own, has_own}
+use Rattle.pct_laws.specs.ExitValues.{exit_value}
+use Rattle.pct_laws.specs.ThreadSummary.{summary_of}
+use Rattle.pct_laws.specs.KnownThreads.{is_in}
 use Rattle.pct_model.specs.LineKinds.{syntax_of}
 use Rattle.pct_model.specs.NextStatement.{NextStatement, next_of, body_at}
 use Rattle.pct_model.specs.OtherThreads.{Others, others_of}
 use Rattle.pct_laws.specs.ProcessLaw.{ends_process, is_stop, has_in}
 use Rattle.pct_laws.specs.Each.{each}
-use Rattle.pct_laws.specs.ProcessLaw.{exits_otherwise, may_change, changes_allow, allows}
+use Rattle.pct_laws.specs.ProcessLaw.{is_status_of, may_change, changes_allow, allows}
 use Rattle.pct_model.specs.Run.{Run, event_of, run}
 use Rattle.pct_model.specs.Statements.{encode}
 use Rattle.pct_model.specs.TransitionTable.{transition_by}
@@ -31,12 +32,13 @@ use Rattle.pct_transition_cases.proofs.CaseOfTransition.{case_of}
 use Rattle.pct_transition_cases.proofs.TransitionCases.{TransitionCase, main_returned, join_ended, fork_handler_called, process_forked, child_reaped, last_ended, last_ended_with_keys, process_exited, process_ended_now, process_ended}
 use Rattle.pct_ending_laws.proofs.exits.PlainFunctions.{is_plain_next}
 use Rattle.pct_ending_laws.proofs.lift.CreatedThreads.{gives_next}
+use Rattle.pct_ending_laws.proofs.lift.EveryProcess.{process_taken}
 use Rattle.pct_ending_laws.proofs.lift.HandlerEvents.{of_each_phase}
 use Rattle.pct_ending_laws.proofs.lift.TakenSteps.{IsTaken, with_step, AfterEveryRun, every_run}
 use Rattle.pct_ending_laws.proofs.processes.EndedProcesses.{live_of_run}
-use Rattle.pct_ending_laws.proofs.processes.EndStatuses.{status_of_exit, exits_plain}
-use Rattle.pct_ending_laws.proofs.processes.ExitValues.{exits_with, ExitsOnce, own_weaker}
-use Rattle.pct_ending_laws.proofs.processes.ExitedOnce.{exits_once_of_run, once_later}
+use Rattle.pct_ending_laws.proofs.processes.EndStatuses.{exits_plain}
+use Rattle.pct_ending_laws.proofs.processes.ExitValues.{exit_value_of_run}
+use Rattle.pct_ending_laws.proofs.processes.ExitedOnce.{last_has_none}
 use Rattle.pct_ending_laws.proofs.processes.JoinedThreads.{joins_known}
 use Rattle.pct_ending_laws.proofs.processes.MadeProcesses.{next_unmade, known_by}
 use Rattle.pct_ending_laws.proofs.processes.ReapedChildren.{reaps_child}
@@ -48,21 +50,14 @@ use Rattle.pct_ending_laws.proofs.processes.StoppedRuns.{none_later, is_closing,
 abbrev pub ChangesLaw : List Event → Type 0
 ChangesLaw events = each changes_allow events ≡ true
 
--- a thread that exits with another status exits with a value
-otherwise_value : (n pid tid : ℕ) (events : List Event) → has_own (exits_otherwise n) pid tid events ≡ true → (u : ℕ) × (has_own (exits_with u) pid tid events ≡ true) × (nat_eq n (u % 256) ≡ false)
-otherwise_value n pid tid [] is = absurd (false≢true is)
-otherwise_value n pid tid (e ∷ earlier) is = elim (or_cases (is_own pid tid e && exits_otherwise n e.what) (has_own (exits_otherwise n) pid tid earlier) is) [
-  | inl here ↦ let p = and_parts (is_own pid tid e) (exits_otherwise n e.what) here in let v = its_value n e.what p.1 in (v.0, or_left _ _ (and_from _ _ p.0 v.1), v.2)
-  | inr before ↦ let v = otherwise_value n pid tid earlier before in (v.0, or_right (is_own pid tid e && exits_with v.0 e.what) _ v.1, v.2)
-]
-  where
-    its_value : (n : ℕ) (w : What) → exits_otherwise n w ≡ true → (u : ℕ) × (exits_with u w ≡ true) × (nat_eq n (u % 256) ≡ false)
-    its_value n (what.ExitBegun v) is = (v, eq-eqb v v refl, not-true (nat_eq n (v % 256)) is)
-    its_value n _ is = absurd (false≢true is)
+-- a process without an exit value has none after an event of another kind
+kept_value : (here : Bool) (k : Option ℕ) → cond here k k ≡ k
+kept_value true k = refl
+kept_value false k = refl
 
-otherwise_begins : (n : ℕ) (w : What) → exits_otherwise n w ≡ true → begins_exit w ≡ true
-otherwise_begins n (what.ExitBegun v) is = refl
-otherwise_begins n _ is = is
+none_is : (k : Option ℕ) → is_some k ≡ false → is_none k ≡ true
+none_is None none = refl
+none_is (Some v) none = absurd (false≢true (sym none))
 
 module _ (passes : ℕ) (body : List Stmt) (shared : SharedState) (t : Thread) (others : Others) (e : Entry) (earlier : List Event) where
   -- what is known of a thread with a status, at a statement, and of the events before its transition
@@ -73,32 +68,40 @@ module _ (passes : ℕ) (body : List Stmt) (shared : SharedState) (t : Thread) (
     joins : (id v : ℕ) (target : Thread) → s ≡ status.Joining id → others.named id ≡ Some target → may_change (what.Joined id v) e.pid e.tid earlier ≡ true
     -- a child that has ended may be reaped
     reaps : (pid n : ℕ) (child : Child) → others.family.child pid ≡ Some child → child.ended ≡ Some n → may_change (what.Reaped pid n) e.pid e.tid earlier ≡ true
-    -- the exit value of the process is that of the thread, if it exits
-    exit_status : (v : ℕ) → shared.exit_value ≡ Some v → has_own (exits_otherwise (v % 256)) e.pid e.tid earlier ≡ false
+    -- the exit value of the process is the reported one; it has none as its last thread ends
+    value : exit_value e.pid earlier ≡ shared.exit_value
+    last : others.is_last ≡ true → s ≡ status.Ending → is_some shared.exit_value ≡ false
     -- a thread that exits runs plain functions alone
-    plain : s ≡ status.Running → has_own begins_exit e.pid e.tid earlier ≡ true → is_plain_next next ≡ true
+    plain : s ≡ status.Running → (summary_of e.pid e.tid earlier).exiting ≡ true → is_plain_next next ≡ true
 
   -- a status has eight bits
   below_256 : (n : ℕ) → nat_lt (n % 256) 256 ≡ true
   below_256 n = lt-ltb _ _ (mod_below n 256 (omega arith))
 
-  -- the events of a transition, where exit begins at most once
-  case_changes : {next : NextStatement} {s : Status} {o : Transition} → TransitionCase passes body shared t others true next s o → IsReady next s
-      → ExitsOnce (map (event_of e) (reverse o.events) ++ earlier) → ChangesLaw earlier → ChangesLaw (map (event_of e) (reverse o.events) ++ earlier)
+  -- exit has not begun, where the process has no exit value
+  not_exited : {next : NextStatement} {s : Status} → IsReady next s → is_some shared.exit_value ≡ false → is_none (exit_value e.pid earlier) ≡ true
+  not_exited ready none = none_is (exit_value e.pid earlier) (ap (λ (k : Option ℕ). is_some k) ready.value ∙ none)
+
+  -- the events of a transition
+  case_changes : {next : NextStatement} {s : Status} {o : Transition} → TransitionCase passes body shared t others true next s o → IsReady next s → ChangesLaw earlier → ChangesLaw (map (event_of e) (reverse o.events) ++ earlier)
   unfolding encode syntax_of
-  case_changes (main_returned frame s v returns is none) ready once law = and_from _ _ (ap not once.0) law
-  case_changes (process_exited frame v none) ready once law = and_from _ _ (ap not once.0) law
-  case_changes (last_ended next no_handlers is_last no_keys left) ready once law = and_from _ _ (ap not once.0) law
-  case_changes (last_ended_with_keys next n no_handlers is_last some limit due left) ready once law = and_from _ _ (ap not once.0) law
-  case_changes (process_forked next index count answer new is) ready once law = and_from _ _ (ready.forks new is) law
-  case_changes (join_ended frame operand d id v target is ended) ready once law = and_from _ _ (ready.joins id v target refl is) law
-  case_changes (child_reaped frame result d operand pid n child is ended) ready once law = and_from _ _ (ready.reaps pid n child is ended) law
-  case_changes (process_ended_now frame v) ready once law =
-      let n : ℕ = value_of shared.globals frame v % 256 in
-      and_from _ _ (and_from _ _ (below_256 (value_of shared.globals frame v)) (ap not (false_from_ne_true (has_own (exits_otherwise n) e.pid e.tid earlier) (λ exits. false≢true (ready.plain refl (own_weaker (exits_otherwise n) begins_exit (otherwise_begins n) e.pid e.tid earlier exits)))))) law
-  case_changes (process_ended next v is none) ready once law = and_from _ _ (and_from _ _ (below_256 v) (ap not (ready.exit_status v is))) law
-  case_changes (fork_handler_called next at call is) ready once law = of_each_phase (λ (w : What). ChangesLaw (event_of e w ∷ earlier)) call.func law law law at.phase
-  case_changes _ ready once law = assumption
+  case_changes (main_returned frame s v returns is none) ready law = and_from _ _ (not_exited ready none) law
+  case_changes (process_exited frame v none) ready law = and_from _ _ (not_exited ready none) law
+  case_changes (last_ended next no_handlers is_last no_keys left) ready law =
+      and_from _ _ (ap (λ (k : Option ℕ). is_none k) (kept_value (nat_eq e.pid e.pid) (exit_value e.pid earlier)) ∙ not_exited ready (ready.last is_last refl)) law
+  case_changes (last_ended_with_keys next n no_handlers is_last some limit due left) ready law =
+      let k : Option ℕ = exit_value e.pid earlier in
+      and_from _ _ (ap (λ (k : Option ℕ). is_none k) (kept_value (nat_eq e.pid e.pid) (cond (nat_eq e.pid e.pid) k k) ∙ kept_value (nat_eq e.pid e.pid) k) ∙ not_exited ready (ready.last is_last refl)) law
+  case_changes (process_forked next index count answer new is) ready law = and_from _ _ (ready.forks new is) law
+  case_changes (join_ended frame operand d id v target is ended) ready law = and_from _ _ (ready.joins id v target refl is) law
+  case_changes (child_reaped frame result d operand pid n child is ended) ready law = and_from _ _ (ready.reaps pid n child is ended) law
+  case_changes (process_ended_now frame v) ready law =
+      let alive : (summary_of e.pid e.tid earlier).exiting ≡ false = false_from_ne_true (summary_of e.pid e.tid earlier).exiting (λ exits. false≢true (ready.plain refl exits)) in
+      and_from _ _ (and_from _ _ (below_256 (value_of shared.globals frame v)) (or_left (not (summary_of e.pid e.tid earlier).exiting) _ (ap not alive))) law
+  case_changes (process_ended next v is none) ready law =
+      and_from _ _ (and_from _ _ (below_256 v) (or_right (not (summary_of e.pid e.tid earlier).exiting) _ (ap (is_status_of (v % 256)) (ready.value ∙ is) ∙ eq-eqb (v % 256) (v % 256) refl))) law
+  case_changes (fork_handler_called next at call is) ready law = of_each_phase (λ (w : What). ChangesLaw (event_of e w ∷ earlier)) call.func law law law at.phase
+  case_changes _ ready law = assumption
 
 -- ---- the events of a step
 
@@ -134,7 +137,8 @@ module _ (script : Script) (config : Config) where
       forks = λ new next. let made = next_unmade script config before r is e p t taken new (gives_next script config r.world p t e.alt taken.offered new next) in and_from _ _ (ap not made.0) (ap not made.1);
       joins = λ id v target s named. joins_known script config before r is e p t taken id target s named v;
       reaps = reaps_child script config before r is e p t taken;
-      exit_status = λ v value. false_from_ne_true _ (λ exits. let u = otherwise_value (v % 256) e.pid e.tid r.events exits in false≢true (sym u.2 ∙ eq-eqb (v % 256) (u.0 % 256) (status_of_exit script config before r is e p t taken v value u.0 u.1)));
+      value = sym (exit_value_of_run script config before r is e.pid p (process_taken script config before r is e p t taken));
+      last = last_has_none script config before r is e p t taken;
       plain = λ runs exits. exits_plain script config before r is e p t taken runs exits;
     }
 
@@ -144,7 +148,7 @@ module _ (script : Script) (config : Config) where
         let others : Others = others_of config.slots r.world p t.id in
         case_changes config.passes (body_at script t.frames) p.shared t others e r.events
         (case_of config.passes (body_at script t.frames) p.shared t others true e.alt (next_of script t.frames) t.status (λ known. taken.offered))
-        is_ready (once_later script config before r is e p t taken (exits_once_of_run script config before r is)) law
+        is_ready law
 
     -- the law after the events of a step
     law_later : (added : List What) → list_any is_closing (without_first added) ≡ false → ChangesLaw (map (event_of e) added ++ r.events) → each allows r.events ≡ true → each allows (map (event_of e) added ++ r.events) ≡ true

@@ -12,7 +12,6 @@ use Rattle.pct_model.specs.declared.state.State.{State}
 use Rattle.pct_model.specs.Cancelability.{is_deliverable}
 use Rattle.pct_model.specs.CancelCalls.{state_if, mode_if}
 use Rattle.pct_laws.specs.CancelEvents.{is_requested, is_enabled_last, is_asynchronous_last, has_not_begun, is_enabled_by, has_to_act}
-use Rattle.pct_model.specs.declared.event.Event.{Event}
 use Rattle.pct_laws.specs.Kept.{ThreadKept}
 use Rattle.pct_model.specs.Run.{Run, run}
 use Rattle.pct_model.specs.StopTable.{has_begun_to_end}

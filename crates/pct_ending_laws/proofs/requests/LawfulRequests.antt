@@ -1,7 +1,7 @@
 -- The events of every run keep the law of cancellation: a thread is canceled only by a request that came, with its cancelability enabled,
 -- a thread that has to act upon a request calls no cancellation point, a thread returns from one after its call, and one that has begun to
 -- end does not enable its cancelability.
-use Rattle.std.proofs.Common.{◌≡◌, ℕ, Bool, true, false, not, ◌&&◌, ◌||◌, cond, List, [], ◌∷◌, ◌++◌, map, reverse, nat_eq, Option, Some, refl, sym, ap, ap₂, ◌∙◌, subst, eq-eqb, eqb-true}
+use Rattle.std.proofs.Common.{◌≡◌, ℕ, Bool, true, false, not, ◌&&◌, ◌||◌, cond, List, [], ◌∷◌, ◌++◌, map, reverse, nat_eq, Option, Some, refl, sym, ap, ◌∙◌, subst, eq-eqb, eqb-true}
 use Rattle.std.specs.List.{list_all}
 use Rattle.std.specs.Option.{option_map_or}
 use Rattle.std.proofs.lemmas.Bool.{false≢true, true≢false, and_parts, and_from, or_left, or_right}
@@ -32,7 +32,7 @@ use Rattle.pct_model.specs.CondCalls.{cond_wait_point}
 use Rattle.pct_model.specs.ForkCalls.{waitpid_point}
 use Rattle.pct_model.specs.StatusKinds.{has_left_wait}
 use Rattle.pct_laws.specs.Kept.{is_call_of, is_leaving, WaitKept}
-use Rattle.pct_laws.specs.KnownThreads.{is_own, newest_event}
+use Rattle.pct_laws.specs.KnownThreads.{is_own}
 use Rattle.pct_model.specs.NextStatement.{NextStatement, StatementIn, next_of}
 use Rattle.pct_model.specs.OtherThreads.{others_of}
 use Rattle.pct_model.specs.Run.{Run, event_of, run}
@@ -40,7 +40,7 @@ use Rattle.pct_model.specs.SemCalls.{sem_wait_point}
 use Rattle.pct_model.specs.StopTable.{has_begun_to_end}
 use Rattle.pct_laws.specs.ThreadSummary.{ThreadSummary, summary_of}
 use Rattle.pct_model.specs.TransitionTable.{transition_by}
-use Rattle.pct_laws.specs.WaitStages.{WaitStage, InWait, ToReturn, Leaving, LeavingSignal, ToEnd, stage_after, wait_stage}
+use Rattle.pct_laws.specs.WaitStages.{WaitStage, InWait, ToReturn, Leaving, LeavingSignal, stage_after, wait_stage}
 use Rattle.pct_model.specs.World.{Thread, Process, statement_at, made_thread}
 use Rattle.pct_transition_cases.proofs.PlacedStatements.{IsPlaced, is_placed, statement_placed}
 use Rattle.pct_transition_cases.proofs.TransitionCases.{TransitionCase, join_begun, state_set, cancel_tested, point_begun, point_done, point_passed, canceled, canceled_at_point, canceled_in_join, canceled_in_sem_wait, canceled_in_waitpid, wait_begun, wait_ended, canceled_in_wait, canceled_after_wait, signal_handed_on, ended_in_wait, sem_wait_begun, sem_taken, fork_handler_called, waitpid_begun, child_reaped, no_child_found, child_lost}

@@ -1,7 +1,7 @@
 -- The law of thread ids and slots holds of the events of every run.
 use Rattle.std.proofs.Common.{◌≡◌, ℕ, true, List, [], ◌∷◌, ◌++◌, map, reverse, nat_eq, Some, Bool, false, not, ◌||◌, refl, sym, ap, ◌∙◌, eqb-true}
 use Rattle.std.specs.List.{list_all, list_any}
-use Rattle.std.proofs.lemmas.Bool.{false≢true, and_parts, and_from, false_from_ne_true}
+use Rattle.std.proofs.lemmas.Bool.{false≢true, and_parts, and_from}
 use Rattle.pct_model.specs.declared.event.Event.{Event}
 use Rattle.pct_model.specs.declared.event.What.{What}
 use Rattle.pct_model.specs.declared.event.What.TheVariants as what
@@ -15,9 +15,10 @@ use Rattle.pct_model.specs.Run.{Run, event_of, run}
 use Rattle.pct_laws.specs.Each.{each}
 use Rattle.pct_laws.specs.KnownIds.{known_ids}
 use Rattle.pct_laws.specs.SlotLaw.{leaves_slot, may_create, allows}
-use Rattle.pct_laws.specs.KnownThreads.{is_known, is_reclaimed}
+use Rattle.pct_laws.specs.KnownThreads.{is_known}
+use Rattle.pct_laws.specs.ThreadSummary.{is_reclaimed}
 use Rattle.pct_model.specs.ThreadSlots.{slot_of}
-use Rattle.pct_ending_laws.proofs.slots.KnownIds.{is_among, all_from_members, among_known}
+use Rattle.pct_ending_laws.proofs.slots.KnownIds.{all_from_members, among_known}
 use Rattle.pct_model.specs.ThreadCalls.{creates, begins_join, ends_join, detaches}
 use Rattle.pct_model.specs.ThreadSlots.{free_ids}
 use Rattle.pct_model.specs.TransitionTable.{transition_by}
