@@ -83,8 +83,7 @@ every_run_keeps_laws script config entries r is = record {
   ends = record {
     stages = each_step script config (EachMayBegin config.passes) (each_may_begin_of_run script config) entries;
     values = each_step script config (KeepsValues script) (keeps_values_of_run script config) entries;
-    left = (leftovers_of_run script config entries r is).0;
-    ended = (leftovers_of_run script config entries r is).1;
+    left = leftovers_of_run script config entries r is;
   };
   cancels = record {
     requests = requests_of_run script config entries r is;

@@ -12,6 +12,7 @@ pub mod InheritedThreads
 pub mod ProcessIds
 pub mod ReportedBy
 pub mod EachAllowed
+pub mod FollowedEvents
 pub mod SummaryEnds
 pub mod ThreadsAfter
 pub mod EveryProcess

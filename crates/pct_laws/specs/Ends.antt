@@ -16,9 +16,8 @@ use Rattle.pct_model.specs.declared.state.Status.TheVariants.{Ending}
 use Rattle.pct_model.specs.declared.statement.Stmt.TheVariants as statement
 use Rattle.pct_laws.specs.AfterEnd.{begins_exit_with_0}
 use Rattle.pct_model.specs.Keys.{KeyPlace, key_place, is_due, value_at}
-use Rattle.pct_laws.specs.Each.{each}
-use Rattle.pct_laws.specs.LeftoverLaw.{ends_with_leftover}
-use Rattle.pct_laws.specs.LeftoverLaw as LeftoverLaw
+use Rattle.pct_laws.specs.FollowedEvents.{are_followed}
+use Rattle.pct_laws.specs.KnownThreads.{reports_end}
 use Rattle.pct_model.specs.NextStatement.{NextStatement, StatementIn, next_of}
 use Rattle.pct_laws.specs.ThreadSteps.{ThreadStep, EachStep}
 use Rattle.pct_model.specs.World.{Thread, thread_with, value_of}
@@ -115,12 +114,18 @@ pub record KeepsValue (script : Script) (place : ℕ) (s : ThreadStep) : Type 0 
 abbrev pub KeepsValues : Script → ThreadStep → Type 0
 KeepsValues script s = (place : ℕ) → KeepsValue script place s
 
+-- ---- the law of the events
+
+-- the event is that values are left
+abbrev pub is_leftover : What → Bool
+is_leftover (what.Leftover n) = true
+is_leftover _ = false
+
 -- ---- the law
 
 -- the law of the stages of an end, of the run of a schedule and its events
 pub record Ends (script : Script) (config : Config) (entries : List Entry) (events : List Event) : Type 0 where
   pub stages : EachStep script config entries (EachMayBegin config.passes)
   pub values : EachStep script config entries (KeepsValues script)
-  -- an event that values are left is directly followed by the end of its thread, and no run ends between them
-  pub left : each LeftoverLaw.allows events ≡ true
-  pub ended : ends_with_leftover events ≡ false
+  -- each event that values are left is directly followed by the end of its thread
+  pub left : are_followed is_leftover reports_end events ≡ true

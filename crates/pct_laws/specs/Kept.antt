@@ -21,6 +21,7 @@ use Rattle.pct_model.specs.declared.state.Status.TheVariants as status
 use Rattle.pct_model.specs.declared.statement.Stmt.TheVariants as statement
 use Rattle.pct_model.specs.Actions.{has_ended, without_first}
 use Rattle.pct_laws.specs.ExitValues.{exit_value}
+use Rattle.pct_laws.specs.FollowedEvents.{are_followed}
 use Rattle.pct_model.specs.CancelCalls.{point_kind, is_required, state_if, mode_if}
 use Rattle.pct_laws.specs.CancelEvents.{is_requested, is_enabled_last, is_asynchronous_last, has_not_begun}
 use Rattle.pct_model.specs.CondCalls.{cond_wait_point}
@@ -347,16 +348,6 @@ abbrev pub is_release : What → Bool
 is_release (what.Released m) = true
 is_release _ = false
 
--- the second event is of the thread of the first one, and is that a mutex is released
-abbrev pub IsReleaseAfter : Event → Event → Type 0
-IsReleaseAfter call e = (e.pid ≡ call.pid) × (e.tid ≡ call.tid) × (is_release e.what ≡ true)
-
--- each call of pthread_cond_wait among some events is directly followed by a release of the same thread, where this event, if there is
--- one, follows the newest of them
-abbrev pub CallsRelease : Option Event → List Event → Type 0
-CallsRelease following [] = Unit {0}
-CallsRelease following (e ∷ earlier) = (is_wait_call e.what ≡ true → IsSomeAnd following (IsReleaseAfter e)) × CallsRelease (Some e) earlier
-
 -- ---- states
 
 -- a thread that has ended exits its process: the last thread of a process does so (XSH pthread_exit)
@@ -404,6 +395,6 @@ pub record Kept (script : Script) (config : Config) (w : World) (events : List E
   -- the condition wait of each thread is unfinished exactly if the thread is in it
   pub waits : EachThread w (λ pid tid t. WaitKept t.status (wait_stage pid tid events))
   -- each call of pthread_cond_wait is directly followed by a release of the same thread
-  pub calls_release : CallsRelease None events
+  pub calls_release : are_followed is_wait_call is_release events ≡ true
   -- if a thread exits its process after its own end, each thread of the process has ended (XSH pthread_exit)
   pub last : EachProcess w (λ pid p. EachThreadOf p (λ tid t. ExitsAfterItsEnd t (summary_of pid tid events) → HasOnlyEnded p))

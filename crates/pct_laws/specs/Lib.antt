@@ -2,6 +2,7 @@ pub mod Each
 pub mod KnownThreads
 pub mod KnownIds
 pub mod NewestEvents
+pub mod FollowedEvents
 pub mod ThreadSummary
 pub mod CancelEvents
 pub mod KeyEvents
@@ -15,7 +16,6 @@ pub mod RanAll
 pub mod AfterEnd
 pub mod KeysLaw
 pub mod Calls
-pub mod LeftoverLaw
 pub mod Ends
 pub mod Kept
 pub mod RequestsLaw

@@ -9,8 +9,9 @@ use Rattle.pct_model.specs.declared.stop.Why.TheVariants as why
 use Rattle.pct_laws.specs.AfterEnd.{begins_exit_with_0, is_of_exit}
 use Rattle.pct_laws.specs.AfterEnd as AfterEnd
 use Rattle.pct_laws.specs.Each.{each}
-use Rattle.pct_laws.specs.LeftoverLaw.{ends_with_leftover}
-use Rattle.pct_laws.specs.LeftoverLaw as LeftoverLaw
+use Rattle.pct_laws.specs.Ends.{is_leftover}
+use Rattle.pct_laws.specs.FollowedEvents.{newest_passes, follows}
+use Rattle.pct_laws.specs.KnownThreads.{reports_end}
 use Rattle.pct_laws.specs.RanAll as RanAll
 use Rattle.pct_rows.proofs.Refusals.{refuses}
 
@@ -195,27 +196,27 @@ others_call_read = refl
 -- ---- values that are left
 
 -- the end of its thread follows, and then events of any kind
-left : each LeftoverLaw.allows (event (what.ExitBegun 0) ∷ ended ∷ event (what.Leftover 2) ∷ event (what.EndingExit 5) ∷ []) ≡ true
+left : each (follows is_leftover reports_end) (event (what.ExitBegun 0) ∷ ended ∷ event (what.Leftover 2) ∷ event (what.EndingExit 5) ∷ []) ≡ true
 left = refl
 
 -- also in each of two threads
-left_by_two : each LeftoverLaw.allows (other (what.EndedWith 6) ∷ other (what.Leftover 1) ∷ ended ∷ event (what.Leftover 2) ∷ []) ≡ true
+left_by_two : each (follows is_leftover reports_end) (other (what.EndedWith 6) ∷ other (what.Leftover 1) ∷ ended ∷ event (what.Leftover 2) ∷ []) ≡ true
 left_by_two = refl
 
-an_end_follows : ends_with_leftover (event (what.Leftover 2) ∷ event (what.EndingExit 5) ∷ []) ≡ true
+an_end_follows : newest_passes is_leftover (event (what.Leftover 2) ∷ event (what.EndingExit 5) ∷ []) ≡ true
 an_end_follows = refl
 
-not_another_event : each LeftoverLaw.allows (event (what.Emit 5) ∷ event (what.Leftover 2) ∷ []) ≡ false
+not_another_event : each (follows is_leftover reports_end) (event (what.Emit 5) ∷ event (what.Leftover 2) ∷ []) ≡ false
 not_another_event = refl
 
-directly : each LeftoverLaw.allows (ended ∷ event (what.Emit 5) ∷ event (what.Leftover 2) ∷ []) ≡ false
+directly : each (follows is_leftover reports_end) (ended ∷ event (what.Emit 5) ∷ event (what.Leftover 2) ∷ []) ≡ false
 directly = refl
 
-values_are_left_once : each LeftoverLaw.allows (ended ∷ event (what.Leftover 2) ∷ event (what.Leftover 2) ∷ []) ≡ false
+values_are_left_once : each (follows is_leftover reports_end) (ended ∷ event (what.Leftover 2) ∷ event (what.Leftover 2) ∷ []) ≡ false
 values_are_left_once = refl
 
-the_end_is_that_of_its_thread : each LeftoverLaw.allows (other (what.EndedWith 5) ∷ event (what.Leftover 2) ∷ []) ≡ false
+the_end_is_that_of_its_thread : each (follows is_leftover reports_end) (other (what.EndedWith 5) ∷ event (what.Leftover 2) ∷ []) ≡ false
 the_end_is_that_of_its_thread = refl
 
-in_its_process : each LeftoverLaw.allows (replica (what.EndedWith 5) ∷ event (what.Leftover 2) ∷ fork ∷ []) ≡ false
+in_its_process : each (follows is_leftover reports_end) (replica (what.EndedWith 5) ∷ event (what.Leftover 2) ∷ fork ∷ []) ≡ false
 in_its_process = refl

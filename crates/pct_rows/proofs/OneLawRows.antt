@@ -2,7 +2,7 @@
 -- from the others. But for one: the law of handlers that ran follows from two others, and the list that it refuses here is also refused by
 -- one of them. No such list breaks the sentence that a thread that has ended joins none: the law of what follows an end refuses it, too. The
 -- lists are newest first.
-use Rattle.std.proofs.Common.{◌≡◌, Bool, true, false, not, ◌&&◌, List, [], ◌∷◌, ◌++◌, map, replicate, refl}
+use Rattle.std.proofs.Common.{◌≡◌, Bool, true, false, List, [], ◌∷◌, ◌++◌, map, replicate, refl}
 use Rattle.pct_model.specs.declared.event.Caller.TheVariants as caller
 use Rattle.pct_model.specs.declared.event.Event.{Event}
 use Rattle.pct_model.specs.declared.event.What.{What}
@@ -19,8 +19,9 @@ use Rattle.pct_laws.specs.CondLaw as CondLaw
 use Rattle.pct_laws.specs.Each.{each}
 use Rattle.pct_laws.specs.JoinLaw as JoinLaw
 use Rattle.pct_laws.specs.KeysLaw as KeysLaw
-use Rattle.pct_laws.specs.LeftoverLaw.{ends_with_leftover}
-use Rattle.pct_laws.specs.LeftoverLaw as LeftoverLaw
+use Rattle.pct_laws.specs.Ends.{is_leftover}
+use Rattle.pct_laws.specs.FollowedEvents.{are_followed}
+use Rattle.pct_laws.specs.KnownThreads.{reports_end}
 use Rattle.pct_laws.specs.Once as Once
 use Rattle.pct_laws.specs.ProcessLaw as ProcessLaw
 use Rattle.pct_laws.specs.RanAll as RanAll
@@ -51,7 +52,7 @@ keeps events Handlers = each (Once.allows 4) events
 keeps events AllRan = each RanAll.allows events
 keeps events AfterEnds = each AfterEnd.allows events
 keeps events KeysOfEvents = each KeysLaw.allows events
-keeps events ValuesLeft = each LeftoverLaw.allows events && not (ends_with_leftover events)
+keeps events ValuesLeft = are_followed is_leftover reports_end events
 keeps events Requests = each RequestsLaw.allows events
 keeps events Joins = each JoinLaw.allows events
 keeps events Conds = each CondLaw.allows events

@@ -1,6 +1,6 @@
 -- Every run keeps the laws of condition waits and of signals that are handed on, and ends in a state whose threads are in the waits that
 -- their events report.
-use Rattle.std.proofs.Common.{◌≡◌, ℕ, true, false, List, reverse, Some, None, option_and_then, refl, sym, ap, ◌∙◌, subst}
+use Rattle.std.proofs.Common.{◌≡◌, ℕ, true, false, List, reverse, Some, option_and_then, refl, sym, ap, ◌∙◌, subst}
 use Rattle.pct_model.specs.declared.schedule.Config.{Config}
 use Rattle.pct_model.specs.declared.schedule.Entry.{Entry}
 use Rattle.pct_model.specs.declared.script.Script.{Script}
@@ -8,7 +8,8 @@ use Rattle.pct_laws.specs.Each.{each}
 use Rattle.pct_laws.specs.CondLaw.{waits_allow, hand_ons_allow}
 use Rattle.pct_model.specs.declared.state.Status.{Status}
 use Rattle.pct_model.specs.Actions.{in_child}
-use Rattle.pct_laws.specs.Kept.{WaitKept, CallsRelease}
+use Rattle.pct_laws.specs.Kept.{WaitKept, is_wait_call, is_release}
+use Rattle.pct_laws.specs.FollowedEvents.{are_followed}
 use Rattle.pct_model.specs.Run.{Run, run}
 use Rattle.pct_model.specs.TransitionTable.{transition_by}
 use Rattle.pct_laws.specs.WaitStages.{WaitStage, NoWait, wait_stage, may_follow}
@@ -18,8 +19,9 @@ use Rattle.pct_ending_laws.proofs.lift.ThreadsAfter.{Moves, mover}
 use Rattle.pct_ending_laws.proofs.lift.EveryProcess.{process_taken, moves_of_run}
 use Rattle.pct_ending_laws.proofs.lift.ReportedBy.{reported_by, of_thread}
 use Rattle.pct_ending_laws.proofs.lift.EachAllowed.{each_later}
+use Rattle.pct_ending_laws.proofs.lift.FollowedEvents.{followed_later}
 use Rattle.pct_ending_laws.proofs.lift.EveryThread.{OfEveryThread, of_made_thread, IsThreadRule, every_thread}
-use Rattle.pct_ending_laws.proofs.waits.NeighbourEvents.{are_neighbours, calls_later, hand_ons_later}
+use Rattle.pct_ending_laws.proofs.waits.NeighbourEvents.{are_neighbours, hand_ons_later}
 use Rattle.pct_ending_laws.proofs.waits.WaitSteps.{stage, stage_reading, transition_keeps, named_keeps_wait}
 
 -- a thread, and the stage of its wait
@@ -60,9 +62,9 @@ module _ (script : Script) (config : Config) where
       (λ before r is e p t taken law. hand_ons_later e r.events script config r.world p t e.alt law) (λ some. refl)
 
   -- each call of pthread_cond_wait releases its mutex at once
-  pub calls_of_run : AfterEveryRun script config (λ r. CallsRelease None r.events)
-  calls_of_run = every_run script config (λ r. CallsRelease None r.events)
-      (λ before r is e p t taken release. calls_later e r.events None (reverse (transition_by script config r.world p t e.alt).events) (are_neighbours script config r.world p t e.alt) release) (λ some. tt)
+  pub calls_of_run : AfterEveryRun script config (λ r. are_followed is_wait_call is_release r.events ≡ true)
+  calls_of_run = every_run script config (λ r. are_followed is_wait_call is_release r.events ≡ true)
+      (λ before r is e p t taken release. followed_later is_wait_call is_release e r.events release (reverse (transition_by script config r.world p t e.alt).events) (are_neighbours script config r.world p t e.alt)) (λ some. refl)
 
   -- the condition wait of each thread is unfinished exactly if the thread is in it
   pub waits_kept_of_run : (entries : List Entry) (r : Run) → run script config entries ≡ Some r → (pid tid : ℕ) (t : Thread) → made_thread pid tid r.world ≡ Some t → t.gone ≡ false → WaitKept t.status (wait_stage pid tid r.events)
