@@ -21,7 +21,7 @@ import sys
 import tempfile
 
 ROOT = pathlib.Path(__file__).resolve().parent.parent
-CRATES = ("pct_io", "pct_model", "pct_jumps", "pct_transition_cases", "pct_ending_laws")
+CRATES = ("pct_io", "pct_model", "pct_laws", "pct_jumps", "pct_transition_cases", "pct_ending_laws")
 SPECS = "crates/pct_model/specs"
 PROOFS = "crates/pct_ending_laws/proofs"
 SECONDS = 1800

