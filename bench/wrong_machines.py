@@ -73,7 +73,7 @@ MACHINES = (
     Machine("an_exit_leaves_no_value", "ProcessLaw", "processes/ExitValues", "Actions",
             "shared_after (action.BeginExit v) s = record s { exit_value = Some v }",
             "shared_after (action.BeginExit v) s = s"),
-    Machine("the_status_of_a_process_is_lost", "ProcessLaw", "processes/ReapedChildren", "Actions",
+    Machine("the_status_of_a_process_is_lost", "ProcessLaw", "processes/EndedProcesses", "Actions",
             "process_after (action.EndProcess n) p = record p { ended = Some (record { status = n; reaped = nat_eq p.parent 0 }) }",
             "process_after (action.EndProcess n) p = record p { ended = Some (record { status = 0; reaped = nat_eq p.parent 0 }) }"),
 )

@@ -30,7 +30,7 @@ use Rattle.pct_ending_laws.proofs.joins.ReportedFlags.{known_of_run, joined_of_r
 use Rattle.pct_ending_laws.proofs.joins.LawfulJoins.{joins_of_run}
 use Rattle.pct_ending_laws.proofs.keys.KeyEvents.{key_events_of_run, keys_law_of_run}
 use Rattle.pct_ending_laws.proofs.owners.OwnersOfRun.{owners_of_run, owners_kept}
-use Rattle.pct_ending_laws.proofs.processes.EndedProcesses.{process_ended_of_run}
+use Rattle.pct_ending_laws.proofs.processes.EndedProcesses.{end_status_of_run}
 use Rattle.pct_ending_laws.proofs.processes.ExitValues.{exit_value_of_run}
 use Rattle.pct_ending_laws.proofs.processes.LawfulProcesses.{processes_of_run}
 use Rattle.pct_ending_laws.proofs.requests.ActingCalls.{acts_at_calls_of_run}
@@ -104,7 +104,7 @@ every_state_is_kept script config entries r is = record {
   known = known_of_run script config entries r is;
   keys = keys_kept script config entries r is;
   reported_keys = key_events_of_run script config entries r is;
-  ended = process_ended_of_run script config entries r is;
+  ended = end_status_of_run script config entries r is;
   exits = exit_value_of_run script config entries r is;
   exit_functions = λ pid p made. All-from_recursion (IsPlainFunction script) p.shared.exit_functions (registered_of_run script config entries r is pid p made).exit_functions;
   fork_handlers = λ pid p made. (registered_of_run script config entries r is pid p made).fork_handlers;

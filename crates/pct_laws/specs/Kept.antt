@@ -1,5 +1,5 @@
 -- The invariant of reachable states: what each state that a run reaches keeps, beside the events that led to it.
-use Rattle.std.specs.Prelude.{◌≡◌, ◌≢◌, ℕ, suc, ◌+◌, ◌*◌, ◌<◌, ◌≤◌, nat_eq, Bool, true, false, not, ◌&&◌, ◌||◌, if◌then◌else◌, Option, Some, None, is_some}
+use Rattle.std.specs.Prelude.{◌≡◌, ◌≢◌, ℕ, suc, ◌+◌, ◌*◌, ◌<◌, ◌≤◌, nat_eq, Bool, true, false, not, ◌&&◌, ◌||◌, if◌then◌else◌, Option, Some, None, is_some, option_map}
 use Rattle.std.specs.Prelude.{List, [], ◌∷◌, ◌++◌, length, map, slice_get, slice_index, All}
 use Rattle.std.specs.List.{list_any}
 use Rattle.std.specs.Option.{IsSomeAnd, option_map_or}
@@ -19,8 +19,8 @@ use Rattle.pct_model.specs.declared.state.State.TheVariants.{Disable}
 use Rattle.pct_model.specs.declared.state.Status.{Status}
 use Rattle.pct_model.specs.declared.state.Status.TheVariants as status
 use Rattle.pct_model.specs.declared.statement.Stmt.TheVariants as statement
-use Rattle.pct_model.specs.Actions.{has_ended, without_first}
-use Rattle.pct_laws.specs.ExitValues.{exit_value}
+use Rattle.pct_model.specs.Actions.{without_first}
+use Rattle.pct_laws.specs.ProcessEnds.{exit_value, end_status}
 use Rattle.pct_laws.specs.FollowedEvents.{are_followed}
 use Rattle.pct_model.specs.CancelCalls.{point_kind, is_required, state_if, mode_if}
 use Rattle.pct_laws.specs.CancelEvents.{is_requested, is_enabled_last, is_asynchronous_last, has_not_begun}
@@ -28,14 +28,14 @@ use Rattle.pct_model.specs.CondCalls.{cond_wait_point}
 use Rattle.pct_model.specs.ForkCalls.{is_fork}
 use Rattle.pct_laws.specs.KeyEvents.{has_key}
 use Rattle.pct_model.specs.Keys.{Key, KeyPlace, key_at, key_with, value_at}
-use Rattle.pct_laws.specs.KnownThreads.{is_known, is_detached, is_joined, newest_event}
+use Rattle.pct_laws.specs.KnownThreads.{is_known, is_detached, is_joined}
+use Rattle.pct_laws.specs.NewestEvents.{newest_event}
 use Rattle.pct_model.specs.StatusKinds.{is_forking, has_left_wait, has_no_frame}
 use Rattle.pct_model.specs.LineParsing.{is_empty}
 use Rattle.pct_laws.specs.MutexOwners.{owner_of}
 use Rattle.pct_model.specs.NextStatement.{NextStatement, StatementIn, next_of}
 use Rattle.pct_laws.specs.Once.{is_pair}
 use Rattle.pct_laws.specs.OpenPushes.{open_pushes}
-use Rattle.pct_laws.specs.ProcessLaw.{has_in, ends_process}
 use Rattle.pct_model.specs.Static.{is_plain_body}
 use Rattle.pct_model.specs.StopTable.{has_begun_to_end, is_fork_kind}
 use Rattle.pct_model.specs.ThreadCalls.{join_point}
@@ -355,6 +355,10 @@ pub record ExitsAfterItsEnd (t : Thread) (s : ThreadSummary) : Type 0 where
   pub ended : t.ended ≡ true
   pub exits : s.exiting ≡ true
 
+-- the status with which the process ended, if it has
+abbrev pub status_of_end : Process → Option ℕ
+status_of_end p = option_map (λ end. end.status) p.ended
+
 -- each thread of the process has ended
 abbrev pub HasOnlyEnded : Process → Type 0
 HasOnlyEnded p = EachThreadOf p (λ tid t. t.ended ≡ true)
@@ -369,8 +373,8 @@ pub record Kept (script : Script) (config : Config) (w : World) (events : List E
   pub keys : EachProcess w (λ pid p. KeysKept script p.shared.keys)
   -- there is a key with a number in a process exactly if the events report so
   pub reported_keys : EachProcess w (λ pid p. (key : ℕ) → is_some (key_with key p.shared.keys) ≡ has_key pid key events)
-  -- a process has ended exactly if the events report so, and its exit value is the one that they report
-  pub ended : EachProcess w (λ pid p. has_ended p ≡ has_in ends_process pid events)
+  -- the status with which a process ended, if it has, and its exit value are those that the events report
+  pub ended : EachProcess w (λ pid p. status_of_end p ≡ end_status pid events)
   pub exits : EachProcess w (λ pid p. p.shared.exit_value ≡ exit_value pid events)
   -- the functions that are registered with atexit are plain functions of the script
   pub exit_functions : EachProcess w (λ pid p. All (IsPlainFunction script) p.shared.exit_functions)

@@ -1,7 +1,7 @@
 -- The threads that the events of a run report, and their lifetimes: the initial thread, those that pthread_create created, and the
 -- replicas that fork made; whether each is detached or joined (XSH 2.9.2, pthread_create, pthread_detach, pthread_join, fork). The
 -- events are listed newest first, as in the trace of a run.
-use Rattle.std.specs.Prelude.{ℕ, Bool, true, false, ◌&&◌, ◌||◌, if◌then◌else◌, List, [], ◌∷◌, Option, Some, None, nat_eq}
+use Rattle.std.specs.Prelude.{ℕ, Bool, true, false, ◌&&◌, ◌||◌, if◌then◌else◌, List, [], ◌∷◌, nat_eq}
 use Rattle.std.specs.List.{list_any}
 use Rattle.pct_model.specs.declared.event.Event.{Event}
 use Rattle.pct_model.specs.declared.event.What.{What}
@@ -70,10 +70,3 @@ is_joined pid tid events = list_any (λ e. is_in pid e && joins_id tid e.what) e
 abbrev pub reports_end : What → Bool
 reports_end (what.EndedWith v) = true
 reports_end _ = false
-
--- ---- the newest event of a thread
-
--- the newest event of thread tid of process pid, if it has one
-abbrev pub newest_event : ℕ → ℕ → List Event → Option What
-newest_event pid tid [] = None
-newest_event pid tid (e ∷ earlier) = if is_own pid tid e then Some e.what else newest_event pid tid earlier

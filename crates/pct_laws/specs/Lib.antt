@@ -6,7 +6,7 @@ pub mod FollowedEvents
 pub mod ThreadSummary
 pub mod CancelEvents
 pub mod KeyEvents
-pub mod ExitValues
+pub mod ProcessEnds
 pub mod MutexOwners
 pub mod WaitStages
 pub mod OpenPushes

@@ -9,14 +9,9 @@ use Rattle.std.specs.List.{list_any}
 use Rattle.pct_model.specs.declared.event.Event.{Event}
 use Rattle.pct_model.specs.declared.event.What.{What}
 use Rattle.pct_model.specs.declared.event.What.TheVariants as what
-use Rattle.pct_laws.specs.ExitValues.{exit_value}
+use Rattle.pct_laws.specs.ProcessEnds.{exit_value, end_status}
 use Rattle.pct_laws.specs.KnownThreads.{is_in, makes_process, is_known}
 use Rattle.pct_laws.specs.ThreadSummary.{summary_of, thread_ended}
-
--- the event is the end of a process
-abbrev pub ends_process : What → Bool
-ends_process (what.ProcessEnded n) = true
-ends_process _ = false
 
 -- the event is a stop
 abbrev pub is_stop : What → Bool
@@ -27,11 +22,6 @@ is_stop _ = false
 abbrev pub has_in : (What → Bool) → ℕ → List Event → Bool
 has_in test pid events = list_any (λ e. is_in pid e && test e.what) events
 
--- the event is the end of a process with a status
-abbrev pub ends_process_with : ℕ → What → Bool
-ends_process_with n (what.ProcessEnded m) = nat_eq m n
-ends_process_with n _ = false
-
 -- the event is that process pid is reaped
 abbrev pub reaps_process : ℕ → What → Bool
 reaps_process pid (what.Reaped q n) = nat_eq q pid
@@ -40,6 +30,10 @@ reaps_process pid _ = false
 -- process pid was made: it is the first one, or a fork made it
 abbrev pub was_made : ℕ → List Event → Bool
 was_made pid events = nat_eq 1 pid || list_any (λ e. makes_process pid e.what) events
+
+-- the process ended with this status
+abbrev pub has_status : ℕ → Option ℕ → Bool
+has_status n status = option_map_or (λ m. nat_eq m n) status false
 
 -- the status is that of an exit with a value: its low eight bits
 abbrev pub is_status_of : ℕ → Option ℕ → Bool
@@ -55,7 +49,7 @@ may_change (what.ProcessEnded n) pid tid earlier = nat_lt n 256 && (not (summary
 may_change (what.Forked child) pid tid earlier = not (was_made child earlier) && not (list_any (is_in child) earlier)
 -- waitpid gives the status of a child that has ended, and was not reaped (XSH wait)
 may_change (what.Reaped q n) pid tid earlier =
-    has_in (makes_process q) pid earlier && (has_in (ends_process_with n) q earlier && not (list_any (λ e. reaps_process q e.what) earlier))
+    has_in (makes_process q) pid earlier && (has_status n (end_status q earlier) && not (list_any (λ e. reaps_process q e.what) earlier))
 -- a join is of another thread that is known, by a thread that has not ended (XSH pthread_join)
 may_change (what.Joined id v) pid tid earlier = is_known pid id earlier && (not (nat_eq id tid) && not (thread_ended pid tid earlier))
 -- the law asks nothing of the other events
@@ -69,4 +63,4 @@ changes_allow e earlier = may_change e.what e.pid e.tid earlier
 -- made
 abbrev pub allows : Event → List Event → Bool
 allows e earlier =
-    not (list_any (λ x. is_stop x.what) earlier) && (not (has_in ends_process e.pid earlier) && (is_known e.pid e.tid earlier && changes_allow e earlier))
+    not (list_any (λ x. is_stop x.what) earlier) && (is_none (end_status e.pid earlier) && (is_known e.pid e.tid earlier && changes_allow e earlier))

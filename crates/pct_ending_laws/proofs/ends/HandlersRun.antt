@@ -1,6 +1,6 @@
 -- The law of handlers that ran follows from the law of cleanup handlers and destructors, where each fork comes before the events of the
 -- process that it makes. This is over lists of events alone.
-use Rattle.std.proofs.Common.{◌≡◌, ℕ, ◌<◌, Bool, true, false, ◌&&◌, ◌||◌, cond, List, [], ◌∷◌, ◌++◌, length, nat_eq, inl, inr, not, ap₂, refl, sym, ap, ◌∙◌, subst, append-nil, append_assoc, length-append, eqb-true, eq-eqb, arith}
+use Rattle.std.proofs.Common.{◌≡◌, ℕ, ◌<◌, Bool, true, false, ◌&&◌, ◌||◌, cond, List, [], ◌∷◌, ◌++◌, length, nat_eq, inl, inr, not, is_none, ap₂, refl, sym, ap, ◌∙◌, subst, append-nil, append_assoc, length-append, eqb-true, eq-eqb, arith}
 use Rattle.std.specs.List.{list_any}
 use Rattle.std.proofs.lemmas.Bool.{false≢true, and_parts, and_from, or_right, or_cases, not-true, ltb-true}
 use Rattle.pct_model.specs.declared.event.Event.{Event}
@@ -13,7 +13,8 @@ use Rattle.pct_laws.specs.Each.{each}
 use Rattle.pct_model.specs.LineParsing.{is_empty}
 use Rattle.pct_laws.specs.Once.{is_newest, may_come}
 use Rattle.pct_laws.specs.Once as Once
-use Rattle.pct_laws.specs.ProcessLaw.{is_stop, ends_process, has_in}
+use Rattle.pct_laws.specs.ProcessLaw.{is_stop}
+use Rattle.pct_laws.specs.ProcessEnds.{end_status}
 use Rattle.pct_laws.specs.ProcessLaw.{may_change}
 use Rattle.pct_laws.specs.ProcessLaw as ProcessLaw
 use Rattle.pct_laws.specs.RanAll.{begins_to_end, open_at_ending, handler_run, handlers_run, are_same, may_end}
@@ -128,7 +129,7 @@ makes_first (what.Forked child) by pid tid earlier may makes = subst (λ (n : �
 makes_first _ by pid tid earlier may makes = absurd (false≢true makes)
 
 change_of : (e : Event) (earlier : List Event) → ProcessLaw.allows e earlier ≡ true → may_change e.what e.pid e.tid earlier ≡ true
-change_of e earlier may = (and_parts (is_known e.pid e.tid earlier) (may_change e.what e.pid e.tid earlier) (and_parts (not (has_in ends_process e.pid earlier)) _ (and_parts (not (list_any (λ x. is_stop x.what) earlier)) _ may).1).1).1
+change_of e earlier may = (and_parts (is_known e.pid e.tid earlier) (may_change e.what e.pid e.tid earlier) (and_parts (is_none (end_status e.pid earlier)) _ (and_parts (not (list_any (λ x. is_stop x.what) earlier)) _ may).1).1).1
 
 module _ (passes pid tid : ℕ) where
   -- thread tid of process pid after some events

@@ -9,7 +9,7 @@ use Rattle.pct_model.specs.declared.state.Status.{Status}
 use Rattle.pct_model.specs.declared.statement.Stmt.{Stmt}
 use Rattle.pct_model.specs.declared.transition.Transition.{Transition}
 use Rattle.pct_model.specs.Actions.{for_each, child_of, changed, shared_after}
-use Rattle.pct_laws.specs.ExitValues.{exit_after, exit_value}
+use Rattle.pct_laws.specs.ProcessEnds.{exit_after, exit_value}
 use Rattle.pct_laws.specs.Kept.{EachProcess}
 use Rattle.pct_model.specs.NextStatement.{NextStatement, next_of, body_at}
 use Rattle.pct_model.specs.OtherThreads.{Others, others_of}

@@ -14,7 +14,7 @@ use Rattle.pct_model.specs.declared.schedule.Entry.{Entry}
 use Rattle.pct_model.specs.declared.script.Script.{Script}
 use Rattle.pct_model.specs.declared.state.Status.{Status}
 use Rattle.pct_model.specs.declared.state.Status.TheVariants as status
-use Rattle.pct_laws.specs.ExitValues.{exit_after, exit_value}
+use Rattle.pct_laws.specs.ProcessEnds.{exit_after, exit_value}
 use Rattle.pct_laws.specs.Kept.{is_exiting, ThreadKept}
 use Rattle.pct_laws.specs.KnownThreads.{is_in, is_own, is_fork_of}
 use Rattle.pct_model.specs.OtherThreads.{others_of}

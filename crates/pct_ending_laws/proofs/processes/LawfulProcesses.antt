@@ -1,7 +1,7 @@
 -- The law of processes holds of the events of every run.
-use Rattle.std.proofs.Common.{◌≡◌, ℕ, ◌%◌, true, false, ◌&&◌, List, [], ◌∷◌, ◌++◌, map, reverse, Option, Some, None, Bool, cond, is_some, is_none, refl, arith, not, nat_eq, nat_lt, sym, ap, ◌∙◌, eq-eqb}
+use Rattle.std.proofs.Common.{◌≡◌, ℕ, ◌%◌, true, false, List, [], ◌∷◌, ◌++◌, map, reverse, Option, Some, None, Bool, cond, is_some, is_none, refl, arith, not, nat_eq, nat_lt, sym, ap, ◌∙◌, eq-eqb}
 use Rattle.std.specs.List.{list_any}
-use Rattle.std.proofs.lemmas.Bool.{false≢true, or_parts, or_from, and_right, and_from, and_parts, or_left, or_right, false_from_ne_true, lt-ltb}
+use Rattle.std.proofs.lemmas.Bool.{false≢true, or_parts, or_from, and_from, and_parts, or_left, or_right, false_from_ne_true, lt-ltb}
 use Rattle.std.proofs.lemmas.Nat.{mod_below}
 use Rattle.pct_model.specs.declared.event.Event.{Event}
 use Rattle.pct_model.specs.declared.event.What.{What}
@@ -15,13 +15,13 @@ use Rattle.pct_model.specs.declared.state.Status.TheVariants as status
 use Rattle.pct_model.specs.declared.statement.Stmt.{Stmt}
 use Rattle.pct_model.specs.declared.transition.Transition.{Transition}
 use Rattle.pct_model.specs.Actions.{without_first}
-use Rattle.pct_laws.specs.ExitValues.{exit_value}
+use Rattle.pct_laws.specs.ProcessEnds.{exit_value, status_after, end_status}
 use Rattle.pct_laws.specs.ThreadSummary.{summary_of}
 use Rattle.pct_laws.specs.KnownThreads.{is_in}
 use Rattle.pct_model.specs.LineKinds.{syntax_of}
 use Rattle.pct_model.specs.NextStatement.{NextStatement, next_of, body_at}
 use Rattle.pct_model.specs.OtherThreads.{Others, others_of}
-use Rattle.pct_laws.specs.ProcessLaw.{ends_process, is_stop, has_in}
+use Rattle.pct_laws.specs.ProcessLaw.{is_stop}
 use Rattle.pct_laws.specs.Each.{each}
 use Rattle.pct_laws.specs.ProcessLaw.{is_status_of, may_change, changes_allow, allows}
 use Rattle.pct_model.specs.Run.{Run, event_of, run}
@@ -42,7 +42,7 @@ use Rattle.pct_ending_laws.proofs.processes.ExitedOnce.{last_has_none}
 use Rattle.pct_ending_laws.proofs.processes.JoinedThreads.{joins_known}
 use Rattle.pct_ending_laws.proofs.processes.MadeProcesses.{next_unmade, known_by}
 use Rattle.pct_ending_laws.proofs.processes.ReapedChildren.{reaps_child}
-use Rattle.pct_ending_laws.proofs.processes.StoppedRuns.{none_later, is_closing, closes_last, running_of_run}
+use Rattle.pct_ending_laws.proofs.processes.StoppedRuns.{none_later, ends_process, is_closing, closes_last, running_of_run}
 
 -- ---- what the law asks of an event by its kind
 
@@ -112,13 +112,17 @@ none_stops (w ∷ added) none =
     let parts = or_parts (is_closing w) (list_any is_closing added) none in
     or_from (is_stop w) (list_any is_stop added) (or_parts (is_stop w) (ends_process w) parts.0).0 (none_stops added parts.1)
 
--- and where the process had no end before, it has none after them
-none_ends : (e : Entry) (earlier : List Event) → has_in ends_process e.pid earlier ≡ false → (added : List What) → list_any is_closing added ≡ false → has_in ends_process e.pid (map (event_of e) added ++ earlier) ≡ false
-none_ends e earlier live [] none = live
-none_ends e earlier live (w ∷ added) none =
+-- and they leave the status of the process as it was
+kept_status : (here : Bool) (w : What) (k : Option ℕ) → ends_process w ≡ false → cond here (status_after w k) k ≡ k
+kept_status true (what.ProcessEnded n) k none = absurd (false≢true (sym none))
+kept_status true _ k none = refl
+kept_status false w k none = refl
+
+same_status : (e : Entry) (earlier : List Event) (added : List What) → list_any is_closing added ≡ false → end_status e.pid (map (event_of e) added ++ earlier) ≡ end_status e.pid earlier
+same_status e earlier [] none = refl
+same_status e earlier (w ∷ added) none =
     let parts = or_parts (is_closing w) (list_any is_closing added) none in
-    or_from (is_in e.pid (event_of e w) && ends_process w) (has_in ends_process e.pid (map (event_of e) added ++ earlier))
-    (and_right (is_in e.pid (event_of e w)) (ends_process w) (or_parts (is_stop w) (ends_process w) parts.0).1) (none_ends e earlier live added parts.1)
+    kept_status (is_in e.pid (event_of e w)) w (end_status e.pid (map (event_of e) added ++ earlier)) (or_parts (is_stop w) (ends_process w) parts.0).1 ∙ same_status e earlier added parts.1
 
 -- nor has all but the newest of them
 but_newest : (added : List What) → list_any is_closing added ≡ false → list_any is_closing (without_first added) ≡ false
@@ -156,7 +160,7 @@ module _ (script : Script) (config : Config) where
     law_later (w ∷ added) none changes law =
         let parts = and_parts (may_change w e.pid e.tid (map (event_of e) added ++ r.events)) _ changes in
         and_from _ _ (and_from _ _ (ap not (none_later is_stop e added r.events (none_stops added none) (running_of_run script config before r is taken.running)))
-        (and_from _ _ (ap not (none_ends e r.events (live_of_run script config before r is e p t taken) added none)) (and_from _ _ (known_by script config before r is e p t taken added) parts.0)))
+        (and_from _ _ (ap (λ (status : Option ℕ). is_none status) (same_status e r.events added none) ∙ live_of_run script config before r is e p t taken) (and_from _ _ (known_by script config before r is e p t taken added) parts.0)))
         (law_later added (but_newest added none) parts.1 law)
 
   -- ---- every run

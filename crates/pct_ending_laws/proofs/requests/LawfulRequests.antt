@@ -1,11 +1,9 @@
 -- The events of every run keep the law of cancellation: a thread is canceled only by a request that came, with its cancelability enabled,
 -- a thread that has to act upon a request calls no cancellation point, a thread returns from one after its call, and one that has begun to
 -- end does not enable its cancelability.
-use Rattle.std.proofs.Common.{◌≡◌, ℕ, Bool, true, false, not, ◌&&◌, ◌||◌, cond, List, [], ◌∷◌, ◌++◌, map, reverse, nat_eq, Option, Some, refl, sym, ap, ◌∙◌, subst, eq-eqb, eqb-true}
-use Rattle.std.specs.List.{list_all}
+use Rattle.std.proofs.Common.{◌≡◌, ℕ, Bool, true, false, not, ◌&&◌, ◌||◌, cond, List, ◌∷◌, ◌++◌, map, reverse, nat_eq, Option, Some, refl, sym, ap, ◌∙◌, subst, eq-eqb, eqb-true}
 use Rattle.std.specs.Option.{option_map_or}
 use Rattle.std.proofs.lemmas.Bool.{false≢true, true≢false, and_parts, and_from, or_left, or_right}
-use Rattle.pct_model.specs.declared.event.Caller.TheVariants as caller
 use Rattle.pct_model.specs.declared.event.Event.{Event}
 use Rattle.pct_model.specs.declared.event.What.{What}
 use Rattle.pct_model.specs.declared.event.What.TheVariants as what
@@ -27,7 +25,7 @@ use Rattle.pct_model.specs.CancelCalls.{testcancel_point, point_kind, is_require
 use Rattle.pct_laws.specs.CancelEvents.{is_requested, is_enabled_last, has_to_act}
 use Rattle.pct_laws.specs.Each.{each}
 use Rattle.pct_laws.specs.NewestEvents.{newest_is, calls_point}
-use Rattle.pct_laws.specs.RequestsLaw.{is_in_wait, is_to_return, is_to_end, has_own_return, may_return, may_act, allows}
+use Rattle.pct_laws.specs.RequestsLaw.{is_in_wait, is_to_return, is_to_end, has_own_return, may_return, allows}
 use Rattle.pct_model.specs.CondCalls.{cond_wait_point}
 use Rattle.pct_model.specs.ForkCalls.{waitpid_point}
 use Rattle.pct_model.specs.StatusKinds.{has_left_wait}

@@ -14,7 +14,7 @@ use Rattle.pct_model.specs.declared.transition.Transition.{Transition}
 use Rattle.pct_model.specs.Actions.{thread_at, thread_after, in_child, moved}
 use Rattle.pct_model.specs.ForkCalls.{waitpid_point}
 use Rattle.pct_laws.specs.Kept.{EachThread}
-use Rattle.pct_laws.specs.KnownThreads.{newest_event}
+use Rattle.pct_laws.specs.NewestEvents.{newest_event}
 use Rattle.pct_model.specs.NextStatement.{NextStatement, next_of, body_at}
 use Rattle.pct_model.specs.OtherThreads.{Others, others_of}
 use Rattle.pct_model.specs.SemCalls.{sem_wait_point}
