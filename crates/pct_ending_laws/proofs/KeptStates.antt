@@ -92,7 +92,7 @@ every_run_keeps_laws script config entries r is = record {
     awakened = awakened_of_run script config entries r is;
   };
   joins = joins_of_run script config entries r is;
-  conds = each_both owners_allow (λ e earlier. waits_allow e earlier && hand_ons_allow e earlier) r.events (owners_of_run script config entries r is) (each_both waits_allow hand_ons_allow r.events (waits_of_run script config entries r is) (hand_ons_of_run script config entries r is));
+  conds = each_both (λ e earlier. owners_allow e earlier && waits_allow e earlier) hand_ons_allow r.events (each_both owners_allow waits_allow r.events (owners_of_run script config entries r is) (waits_of_run script config entries r is)) (hand_ons_of_run script config entries r is);
   creations = slots_of_run script config entries r is;
   processes = processes_of_run script config entries r is;
 }

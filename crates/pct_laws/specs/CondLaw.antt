@@ -59,4 +59,4 @@ hand_ons_allow e earlier = may_hand_on e.what e.pid e.tid earlier
 
 -- an event may come after those before it: by the owners of mutexes, in the wait of its thread, and as a signal that is handed on
 abbrev pub allows : Event → List Event → Bool
-allows e earlier = owners_allow e earlier && (waits_allow e earlier && hand_ons_allow e earlier)
+allows e earlier = owners_allow e earlier && waits_allow e earlier && hand_ons_allow e earlier

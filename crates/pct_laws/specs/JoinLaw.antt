@@ -13,7 +13,7 @@ use Rattle.pct_laws.specs.ThreadSummary.{thread_ended_with, is_reclaimed}
 
 -- thread id of process pid has ended with a value; it was not joined, and is not detached
 abbrev pub can_be_joined : ℕ → ℕ → ℕ → List Event → Bool
-can_be_joined pid id v events = thread_ended_with v pid id events && (not (is_joined pid id events) && not (is_detached pid id events))
+can_be_joined pid id v events = thread_ended_with v pid id events && not (is_joined pid id events) && not (is_detached pid id events)
 
 -- thread id of process pid is known, and the lifetime of its id is not over
 abbrev pub is_live : ℕ → ℕ → List Event → Bool

@@ -29,19 +29,19 @@ module _ (passes : ℕ) where
   may_come (what.Popped f a run) s = is_newest f a s.handlers && (not (has_begun_to_end s.reason) || nat_lt (length s.left) (length s.handlers))
   -- the newest open handler runs, after the ending event: it is one of those that were open then, and each that was pushed since is
   -- popped (XSH 2.9.5.3, pthread_exit)
-  may_come (what.HandlerRun f a) s = is_newest f a s.handlers && (has_begun_to_end s.reason && nat_eq (length s.handlers) (length s.left))
+  may_come (what.HandlerRun f a) s = is_newest f a s.handlers && has_begun_to_end s.reason && nat_eq (length s.handlers) (length s.left)
   -- a thread has one ending event
   may_come (what.EndingExit v) s = not (has_begun_to_end s.reason)
   may_come what.EndingCanceled s = not (has_begun_to_end s.reason)
   may_come (what.EndingInWait c m) s = not (has_begun_to_end s.reason)
   -- a thread ends once, after its ending event, with no open handler, and with the value of its reason (XSH pthread_exit, 2.9.5.3)
-  may_come (what.EndedWith v) s = has_begun_to_end s.reason && (is_none s.ended && (is_empty s.handlers && nat_eq v (end_value s.reason)))
+  may_come (what.EndedWith v) s = has_begun_to_end s.reason && is_none s.ended && is_empty s.handlers && nat_eq v (end_value s.reason)
   -- a pass over the destructors begins after the ending event, with no open handler (XSH 2.9.5.3); the passes are numbered from 1,
   -- up to their limit (XSH pthread_key_create)
-  may_come (what.PassBegun n) s = has_begun_to_end s.reason && (is_empty s.handlers && (nat_eq n (suc s.passes) && nat_le n passes))
+  may_come (what.PassBegun n) s = has_begun_to_end s.reason && is_empty s.handlers && nat_eq n (suc s.passes) && nat_le n passes
   -- the destructor of a key is called in the current pass, with no open handler, and once in it (XSH pthread_key_create)
   may_come (what.DtorRun pass key f v) s =
-      nat_eq pass s.passes && (nat_lt 0 pass && (is_empty s.handlers && not (list_any (is_pair pass key) s.destroyed)))
+      nat_eq pass s.passes && nat_lt 0 pass && is_empty s.handlers && not (list_any (is_pair pass key) s.destroyed)
   -- values with destructors are left only after the last pass (XSH pthread_key_create)
   may_come (what.Leftover n) s = nat_lt 0 n && nat_eq s.passes passes
   -- the law asks nothing of the other events

@@ -49,9 +49,9 @@ may_change (what.ProcessEnded n) pid tid earlier = nat_lt n 256 && (not (summary
 may_change (what.Forked child) pid tid earlier = not (was_made child earlier) && not (list_any (is_in child) earlier)
 -- waitpid gives the status of a child that has ended, and was not reaped (XSH wait)
 may_change (what.Reaped q n) pid tid earlier =
-    has_in (makes_process q) pid earlier && (has_status n (end_status q earlier) && not (list_any (λ e. reaps_process q e.what) earlier))
+    has_in (makes_process q) pid earlier && has_status n (end_status q earlier) && not (list_any (λ e. reaps_process q e.what) earlier)
 -- a join is of another thread that is known, by a thread that has not ended (XSH pthread_join)
-may_change (what.Joined id v) pid tid earlier = is_known pid id earlier && (not (nat_eq id tid) && not (thread_ended pid tid earlier))
+may_change (what.Joined id v) pid tid earlier = is_known pid id earlier && not (nat_eq id tid) && not (thread_ended pid tid earlier)
 -- the law asks nothing of the other events
 may_change _ pid tid earlier = true
 
@@ -63,4 +63,4 @@ changes_allow e earlier = may_change e.what e.pid e.tid earlier
 -- made
 abbrev pub allows : Event → List Event → Bool
 allows e earlier =
-    not (list_any (λ x. is_stop x.what) earlier) && (is_none (end_status e.pid earlier) && (is_known e.pid e.tid earlier && changes_allow e earlier))
+    not (list_any (λ x. is_stop x.what) earlier) && is_none (end_status e.pid earlier) && is_known e.pid e.tid earlier && changes_allow e earlier

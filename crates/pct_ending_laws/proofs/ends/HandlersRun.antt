@@ -90,7 +90,7 @@ module _ (passes : ℕ) (s : ThreadSummary) (opened ran : List (ℕ × ℕ)) (pr
 
   -- of a thread that has not begun to end
   own_before : (w : What) → may_come passes w s ≡ true → has_begun_to_end s.reason ≡ false → s.left ≡ [] → ran ≡ [] → After w
-  own_before (what.HandlerRun f a) may none left none_ran = absurd (not_begun none (and_parts _ _ (and_parts _ _ may).1).0)
+  own_before (what.HandlerRun f a) may none left none_ran = absurd (not_begun none (and_parts _ _ (and_parts _ _ may).0).1)
   own_before (what.EndingExit v) may none left none_ran = ending refl [] refl (ap (λ (r : List (ℕ × ℕ)). (r ++ []) ++ s.handlers) none_ran) refl
   own_before what.EndingCanceled may none left none_ran = ending refl [] refl (ap (λ (r : List (ℕ × ℕ)). (r ++ []) ++ s.handlers) none_ran) refl
   own_before (what.EndingInWait c m) may none left none_ran = ending refl [] refl (ap (λ (r : List (ℕ × ℕ)). (r ++ []) ++ s.handlers) none_ran) refl
@@ -101,8 +101,8 @@ module _ (passes : ℕ) (s : ThreadSummary) (opened ran : List (ℕ × ℕ)) (pr
   own_ending (what.Pushed f a) may begun pushed parts all = ending begun ((f, a) ∷ pushed) (ap (λ (hs : List (ℕ × ℕ)). (f, a) ∷ hs) parts) (same_ran ran s.left opened all) refl
   own_ending (what.Popped f a run) may begun pushed parts all = let fewer = popped s.handlers pushed s.left parts (more f a run may begun) in ending begun fewer.0 fewer.1 (same_ran ran s.left opened all) refl
   own_ending (what.HandlerRun f a) may begun pushed parts all =
-      let same : s.handlers ≡ s.left = none_pushed s.handlers pushed s.left parts (eqb-true _ _ (and_parts _ _ (and_parts _ _ may).1).1) in
-      let first : s.left ≡ (f, a) ∷ without_first s.left = newest_first s.left f a (ap (is_newest f a) (sym same) ∙ (and_parts _ _ may).0) in
+      let same : s.handlers ≡ s.left = none_pushed s.handlers pushed s.left parts (eqb-true _ _ (and_parts _ _ may).1) in
+      let first : s.left ≡ (f, a) ∷ without_first s.left = newest_first s.left f a (ap (is_newest f a) (sym same) ∙ (and_parts _ _ (and_parts _ _ may).0).0) in
       ending begun [] (ap without_first same) (append_assoc ran ((f, a) ∷ []) (without_first s.left) ∙ ap (λ (l : List (ℕ × ℕ)). ran ++ l) (sym first) ∙ all) refl
   own_ending (what.EndingExit v) may begun pushed parts all = absurd (not_begun (not-true (has_begun_to_end s.reason) may) begun)
   own_ending what.EndingCanceled may begun pushed parts all = absurd (not_begun (not-true (has_begun_to_end s.reason) may) begun)
@@ -116,9 +116,9 @@ module _ (passes : ℕ) (s : ThreadSummary) (opened ran : List (ℕ × ℕ)) (pr
 
   -- as the thread ends, the handlers that ran are those that were open
   end_allowed : (v : ℕ) → may_come passes (what.EndedWith v) s ≡ true → HandlersFit s.handlers s.left s.reason opened ran present → (has_begun_to_end s.reason && are_same ran opened) ≡ true
-  end_allowed v may (before_end none left none_ran) = absurd (not_begun none (and_parts _ _ may).0)
+  end_allowed v may (before_end none left none_ran) = absurd (not_begun none (and_parts _ _ (and_parts _ _ (and_parts _ _ may).0).0).0)
   end_allowed v may (ending begun pushed parts all here) =
-      let none : s.left ≡ [] = none_left s.handlers pushed s.left parts (none_open s.handlers (and_parts _ _ (and_parts _ _ (and_parts _ _ may).1).1).0) in
+      let none : s.left ≡ [] = none_left s.handlers pushed s.left parts (none_open s.handlers (and_parts _ _ (and_parts _ _ may).0).1) in
       and_from _ _ begun (same_handlers ran opened (sym (append-nil ran) ∙ ap (λ (l : List (ℕ × ℕ)). ran ++ l) (sym none) ∙ all))
 
 -- ---- events
@@ -129,7 +129,7 @@ makes_first (what.Forked child) by pid tid earlier may makes = subst (λ (n : �
 makes_first _ by pid tid earlier may makes = absurd (false≢true makes)
 
 change_of : (e : Event) (earlier : List Event) → ProcessLaw.allows e earlier ≡ true → may_change e.what e.pid e.tid earlier ≡ true
-change_of e earlier may = (and_parts (is_known e.pid e.tid earlier) (may_change e.what e.pid e.tid earlier) (and_parts (is_none (end_status e.pid earlier)) _ (and_parts (not (list_any (λ x. is_stop x.what) earlier)) _ may).1).1).1
+change_of e earlier may = (and_parts _ (may_change e.what e.pid e.tid earlier) may).1
 
 module _ (passes pid tid : ℕ) where
   -- thread tid of process pid after some events

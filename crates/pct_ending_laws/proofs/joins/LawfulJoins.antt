@@ -105,9 +105,9 @@ module _ (script : Script) (config : Config) (before : List Entry) (r : Run) (is
       let kept : ThreadKept script p.shared.keys u (summary_of e.pid id r.events) = threads_kept script config before r is e.pid id p u process_is target.found target.here in
       let one : JoinsOne p.threads e.tid id = (joins_of_processes script config before r is e.pid p process_is).joins e.tid t it.found it.here id joins in
       let same : one.target ≡ u = same_Some one.target u (sym one.made ∙ target.found) in
-      and_from _ _ (and_from _ _ (ap (λ (value : Option ℕ). option_map_or (λ n. nat_eq n v) value false) (kept.value v ended) ∙ eq-eqb v v refl) (and_from _ _
-      (ap not (sym (joined_of_run script config before r is e.pid id u (made id u is_u) target.here) ∙ ap (λ (x : Thread). x.joined) (sym same) ∙ one.not_joined))
-      (ap not (sym (detached_of_run script config before r is e.pid id u (made id u is_u) target.here) ∙ ap (λ (x : Thread). x.detached) (sym same) ∙ one.joinable))))
+      and_from _ _ (and_from _ _ (and_from _ _ (ap (λ (value : Option ℕ). option_map_or (λ n. nat_eq n v) value false) (kept.value v ended) ∙ eq-eqb v v refl)
+      (ap not (sym (joined_of_run script config before r is e.pid id u (made id u is_u) target.here) ∙ ap (λ (x : Thread). x.joined) (sym same) ∙ one.not_joined)))
+      (ap not (sym (detached_of_run script config before r is e.pid id u (made id u is_u) target.here) ∙ ap (λ (x : Thread). x.detached) (sym same) ∙ one.joinable)))
       (ap (λ (o : Option What). option_map_or (calls_point join_point) o false) (newest_call_of_run script config before r is e.pid e.tid t it_made it.here (what.Called join_point) (ap call_event joins)))
 
   -- the events of the step

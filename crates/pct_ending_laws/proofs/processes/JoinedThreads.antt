@@ -42,6 +42,6 @@ module _ (script : Script) (config : Config) (before : List Entry) (r : Run) (is
   joins_known id u joins is_u v =
       let target : IsLive p id u = live_thread id p u (ids_of_run script config before r is e.pid p process_is).distinct is_u in
       let kept : ThreadKept script p.shared.keys t (summary_of e.pid e.tid r.events) = threads_kept script config before r is e.pid e.tid p t process_is it.found it.here in
-      and_from _ _ (known_of_run script config before r is e.pid id ∙ ap (λ (found : Option Thread). option_map_or (λ x. not x.gone) found false) (ap (option_and_then (thread_with id)) process_is ∙ target.found) ∙ ap not target.here)
-      (and_from _ _ (ap not (ne_eqb id e.tid ((joins_of_processes script config before r is e.pid p process_is).joins e.tid t it.found it.here id joins).other))
-      (ap not (kept.ended ∙ joining_alive id joins)))
+      and_from _ _ (and_from _ _ (known_of_run script config before r is e.pid id ∙ ap (λ (found : Option Thread). option_map_or (λ x. not x.gone) found false) (ap (option_and_then (thread_with id)) process_is ∙ target.found) ∙ ap not target.here)
+      (ap not (ne_eqb id e.tid ((joins_of_processes script config before r is e.pid p process_is).joins e.tid t it.found it.here id joins).other)))
+      (ap not (kept.ended ∙ joining_alive id joins))

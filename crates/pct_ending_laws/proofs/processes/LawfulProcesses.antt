@@ -159,8 +159,8 @@ module _ (script : Script) (config : Config) where
     law_later [] none changes law = law
     law_later (w ∷ added) none changes law =
         let parts = and_parts (may_change w e.pid e.tid (map (event_of e) added ++ r.events)) _ changes in
-        and_from _ _ (and_from _ _ (ap not (none_later is_stop e added r.events (none_stops added none) (running_of_run script config before r is taken.running)))
-        (and_from _ _ (ap (λ (status : Option ℕ). is_none status) (same_status e r.events added none) ∙ live_of_run script config before r is e p t taken) (and_from _ _ (known_by script config before r is e p t taken added) parts.0)))
+        and_from _ _ (and_from _ _ (and_from _ _ (and_from _ _ (ap not (none_later is_stop e added r.events (none_stops added none) (running_of_run script config before r is taken.running)))
+        (ap (λ (status : Option ℕ). is_none status) (same_status e r.events added none) ∙ live_of_run script config before r is e p t taken)) (known_by script config before r is e p t taken added)) parts.0)
         (law_later added (but_newest added none) parts.1 law)
 
   -- ---- every run

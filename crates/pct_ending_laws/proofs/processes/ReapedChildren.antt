@@ -324,6 +324,6 @@ module _ (script : Script) (config : Config) where
     reaps_child pid n child is_child ended =
         let found : IsEndedChild r.world p.pid pid n = ended_child r.world (have_pids script config before r is).distinct p.pid pid n child is_child ended in
         let same : p.pid ≡ e.pid = have_pid script config before r is e p t taken in
-        and_from _ _ (subst (λ (parent : ℕ). has_in (makes_process pid) parent r.events ≡ true) (found.its_parent ∙ same) (parents_of_run script config before r is pid found.child found.made (λ none. some_pid (sym found.its_parent ∙ none))))
-        (and_from _ _ (ap (has_status n) (sym (end_status_of_run script config before r is pid found.child found.made) ∙ ap (λ (end : Option ProcessEnd). option_map (λ x. x.status) end) found.has_end) ∙ eq-eqb found.end.status n found.its_status)
-        (ap not (false_from_ne_true (list_any (λ e. reaps_process pid e.what) r.events) (λ reaped. true≢false (sym (subst (λ (q : Option Process). IsSomeAnd q (λ q. was_reaped q.ended ≡ true)) found.made (reaped_of_run before r is pid reaped)) ∙ found.unreaped)))))
+        and_from _ _ (and_from _ _ (subst (λ (parent : ℕ). has_in (makes_process pid) parent r.events ≡ true) (found.its_parent ∙ same) (parents_of_run script config before r is pid found.child found.made (λ none. some_pid (sym found.its_parent ∙ none))))
+        (ap (has_status n) (sym (end_status_of_run script config before r is pid found.child found.made) ∙ ap (λ (end : Option ProcessEnd). option_map (λ x. x.status) end) found.has_end) ∙ eq-eqb found.end.status n found.its_status))
+        (ap not (false_from_ne_true (list_any (λ e. reaps_process pid e.what) r.events) (λ reaped. true≢false (sym (subst (λ (q : Option Process). IsSomeAnd q (λ q. was_reaped q.ended ≡ true)) found.made (reaped_of_run before r is pid reaped)) ∙ found.unreaped))))

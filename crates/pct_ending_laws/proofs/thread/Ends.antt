@@ -204,7 +204,7 @@ module _ (script : Script) (passes : ℕ) where
         };
         in_passes = fits.in_passes;
       };
-      lawful = and_from _ _ (and_from _ _ (ap (is_newest f a) fits.agrees.handlers_agree ∙ same_pair f a) (and_from _ _ (ap has_begun_to_end fits.agrees.reason ∙ fits.by_status.has_reason) (eq-eqb _ _ (ap length (fits.agrees.handlers_agree ∙ fits.by_status.are_left))))) refl;
+      lawful = and_from _ _ (and_from _ _ (and_from _ _ (ap (is_newest f a) fits.agrees.handlers_agree ∙ same_pair f a) (ap has_begun_to_end fits.agrees.reason ∙ fits.by_status.has_reason)) (eq-eqb _ _ (ap length (fits.agrees.handlers_agree ∙ fits.by_status.are_left)))) refl;
     }
 
     module _ (fits : Fits script passes (ending []) reported) where
@@ -231,8 +231,8 @@ module _ (script : Script) (passes : ℕ) where
               };
               in_passes = takes_key passes t.pass t.specific.in_pass reported.passes reported.destroyed pass k;
             };
-            lawful = and_from _ _ (and_from _ _ (eq-eqb _ _ (sym pass.current)) (and_from _ _ (lt-ltb _ _ (has_pass passes t.pass t.specific.in_pass reported.passes reported.destroyed pass (key_place k) in_pass))
-                (and_from _ _ (ap is_empty fits.agrees.handlers_agree) (ap not (not_taken passes t.pass t.specific.in_pass reported.passes reported.destroyed pass k in_pass))))) refl;
+            lawful = and_from _ _ (and_from _ _ (and_from _ _ (and_from _ _ (eq-eqb _ _ (sym pass.current)) (lt-ltb _ _ (has_pass passes t.pass t.specific.in_pass reported.passes reported.destroyed pass (key_place k) in_pass)))
+                (ap is_empty fits.agrees.handlers_agree)) (ap not (not_taken passes t.pass t.specific.in_pass reported.passes reported.destroyed pass k in_pass))) refl;
           }
 
       -- the next pass begins
@@ -247,14 +247,14 @@ module _ (script : Script) (passes : ℕ) where
               by_status = fits.by_status;
               in_passes = begins_pass passes t.pass t.specific.in_pass reported.passes reported.destroyed pass more (with_pass t.specific).in_pass;
             };
-            lawful = and_from _ _ (and_from _ _ begun (and_from _ _ (ap is_empty fits.agrees.handlers_agree) (and_from _ _ (eq-eqb _ _ (ap suc (sym pass.current))) (le-leb _ _ (omega (arith, more)))))) refl;
+            lawful = and_from _ _ (and_from _ _ (and_from _ _ (and_from _ _ begun (ap is_empty fits.agrees.handlers_agree)) (eq-eqb _ _ (ap suc (sym pass.current)))) (le-leb _ _ (omega (arith, more)))) refl;
           }
 
       -- ---- the end
 
       -- the event of its end, after events that do not change what is reported of it
       pub end_lawful : may_come passes (what.EndedWith (end_value t.reason)) reported ≡ true
-      end_lawful = and_from _ _ begun (and_from _ _ (ap is_none fits.by_status.not_ended) (and_from _ _ (ap is_empty fits.agrees.handlers_agree) (eq-eqb _ _ (ap end_value (sym fits.agrees.reason)))))
+      end_lawful = and_from _ _ (and_from _ _ (and_from _ _ begun (ap is_none fits.by_status.not_ended)) (ap is_empty fits.agrees.handlers_agree)) (eq-eqb _ _ (ap end_value (sym fits.agrees.reason)))
 
       -- the event of due keys that are left
       pub leftover_lawful : (left : ℕ) → 0 < left → passes ≤ t.pass → AllMayCome passes (what.Leftover left ∷ []) reported
