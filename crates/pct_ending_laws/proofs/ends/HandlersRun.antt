@@ -1,6 +1,6 @@
 -- The law of handlers that ran follows from the law of cleanup handlers and destructors, where each fork comes before the events of the
 -- process that it makes. This is over lists of events alone.
-use Rattle.std.proofs.Common.{◌≡◌, ℕ, ◌<◌, Bool, true, false, ◌&&◌, ◌||◌, cond, List, [], ◌∷◌, ◌++◌, length, nat_eq, inl, inr, not, is_none, ap₂, refl, sym, ap, ◌∙◌, subst, append-nil, append_assoc, length-append, eqb-true, eq-eqb, arith}
+use Rattle.std.proofs.Common.{◌≡◌, ℕ, ◌<◌, Bool, true, false, ◌&&◌, ◌||◌, cond, List, [], ◌∷◌, ◌++◌, length, nat_eq, inl, inr, not, ap₂, refl, sym, ap, ◌∙◌, subst, append-nil, append_assoc, length-append, eqb-true, eq-eqb, arith}
 use Rattle.std.specs.List.{list_any}
 use Rattle.std.proofs.lemmas.Bool.{false≢true, and_parts, and_from, or_right, or_cases, not-true, ltb-true}
 use Rattle.pct_model.specs.declared.event.Event.{Event}
@@ -8,13 +8,12 @@ use Rattle.pct_model.specs.declared.event.What.{What}
 use Rattle.pct_model.specs.declared.event.What.TheVariants as what
 use Rattle.pct_model.specs.declared.state.Reason.{Reason}
 use Rattle.pct_model.specs.Actions.{without_first}
-use Rattle.pct_laws.specs.KnownThreads.{is_known, is_in, is_own, is_fork_of, makes_process}
+use Rattle.pct_laws.specs.KnownThreads.{is_in, is_own, is_fork_of, makes_process}
 use Rattle.pct_laws.specs.Each.{each}
 use Rattle.pct_model.specs.LineParsing.{is_empty}
 use Rattle.pct_laws.specs.Once.{is_newest, may_come}
 use Rattle.pct_laws.specs.Once as Once
 use Rattle.pct_laws.specs.ProcessLaw.{is_stop}
-use Rattle.pct_laws.specs.ProcessEnds.{end_status}
 use Rattle.pct_laws.specs.ProcessLaw.{may_change}
 use Rattle.pct_laws.specs.ProcessLaw as ProcessLaw
 use Rattle.pct_laws.specs.RanAll.{begins_to_end, open_at_ending, handler_run, handlers_run, are_same, may_end}
