@@ -2,9 +2,7 @@
 pub mod StoppedRuns
 pub mod EndedProcesses
 pub mod MadeProcesses
-pub mod JoinedThreads
 pub mod ExitValues
-pub mod ExitedOnce
-pub mod EndStatuses
+pub mod MovingThreads
 pub mod ReapedChildren
 pub mod LawfulProcesses

@@ -1,9 +1,9 @@
--- As the last thread of a process ends, no other one exits, so that exit has not begun in the process.
-use Rattle.std.proofs.Common.{◌≡◌, ℕ, Bool, true, false, not, ◌&&◌, ◌||◌, List, [], ◌∷◌, nat_eq, Option, Some, None, is_some, cond, ◌⊎◌, inl, inr, option_and_then, refl, sym, ap, ◌∙◌, subst, eq-eqb, eqb-true, ne_eqb}
+-- What is known of the thread of an entry: one that joins another, one that exits its process, and one that ends as the last thread of its
+-- process, in which exit has not begun then.
+use Rattle.std.proofs.Common.{◌≡◌, ℕ, Bool, true, false, not, List, [], ◌∷◌, nat_eq, Option, Some, None, is_some, cond, ◌⊎◌, inl, inr, option_and_then, refl, sym, ap, ◌∙◌, subst, eq-eqb, eqb-true, ne_eqb}
 use Rattle.std.specs.Prelude.{All}
-use Rattle.std.specs.List.{position_or_len}
-use Rattle.std.specs.Option.{IsSomeAnd}
-use Rattle.std.proofs.lemmas.Bool.{false≢true, true≢false, and_from, or_left, false_from_ne_true}
+use Rattle.std.specs.Option.{IsSomeAnd, option_map_or}
+use Rattle.std.proofs.lemmas.Bool.{false≢true, true≢false, and_from, and_left, or_left, false_from_ne_true}
 use Rattle.std.proofs.lemmas.List.Elements.{All-head, All-tail}
 use Rattle.std.proofs.lemmas.Option.{same_Some}
 use Rattle.pct_model.specs.declared.event.Event.{Event}
@@ -14,24 +14,34 @@ use Rattle.pct_model.specs.declared.schedule.Entry.{Entry}
 use Rattle.pct_model.specs.declared.script.Script.{Script}
 use Rattle.pct_model.specs.declared.state.Status.{Status}
 use Rattle.pct_model.specs.declared.state.Status.TheVariants as status
-use Rattle.pct_laws.specs.ProcessEnds.{exit_after, exit_value}
-use Rattle.pct_laws.specs.Kept.{is_exiting, ThreadKept}
-use Rattle.pct_laws.specs.KnownThreads.{is_in, is_own, is_fork_of}
 use Rattle.pct_model.specs.OtherThreads.{others_of}
 use Rattle.pct_model.specs.Run.{Run, run}
 use Rattle.pct_model.specs.ThreadNumbers.{IsOfThread}
-use Rattle.pct_model.specs.ThreadSlots.{is_ended_status, holds_slot}
-use Rattle.pct_laws.specs.ThreadSummary.{ThreadSummary, with_event, summary_of}
+use Rattle.pct_model.specs.ThreadSlots.{is_ended_status, holds_slot, is_live_thread, with_id}
 use Rattle.pct_model.specs.World.{Thread, Process, World, made_process, thread_with, made_thread}
-use Rattle.pct_ending_laws.proofs.ThreadsOfRun.{exiting_alive, threads_kept, last_kept}
-use Rattle.pct_ending_laws.proofs.lift.EveryProcess.{process_taken}
-use Rattle.pct_ending_laws.proofs.lift.KeyedLists.{found_at, found_passes, item_passes}
+use Rattle.pct_model.specs.declared.frame.Frame.{Frame}
+use Rattle.pct_model.specs.NextStatement.{next_of}
+use Rattle.pct_laws.specs.ProcessEnds.{exit_after, exit_value}
+use Rattle.pct_laws.specs.Kept.{is_exiting, ThreadKept, is_exit_kind, IsPlainFunction}
+use Rattle.pct_laws.specs.KnownThreads.{is_in, is_own, is_fork_of}
+use Rattle.pct_laws.specs.ThreadSummary.{ThreadSummary, with_event, summary_of}
+use Rattle.pct_laws.specs.ProcessLaw.{may_change}
+use Rattle.pct_transition_cases.proofs.PlacedStatements.{is_placed}
+use Rattle.pct_ending_laws.proofs.ThreadsOfRun.{threads_fit, threads_kept, last_kept}
+use Rattle.pct_ending_laws.proofs.lift.EveryProcess.{process_taken, ids_of_run, moves_of_run}
+use Rattle.pct_ending_laws.proofs.lift.KeyedLists.{found_passes}
 use Rattle.pct_ending_laws.proofs.lift.MadeNumbers.{numbers_of_run}
-use Rattle.pct_ending_laws.proofs.lift.MadeThreads.{IsLive}
+use Rattle.pct_ending_laws.proofs.lift.MadeThreads.{IsLive, live_thread}
 use Rattle.pct_ending_laws.proofs.lift.TakenSteps.{IsTaken}
 use Rattle.pct_ending_laws.proofs.lift.SummaryEnds.{begins_exit, exiting_after, exiting_stays}
 use Rattle.pct_ending_laws.proofs.processes.ExitValues.{exit_value_of_run}
 use Rattle.pct_ending_laws.proofs.processes.MadeProcesses.{it_is}
+use Rattle.pct_ending_laws.proofs.joins.JoiningThreads.{joins_of_processes}
+use Rattle.pct_ending_laws.proofs.joins.ReportedFlags.{known_of_run}
+use Rattle.pct_ending_laws.proofs.exits.PlainFunctions.{is_plain_next, plain_next}
+use Rattle.pct_ending_laws.proofs.LastThreads.{last_exits, others_if_last}
+use Rattle.pct_ending_laws.proofs.lift.EveryThread.{of_its_threads}
+use Rattle.pct_ending_laws.proofs.thread.ThreadRule.{summary, FitsAny}
 
 -- ---- the thread that exits
 
@@ -70,13 +80,11 @@ found_thread : (found : Option Thread) → IsSomeAnd found (λ t. t.gone ≡ fal
 found_thread None none = absurd none
 found_thread (Some u) here = (u, refl, here)
 
--- a thread that holds its slot, and has another id than the one that ends as the last one, has ended
-ended_by : (gone is_end reclaimed ended same : Bool) → gone ≡ false → is_end ≡ false → same ≡ false → (not (not gone && not (is_end && reclaimed)) || (ended || same)) ≡ true → ended ≡ true
-ended_by false false reclaimed true false here alive other last = refl
-ended_by false false reclaimed false false here alive other last = absurd (false≢true last)
-ended_by true is_end reclaimed ended same here alive other last = absurd (true≢false here)
-ended_by gone true reclaimed ended same here alive other last = absurd (true≢false alive)
-ended_by gone is_end reclaimed ended true here alive other last = absurd (true≢false other)
+-- a thread that exits its process and runs is at a statement of a plain function
+plain_if_exits : (script : Script) (frames : List Frame) → is_exiting status.Running frames ≡ true → All (λ (frame : Frame). is_exit_kind frame.kind ≡ true → IsPlainFunction script frame.func) frames → is_plain_next (next_of script frames) ≡ true
+plain_if_exits script [] exits plain = absurd (false≢true exits)
+plain_if_exits script (frame ∷ []) exits plain = plain_next script frame [] (All-head (λ (frame : Frame). is_exit_kind frame.kind ≡ true → IsPlainFunction script frame.func) frame [] plain exits) (is_placed script (frame ∷ []))
+plain_if_exits script (frame ∷ next ∷ below) exits plain = absurd (false≢true exits)
 
 module _ (script : Script) (config : Config) (before : List Entry) (r : Run) (is : run script config before ≡ Some r) (e : Entry) (p : Process) (t : Thread) (taken : IsTaken script config r.world e p t) where
   -- the process of the entry was made
@@ -91,15 +99,29 @@ module _ (script : Script) (config : Config) (before : List Entry) (r : Run) (is
   kept : (tid : ℕ) (u : Thread) → thread_with tid p ≡ Some u → u.gone ≡ false → ThreadKept script p.shared.keys u (summary_of e.pid tid r.events)
   kept tid u found here = threads_kept script config before r is e.pid tid p u process_is found here
 
-  -- a thread that ends does not exit its process, and has not ended
-  ending_not_exiting : t.status ≡ status.Ending → is_exiting t.status t.frames ≡ false
-  ending_not_exiting ends = ap (λ (s : Status). is_exiting s t.frames) ends
-
-  -- and it has not ended
-  ending_not_ended : t.status ≡ status.Ending → t.ended ≡ false
-  ending_not_ended ends =
+  -- a thread with the status neither of its end nor of an exit has not ended
+  alive : {s : Status} → t.status ≡ s → is_ended_status s ≡ false → is_exiting s t.frames ≡ false → t.ended ≡ false
+  alive status_is no_end no_exit =
       let of_it : ThreadKept script p.shared.keys t (summary_of e.pid e.tid r.events) = kept e.tid t it.found it.here in
-      false_from_ne_true t.ended (λ ended. false≢true (ap is_ended_status (sym ends) ∙ of_it.ended_status ended (of_it.exiting ∙ ending_not_exiting ends)))
+      false_from_ne_true t.ended (λ ended. false≢true (sym no_end ∙ ap is_ended_status (sym status_is) ∙ of_it.ended_status ended (of_it.exiting ∙ ap (λ (s : Status). is_exiting s t.frames) status_is ∙ no_exit)))
+
+  -- ---- joins
+
+  -- a thread that joins one of its process
+  pub joins_known : (id : ℕ) (u : Thread) → t.status ≡ status.Joining id → with_id id p.threads ≡ Some u → (v : ℕ) → may_change (what.Joined id v) e.pid e.tid r.events ≡ true
+  joins_known id u joins is_u v =
+      let target : IsLive p id u = live_thread id p u (ids_of_run script config before r is e.pid p process_is).distinct is_u in
+      and_from _ _ (and_from _ _ (known_of_run script config before r is e.pid id ∙ ap (λ (found : Option Thread). option_map_or (λ x. not x.gone) found false) (ap (option_and_then (thread_with id)) process_is ∙ target.found) ∙ ap not target.here)
+      (ap not (ne_eqb id e.tid ((joins_of_processes script config before r is e.pid p process_is).joins e.tid t it.found it.here id joins).other)))
+      (ap not ((kept e.tid t it.found it.here).ended ∙ alive joins refl refl))
+
+  -- ---- exits
+
+  -- a thread that began to exit its process and runs is at a statement of a plain function
+  pub exits_plain : t.status ≡ status.Running → (summary_of e.pid e.tid r.events).exiting ≡ true → is_plain_next (next_of script t.frames) ≡ true
+  exits_plain runs exits =
+      let of_it : ThreadKept script p.shared.keys t (summary_of e.pid e.tid r.events) = kept e.tid t it.found it.here in
+      plain_if_exits script t.frames (ap (λ (s : Status). is_exiting s t.frames) (sym runs) ∙ sym of_it.exiting ∙ exits) of_it.exit_frames
 
   -- as the last thread of a process ends, no thread of it exits
   none_exits : (others_of config.slots r.world p t.id).is_last ≡ true → t.status ≡ status.Ending → (tid : ℕ) (u : Thread) → thread_with tid p ≡ Some u → u.gone ≡ false → (summary_of e.pid tid r.events).exiting ≡ true → ⊥
@@ -109,12 +131,11 @@ module _ (script : Script) (config : Config) (before : List Entry) (r : Run) (is
       let number : u.id ≡ tid = eqb-true u.id tid (found_passes (λ (x : Thread). nat_eq x.id tid) p.threads u found) in
       let differs : nat_eq u.id t.id ≡ false = ne_eqb u.id t.id (λ same.
       let it_too : t ≡ u = same_Some t u (sym it.found ∙ ap (λ (n : ℕ). thread_with n p) (sym it.number ∙ sym same ∙ number) ∙ found) in
-      false≢true (sym (ending_not_exiting ends) ∙ ap (λ (x : Thread). is_exiting x.status x.frames) it_too ∙ is_exit)) in
-      let has_id : Thread → Bool = λ x. nat_eq x.id tid in
-      let passes : (not (holds_slot u) || (u.ended || nat_eq u.id t.id)) ≡ true =
-      item_passes (λ (x : Thread). not (holds_slot x) || (x.ended || nat_eq x.id t.id)) p.threads (position_or_len has_id p.threads) u last (found_at has_id p.threads u found) in
-      let ended : u.ended ≡ true = ended_by u.gone (is_ended_status u.status) (u.joined || u.detached) u.ended (nat_eq u.id t.id) here (exiting_alive u.status u.frames is_exit) differs passes in
-      true≢false (sym (last_kept script config before r is e.pid p process_is tid u found here ended exits e.tid t it.found it.here) ∙ ending_not_ended ends)
+      false≢true (sym (ap (λ (s : Status). is_exiting s t.frames) ends) ∙ ap (λ (x : Thread). is_exiting x.status x.frames) it_too ∙ is_exit)) in
+      let not_it : is_live_thread e.tid u ≡ false = and_left (nat_eq u.id e.tid) (holds_slot u) (ap (nat_eq u.id) (sym it.number) ∙ differs) in
+      let ended : u.ended ≡ true = others_if_last script config r.world p e t (of_its_threads summary (FitsAny script config.passes) r (threads_fit script config before r is) e.pid p process_is) (moves_of_run script config before r is e p t taken)
+      (last_exits script config (threads_fit script config) before r is e.pid p process_is) last tid u found here not_it in
+      true≢false (sym (last_kept script config before r is e.pid p process_is tid u found here ended exits e.tid t it.found it.here) ∙ alive ends refl refl)
 
   -- so the process has no exit value then
   pub last_has_none : (others_of config.slots r.world p t.id).is_last ≡ true → t.status ≡ status.Ending → is_some p.shared.exit_value ≡ false
