@@ -30,8 +30,8 @@ use Rattle.pct_ending_laws.proofs.joins.ReportedFlags.{known_of_run, joined_of_r
 use Rattle.pct_ending_laws.proofs.joins.LawfulJoins.{joins_of_run}
 use Rattle.pct_ending_laws.proofs.keys.KeyEvents.{key_events_of_run, keys_law_of_run}
 use Rattle.pct_ending_laws.proofs.owners.OwnersOfRun.{owners_of_run, owners_kept}
-use Rattle.pct_ending_laws.proofs.processes.EndedProcesses.{end_status_of_run}
-use Rattle.pct_ending_laws.proofs.processes.ExitValues.{exit_value_of_run}
+use Rattle.pct_ending_laws.proofs.processes.ProcessEnds.{end_status_of_run}
+use Rattle.pct_ending_laws.proofs.processes.ProcessEnds.{exit_value_of_run}
 use Rattle.pct_ending_laws.proofs.processes.LawfulProcesses.{processes_of_run}
 use Rattle.pct_ending_laws.proofs.requests.ActingCalls.{acts_at_calls_of_run}
 use Rattle.pct_ending_laws.proofs.requests.ActingSteps.{each_may_act_of_run}

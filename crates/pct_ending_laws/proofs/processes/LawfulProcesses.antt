@@ -35,8 +35,8 @@ use Rattle.pct_ending_laws.proofs.lift.CreatedThreads.{gives_next}
 use Rattle.pct_ending_laws.proofs.lift.EveryProcess.{process_taken}
 use Rattle.pct_ending_laws.proofs.lift.HandlerEvents.{of_each_phase}
 use Rattle.pct_ending_laws.proofs.lift.TakenSteps.{IsTaken, with_step, AfterEveryRun, every_run}
-use Rattle.pct_ending_laws.proofs.processes.EndedProcesses.{live_of_run}
-use Rattle.pct_ending_laws.proofs.processes.ExitValues.{exit_value_of_run}
+use Rattle.pct_ending_laws.proofs.processes.ProcessEnds.{live_of_run}
+use Rattle.pct_ending_laws.proofs.processes.ProcessEnds.{exit_value_of_run}
 use Rattle.pct_ending_laws.proofs.processes.MovingThreads.{joins_known, exits_plain, last_has_none}
 use Rattle.pct_ending_laws.proofs.processes.MadeProcesses.{next_unmade, known_by}
 use Rattle.pct_ending_laws.proofs.processes.ReapedChildren.{reaps_child}

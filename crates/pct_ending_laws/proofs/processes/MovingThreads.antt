@@ -34,7 +34,7 @@ use Rattle.pct_ending_laws.proofs.lift.MadeNumbers.{numbers_of_run}
 use Rattle.pct_ending_laws.proofs.lift.MadeThreads.{IsLive, live_thread}
 use Rattle.pct_ending_laws.proofs.lift.TakenSteps.{IsTaken}
 use Rattle.pct_ending_laws.proofs.lift.SummaryEnds.{begins_exit, exiting_after, exiting_stays}
-use Rattle.pct_ending_laws.proofs.processes.ExitValues.{exit_value_of_run}
+use Rattle.pct_ending_laws.proofs.processes.ProcessEnds.{exit_value_of_run}
 use Rattle.pct_ending_laws.proofs.processes.MadeProcesses.{it_is}
 use Rattle.pct_ending_laws.proofs.joins.JoiningThreads.{joins_of_processes}
 use Rattle.pct_ending_laws.proofs.joins.ReportedFlags.{known_of_run}

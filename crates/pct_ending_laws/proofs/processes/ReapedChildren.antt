@@ -40,7 +40,7 @@ use Rattle.pct_ending_laws.proofs.lift.MadeThreads.{child_made, IsStep, is_step,
 use Rattle.pct_ending_laws.proofs.lift.ProcessIds.{HavePids, have_pids, ids_of_made}
 use Rattle.pct_ending_laws.proofs.lift.ReportedBy.{Reading, reported_by, after_own}
 use Rattle.pct_ending_laws.proofs.lift.TakenSteps.{IsTaken, with_step, AfterEveryRun, every_run}
-use Rattle.pct_ending_laws.proofs.processes.EndedProcesses.{end_status_of_run}
+use Rattle.pct_ending_laws.proofs.processes.ProcessEnds.{end_status_of_run}
 use Rattle.pct_ending_laws.proofs.processes.StoppedRuns.{any_added}
 
 -- ---- another process
