@@ -1,49 +1,36 @@
 -- What follows the end of a thread, and what a thread does that exits its process: no event but those of its exit functions; and the last
 -- thread of a process begins to exit it directly after its end, as each thread of the process has ended.
 use mathlib.Core.Bool.{and-false, or-false}
-use Rattle.std.proofs.Common.{◌≡◌, ℕ, Bool, true, false, not, ◌&&◌, ◌||◌, cond, List, [], ◌∷◌, ◌++◌, map, reverse, nat_eq, Option, Some, None, option_and_then, ◌⊎◌, inl, inr, refl, sym, ap, ap₂, ◌∙◌, subst, eqb-true, eq-eqb}
+use Rattle.std.proofs.Common.{◌≡◌, ℕ, Bool, true, false, ◌&&◌, ◌||◌, cond, List, [], ◌∷◌, ◌++◌, map, reverse, nat_eq, Option, Some, None, option_and_then, ◌⊎◌, inl, inr, refl, sym, ap, ap₂, ◌∙◌, subst, eqb-true, eq-eqb}
 use Rattle.std.specs.Prelude.{is_some}
 use Rattle.std.specs.List.{list_all, list_any}
 use Rattle.std.proofs.Math.Bool.{or_assoc}
-use Rattle.std.proofs.lemmas.Bool.{false≢true, true≢false, and_parts, and_from, and_left, or_left, or_right, eqb-false, false_from_ne_true}
+use Rattle.std.proofs.lemmas.Bool.{false≢true, and_parts, and_from, and_left, or_left, or_right, eqb-false, false_from_ne_true}
 use Rattle.pct_model.specs.declared.event.Event.{Event}
 use Rattle.pct_model.specs.declared.event.What.{What}
 use Rattle.pct_model.specs.declared.event.What.TheVariants as what
-use Rattle.pct_model.specs.declared.frame.Frame.{Frame}
 use Rattle.pct_model.specs.declared.schedule.Config.{Config}
 use Rattle.pct_model.specs.declared.schedule.Entry.{Entry}
 use Rattle.pct_model.specs.declared.script.Script.{Script}
-use Rattle.pct_model.specs.declared.state.FrameKind.TheVariants as kind
-use Rattle.pct_model.specs.declared.state.Reason.{Reason}
-use Rattle.pct_model.specs.declared.state.State.TheVariants.{Disable}
 use Rattle.pct_model.specs.declared.state.Status.{Status}
-use Rattle.pct_model.specs.declared.state.Status.TheVariants as status
 use Rattle.pct_model.specs.declared.statement.Stmt.{Stmt}
 use Rattle.pct_model.specs.declared.transition.Transition.{Transition}
 use Rattle.pct_laws.specs.AfterEnd.{begins_exit_with_0, is_of_exit, all_have_ended, allows}
 use Rattle.pct_laws.specs.Each.{each}
 use Rattle.pct_laws.specs.KnownIds.{known_ids}
-use Rattle.pct_laws.specs.Kept.{is_exit_kind}
 use Rattle.pct_laws.specs.KnownThreads.{makes_process, is_fork_of, creates_id, is_known, reports_end}
-use Rattle.pct_model.specs.LineKinds.{syntax_of}
-use Rattle.pct_model.specs.NextStatement.{NextStatement, next_of, body_at}
+use Rattle.pct_model.specs.NextStatement.{NextStatement}
 use Rattle.pct_model.specs.OtherThreads.{Others, others_of}
 use Rattle.pct_model.specs.Run.{Run, event_of, run}
-use Rattle.pct_model.specs.Statements.{encode}
-use Rattle.pct_model.specs.StopTable.{has_begun_to_end}
 use Rattle.pct_model.specs.ThreadSlots.{holds_slot, is_live_thread}
 use Rattle.pct_laws.specs.ThreadSummary.{ThreadSummary, with_event, summary_of, thread_ended}
 use Rattle.pct_model.specs.TransitionTable.{transition_by}
 use Rattle.pct_model.specs.World.{Thread, SharedState, Process, made_process, thread_with}
-use Rattle.pct_transition_cases.proofs.CaseOfTransition.{case_of}
-use Rattle.pct_transition_cases.proofs.OfferedChoices.{deliverable_enabled}
-use Rattle.pct_transition_cases.proofs.PlacedStatements.{IsPlaced, on_top, is_placed}
-use Rattle.pct_transition_cases.proofs.TransitionCases.{TransitionCase, rests, main_returned, start_returned, canceled, fork_handler_called, last_ended, last_ended_with_keys}
+use Rattle.pct_transition_cases.proofs.TransitionCases.{TransitionCase, fork_handler_called, last_ended, last_ended_with_keys}
 use Rattle.pct_ending_laws.proofs.LastThreads.{LastExits, last_exits, others_if_last}
 use Rattle.pct_ending_laws.proofs.ThreadsOfRun.{threads_fit, threads_kept}
 use Rattle.pct_ending_laws.proofs.slots.KnownIds.{all_from_members, among_known}
 use Rattle.pct_ending_laws.proofs.slots.ReclaimedThreads.{IsPresent, known_present}
-use Rattle.pct_ending_laws.proofs.exits.PlainFunctions.{is_plain_next, plain_next}
 use Rattle.pct_ending_laws.proofs.lift.EveryProcess.{process_taken, moves_of_run}
 use Rattle.pct_ending_laws.proofs.lift.EveryThread.{OfItsThreads, of_its_threads, of_made_thread}
 use Rattle.pct_ending_laws.proofs.lift.HandlerEvents.{of_each_phase}
@@ -51,8 +38,9 @@ use Rattle.pct_ending_laws.proofs.lift.TakenSteps.{IsTaken, AfterEveryRun, every
 use Rattle.pct_ending_laws.proofs.lift.KeyedLists.{found_passes}
 use Rattle.pct_ending_laws.proofs.lift.SummaryEnds.{begins_exit, ended_after, exiting_after, ended_stays}
 use Rattle.pct_ending_laws.proofs.lift.ThreadsAfter.{Moves, mover}
-use Rattle.pct_ending_laws.proofs.thread.Ends.{not_both}
-use Rattle.pct_ending_laws.proofs.thread.ThreadRule.{summary, summary_reading, HasFrames, ByStatus, RunsExitFunction, ByAnyStatus, FitsAny}
+use Rattle.pct_ending_laws.proofs.steps.MovedThreads.{case_of_step}
+use Rattle.pct_ending_laws.proofs.thread.EndingSteps.{stands}
+use Rattle.pct_ending_laws.proofs.thread.ThreadRule.{summary, summary_reading, FitsAny}
 
 -- ---- the events of a step, newest first
 
@@ -90,62 +78,6 @@ module _ (passes : ℕ) (shared : SharedState) (t : Thread) (others : Others) wh
   case_follows (last_ended_with_keys next left none is_last some limit all none_left) = and_from _ _ (and_from _ _ is_last refl) refl
   case_follows (fork_handler_called next at call is) = of_each_phase (λ (w : What). all_follow_end others.is_last (w ∷ []) ≡ true) call.func refl refl refl at.phase
   case_follows _ = refl
-
-  -- a thread with the status of its end has no transition
-  no_case_ended : {body : List Stmt} {next : NextStatement} {v : ℕ} {o : Transition} → TransitionCase passes body shared t others true next (status.Ended v) o → ⊥
-  no_case_ended (rests next s alive) = true≢false (alive refl)
-
-  -- a thread that exits its process, between the functions registered with atexit, has only events of the exit
-  case_exiting : {body : List Stmt} {next : NextStatement} {o : Transition} → TransitionCase passes body shared t others true next status.Exiting o → list_all is_of_exit (reverse o.events) ≡ true
-  case_exiting (rests next s alive) = refl
-  case_exiting _ = refl
-
-  -- and so in such a function, which is plain
-  case_plain : {body : List Stmt} {script : Script} {frame : Frame} {next : NextStatement} {o : Transition} → IsPlaced script (frame ∷ []) body next → frame.kind ≡ kind.ExitFn → t.state ≡ Disable
-      → TransitionCase passes body shared t others true next status.Running o → (list_all is_of_exit (reverse o.events) || not (is_plain_next next)) ≡ true
-  unfolding encode syntax_of
-  case_plain (on_top _ _ s at) exits disabled (start_returned _ _ v returns is) = absurd (true≢false (sym (ap is_exit_kind exits) ∙ ap is_exit_kind is))
-  case_plain (on_top _ _ s at) exits disabled (main_returned _ _ v returns is begun) = absurd (true≢false (sym (ap is_exit_kind exits) ∙ ap is_exit_kind is))
-  case_plain place exits disabled (canceled next delivered at_point) = absurd (not_both t.state disabled (deliverable_enabled t.state t.pending (delivered refl)))
-  case_plain place exits disabled _ = refl
-
-  module _ (script : Script) (why : Reason) (frames : List Frame) (handlers : List (ℕ × ℕ)) (reported : ThreadSummary) (disabled : (has_begun_to_end why || reported.exiting) ≡ true → t.state ≡ Disable) where
-    -- what is known of the events of a transition
-    abbrev Follow : Transition → Type 0
-    Follow o = FollowEnd others.is_last reported (reverse o.events)
-
-    -- in a function registered with atexit
-    exit_follows : (s : Status) (frames : List Frame) {body : List Stmt} {next : NextStatement} {o : Transition} → RunsExitFunction script s frames reported → IsPlaced script frames body next → TransitionCase passes body shared t others true next s o → Follow o
-    exit_follows status.Running (frame ∷ []) {o = o} exits place c =
-        let plain = plain_next script frame [] exits.1 place in
-        inr (
-          exits.2,
-          sym (or-false (list_all is_of_exit (reverse o.events))) ∙ ap (λ (b : Bool). list_all is_of_exit (reverse o.events) || not b) (sym plain)
-              ∙ case_plain place exits.0 (disabled (or_right (has_begun_to_end why) reported.exiting exits.2)) c,
-        )
-    exit_follows _ _ exits place c = absurd exits
-
-    -- of a thread that neither ended nor began to exit its process
-    alive_follows : {s : Status} {body : List Stmt} {next : NextStatement} {o : Transition} → HasFrames script why frames handlers reported → TransitionCase passes body shared t others true next s o → Follow o
-    alive_follows fits c = inl (record { not_ended = fits.not_ended; not_exiting = fits.not_exiting; all = case_follows c })
-
-    -- the events of a transition, by the status of the thread
-    status_follows : (s : Status) {body : List Stmt} {next : NextStatement} {o : Transition} → ByStatus script s why frames handlers reported → TransitionCase passes body shared t others true next s o → Follow o
-    status_follows status.Running fits c = alive_follows fits c
-    status_follows (status.AtPoint index) fits c = alive_follows fits.0 c
-    status_follows (status.Joining id) fits c = alive_follows fits.0 c
-    status_follows (status.InSem sem) fits c = alive_follows fits.0 c
-    status_follows (status.InWaitPid pid) fits c = alive_follows fits.0 c
-    status_follows (status.Waiting n m) fits c = alive_follows fits.0 c
-    status_follows (status.Reacquire n m cause) fits c = alive_follows fits.0 c
-    status_follows (status.Forking phase index length pid) fits c = alive_follows fits.0 c
-    status_follows status.Ending fits c = inl (record { not_ended = fits.not_ended; not_exiting = fits.not_exiting; all = case_follows c })
-    status_follows (status.Ended v) fits c = absurd (no_case_ended c)
-    status_follows status.Exiting fits c = inr (fits.1, case_exiting c)
-
-    any_follows : (s : Status) {body : List Stmt} {next : NextStatement} {o : Transition} → ByAnyStatus script s why frames handlers reported → IsPlaced script frames body next → TransitionCase passes body shared t others true next s o → Follow o
-    any_follows s (inl fits) place c = status_follows s fits c
-    any_follows s (inr exits) place c = exit_follows s frames exits place c
 
 -- ---- the events of a run
 
@@ -287,8 +219,14 @@ module _ (script : Script) (config : Config) (before : List Entry) (r : Run) (is
       let reported : ThreadSummary = summary_of e.pid e.tid r.events in
       let fits : FitsAny script config.passes t reported =
       subst (FitsAny script config.passes t) (sym (summary_reading e.tid e.pid r.events)) (of_made_thread summary (FitsAny script config.passes) r (threads_fit script config before r is) e.pid e.tid t found m.here) in
-      any_follows config.passes p.shared t (others_of config.slots r.world p t.id) script t.reason t.frames t.handlers reported fits.agrees.disabled t.status fits.by_status (is_placed script t.frames)
-      (case_of config.passes (body_at script t.frames) p.shared t (others_of config.slots r.world p t.id) true e.alt (next_of script t.frames) t.status (λ known. taken.offered))
+      elim (stands script config r.world p t reported e.alt taken.offered fits) [
+        | inl alive ↦ inl (record {
+          not_ended = alive.0;
+          not_exiting = alive.1;
+          all = case_follows config.passes p.shared t (others_of config.slots r.world p t.id) (case_of_step script config r.world p e t moves);
+        })
+        | inr exits ↦ inr (exits.0, exits.2)
+      ]
 
 module _ (script : Script) (config : Config) where
   -- after every run, a thread that exits its process has only events of the exit, and one that has ended goes on only to exit its process, as
