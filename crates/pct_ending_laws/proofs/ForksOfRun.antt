@@ -38,7 +38,7 @@ use Rattle.pct_ending_laws.proofs.lift.TakenSteps.{AfterEveryRun}
 use Rattle.pct_ending_laws.proofs.exits.PlainFunctions.{is_plain_next, plain_next}
 use Rattle.pct_ending_laws.proofs.exits.RegisteredFunctions.{RegistersPlain, next_plain, registered_of_run}
 use Rattle.pct_ending_laws.proofs.thread.KeptThreads.{none_of}
-use Rattle.pct_ending_laws.proofs.thread.ThreadRule.{is_running}
+use Rattle.pct_laws.specs.CancelLaw.{is_running}
 
 -- ---- outside of fork handlers, and in one
 

@@ -1,5 +1,5 @@
 -- Every run keeps the laws of its events, and ends in a state that keeps the invariant.
-use Rattle.std.proofs.Common.{◌≡◌, ℕ, false, ◌&&◌, List, Some, option_and_then, sym, ap, ◌∙◌}
+use Rattle.std.proofs.Common.{◌≡◌, ℕ, true, false, ◌&&◌, List, Some, option_and_then, sym, ap, ◌∙◌}
 use Rattle.std.proofs.lemmas.List.Elements.{All-from_recursion}
 use Rattle.std.proofs.lemmas.Option.{option_and_then_some}
 use Rattle.pct_model.specs.declared.script.Script.{Script}
@@ -9,7 +9,7 @@ use Rattle.pct_model.specs.declared.state.Status.TheVariants as status
 use Rattle.pct_model.specs.declared.event.What.TheVariants.{Called}
 use Rattle.pct_model.specs.ThreadCalls.{join_point}
 use Rattle.pct_laws.specs.Calls.{EachIsCalled, SaysCalls, KeepsExitFunctions, KeepsKeys}
-use Rattle.pct_laws.specs.CancelLaw.{EachMayAct, ActsAtCalls}
+use Rattle.pct_laws.specs.CancelLaw.{acts_where_it_may, acts_at_calls}
 use Rattle.pct_laws.specs.Ends.{EachMayBegin, KeepsValues}
 use Rattle.pct_laws.specs.Kept.{IsPlainFunction, IsSuspendedInJoin}
 use Rattle.pct_model.specs.Run.{Run, run}
@@ -87,8 +87,8 @@ every_run_keeps_laws script config entries r is = record {
   };
   cancels = record {
     requests = requests_of_run script config entries r is;
-    acts = each_step script config (EachMayAct script) (each_may_act_of_run script config) entries;
-    at_calls = each_step script config (ActsAtCalls script) (acts_at_calls_of_run script config) entries;
+    acts = each_step script config (λ s. acts_where_it_may script s ≡ true) (each_may_act_of_run script config) entries;
+    at_calls = each_step script config (λ s. acts_at_calls script s ≡ true) (acts_at_calls_of_run script config) entries;
     awakened = awakened_of_run script config entries r is;
   };
   joins = joins_of_run script config entries r is;

@@ -3,7 +3,7 @@
 -- cancellation point, and is suspended in none: it acts on the request (XSH 2.9.5.2); with cancelability deferred it acts only at a
 -- cancellation point (XSH 2.9.5.1, 2.9.5.2), and in a condition wait by the stages of the wait (XSH pthread_cond_wait); one that was
 -- suspended before is awakened (XSH 2.9.5.2); and a thread that has begun to end enables cancelability no more (XSH 2.9.5.3).
-use Rattle.std.specs.Prelude.{◌≡◌, Bool, true, false, List, [], ◌∷◌, All}
+use Rattle.std.specs.Prelude.{◌≡◌, Bool, true, false, not, ◌&&◌, ◌||◌, List, [], ◌∷◌}
 use Rattle.std.specs.List.{list_any}
 use Rattle.pct_model.specs.declared.event.Event.{Event}
 use Rattle.pct_model.specs.declared.event.What.{What}
@@ -30,20 +30,21 @@ use Rattle.pct_model.specs.World.{World}
 
 -- ---- the law of a step
 
--- a thread acts where it may: at a cancellation point, or anywhere if it set its cancelability asynchronous last
-abbrev pub ActsWhereItMay : Script → ThreadStep → Type 0
-ActsWhereItMay script s = is_at_cancellation_point (next_of script s.before.frames) s.before.status ≡ false → is_asynchronous_last s.pid s.tid s.earlier ≡ true
+-- the event is that a thread acts on a request: it is canceled, or leaves its condition wait
+abbrev pub is_act : What → Bool
+is_act what.EndingCanceled = true
+is_act (what.WaitCanceled c) = true
+is_act _ = false
 
--- what a step with an event begins with
-abbrev pub ActsAt : Script → What → ThreadStep → Type 0
-ActsAt script what.EndingCanceled s = ActsWhereItMay script s
-ActsAt script (what.WaitCanceled c) s = ActsWhereItMay script s
--- the law asks nothing at the other events
-ActsAt script _ s = Unit {0}
+-- a thread acts on a request where it may: at a cancellation point, or anywhere if it set its cancelability asynchronous last
+abbrev pub acts_where_it_may : Script → ThreadStep → Bool
+acts_where_it_may script s =
+    not (list_any is_act s.events) || is_at_cancellation_point (next_of script s.before.frames) s.before.status || is_asynchronous_last s.pid s.tid s.earlier
 
--- each event of a step may come in it
-abbrev pub EachMayAct : Script → ThreadStep → Type 0
-EachMayAct script s = All (λ w. ActsAt script w s) s.events
+-- a thread with this status runs
+abbrev pub is_running : Status → Bool
+is_running status.Running = true
+is_running _ = false
 
 -- the next statement calls a function that shall be a cancellation point
 abbrev pub calls_required_point : NextStatement → Bool
@@ -58,8 +59,9 @@ acts_or_stops _ = false
 
 -- a thread that is to call a function that shall be a cancellation point, with a request to act upon, acts, unless the call is a misuse
 -- that stops the run (XSH 2.9.5.2)
-abbrev pub ActsAtCalls : Script → ThreadStep → Type 0
-ActsAtCalls script s = s.before.status ≡ status.Running → calls_required_point (next_of script s.before.frames) ≡ true → has_to_act s.pid s.tid s.earlier ≡ true → acts_or_stops s.events ≡ true
+abbrev pub acts_at_calls : Script → ThreadStep → Bool
+acts_at_calls script s =
+    not (is_running s.before.status && calls_required_point (next_of script s.before.frames) && has_to_act s.pid s.tid s.earlier) || acts_or_stops s.events
 
 -- ---- the law of a state
 
@@ -90,6 +92,6 @@ Awakened script config w events =
 -- the law of cancellation, of the run of a schedule
 pub record CancelLaw (script : Script) (config : Config) (entries : List Entry) (r : Run) : Type 0 where
   pub requests : each RequestsLaw.allows r.events ≡ true
-  pub acts : EachStep script config entries (EachMayAct script)
-  pub at_calls : EachStep script config entries (ActsAtCalls script)
+  pub acts : EachStep script config entries (λ s. acts_where_it_may script s ≡ true)
+  pub at_calls : EachStep script config entries (λ s. acts_at_calls script s ≡ true)
   pub awakened : Awakened script config r.world r.events

@@ -26,7 +26,8 @@ use Rattle.pct_model.specs.World.{Thread}
 use Rattle.pct_ending_laws.proofs.keys.KeptKeys.{AreEmpty}
 use Rattle.pct_ending_laws.proofs.keys.LeftKeys.{on_own_place}
 use Rattle.pct_ending_laws.proofs.thread.Passes.{is_in, not_taken}
-use Rattle.pct_ending_laws.proofs.thread.ThreadRule.{Below, FramesFit, IsHandler, IsPlaced, HasFrames, GoesToHandlers, HasEnded, ByStatus, ByAnyStatus, outside_exit, is_running, FitsAny}
+use Rattle.pct_ending_laws.proofs.thread.ThreadRule.{Below, FramesFit, IsHandler, IsPlaced, HasFrames, GoesToHandlers, HasEnded, ByStatus, ByAnyStatus, outside_exit, FitsAny}
+use Rattle.pct_laws.specs.CancelLaw.{is_running}
 
 -- ---- frames
 

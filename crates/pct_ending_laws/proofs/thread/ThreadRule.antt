@@ -24,6 +24,7 @@ use Rattle.pct_model.specs.NextStatement.{next_of}
 use Rattle.pct_model.specs.StopTable.{has_begun_to_end}
 use Rattle.pct_laws.specs.ThreadSummary.{ThreadSummary, no_events, with_event, summary_of}
 use Rattle.pct_model.specs.World.{Thread, body_of}
+use Rattle.pct_laws.specs.CancelLaw.{is_running}
 use Rattle.pct_laws.specs.Once.{may_come}
 use Rattle.pct_ending_laws.proofs.lift.EachAllowed.{all_may}
 use Rattle.pct_ending_laws.proofs.lift.ReportedBy.{after_all, reported_by, ThreadReading, of_thread, is_thread_reading}
@@ -48,11 +49,6 @@ calls_exit_function (what.ExitRun f ∷ []) = true
 calls_exit_function _ = false
 
 -- ---- frames
-
--- the status is Running
-abbrev pub is_running : Status → Bool
-is_running status.Running = true
-is_running _ = false
 
 module _ (script : Script) where
   -- what is below a frame of a kind, in a thread with a reason to end; `below_fits` is that the frames below fit it. The thread of a fork
