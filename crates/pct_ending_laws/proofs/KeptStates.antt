@@ -10,7 +10,7 @@ use Rattle.pct_model.specs.declared.event.What.TheVariants.{Called}
 use Rattle.pct_model.specs.ThreadCalls.{join_point}
 use Rattle.pct_laws.specs.Calls.{EachIsCalled, SaysCalls, KeepsExitFunctions, KeepsKeys}
 use Rattle.pct_laws.specs.CancelLaw.{acts_where_it_may, acts_at_calls}
-use Rattle.pct_laws.specs.Ends.{EachMayBegin, KeepsValues}
+use Rattle.pct_laws.specs.Ends.{each_may_begin, KeepsValues}
 use Rattle.pct_laws.specs.Kept.{IsPlainFunction, IsSuspendedInJoin}
 use Rattle.pct_model.specs.Run.{Run, run}
 use Rattle.pct_model.specs.World.{Thread, made_process, made_thread, thread_with}
@@ -81,7 +81,7 @@ every_run_keeps_laws script config entries r is = record {
     keys = keys_law_of_run script config entries r is;
   };
   ends = record {
-    stages = each_step script config (EachMayBegin config.passes) (each_may_begin_of_run script config) entries;
+    stages = each_step script config (λ s. each_may_begin config.passes s ≡ true) (each_may_begin_of_run script config) entries;
     values = each_step script config (KeepsValues script) (keeps_values_of_run script config) entries;
     left = leftovers_of_run script config entries r is;
   };
