@@ -8,7 +8,7 @@ use Rattle.pct_model.specs.declared.schedule.Entry.{Entry}
 use Rattle.pct_model.specs.declared.state.Status.TheVariants as status
 use Rattle.pct_model.specs.declared.event.What.TheVariants.{Called}
 use Rattle.pct_model.specs.ThreadCalls.{join_point}
-use Rattle.pct_laws.specs.Calls.{EachIsCalled, SaysCalls, KeepsExitFunctions, KeepsKeys}
+use Rattle.pct_laws.specs.Calls.{EachIsCalled, says_calls, KeepsExitFunctions, KeepsKeys}
 use Rattle.pct_laws.specs.CancelLaw.{acts_where_it_may, acts_at_calls}
 use Rattle.pct_laws.specs.Ends.{each_may_begin, KeepsValues}
 use Rattle.pct_laws.specs.Kept.{IsPlainFunction, IsSuspendedInJoin}
@@ -75,7 +75,7 @@ every_run_keeps_laws script config entries r is = record {
   after_end = after_end_of_run script config entries r is;
   calls = record {
     called = each_step script config (EachIsCalled script) (each_is_called_of_run script config) entries;
-    said = each_step script config (SaysCalls script) (says_calls_of_run script config) entries;
+    said = each_step script config (λ s. says_calls script s ≡ true) (says_calls_of_run script config) entries;
     exits = each_step script config (KeepsExitFunctions script) (keeps_exit_functions_of_run script config) entries;
     made_keys = each_step script config KeepsKeys (keeps_keys_of_run script config) entries;
     keys = keys_law_of_run script config entries r is;

@@ -1,7 +1,7 @@
 -- The law of calls. Lists of events that keep its law of keys, and lists that do not, each with the name of the sentence that it breaks; they
 -- are listed newest first. And made steps that keep the law of a step, and made steps that do not. In these each step that does not differs
 -- from one that does in one thing.
-use Rattle.std.proofs.Common.{◌≡◌, ℕ, zero, suc, ◌+◌, ◌<◌, ◌%◌, Bool, true, false, not, List, [], ◌∷◌, length, slice_index, nat_eq, Option, Some, None, is_some, refl, sym, ap, ◌∙◌, inl, inr, arith}
+use Rattle.std.proofs.Common.{◌≡◌, ℕ, zero, suc, ◌+◌, ◌%◌, Bool, true, false, not, List, [], ◌∷◌, length, slice_index, nat_eq, Option, Some, None, is_some, refl, sym, ap, ◌∙◌, inl, inr, arith}
 use Rattle.std.specs.Prelude.{IsTrue, codes}
 use Rattle.std.specs.List.{AllByRecursion}
 use Rattle.std.specs.Option.{option_map_or}
@@ -24,7 +24,7 @@ use Rattle.pct_model.specs.declared.statement.Operand.TheVariants as operand
 use Rattle.pct_model.specs.declared.statement.Stmt.{Stmt}
 use Rattle.pct_model.specs.declared.statement.Stmt.TheVariants as statement
 use Rattle.pct_model.specs.Actions.{without_first}
-use Rattle.pct_laws.specs.Calls.{IsCall, RunsAbove, by_exit, by_call, IsCalled, EachIsCalled, SaysCalls, KeepsExitFunctions, KeepsKeys}
+use Rattle.pct_laws.specs.Calls.{IsCall, RunsAbove, by_exit, by_call, IsCalled, EachIsCalled, says_calls, KeepsExitFunctions, KeepsKeys}
 use Rattle.pct_laws.specs.Each.{each}
 use Rattle.pct_laws.specs.KeysLaw.{allows}
 use Rattle.pct_rows.proofs.Refusals.{refuses}
@@ -692,34 +692,35 @@ its_frame_is_of_a_fork_handler law = absurd (false≢true (ap (λ frames. is_of_
 
 -- ---- calls without an event
 
-abbrev says : Thread → List What → Thread → Type 0
-says before events after = SaysCalls script (step_from two two before events after)
+abbrev says : Thread → List What → Thread → Bool
+says before events after = says_calls script (step_from two two before events after)
 
 -- a thread of function 2 at a statement
 abbrev in_function : ℕ → Thread
 in_function pc = thread (popping pc ∷ main ∷ []) 0
 
 -- a call has its event or its statement
-handler_is_said : says ending (what.HandlerRun 3 30 ∷ []) (thread (handler ∷ []) 7)
-handler_is_said more no_call = refl
+handler_is_said : says ending (what.HandlerRun 3 30 ∷ []) (thread (handler ∷ []) 7) ≡ true
+handler_is_said = refl
 
-pop_is_said : says (in_function 1) (what.Popped 3 30 true ∷ []) (thread (popped ∷ popping 2 ∷ main ∷ []) 0)
-pop_is_said more no_call = refl
-
-function_is_called : says (in_function 4) [] (thread (new_frame 0 5 kind.Call ∷ popping 5 ∷ main ∷ []) 0)
+pop_is_said : says (in_function 1) (what.Popped 3 30 true ∷ []) (thread (popped ∷ popping 2 ∷ main ∷ []) 0) ≡ true
 unfolding runs_on_literals
-function_is_called more no_call = absurd (false≢true (sym no_call))
+pop_is_said = refl
 
-no_frame_is_made : says (in_function 7) (what.Emit 5 ∷ []) (in_function 8)
-no_frame_is_made more no_call = let none : 2 < 2 = more in absurd (omega arith)
-
-no_handler_is_called_without_an_event : says ending [] (thread (handler ∷ []) 7) → ⊥
-no_handler_is_called_without_an_event law = absurd (false≢true (law (omega arith) refl))
-
-nor_one_that_a_pop_drops : says (in_function 3) (what.Popped 3 30 false ∷ []) (thread (popped ∷ popping 4 ∷ main ∷ []) 0) → ⊥
+function_is_called : says (in_function 4) [] (thread (new_frame 0 5 kind.Call ∷ popping 5 ∷ main ∷ []) 0) ≡ true
 unfolding runs_on_literals
-nor_one_that_a_pop_drops law = absurd (false≢true (law (omega arith) refl))
+function_is_called = refl
 
-nor_a_function_at_emit : says (in_function 7) (what.Emit 5 ∷ []) (thread (new_frame 0 5 kind.Call ∷ popping 8 ∷ main ∷ []) 0) → ⊥
+no_frame_is_made : says (in_function 7) (what.Emit 5 ∷ []) (in_function 8) ≡ true
+no_frame_is_made = refl
+
+no_handler_is_called_without_an_event : says ending [] (thread (handler ∷ []) 7) ≡ false
+no_handler_is_called_without_an_event = refl
+
+nor_one_that_a_pop_drops : says (in_function 3) (what.Popped 3 30 false ∷ []) (thread (popped ∷ popping 4 ∷ main ∷ []) 0) ≡ false
 unfolding runs_on_literals
-nor_a_function_at_emit law = absurd (false≢true (law (omega arith) refl))
+nor_one_that_a_pop_drops = refl
+
+nor_a_function_at_emit : says (in_function 7) (what.Emit 5 ∷ []) (thread (new_frame 0 5 kind.Call ∷ popping 8 ∷ main ∷ []) 0) ≡ false
+unfolding runs_on_literals
+nor_a_function_at_emit = refl
