@@ -1,39 +1,44 @@
 -- The law of joins holds of the events of every run.
-use Rattle.std.proofs.Common.{◌≡◌, ℕ, Bool, true, false, not, ◌&&◌, ◌||◌, List, [], ◌∷◌, ◌++◌, map, reverse, nat_eq, Option, Some, option_and_then, refl, sym, ap, ◌∙◌, eq-eqb}
+use Rattle.std.proofs.Common.{◌≡◌, ℕ, Bool, true, false, not, ◌&&◌, ◌||◌, List, ◌∷◌, ◌++◌, map, reverse, nat_eq, Option, Some, option_and_then, refl, sym, ap, ◌∙◌, eq-eqb}
 use Rattle.std.specs.List.{list_all}
 use Rattle.std.specs.Option.{option_map_or}
-use Rattle.std.proofs.lemmas.Bool.{false≢true, true≢false, and_parts, and_from, true_from_ne_false, false_from_ne_true}
+use Rattle.std.proofs.lemmas.Bool.{false≢true, true≢false, and_from, true_from_ne_false, false_from_ne_true}
 use Rattle.std.proofs.lemmas.Option.{same_Some}
 use Rattle.pct_model.specs.declared.script.Script.{Script}
 use Rattle.pct_model.specs.declared.schedule.Config.{Config}
 use Rattle.pct_model.specs.declared.schedule.Entry.{Entry}
-use Rattle.pct_model.specs.declared.event.Event.{Event}
 use Rattle.pct_model.specs.declared.event.What.{What}
 use Rattle.pct_model.specs.declared.event.What.TheVariants as what
+use Rattle.pct_model.specs.declared.state.Status.{Status}
 use Rattle.pct_model.specs.declared.state.Status.TheVariants as status
+use Rattle.pct_model.specs.declared.statement.Stmt.{Stmt}
+use Rattle.pct_model.specs.NextStatement.{NextStatement}
+use Rattle.pct_model.specs.OtherThreads.{others_of}
+use Rattle.pct_transition_cases.proofs.TransitionCases.{TransitionCase, join_ended, thread_detached, request_sent, fork_handler_called}
 use Rattle.pct_model.specs.declared.transition.Transition.{Transition}
-use Rattle.pct_model.specs.CancelCalls.{requests, acts_on_request}
 use Rattle.pct_laws.specs.Each.{each}
 use Rattle.pct_laws.specs.JoinLaw.{is_live, may_name, allows}
 use Rattle.pct_laws.specs.NewestEvents.{calls_point}
 use Rattle.pct_laws.specs.Kept.{ThreadKept}
 use Rattle.pct_laws.specs.KnownThreads.{is_joined, is_detached}
-use Rattle.pct_model.specs.World.{made_process, thread_with, made_thread, Thread, Process}
+use Rattle.pct_model.specs.World.{made_process, thread_with, made_thread, Thread, Process, value_of}
 use Rattle.pct_model.specs.Run.{Run, event_of, run}
-use Rattle.pct_model.specs.ThreadCalls.{join_point, creates, begins_join, ends_join, detaches}
+use Rattle.pct_model.specs.ThreadCalls.{join_point}
 use Rattle.pct_model.specs.ThreadSlots.{is_ended_status, with_id}
 use Rattle.pct_laws.specs.ThreadSummary.{ThreadSummary, summary_of}
 use Rattle.pct_model.specs.TransitionTable.{transition_by}
 use Rattle.pct_ending_laws.proofs.ThreadsOfRun.{threads_fit, threads_kept}
 use Rattle.pct_ending_laws.proofs.LastThreads.{last_exits}
+use Rattle.pct_ending_laws.proofs.lift.HandlerEvents.{of_each_phase}
+use Rattle.pct_ending_laws.proofs.steps.MovedThreads.{case_of_step}
 use Rattle.pct_ending_laws.proofs.lift.TakenSteps.{IsTaken, every_run}
 use Rattle.pct_ending_laws.proofs.lift.ReportedBy.{reported_by, of_thread}
 use Rattle.pct_ending_laws.proofs.lift.EveryThread.{of_made_thread}
 use Rattle.pct_ending_laws.proofs.lift.MadeThreads.{IsLive, live_thread}
-use Rattle.pct_ending_laws.proofs.lift.EveryProcess.{process_taken, ids_of_run}
+use Rattle.pct_ending_laws.proofs.lift.EveryProcess.{process_taken, ids_of_run, moves_of_run}
 use Rattle.pct_ending_laws.proofs.thread.EndingSteps.{goes_on}
 use Rattle.pct_ending_laws.proofs.thread.ThreadRule.{summary, FitsAny}
-use Rattle.pct_ending_laws.proofs.joins.JoinTransitions.{names_none, Kind, quiet, ends, detaches_one, requests_one, kind_of}
+use Rattle.pct_ending_laws.proofs.joins.JoinTransitions.{names_none}
 use Rattle.pct_ending_laws.proofs.joins.ReportedFlags.{known_of_run, joined_of_run, detached_of_run}
 use Rattle.pct_ending_laws.proofs.requests.SuspendedCalls.{call_event, newest_call_of_run}
 use Rattle.pct_ending_laws.proofs.joins.JoiningThreads.{JoinsOne, joins_of_processes}
@@ -49,14 +54,6 @@ unreclaimed_by false true true true holds has_status = absurd (false≢true hold
 unreclaimed_by gone true false true holds has_status = absurd (false≢true (has_status refl))
 
 -- ---- a step
-
--- events that name no thread may come at any time
-silent_lawful : (e : Entry) (added : List What) → list_all names_none added ≡ true → (earlier : List Event) → each allows earlier ≡ true → each allows (map (event_of e) added ++ earlier) ≡ true
-silent_lawful e [] all earlier law = law
-silent_lawful e (what.Joined id v ∷ added) all earlier law = absurd (false≢true all)
-silent_lawful e (what.Request id ∷ added) all earlier law = absurd (false≢true all)
-silent_lawful e (what.Detached id ∷ added) all earlier law = absurd (false≢true all)
-silent_lawful e (w ∷ added) all earlier law = silent_lawful e added (and_parts (names_none w) (list_all names_none added) all).1 earlier law
 
 module _ (script : Script) (config : Config) (before : List Entry) (r : Run) (is : run script config before ≡ Some r) (e : Entry) (p : Process) (t : Thread) (taken : IsTaken script config r.world e p t) where
   process_is : made_process e.pid r.world ≡ Some p
@@ -110,14 +107,15 @@ module _ (script : Script) (config : Config) (before : List Entry) (r : Run) (is
       (ap not (sym (detached_of_run script config before r is e.pid id u (made id u is_u) target.here) ∙ ap (λ (x : Thread). x.detached) (sym same) ∙ one.joinable)))
       (ap (λ (o : Option What). option_map_or (calls_point join_point) o false) (newest_call_of_run script config before r is e.pid e.tid t it_made it.here (what.Called join_point) (ap call_event joins)))
 
-  -- the events of the step
-  lawful_by : (o : Transition) → Kind t.id p.threads t.status o → (t.ended ≡ true → list_all names_none (reverse o.events) ≡ true) → each allows r.events ≡ true → each allows (map (event_of e) (reverse o.events) ++ r.events) ≡ true
-  unfolding creates begins_join ends_join detaches requests acts_on_request
-  lawful_by o (quiet is nothing) silent law = silent_lawful e (reverse o.events) is.events r.events law
-  lawful_by o (ends next d n v target s is_target ended) silent law = and_from _ _ (joins_ended n v target s is_target ended) law
-  lawful_by o (detaches_one next n target s is_target alone) silent law = and_from _ _ (names_live n target (not_ended silent) is_target) law
-  lawful_by o (requests_one next n target s is_target) silent law = and_from _ _ (names_live n target (not_ended silent) is_target) law
-  lawful_by o _ silent law = law
+  -- the events of a transition
+  case_lawful : {body : List Stmt} {next : NextStatement} {s : Status} {o : Transition} → t.status ≡ s → TransitionCase config.passes body p.shared t (others_of config.slots r.world p t.id) true next s o → (t.ended ≡ true → list_all names_none (reverse o.events) ≡ true) → each allows r.events ≡ true
+      → each allows (map (event_of e) (reverse o.events) ++ r.events) ≡ true
+  unfolding others_of
+  case_lawful joins (join_ended frame operand d id v target is ended) silent law = and_from _ _ (joins_ended id v target joins is ended) law
+  case_lawful runs (thread_detached frame id target is joinable alone) silent law = and_from _ _ (names_live (value_of p.shared.globals frame id) target (not_ended silent) is) law
+  case_lawful runs (request_sent frame id target is) silent law = and_from _ _ (names_live (value_of p.shared.globals frame id) target (not_ended silent) is) law
+  case_lawful runs (fork_handler_called next at call is) silent law = of_each_phase (λ (w : What). each allows (event_of e w ∷ r.events) ≡ true) call.func law law law at.phase
+  case_lawful runs _ silent law = assumption
 
 -- ---- every run
 
@@ -125,4 +123,4 @@ module _ (script : Script) (config : Config) (before : List Entry) (r : Run) (is
 pub joins_of_run : (script : Script) (config : Config) (entries : List Entry) (r : Run) → run script config entries ≡ Some r → each allows r.events ≡ true
 joins_of_run script config entries r is =
     every_run script config (λ r. each allows r.events ≡ true)
-    (λ before r is e p t taken law. lawful_by script config before r is e p t taken (transition_by script config r.world p t e.alt) (kind_of script config r.world p t e.alt) (ended_silent script config before r is e p t taken) law) (λ some. refl) entries r is
+    (λ before r is e p t taken law. case_lawful script config before r is e p t taken refl (case_of_step script config r.world p e t (moves_of_run script config before r is e p t taken)) (ended_silent script config before r is e p t taken) law) (λ some. refl) entries r is
