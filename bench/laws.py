@@ -7,7 +7,7 @@ PROGRAM is the built program, crates/pct_run/out/pct_run where none is named (./
 
 Each law is a function over the list of the events of a report, oldest first: RanAll, AfterEnd, Calls, Ends, CancelLaw and
 ProcessLaw. They are written from the sentences of the standard, and share no code with the definitions of the same names in
-crates/pct_model/specs. Of Calls, Ends and CancelLaw this is the part that is about events; what they say of steps, the events
+crates/pct_laws/specs. Of Calls, Ends and CancelLaw this is the part that is about events; what they say of steps, the events
 alone do not show: for instance that `handler F A` comes with a call of F, that a thread ends with no key due or after all
 passes, or that a thread whose cancelability is deferred acts on a request only at a cancellation point. Once, JoinLaw, CondLaw
 and SlotLaw are not said again here. That the last thread of a process exits it in the step of its end, a part of Ends, stands

@@ -21,7 +21,7 @@ import sys
 import tempfile
 
 ROOT = pathlib.Path(__file__).resolve().parent.parent
-CRATES = ("pct_io", "pct_model", "pct_jumps", "pct_transition_cases", "pct_ending_laws")
+CRATES = ("pct_io", "pct_model", "pct_laws", "pct_jumps", "pct_transition_cases", "pct_ending_laws")
 SPECS = "crates/pct_model/specs"
 PROOFS = "crates/pct_ending_laws/proofs"
 SECONDS = 1800
@@ -70,10 +70,10 @@ MACHINES = (
     Machine("each_thread_counts_as_the_last", "AfterEnd", "LastThreads", "OtherThreads",
             "is_last id threads = list_all (λ t. not (holds_slot t) || (t.ended || nat_eq t.id id)) threads",
             "is_last id threads = list_all (λ t. t.ended || not t.ended) threads"),
-    Machine("an_exit_leaves_no_value", "ProcessLaw", "processes/ExitValues", "Actions",
+    Machine("an_exit_leaves_no_value", "ProcessLaw", "processes/ProcessEnds", "Actions",
             "shared_after (action.BeginExit v) s = record s { exit_value = Some v }",
             "shared_after (action.BeginExit v) s = s"),
-    Machine("the_status_of_a_process_is_lost", "ProcessLaw", "processes/ReapedChildren", "Actions",
+    Machine("the_status_of_a_process_is_lost", "ProcessLaw", "processes/ProcessEnds", "Actions",
             "process_after (action.EndProcess n) p = record p { ended = Some (record { status = n; reaped = nat_eq p.parent 0 }) }",
             "process_after (action.EndProcess n) p = record p { ended = Some (record { status = 0; reaped = nat_eq p.parent 0 }) }"),
 )

@@ -12,8 +12,8 @@ use Rattle.pct_model.specs.declared.keyword.Keyword.TheVariants as keyword
 use Rattle.pct_model.specs.Keywords.{keyword_text}
 use Rattle.pct_model.specs.Spells.{Spells}
 use Rattle.pct_model.specs.Schedule.{sched_of}
-use Rattle.pct_model.specs.Kept.{Kept}
-use Rattle.pct_model.specs.Laws.{Laws}
+use Rattle.pct_laws.specs.Kept.{Kept}
+use Rattle.pct_laws.specs.Laws.{Laws}
 use Rattle.pct_model.specs.Report.{report}
 use Rattle.pct_model.specs.Run.{Run, first_illegal, run}
 use Rattle.pct_model.specs.RunOptions.{run_options}

@@ -20,7 +20,7 @@ use Rattle.pct_model.specs.declared.transition.Action.{Action}
 use Rattle.pct_model.specs.declared.transition.Action.TheVariants as action
 use Rattle.pct_model.specs.declared.transition.Transition.{Transition}
 use Rattle.pct_model.specs.Actions.{at_pc, set_local, frames_written, without_first, thread_at, thread_after, for_each, moved}
-use Rattle.pct_model.specs.Kept.{is_in_fork_handler, IsPlainFunction, ForkKept, EachThread}
+use Rattle.pct_laws.specs.Kept.{is_in_fork_handler, IsPlainFunction, ForkKept, EachThread}
 use Rattle.pct_model.specs.LineKinds.{syntax_of}
 use Rattle.pct_model.specs.Names.{main_of, names_of}
 use Rattle.pct_model.specs.NextStatement.{NextStatement, next_of, body_at}
@@ -38,7 +38,7 @@ use Rattle.pct_ending_laws.proofs.lift.TakenSteps.{AfterEveryRun}
 use Rattle.pct_ending_laws.proofs.exits.PlainFunctions.{is_plain_next, plain_next}
 use Rattle.pct_ending_laws.proofs.exits.RegisteredFunctions.{RegistersPlain, next_plain, registered_of_run}
 use Rattle.pct_ending_laws.proofs.thread.KeptThreads.{none_of}
-use Rattle.pct_ending_laws.proofs.thread.ThreadRule.{is_running}
+use Rattle.pct_laws.specs.CancelLaw.{is_running}
 
 -- ---- outside of fork handlers, and in one
 

@@ -1,17 +1,21 @@
 -- Every run keeps the laws of its events, and ends in a state that keeps the invariant.
-use Rattle.std.proofs.Common.{◌≡◌, ℕ, false, List, Some, option_and_then, sym, ap, ◌∙◌}
+use Rattle.std.proofs.Common.{◌≡◌, ℕ, true, false, ◌&&◌, List, Some, option_and_then, sym, ap, ◌∙◌}
 use Rattle.std.proofs.lemmas.List.Elements.{All-from_recursion}
 use Rattle.std.proofs.lemmas.Option.{option_and_then_some}
 use Rattle.pct_model.specs.declared.script.Script.{Script}
 use Rattle.pct_model.specs.declared.schedule.Config.{Config}
 use Rattle.pct_model.specs.declared.schedule.Entry.{Entry}
 use Rattle.pct_model.specs.declared.state.Status.TheVariants as status
-use Rattle.pct_model.specs.Calls.{EachIsCalled, SaysCalls, KeepsExitFunctions, KeepsKeys}
-use Rattle.pct_model.specs.CancelLaw.{EachMayAct, ActsAtCalls}
-use Rattle.pct_model.specs.Ends.{EachMayBegin, KeepsValues}
-use Rattle.pct_model.specs.Kept.{IsPlainFunction, IsSuspendedInJoin}
+use Rattle.pct_model.specs.declared.event.What.TheVariants.{Called}
+use Rattle.pct_model.specs.ThreadCalls.{join_point}
+use Rattle.pct_laws.specs.Calls.{EachIsCalled, says_calls, KeepsExitFunctions, KeepsKeys}
+use Rattle.pct_laws.specs.CancelLaw.{acts_where_it_may, acts_at_calls}
+use Rattle.pct_laws.specs.Ends.{each_may_begin, KeepsValues}
+use Rattle.pct_laws.specs.Kept.{IsPlainFunction, IsSuspendedInJoin}
 use Rattle.pct_model.specs.Run.{Run, run}
 use Rattle.pct_model.specs.World.{Thread, made_process, made_thread, thread_with}
+use Rattle.pct_laws.specs.CondLaw.{owners_allow, waits_allow, hand_ons_allow}
+use Rattle.pct_ending_laws.proofs.lift.EachAllowed.{each_both}
 use Rattle.pct_ending_laws.specs.EndingLaws.{RunsKeepLaws, StatesAreKept}
 use Rattle.pct_ending_laws.proofs.exits.RegisteredFunctions.{registered_of_run}
 use Rattle.pct_ending_laws.proofs.ForksOfRun.{forks_of_run}
@@ -20,15 +24,14 @@ use Rattle.pct_ending_laws.proofs.ends.AfterTheEnd.{after_end_of_run}
 use Rattle.pct_ending_laws.proofs.ends.HandlersRun.{ran_all}
 use Rattle.pct_ending_laws.proofs.ends.LeftoverValues.{leftovers_of_run}
 use Rattle.pct_ending_laws.proofs.lift.MadeNumbers.{numbers_of_run}
-use Rattle.pct_ending_laws.proofs.joins.JoinTransitions.{is_in_join}
-use Rattle.pct_ending_laws.proofs.joins.NewestEvents.{newest_of_run}
+use Rattle.pct_ending_laws.proofs.requests.SuspendedCalls.{call_event, newest_call_of_run}
 use Rattle.pct_ending_laws.proofs.joins.JoiningThreads.{JoinsOne, joins_of_processes}
 use Rattle.pct_ending_laws.proofs.joins.ReportedFlags.{known_of_run, joined_of_run, detached_of_run}
 use Rattle.pct_ending_laws.proofs.joins.LawfulJoins.{joins_of_run}
 use Rattle.pct_ending_laws.proofs.keys.KeyEvents.{key_events_of_run, keys_law_of_run}
 use Rattle.pct_ending_laws.proofs.owners.OwnersOfRun.{owners_of_run, owners_kept}
-use Rattle.pct_ending_laws.proofs.processes.EndedProcesses.{process_ended_of_run}
-use Rattle.pct_ending_laws.proofs.processes.ExitValues.{exits_of_run}
+use Rattle.pct_ending_laws.proofs.processes.ProcessEnds.{end_status_of_run}
+use Rattle.pct_ending_laws.proofs.processes.ProcessEnds.{exit_value_of_run}
 use Rattle.pct_ending_laws.proofs.processes.LawfulProcesses.{processes_of_run}
 use Rattle.pct_ending_laws.proofs.requests.ActingCalls.{acts_at_calls_of_run}
 use Rattle.pct_ending_laws.proofs.requests.ActingSteps.{each_may_act_of_run}
@@ -54,7 +57,7 @@ kept_joins_of_run script config entries r is pid tid t made here id joins =
     let one : JoinsOne p.threads tid id = (joins_of_processes script config entries r is pid p process_is).joins tid t thread_is here id joins in
     let in_process : (n : ℕ) → made_thread pid n r.world ≡ thread_with n p = λ n. ap (option_and_then (thread_with n)) process_is in
     record {
-      newest = newest_of_run script config entries r is pid tid t made here (ap is_in_join joins);
+      newest = newest_call_of_run script config entries r is pid tid t made here (Called join_point) (ap call_event joins);
       target = one.target;
       made = in_process id ∙ one.made;
       here = one.here;
@@ -72,24 +75,24 @@ every_run_keeps_laws script config entries r is = record {
   after_end = after_end_of_run script config entries r is;
   calls = record {
     called = each_step script config (EachIsCalled script) (each_is_called_of_run script config) entries;
-    said = each_step script config (SaysCalls script) (says_calls_of_run script config) entries;
+    said = each_step script config (λ s. says_calls script s ≡ true) (says_calls_of_run script config) entries;
     exits = each_step script config (KeepsExitFunctions script) (keeps_exit_functions_of_run script config) entries;
     made_keys = each_step script config KeepsKeys (keeps_keys_of_run script config) entries;
     keys = keys_law_of_run script config entries r is;
   };
   ends = record {
-    stages = each_step script config (EachMayBegin config.passes) (each_may_begin_of_run script config) entries;
+    stages = each_step script config (λ s. each_may_begin config.passes s ≡ true) (each_may_begin_of_run script config) entries;
     values = each_step script config (KeepsValues script) (keeps_values_of_run script config) entries;
     left = leftovers_of_run script config entries r is;
   };
   cancels = record {
     requests = requests_of_run script config entries r is;
-    acts = each_step script config (EachMayAct script) (each_may_act_of_run script config) entries;
-    at_calls = each_step script config (ActsAtCalls script) (acts_at_calls_of_run script config) entries;
+    acts = each_step script config (λ s. acts_where_it_may script s ≡ true) (each_may_act_of_run script config) entries;
+    at_calls = each_step script config (λ s. acts_at_calls script s ≡ true) (acts_at_calls_of_run script config) entries;
     awakened = awakened_of_run script config entries r is;
   };
   joins = joins_of_run script config entries r is;
-  conds = record { owners = owners_of_run script config entries r is; waits = waits_of_run script config entries r is; hand_ons = hand_ons_of_run script config entries r is };
+  conds = each_both (λ e earlier. owners_allow e earlier && waits_allow e earlier) hand_ons_allow r.events (each_both owners_allow waits_allow r.events (owners_of_run script config entries r is) (waits_of_run script config entries r is)) (hand_ons_of_run script config entries r is);
   creations = slots_of_run script config entries r is;
   processes = processes_of_run script config entries r is;
 }
@@ -101,8 +104,8 @@ every_state_is_kept script config entries r is = record {
   known = known_of_run script config entries r is;
   keys = keys_kept script config entries r is;
   reported_keys = key_events_of_run script config entries r is;
-  ended = process_ended_of_run script config entries r is;
-  exits = exits_of_run script config entries r is;
+  ended = end_status_of_run script config entries r is;
+  exits = exit_value_of_run script config entries r is;
   exit_functions = λ pid p made. All-from_recursion (IsPlainFunction script) p.shared.exit_functions (registered_of_run script config entries r is pid p made).exit_functions;
   fork_handlers = λ pid p made. (registered_of_run script config entries r is pid p made).fork_handlers;
   forks = forks_of_run script config entries r is;

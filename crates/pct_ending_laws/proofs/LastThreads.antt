@@ -11,7 +11,7 @@ use Rattle.pct_model.specs.Actions.{named_after, child_of, moved, thread_moved, 
 use Rattle.pct_model.specs.NextStatement.{next_of, body_at}
 use Rattle.pct_model.specs.OtherThreads.{Others, others_of}
 use Rattle.pct_model.specs.ThreadSlots.{is_ended_status, holds_slot, is_live_thread}
-use Rattle.pct_model.specs.ThreadSummary.{ThreadSummary}
+use Rattle.pct_laws.specs.ThreadSummary.{ThreadSummary}
 use Rattle.pct_model.specs.TransitionTable.{transition_by}
 use Rattle.pct_model.specs.World.{Thread, Process, World, thread_with}
 use Rattle.pct_ending_laws.proofs.lift.KeyedLists.{found_at, item_passes}

@@ -17,7 +17,7 @@ use Rattle.pct_model.specs.declared.statement.Stmt.TheVariants as statement
 use Rattle.pct_model.specs.Contents.{Contents}
 use Rattle.pct_model.specs.Jumps.{is_while, is_end, holds, close_of, open_of}
 use Rattle.pct_model.specs.Nesting.{are_nested}
-use Rattle.pct_model.specs.OpenPushes.{pushes_after, open_pushes}
+use Rattle.pct_laws.specs.OpenPushes.{pushes_after, open_pushes}
 use Rattle.pct_model.specs.ScriptStatements.{after_block, after_test, after_end}
 use Rattle.pct_model.specs.Statements.{role_of}
 use Rattle.pct_model.specs.Static.{nests, returns_outside_pushes}

@@ -1,8 +1,6 @@
 -- What every run keeps of each thread: the rule of the thread, and so the sentences of Kept.antt.
-use Rattle.std.proofs.Common.{◌≡◌, ℕ, Bool, true, false, not, ◌&&◌, cond, List, [], ◌∷◌, ◌++◌, map, reverse, Some, option_and_then, inl, inr, refl, sym, ap, ◌∙◌, subst, eq-eqb}
+use Rattle.std.proofs.Common.{◌≡◌, ℕ, Bool, true, false, not, ◌&&◌, cond, List, reverse, Some, option_and_then, inl, inr, refl, sym, ap, ◌∙◌, subst}
 use Rattle.std.proofs.lemmas.Bool.{false≢true}
-use Rattle.pct_model.specs.declared.event.Event.{Event}
-use Rattle.pct_model.specs.declared.event.What.{What}
 use Rattle.pct_model.specs.declared.schedule.Alt.{Alt}
 use Rattle.pct_model.specs.declared.schedule.Config.{Config}
 use Rattle.pct_model.specs.declared.schedule.Entry.{Entry}
@@ -19,13 +17,16 @@ use Rattle.pct_model.specs.declared.transition.Action.TheVariants as action
 use Rattle.pct_model.specs.Actions.{named_after}
 use Rattle.pct_model.specs.ChoiceTable.{choices_of, offers}
 use Rattle.pct_model.specs.CondCalls.{is_waiting_on, unblocked}
-use Rattle.pct_model.specs.Kept.{is_exiting, is_forking, has_left_wait, ThreadKept, KeysKept}
+use Rattle.pct_model.specs.StatusKinds.{is_forking, has_left_wait}
+use Rattle.pct_laws.specs.Kept.{is_exiting, ThreadKept, KeysKept}
 use Rattle.pct_model.specs.Keys.{key_place}
 use Rattle.pct_model.specs.Names.{main_of, names_of}
-use Rattle.pct_model.specs.Once.{MayCome, Once}
-use Rattle.pct_model.specs.Run.{Run, event_of, run}
+use Rattle.pct_laws.specs.Each.{each}
+use Rattle.pct_laws.specs.Once.{may_come, allows}
+use Rattle.pct_ending_laws.proofs.lift.EachAllowed.{each_later}
+use Rattle.pct_model.specs.Run.{Run, run}
 use Rattle.pct_model.specs.ThreadSlots.{is_ended_status, is_live_thread}
-use Rattle.pct_model.specs.ThreadSummary.{ThreadSummary, no_events, summary_of}
+use Rattle.pct_laws.specs.ThreadSummary.{ThreadSummary, no_events, summary_of}
 use Rattle.pct_model.specs.TransitionTable.{transition_by}
 use Rattle.pct_model.specs.World.{Thread, Process, World, made_process, thread_with}
 use Rattle.pct_ending_laws.proofs.StaticPushes.{push_matches}
@@ -33,12 +34,12 @@ use Rattle.pct_ending_laws.proofs.LastThreads.{last_exits}
 use Rattle.pct_ending_laws.proofs.lift.TakenSteps.{IsTaken, with_step, AfterEveryRun, every_run}
 use Rattle.pct_ending_laws.proofs.lift.ThreadsAfter.{initial_thread, Moves, mover}
 use Rattle.pct_ending_laws.proofs.lift.EveryProcess.{OfEveryProcess, process_taken, moves_in}
-use Rattle.pct_ending_laws.proofs.lift.ReportedBy.{Reading, reported_by, own_after, of_thread, after_all, read_step}
+use Rattle.pct_ending_laws.proofs.lift.ReportedBy.{reported_by, of_thread}
 use Rattle.pct_ending_laws.proofs.lift.EveryThread.{OfEveryThread, of_made_thread, IsThreadRule, every_thread}
 use Rattle.pct_ending_laws.proofs.exits.RegisteredFunctions.{RegistersPlain, registered_of_run}
 use Rattle.pct_ending_laws.proofs.keys.KeysOfProcesses.{KeysFit, keys_of_run}
 use Rattle.pct_ending_laws.proofs.thread.Passes.{leaves_pass}
-use Rattle.pct_ending_laws.proofs.thread.ThreadRule.{summary, summary_reading, AllMayCome, ByStatus, ByAnyStatus, FitsAny, in_any, KeepsAny}
+use Rattle.pct_ending_laws.proofs.thread.ThreadRule.{summary, summary_reading, ByStatus, ByAnyStatus, FitsAny, in_any, KeepsAny}
 use Rattle.pct_ending_laws.proofs.thread.NamedFunctions.{names_functions}
 use Rattle.pct_ending_laws.proofs.thread.Statements.{new_fits}
 use Rattle.pct_ending_laws.proofs.thread.Transitions.{transition_keeps, created_fits}
@@ -86,20 +87,6 @@ pub exiting_alive : (s : Status) (frames : List Frame) → is_exiting s frames �
 exiting_alive (status.Ended v) frames exits = absurd (false≢true exits)
 exiting_alive _ frames exits = refl
 
--- ---- the law of cleanup handlers and destructors
-
-module _ (passes : ℕ) (e : Entry) (earlier : List Event) where
-  -- the summary of the thread of an entry after events of the entry
-  later_summary : (added : List What) → summary_of e.pid e.tid (map (event_of e) added ++ earlier) ≡ after_all summary added (reported_by (of_thread summary e.tid) e.pid earlier)
-  later_summary added =
-      let f : Reading ThreadSummary = of_thread summary e.tid in
-      summary_reading e.tid e.pid (map (event_of e) added ++ earlier) ∙ own_after f e earlier added ∙ read_step summary e e.tid true (eq-eqb e.tid e.tid refl) added (reported_by f e.pid earlier)
-
-  -- the law after events that may come
-  once_later : (added : List What) → AllMayCome passes added (reported_by (of_thread summary e.tid) e.pid earlier) → Once passes earlier → Once passes (map (event_of e) added ++ earlier)
-  once_later [] may once = once
-  once_later (w ∷ added) may once = (subst (MayCome passes w) (sym (later_summary added)) may.0, once_later added may.1 once)
-
 module _ (script : Script) (config : Config) where
   abbrev passes : ℕ
   passes = config.passes
@@ -130,15 +117,15 @@ module _ (script : Script) (config : Config) where
   pub threads_fit : AfterEveryRun script config (OfEveryThread summary (FitsAny script passes))
   threads_fit = every_thread summary (FitsAny script passes) script config ProcessFits thread_rule processes_fit
 
-  once_kept : (before : List Entry) (r : Run) → run script config before ≡ Some r → (e : Entry) (p : Process) (t : Thread) → IsTaken script config r.world e p t → Once passes r.events → Once passes (with_step e (transition_by script config r.world p t e.alt) r).events
+  once_kept : (before : List Entry) (r : Run) → run script config before ≡ Some r → (e : Entry) (p : Process) (t : Thread) → IsTaken script config r.world e p t → each (allows passes) r.events ≡ true → each (allows passes) (with_step e (transition_by script config r.world p t e.alt) r).events ≡ true
   once_kept before r is e p t taken once =
       let known : ProcessFits p × Moves script config r.world p e t = moves_in script config ProcessFits processes_fit before r is e p t taken in
       let fits : FitsAny script passes t (reported_by (of_thread summary e.tid) e.pid r.events) = of_made_thread summary (FitsAny script passes) r (threads_fit before r is) e.pid e.tid t (ap (option_and_then (thread_with e.tid)) (process_taken script config before r is e p t taken) ∙ (mover script config r.world p e t known.1).found) (mover script config r.world p e t known.1).here in
-      once_later passes e r.events (reverse (transition_by script config r.world p t e.alt).events) (keeps r.world p t (reported_by (of_thread summary e.tid) e.pid r.events) e.alt known.0 taken.offered fits).lawful once
+      each_later summary (may_come passes) summary_of summary_reading e r.events (reverse (transition_by script config r.world p t e.alt).events) (keeps r.world p t (reported_by (of_thread summary e.tid) e.pid r.events) e.alt known.0 taken.offered fits).lawful once
 
   -- the law of cleanup handlers and destructors
-  pub once_of_run : AfterEveryRun script config (λ r. Once passes r.events)
-  once_of_run = every_run script config (λ r. Once passes r.events) once_kept (λ some. tt)
+  pub once_of_run : AfterEveryRun script config (λ r. each (allows passes) r.events ≡ true)
+  once_of_run = every_run script config (λ r. each (allows passes) r.events ≡ true) once_kept (λ some. refl)
 
   module _ (entries : List Entry) (r : Run) (is : run script config entries ≡ Some r) where
     -- the keys of a process

@@ -3,6 +3,6 @@
 pub mod JoinTransitions
 pub mod NamedThreads
 pub mod ReportedFlags
-pub mod NewestEvents
+pub mod ThreadsInJoin
 pub mod JoiningThreads
 pub mod LawfulJoins

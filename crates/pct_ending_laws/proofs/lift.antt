@@ -11,6 +11,9 @@ pub mod MadeThreads
 pub mod InheritedThreads
 pub mod ProcessIds
 pub mod ReportedBy
+pub mod EachAllowed
+pub mod FollowedEvents
+pub mod SummaryEnds
 pub mod ThreadsAfter
 pub mod EveryProcess
 pub mod EveryThread

@@ -1,10 +1,7 @@
 -- The law of processes over every run: stops, the ends and exits of processes, forks, joins, and the children that waitpid reaps.
 pub mod StoppedRuns
-pub mod EndedProcesses
+pub mod ProcessEnds
 pub mod MadeProcesses
-pub mod JoinedThreads
-pub mod ExitValues
-pub mod ExitedOnce
-pub mod EndStatuses
+pub mod MovingThreads
 pub mod ReapedChildren
 pub mod LawfulProcesses

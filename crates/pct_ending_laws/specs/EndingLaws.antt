@@ -3,8 +3,8 @@ use Rattle.std.specs.Prelude.{◌≡◌, List, Some}
 use Rattle.pct_model.specs.declared.script.Script.{Script}
 use Rattle.pct_model.specs.declared.schedule.Config.{Config}
 use Rattle.pct_model.specs.declared.schedule.Entry.{Entry}
-use Rattle.pct_model.specs.Kept.{Kept}
-use Rattle.pct_model.specs.Laws.{Laws}
+use Rattle.pct_laws.specs.Kept.{Kept}
+use Rattle.pct_laws.specs.Laws.{Laws}
 use Rattle.pct_model.specs.Run.{Run, run}
 
 -- every run keeps the laws

@@ -12,7 +12,8 @@ use Rattle.pct_model.specs.declared.schedule.Config.{Config}
 use Rattle.pct_model.specs.declared.script.Script.{Script}
 use Rattle.pct_model.specs.declared.state.Status.{Status}
 use Rattle.pct_model.specs.declared.state.Status.TheVariants as status
-use Rattle.pct_model.specs.Kept.{Kept, is_forking, is_in_fork_handler}
+use Rattle.pct_model.specs.StatusKinds.{is_forking}
+use Rattle.pct_laws.specs.Kept.{Kept, is_in_fork_handler}
 use Rattle.pct_model.specs.World.{Thread, World}
 use Rattle.pct_engine_laws.specs.Seen.{SeenSlot, SeenProcess, seen}
 use Rattle.pct_engine_laws.proofs.SeenThreads.{IsMadeThread, IsSeenOf, seen_of}

@@ -5,8 +5,8 @@ use Rattle.pct_model.specs.declared.schedule.Config.{Config}
 use Rattle.pct_model.specs.declared.schedule.Entry.{Entry}
 use Rattle.pct_model.specs.declared.stop.Verdict.TheVariants as verdict
 use Rattle.pct_model.specs.Chosen.{chosen}
-use Rattle.pct_model.specs.Kept.{Kept}
-use Rattle.pct_model.specs.Laws.{Laws}
+use Rattle.pct_laws.specs.Kept.{Kept}
+use Rattle.pct_laws.specs.Laws.{Laws}
 use Rattle.pct_model.specs.Run.{Run, run, verdict_of}
 use Rattle.pct_engine_laws.specs.Seen.{Seen, seen}
 use Rattle.pct_engine_laws.specs.RunLaws.{IsLegalWhileOpen}

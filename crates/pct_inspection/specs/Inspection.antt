@@ -17,8 +17,8 @@ use Rattle.pct_model.specs.Schedule.{replay_parts, sched_of}
 use Rattle.pct_model.specs.Run.{Run, run, first_illegal, verdict_of}
 use Rattle.pct_model.specs.Outcome.{code_of_verdict, refused_words, refused_input, refused_script, refused_schedule}
 use Rattle.pct_model.specs.Report.{report}
-use Rattle.pct_model.specs.Kept.{Kept}
-use Rattle.pct_model.specs.Laws.{Laws}
+use Rattle.pct_laws.specs.Kept.{Kept}
+use Rattle.pct_laws.specs.Laws.{Laws}
 use Rattle.pct_schedule.specs.Prefix.{prefix_of}
 use Rattle.pct_script.specs.StatementLines.{statement_lines, line_at, SpellsStatement}
 use Rattle.pct_view_laws.specs.Listed.{ListedThread, listed_threads, AreLegalEntries, IsBlockedIfWaiting}

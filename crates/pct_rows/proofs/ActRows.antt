@@ -1,11 +1,10 @@
 -- The law of cancellation, of a step and of a state: made steps in which a thread acts upon a request, and made states of suspended threads.
 -- Some keep the law, and each that does not has the name of the sentence that it breaks.
-use Rattle.std.proofs.Common.{◌≡◌, ℕ, Bool, true, false, cond, List, [], ◌∷◌, map, replicate, nat_eq, Some, None, refl, sym, ap, ◌∙◌, subst, arith}
+use Rattle.std.proofs.Common.{◌≡◌, ℕ, Bool, true, false, cond, List, [], ◌∷◌, map, replicate, nat_eq, Some, None, refl, sym, ap, ◌∙◌, subst}
 use Rattle.std.specs.Prelude.{IsTrue, codes}
-use Rattle.std.specs.List.{AllByRecursion, list_any}
+use Rattle.std.specs.List.{list_any}
 use Rattle.std.specs.Option.{option_map_or}
 use Rattle.std.proofs.lemmas.Bool.{false≢true, eqb-true, eq-eqb}
-use Rattle.std.proofs.lemmas.List.Elements.{All-from_recursion}
 use Rattle.std.proofs.lemmas.Option.{none-some}
 use Rattle.pct_model.specs.declared.event.Event.{Event}
 use Rattle.pct_model.specs.declared.event.What.{What}
@@ -25,13 +24,14 @@ use Rattle.pct_model.specs.declared.statement.Operand.TheVariants as operand
 use Rattle.pct_model.specs.declared.statement.Stmt.{Stmt}
 use Rattle.pct_model.specs.declared.statement.Stmt.TheVariants as statement
 use Rattle.pct_model.specs.declared.stop.Why.TheVariants as why
-use Rattle.pct_model.specs.CancelEvents.{has_to_act}
-use Rattle.pct_model.specs.CancelLaw.{calls_cancellation_point, is_at_cancellation_point, ActsAt, EachMayAct, ActsAtCalls, is_suspended, is_to_act, Awakened}
+use Rattle.pct_laws.specs.CancelEvents.{has_to_act}
+use Rattle.pct_model.specs.StatusKinds.{calls_cancellation_point, is_at_cancellation_point}
+use Rattle.pct_laws.specs.CancelLaw.{acts_where_it_may, acts_at_calls, is_suspended, is_to_act, Awakened}
 use Rattle.pct_model.specs.ChoiceTable.{choices_of}
 use Rattle.pct_model.specs.NextStatement.{NoStatement, StatementIn}
 use Rattle.pct_model.specs.RunOptions.{default_config}
 use Rattle.pct_model.specs.Static.{is_static}
-use Rattle.pct_model.specs.ThreadSteps.{ThreadStep}
+use Rattle.pct_laws.specs.ThreadSteps.{ThreadStep}
 use Rattle.pct_model.specs.World.{Thread, Process, World, thread_with, new_frame, new_thread, first_process}
 use Rattle.pct_rows.proofs.OnLiterals.{checks_on_literals, runs_on_literals}
 
@@ -105,104 +105,98 @@ acts earlier before = step earlier before (what.EndingCanceled ∷ [])
 abbrev leaves_wait : List Event → Thread → ThreadStep
 leaves_wait earlier before = step earlier before (what.WaitCanceled 0 ∷ [])
 
-keeps : (s : ThreadStep) → AllByRecursion (λ w. ActsAt script w s) s.events → EachMayAct script s
-keeps s each = All-from_recursion (λ w. ActsAt script w s) s.events each
-
-asked : {earlier : List Event} → {before : Thread} → {w : What} → EachMayAct script (step earlier before (w ∷ [])) → ActsAt script w (step earlier before (w ∷ []))
-asked {w = w} law = law 0 w (omega arith)
-
 -- at pthread_testcancel, suspended in a point, and with the asynchronous type at any statement
-acts_at_a_point : EachMayAct script (acts requested (at 0 status.Running))
+acts_at_a_point : acts_where_it_may script (acts requested (at 0 status.Running)) ≡ true
 unfolding runs_on_literals
-acts_at_a_point = keeps (acts requested (at 0 status.Running)) (λ no_point. absurd (false≢true (sym no_point)), tt)
+acts_at_a_point = refl
 
-acts_in_a_point : EachMayAct script (acts requested (at 1 (status.AtPoint 16)))
-acts_in_a_point = keeps (acts requested (at 1 (status.AtPoint 16))) (λ no_point. absurd (false≢true (sym no_point)), tt)
+acts_in_a_point : acts_where_it_may script (acts requested (at 1 (status.AtPoint 16))) ≡ true
+acts_in_a_point = refl
 
-acts_in_a_wait : EachMayAct script (leaves_wait requested (at 1 (status.Waiting 0 0)))
-acts_in_a_wait = keeps (leaves_wait requested (at 1 (status.Waiting 0 0))) (λ no_point. absurd (false≢true (sym no_point)), tt)
+acts_in_a_wait : acts_where_it_may script (leaves_wait requested (at 1 (status.Waiting 0 0))) ≡ true
+acts_in_a_wait = refl
 
-acts_anywhere : EachMayAct script (acts asynchronous (at 1 status.Running))
-acts_anywhere = keeps (acts asynchronous (at 1 status.Running)) (λ no_point. refl, tt)
+acts_anywhere : acts_where_it_may script (acts asynchronous (at 1 status.Running)) ≡ true
+unfolding runs_on_literals
+acts_anywhere = refl
 
 -- the deferred type, at `emit`
-a_deferred_thread_acts_at_a_point : EachMayAct script (acts requested (at 1 status.Running)) → ⊥
+a_deferred_thread_acts_at_a_point : acts_where_it_may script (acts requested (at 1 status.Running)) ≡ false
 unfolding runs_on_literals
-a_deferred_thread_acts_at_a_point law = absurd (false≢true (asked law refl))
+a_deferred_thread_acts_at_a_point = refl
 
 -- the newest type counts, by the events, whatever the thread has
-one_that_was_asynchronous_too : EachMayAct script (acts (event (what.ModeSet false) ∷ asynchronous) (at 1 status.Running)) → ⊥
+one_that_was_asynchronous_too : acts_where_it_may script (acts (event (what.ModeSet false) ∷ asynchronous) (at 1 status.Running)) ≡ false
 unfolding runs_on_literals
-one_that_was_asynchronous_too law = absurd (false≢true (asked law refl))
+one_that_was_asynchronous_too = refl
 
-by_its_events : EachMayAct script (acts requested (record (at 1 status.Running) { mode = Asynchronous })) → ⊥
+by_its_events : acts_where_it_may script (acts requested (record (at 1 status.Running) { mode = Asynchronous })) ≡ false
 unfolding runs_on_literals
-by_its_events law = absurd (false≢true (asked law refl))
+by_its_events = refl
 
 -- without a statement
-nor_where_it_has_no_frame : EachMayAct script (acts requested (record (at 0 status.Running) { frames = [] })) → ⊥
-nor_where_it_has_no_frame law = absurd (false≢true (asked law refl))
+nor_where_it_has_no_frame : acts_where_it_may script (acts requested (record (at 0 status.Running) { frames = [] })) ≡ false
+nor_where_it_has_no_frame = refl
 
 -- at pthread_testcancel, but with a status that is none of a cancellation point
-not_as_it_ends : EachMayAct script (acts requested (at 0 status.Ending)) → ⊥
-not_as_it_ends law = absurd (false≢true (asked law refl))
+not_as_it_ends : acts_where_it_may script (acts requested (at 0 status.Ending)) ≡ false
+not_as_it_ends = refl
 
-it_leaves_a_wait_where_it_may : EachMayAct script (leaves_wait requested (at 1 status.Running)) → ⊥
+it_leaves_a_wait_where_it_may : acts_where_it_may script (leaves_wait requested (at 1 status.Running)) ≡ false
 unfolding runs_on_literals
-it_leaves_a_wait_where_it_may law = absurd (false≢true (asked law refl))
+it_leaves_a_wait_where_it_may = refl
 
 -- ---- steps at calls
 
--- the thread runs
-abbrev is_running : Status → Bool
-is_running status.Running = true
-is_running _ = false
-
 -- a running thread with a request to act upon acts at read
-acts_at_read : ActsAtCalls script (acts requested (at 2 status.Running))
-acts_at_read running required acts = refl
+acts_at_read : acts_at_calls script (acts requested (at 2 status.Running)) ≡ true
+unfolding runs_on_literals
+acts_at_read = refl
 
 -- or the call stops the run: there is no thread to join
-stops_at_join : ActsAtCalls script (step requested (at 3 status.Running) (what.Stopped why.ThreadId ∷ []))
-stops_at_join running required acts = refl
+stops_at_join : acts_at_calls script (step requested (at 3 status.Running) (what.Stopped why.ThreadId ∷ [])) ≡ true
+unfolding runs_on_literals
+stops_at_join = refl
 
 -- it calls read without a request, and with cancelability disabled; it emits and calls fclose; and it goes on in a point
-calls_read : ActsAtCalls script (step [] (at 2 status.Running) (what.Called 25 ∷ []))
-calls_read running required acts = absurd (false≢true acts)
-
-calls_read_while_disabled : ActsAtCalls script (step (requested_after (disables ∷ [])) (at 2 status.Running) (what.Called 25 ∷ []))
-calls_read_while_disabled running required acts = absurd (false≢true acts)
-
-emits : ActsAtCalls script (step requested (at 1 status.Running) (what.Emit 1 ∷ []))
+calls_read : acts_at_calls script (step [] (at 2 status.Running) (what.Called 25 ∷ [])) ≡ true
 unfolding runs_on_literals
-emits running required acts = absurd (false≢true required)
+calls_read = refl
 
-calls_fclose : ActsAtCalls script (step requested (at 4 status.Running) (what.Done 47 ∷ []))
+calls_read_while_disabled : acts_at_calls script (step (requested_after (disables ∷ [])) (at 2 status.Running) (what.Called 25 ∷ [])) ≡ true
 unfolding runs_on_literals
-calls_fclose running required acts = absurd (false≢true required)
+calls_read_while_disabled = refl
 
-returns_from_read : ActsAtCalls script (step requested (at 2 (status.AtPoint 25)) (what.Done 25 ∷ []))
-returns_from_read running required acts = absurd (false≢true (ap is_running running))
-
-it_does_not_call_read : ActsAtCalls script (step requested (at 2 status.Running) (what.Called 25 ∷ [])) → ⊥
+emits : acts_at_calls script (step requested (at 1 status.Running) (what.Emit 1 ∷ [])) ≡ true
 unfolding runs_on_literals
-it_does_not_call_read law = absurd (false≢true (law refl refl refl))
+emits = refl
 
-nor_passes_pthread_testcancel : ActsAtCalls script (step requested (at 0 status.Running) (what.Done 23 ∷ [])) → ⊥
+calls_fclose : acts_at_calls script (step requested (at 4 status.Running) (what.Done 47 ∷ [])) ≡ true
 unfolding runs_on_literals
-nor_passes_pthread_testcancel law = absurd (false≢true (law refl refl refl))
+calls_fclose = refl
 
-nor_joins_a_thread : ActsAtCalls script (step requested (at 3 status.Running) (what.Called 22 ∷ [])) → ⊥
-unfolding runs_on_literals
-nor_joins_a_thread law = absurd (false≢true (law refl refl refl))
+returns_from_read : acts_at_calls script (step requested (at 2 (status.AtPoint 25)) (what.Done 25 ∷ [])) ≡ true
+returns_from_read = refl
 
-nor_goes_on_without_an_event : ActsAtCalls script (step requested (at 2 status.Running) []) → ⊥
+it_does_not_call_read : acts_at_calls script (step requested (at 2 status.Running) (what.Called 25 ∷ [])) ≡ false
 unfolding runs_on_literals
-nor_goes_on_without_an_event law = absurd (false≢true (law refl refl refl))
+it_does_not_call_read = refl
 
-nor_calls_it_as_it_acts : ActsAtCalls script (step requested (at 2 status.Running) (what.EndingCanceled ∷ what.Called 25 ∷ [])) → ⊥
+nor_passes_pthread_testcancel : acts_at_calls script (step requested (at 0 status.Running) (what.Done 23 ∷ [])) ≡ false
 unfolding runs_on_literals
-nor_calls_it_as_it_acts law = absurd (false≢true (law refl refl refl))
+nor_passes_pthread_testcancel = refl
+
+nor_joins_a_thread : acts_at_calls script (step requested (at 3 status.Running) (what.Called 22 ∷ [])) ≡ false
+unfolding runs_on_literals
+nor_joins_a_thread = refl
+
+nor_goes_on_without_an_event : acts_at_calls script (step requested (at 2 status.Running) []) ≡ false
+unfolding runs_on_literals
+nor_goes_on_without_an_event = refl
+
+nor_calls_it_as_it_acts : acts_at_calls script (step requested (at 2 status.Running) (what.EndingCanceled ∷ what.Called 25 ∷ [])) ≡ false
+unfolding runs_on_literals
+nor_calls_it_as_it_acts = refl
 
 -- ---- cancellation points
 

@@ -1,7 +1,7 @@
 -- The law of calls. Lists of events that keep its law of keys, and lists that do not, each with the name of the sentence that it breaks; they
 -- are listed newest first. And made steps that keep the law of a step, and made steps that do not. In these each step that does not differs
 -- from one that does in one thing.
-use Rattle.std.proofs.Common.{◌≡◌, ℕ, zero, suc, ◌+◌, ◌<◌, ◌%◌, Bool, true, false, not, List, [], ◌∷◌, length, slice_index, nat_eq, Option, Some, None, is_some, refl, sym, ap, ◌∙◌, inl, inr, arith}
+use Rattle.std.proofs.Common.{◌≡◌, ℕ, zero, suc, ◌+◌, ◌%◌, Bool, true, false, not, List, [], ◌∷◌, length, slice_index, nat_eq, Option, Some, None, is_some, refl, sym, ap, ◌∙◌, inl, inr, arith}
 use Rattle.std.specs.Prelude.{IsTrue, codes}
 use Rattle.std.specs.List.{AllByRecursion}
 use Rattle.std.specs.Option.{option_map_or}
@@ -24,11 +24,14 @@ use Rattle.pct_model.specs.declared.statement.Operand.TheVariants as operand
 use Rattle.pct_model.specs.declared.statement.Stmt.{Stmt}
 use Rattle.pct_model.specs.declared.statement.Stmt.TheVariants as statement
 use Rattle.pct_model.specs.Actions.{without_first}
-use Rattle.pct_model.specs.Calls.{IsCall, RunsAbove, by_exit, by_call, IsCalled, EachIsCalled, SaysCalls, KeepsExitFunctions, KeepsKeys, KeysLaw}
+use Rattle.pct_laws.specs.Calls.{IsCall, RunsAbove, by_exit, by_call, IsCalled, EachIsCalled, says_calls, KeepsExitFunctions, KeepsKeys}
+use Rattle.pct_laws.specs.Each.{each}
+use Rattle.pct_laws.specs.KeysLaw.{allows}
+use Rattle.pct_rows.proofs.Refusals.{refuses}
 use Rattle.pct_model.specs.Keys.{Key, KeyPlace}
 use Rattle.pct_model.specs.NextStatement.{NextStatement, StatementIn}
 use Rattle.pct_model.specs.Static.{is_static}
-use Rattle.pct_model.specs.ThreadSteps.{ThreadStep}
+use Rattle.pct_laws.specs.ThreadSteps.{ThreadStep}
 use Rattle.pct_model.specs.World.{Thread, Process, value_of, new_frame, new_thread, new_shared, first_process}
 use Rattle.pct_rows.proofs.OnLiterals.{checks_on_literals, runs_on_literals}
 
@@ -54,46 +57,46 @@ destroys = what.DtorRun 1 1 4 7
 abbrev fork : Event
 fork = event (what.Forked 2)
 
-destroyed : KeysLaw (event destroys ∷ event makes ∷ [])
-destroyed = ((λ (null : ◌≡◌ {A = ℕ} 7 0). omega arith, refl), (tt, tt))
+destroyed : each allows (event destroys ∷ event makes ∷ []) ≡ true
+destroyed = refl
 
 -- another key is deleted meanwhile
-another_is_deleted : KeysLaw (event destroys ∷ event (what.KeyGone 2) ∷ event makes ∷ event (what.KeyMade 2) ∷ [])
-another_is_deleted = ((λ (null : ◌≡◌ {A = ℕ} 7 0). omega arith, refl), (tt, (tt, (tt, tt))))
+another_is_deleted : each allows (event destroys ∷ event (what.KeyGone 2) ∷ event makes ∷ event (what.KeyMade 2) ∷ []) ≡ true
+another_is_deleted = refl
 
 -- a child has the keys of its parent, and keeps them
-destroyed_in_a_child : KeysLaw (replica destroys ∷ event deletes ∷ fork ∷ event makes ∷ [])
-destroyed_in_a_child = ((λ (null : ◌≡◌ {A = ℕ} 7 0). omega arith, refl), (tt, (tt, (tt, tt))))
+destroyed_in_a_child : each allows (replica destroys ∷ event deletes ∷ fork ∷ event makes ∷ []) ≡ true
+destroyed_in_a_child = refl
 
-destroyed_in_the_parent : KeysLaw (event destroys ∷ replica deletes ∷ fork ∷ event makes ∷ [])
-destroyed_in_the_parent = ((λ (null : ◌≡◌ {A = ℕ} 7 0). omega arith, refl), (tt, (tt, (tt, tt))))
+destroyed_in_the_parent : each allows (event destroys ∷ replica deletes ∷ fork ∷ event makes ∷ []) ≡ true
+destroyed_in_the_parent = refl
 
-no_destructor_is_called_with_NULL : KeysLaw (event (what.DtorRun 1 1 4 0) ∷ event makes ∷ []) → ⊥
-no_destructor_is_called_with_NULL law = law.0.0 refl
+no_destructor_is_called_with_NULL : refuses allows (event (what.DtorRun 1 1 4 0) ∷ event makes ∷ []) ≡ true
+no_destructor_is_called_with_NULL = refl
 
-its_key_was_made : KeysLaw (event destroys ∷ []) → ⊥
-its_key_was_made law = absurd (false≢true law.0.1)
+its_key_was_made : refuses allows (event destroys ∷ []) ≡ true
+its_key_was_made = refl
 
-not_another_key : KeysLaw (event destroys ∷ event (what.KeyMade 2) ∷ []) → ⊥
-not_another_key law = absurd (false≢true law.0.1)
+not_another_key : refuses allows (event destroys ∷ event (what.KeyMade 2) ∷ []) ≡ true
+not_another_key = refl
 
-before_the_call : KeysLaw (event makes ∷ event destroys ∷ []) → ⊥
-before_the_call law = absurd (false≢true law.1.0.1)
+before_the_call : each allows (event makes ∷ event destroys ∷ []) ≡ false
+before_the_call = refl
 
-and_not_deleted : KeysLaw (event destroys ∷ event deletes ∷ event makes ∷ []) → ⊥
-and_not_deleted law = absurd (false≢true law.0.1)
+and_not_deleted : refuses allows (event destroys ∷ event deletes ∷ event makes ∷ []) ≡ true
+and_not_deleted = refl
 
-a_child_has_no_key_that_was_deleted_before_the_fork : KeysLaw (replica destroys ∷ fork ∷ event deletes ∷ event makes ∷ []) → ⊥
-a_child_has_no_key_that_was_deleted_before_the_fork law = absurd (false≢true law.0.1)
+a_child_has_no_key_that_was_deleted_before_the_fork : refuses allows (replica destroys ∷ fork ∷ event deletes ∷ event makes ∷ []) ≡ true
+a_child_has_no_key_that_was_deleted_before_the_fork = refl
 
-nor_one_that_its_parent_made_after_the_fork : KeysLaw (replica destroys ∷ event makes ∷ fork ∷ []) → ⊥
-nor_one_that_its_parent_made_after_the_fork law = absurd (false≢true law.0.1)
+nor_one_that_its_parent_made_after_the_fork : refuses allows (replica destroys ∷ event makes ∷ fork ∷ []) ≡ true
+nor_one_that_its_parent_made_after_the_fork = refl
 
-nor_one_that_it_deleted : KeysLaw (replica destroys ∷ replica deletes ∷ fork ∷ event makes ∷ []) → ⊥
-nor_one_that_it_deleted law = absurd (false≢true law.0.1)
+nor_one_that_it_deleted : refuses allows (replica destroys ∷ replica deletes ∷ fork ∷ event makes ∷ []) ≡ true
+nor_one_that_it_deleted = refl
 
-a_parent_has_no_key_of_its_child : KeysLaw (event destroys ∷ replica makes ∷ fork ∷ []) → ⊥
-a_parent_has_no_key_of_its_child law = absurd (false≢true law.0.1)
+a_parent_has_no_key_of_its_child : refuses allows (event destroys ∷ replica makes ∷ fork ∷ []) ≡ true
+a_parent_has_no_key_of_its_child = refl
 
 -- ---- a script
 
@@ -689,34 +692,35 @@ its_frame_is_of_a_fork_handler law = absurd (false≢true (ap (λ frames. is_of_
 
 -- ---- calls without an event
 
-abbrev says : Thread → List What → Thread → Type 0
-says before events after = SaysCalls script (step_from two two before events after)
+abbrev says : Thread → List What → Thread → Bool
+says before events after = says_calls script (step_from two two before events after)
 
 -- a thread of function 2 at a statement
 abbrev in_function : ℕ → Thread
 in_function pc = thread (popping pc ∷ main ∷ []) 0
 
 -- a call has its event or its statement
-handler_is_said : says ending (what.HandlerRun 3 30 ∷ []) (thread (handler ∷ []) 7)
-handler_is_said more no_call = refl
+handler_is_said : says ending (what.HandlerRun 3 30 ∷ []) (thread (handler ∷ []) 7) ≡ true
+handler_is_said = refl
 
-pop_is_said : says (in_function 1) (what.Popped 3 30 true ∷ []) (thread (popped ∷ popping 2 ∷ main ∷ []) 0)
-pop_is_said more no_call = refl
-
-function_is_called : says (in_function 4) [] (thread (new_frame 0 5 kind.Call ∷ popping 5 ∷ main ∷ []) 0)
+pop_is_said : says (in_function 1) (what.Popped 3 30 true ∷ []) (thread (popped ∷ popping 2 ∷ main ∷ []) 0) ≡ true
 unfolding runs_on_literals
-function_is_called more no_call = absurd (false≢true (sym no_call))
+pop_is_said = refl
 
-no_frame_is_made : says (in_function 7) (what.Emit 5 ∷ []) (in_function 8)
-no_frame_is_made more no_call = let none : 2 < 2 = more in absurd (omega arith)
-
-no_handler_is_called_without_an_event : says ending [] (thread (handler ∷ []) 7) → ⊥
-no_handler_is_called_without_an_event law = absurd (false≢true (law (omega arith) refl))
-
-nor_one_that_a_pop_drops : says (in_function 3) (what.Popped 3 30 false ∷ []) (thread (popped ∷ popping 4 ∷ main ∷ []) 0) → ⊥
+function_is_called : says (in_function 4) [] (thread (new_frame 0 5 kind.Call ∷ popping 5 ∷ main ∷ []) 0) ≡ true
 unfolding runs_on_literals
-nor_one_that_a_pop_drops law = absurd (false≢true (law (omega arith) refl))
+function_is_called = refl
 
-nor_a_function_at_emit : says (in_function 7) (what.Emit 5 ∷ []) (thread (new_frame 0 5 kind.Call ∷ popping 8 ∷ main ∷ []) 0) → ⊥
+no_frame_is_made : says (in_function 7) (what.Emit 5 ∷ []) (in_function 8) ≡ true
+no_frame_is_made = refl
+
+no_handler_is_called_without_an_event : says ending [] (thread (handler ∷ []) 7) ≡ false
+no_handler_is_called_without_an_event = refl
+
+nor_one_that_a_pop_drops : says (in_function 3) (what.Popped 3 30 false ∷ []) (thread (popped ∷ popping 4 ∷ main ∷ []) 0) ≡ false
 unfolding runs_on_literals
-nor_a_function_at_emit law = absurd (false≢true (law (omega arith) refl))
+nor_one_that_a_pop_drops = refl
+
+nor_a_function_at_emit : says (in_function 7) (what.Emit 5 ∷ []) (thread (new_frame 0 5 kind.Call ∷ popping 8 ∷ main ∷ []) 0) ≡ false
+unfolding runs_on_literals
+nor_a_function_at_emit = refl

@@ -1,6 +1,7 @@
 mod OnLiterals
 mod ExampleScripts
 mod Outcomes
+mod Refusals
 mod OnceRows
 mod JoinRows
 mod CondRows
@@ -16,7 +17,6 @@ mod CallRows
 mod ProcessLawRows
 mod RequestRows
 mod ActRows
-mod LawTests
 mod OneLawRows
 mod OptionRows
 mod EventRows

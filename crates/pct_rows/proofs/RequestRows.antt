@@ -1,20 +1,28 @@
 -- Lists of events that keep the law of cancellation, and lists that do not, each with the name of the sentence that it breaks; they are
 -- listed newest first. Where nothing else is said, the events are those of thread 1 of process 1, whose thread 2 makes requests.
-use Rattle.std.proofs.Common.{◌≡◌, ℕ, true, false, List, [], ◌∷◌, Option, Some, nat_eq, refl, sym, ap, ◌∙◌, arith}
-use Rattle.std.proofs.lemmas.Bool.{false≢true}
+use Rattle.std.proofs.Common.{◌≡◌, ℕ, Bool, true, false, List, [], ◌∷◌, refl}
 use Rattle.pct_model.specs.declared.event.Caller.TheVariants as caller
 use Rattle.pct_model.specs.declared.event.Event.{Event}
 use Rattle.pct_model.specs.declared.event.What.{What}
 use Rattle.pct_model.specs.declared.event.What.TheVariants as what
 use Rattle.pct_model.specs.CancelCalls.{point_kind, testcancel_point}
-use Rattle.pct_model.specs.CancelEvents.{is_requested, is_enabled_by, is_asynchronous_last, has_to_act}
-use Rattle.pct_model.specs.CancelLaw.{has_own_return, MayAct, MayReturn, RequestsLaw}
+use Rattle.pct_laws.specs.CancelEvents.{is_asynchronous_last}
+use Rattle.pct_laws.specs.Each.{each}
+use Rattle.pct_laws.specs.RequestsLaw.{allows}
+use Rattle.pct_rows.proofs.Refusals.{refuses}
 use Rattle.pct_model.specs.CondCalls.{cond_wait_point}
 use Rattle.pct_model.specs.ForkCalls.{waitpid_point}
-use Rattle.pct_model.specs.KnownThreads.{newest_event}
 use Rattle.pct_model.specs.Points.{points}
 use Rattle.pct_model.specs.SemCalls.{sem_wait_point}
 use Rattle.pct_model.specs.ThreadCalls.{join_point}
+
+-- the events keep the law
+abbrev keeps : List Event → Bool
+keeps events = each allows events
+
+-- they do not: the newest is refused
+abbrev refused : List Event → Bool
+refused events = refuses allows events
 
 -- an event of thread 1 of process 1, of its thread 2, and of the replica of thread 1 in process 2
 abbrev event : What → Event
@@ -51,195 +59,179 @@ in_a_wait = event (what.Released 0) ∷ event (what.Called cond_wait_point) ∷ 
 abbrev waits : List Event
 waits = request ∷ in_a_wait
 
--- a thread may act upon a request that came, with its cancelability enabled
-acts : {pid tid : ℕ} → {events : List Event} → is_requested pid tid events ≡ true → is_enabled_by pid tid events ≡ true → MayAct pid tid events
-acts requested enabled = record { requested = requested; enabled = enabled }
-
 -- ---- a thread is canceled by a request
 
-canceled : RequestsLaw (event what.EndingCanceled ∷ requested)
-canceled = (acts refl refl, (tt, tt))
+canceled : keeps (event what.EndingCanceled ∷ requested) ≡ true
+canceled = refl
 
 -- in the wait it owns the mutex again before it begins to end, and may hand on a signal
-canceled_in_a_wait : RequestsLaw (event (what.EndingInWait 1 0) ∷ event (what.Acquired 0) ∷ event (what.WaitCanceled 1) ∷ waits)
-canceled_in_a_wait = ((acts refl refl, refl), (tt, ((acts refl refl, refl), (tt, (tt, (refl, tt))))))
+canceled_in_a_wait : keeps (event (what.EndingInWait 1 0) ∷ event (what.Acquired 0) ∷ event (what.WaitCanceled 1) ∷ waits) ≡ true
+canceled_in_a_wait = refl
 
-canceled_with_a_signal : RequestsLaw (event (what.EndingInWait 1 0) ∷ event (what.Acquired 0) ∷ event (what.HandedOn 1 3) ∷ event (what.WaitCanceled 1) ∷ waits)
-canceled_with_a_signal = ((acts refl refl, refl), (tt, (tt, ((acts refl refl, refl), (tt, (tt, (refl, tt)))))))
+canceled_with_a_signal : keeps (event (what.EndingInWait 1 0) ∷ event (what.Acquired 0) ∷ event (what.HandedOn 1 3) ∷ event (what.WaitCanceled 1) ∷ waits) ≡ true
+canceled_with_a_signal = refl
 
 -- a thread may request its own end
-canceled_by_itself : RequestsLaw (event what.EndingCanceled ∷ event (what.Request 1) ∷ [])
-canceled_by_itself = (acts refl refl, (tt, tt))
+canceled_by_itself : keeps (event what.EndingCanceled ∷ event (what.Request 1) ∷ []) ≡ true
+canceled_by_itself = refl
 
 -- in a child by a request in the child
-canceled_in_a_child : RequestsLaw (replica what.EndingCanceled ∷ replica (what.Request 1) ∷ fork ∷ [])
-canceled_in_a_child = (acts refl refl, (tt, (tt, tt)))
+canceled_in_a_child : keeps (replica what.EndingCanceled ∷ replica (what.Request 1) ∷ fork ∷ []) ≡ true
+canceled_in_a_child = refl
 
-without_a_request_no_thread_is_canceled : RequestsLaw (event what.EndingCanceled ∷ []) → ⊥
-without_a_request_no_thread_is_canceled law = absurd (false≢true law.0.requested)
+without_a_request_no_thread_is_canceled : refused (event what.EndingCanceled ∷ []) ≡ true
+without_a_request_no_thread_is_canceled = refl
 
-nor_leaves_its_wait : RequestsLaw (event (what.WaitCanceled 1) ∷ in_a_wait) → ⊥
-nor_leaves_its_wait law = absurd (false≢true law.0.0.requested)
+nor_leaves_its_wait : refused (event (what.WaitCanceled 1) ∷ in_a_wait) ≡ true
+nor_leaves_its_wait = refl
 
-nor_ends_in_its_wait : RequestsLaw (event (what.EndingInWait 1 0) ∷ event (what.Acquired 0) ∷ event (what.WaitCanceled 1) ∷ in_a_wait) → ⊥
-nor_ends_in_its_wait law = absurd (false≢true law.0.0.requested)
+nor_ends_in_its_wait : allows (event (what.EndingInWait 1 0)) (event (what.Acquired 0) ∷ event (what.WaitCanceled 1) ∷ in_a_wait) ≡ false
+nor_ends_in_its_wait = refl
 
-nor_before_the_request : RequestsLaw (request ∷ event what.EndingCanceled ∷ []) → ⊥
-nor_before_the_request law = absurd (false≢true law.1.0.requested)
+nor_before_the_request : keeps (request ∷ event what.EndingCanceled ∷ []) ≡ false
+nor_before_the_request = refl
 
-a_request_is_for_one_thread : RequestsLaw (other what.EndingCanceled ∷ requested) → ⊥
-a_request_is_for_one_thread law = absurd (false≢true law.0.requested)
+a_request_is_for_one_thread : refused (other what.EndingCanceled ∷ requested) ≡ true
+a_request_is_for_one_thread = refl
 
 -- a fork passes no request on, and one in another process counts in neither direction
-a_fork_clears_a_request : RequestsLaw (replica what.EndingCanceled ∷ fork ∷ requested) → ⊥
-a_fork_clears_a_request law = absurd (false≢true law.0.requested)
+a_fork_clears_a_request : refused (replica what.EndingCanceled ∷ fork ∷ requested) ≡ true
+a_fork_clears_a_request = refl
 
-a_request_in_the_parent_is_none_in_the_child : RequestsLaw (replica what.EndingCanceled ∷ request ∷ fork ∷ []) → ⊥
-a_request_in_the_parent_is_none_in_the_child law = absurd (false≢true law.0.requested)
+a_request_in_the_parent_is_none_in_the_child : refused (replica what.EndingCanceled ∷ request ∷ fork ∷ []) ≡ true
+a_request_in_the_parent_is_none_in_the_child = refl
 
-a_request_in_the_child_is_none_in_the_parent : RequestsLaw (event what.EndingCanceled ∷ replica (what.Request 1) ∷ fork ∷ []) → ⊥
-a_request_in_the_child_is_none_in_the_parent law = absurd (false≢true law.0.requested)
+a_request_in_the_child_is_none_in_the_parent : refused (event what.EndingCanceled ∷ replica (what.Request 1) ∷ fork ∷ []) ≡ true
+a_request_in_the_child_is_none_in_the_parent = refl
 
 -- ---- with cancelability enabled
 
 -- the newest call counts, and a request is held pending meanwhile
-enabled_again : RequestsLaw (event what.EndingCanceled ∷ enables ∷ request ∷ disables ∷ [])
-enabled_again = (acts refl refl, (refl, (tt, (tt, tt))))
+enabled_again : keeps (event what.EndingCanceled ∷ enables ∷ request ∷ disables ∷ []) ≡ true
+enabled_again = refl
 
 -- a replica has the state of its thread, and then its own
-enabled_in_the_child : RequestsLaw (replica what.EndingCanceled ∷ replica (what.Request 1) ∷ replica (what.StateSet true) ∷ fork ∷ disables ∷ [])
-enabled_in_the_child = (acts refl refl, (tt, (refl, (tt, (tt, tt)))))
+enabled_in_the_child : keeps (replica what.EndingCanceled ∷ replica (what.Request 1) ∷ replica (what.StateSet true) ∷ fork ∷ disables ∷ []) ≡ true
+enabled_in_the_child = refl
 
-disabled_in_the_parent_later : RequestsLaw (replica what.EndingCanceled ∷ replica (what.Request 1) ∷ disables ∷ fork ∷ [])
-disabled_in_the_parent_later = (acts refl refl, (tt, (tt, (tt, tt))))
+disabled_in_the_parent_later : keeps (replica what.EndingCanceled ∷ replica (what.Request 1) ∷ disables ∷ fork ∷ []) ≡ true
+disabled_in_the_parent_later = refl
 
-a_disabled_thread_is_not_canceled : RequestsLaw (event what.EndingCanceled ∷ request ∷ disables ∷ []) → ⊥
-a_disabled_thread_is_not_canceled law = absurd (false≢true law.0.enabled)
+a_disabled_thread_is_not_canceled : refused (event what.EndingCanceled ∷ request ∷ disables ∷ []) ≡ true
+a_disabled_thread_is_not_canceled = refl
 
-nor_leaves_it_its_wait : RequestsLaw (event (what.WaitCanceled 1) ∷ request ∷ event (what.Released 0) ∷ event (what.Called cond_wait_point) ∷ disables ∷ []) → ⊥
-nor_leaves_it_its_wait law = absurd (false≢true law.0.0.enabled)
+nor_leaves_it_its_wait : refused (event (what.WaitCanceled 1) ∷ request ∷ event (what.Released 0) ∷ event (what.Called cond_wait_point) ∷ disables ∷ []) ≡ true
+nor_leaves_it_its_wait = refl
 
-nor_ends_it_in_its_wait : RequestsLaw (event (what.EndingInWait 1 0) ∷ event (what.Acquired 0) ∷ event (what.WaitCanceled 1) ∷ request ∷ event (what.Released 0) ∷ event (what.Called cond_wait_point) ∷ disables ∷ []) → ⊥
-nor_ends_it_in_its_wait law = absurd (false≢true law.0.0.enabled)
+nor_ends_it_in_its_wait : allows (event (what.EndingInWait 1 0)) (event (what.Acquired 0) ∷ event (what.WaitCanceled 1) ∷ request ∷ event (what.Released 0) ∷ event (what.Called cond_wait_point) ∷ disables ∷ []) ≡ false
+nor_ends_it_in_its_wait = refl
 
-the_newest_call_counts : RequestsLaw (event what.EndingCanceled ∷ request ∷ disables ∷ enables ∷ []) → ⊥
-the_newest_call_counts law = absurd (false≢true law.0.enabled)
+the_newest_call_counts : refused (event what.EndingCanceled ∷ request ∷ disables ∷ enables ∷ []) ≡ true
+the_newest_call_counts = refl
 
-another_thread_enables_its_own_cancelability : RequestsLaw (event what.EndingCanceled ∷ request ∷ other (what.StateSet true) ∷ disables ∷ []) → ⊥
-another_thread_enables_its_own_cancelability law = absurd (false≢true law.0.enabled)
+another_thread_enables_its_own_cancelability : refused (event what.EndingCanceled ∷ request ∷ other (what.StateSet true) ∷ disables ∷ []) ≡ true
+another_thread_enables_its_own_cancelability = refl
 
-a_replica_has_the_state_of_its_thread : RequestsLaw (replica what.EndingCanceled ∷ replica (what.Request 1) ∷ fork ∷ disables ∷ []) → ⊥
-a_replica_has_the_state_of_its_thread law = absurd (false≢true law.0.enabled)
+a_replica_has_the_state_of_its_thread : refused (replica what.EndingCanceled ∷ replica (what.Request 1) ∷ fork ∷ disables ∷ []) ≡ true
+a_replica_has_the_state_of_its_thread = refl
 
-and_keeps_it_when_the_thread_enables : RequestsLaw (replica what.EndingCanceled ∷ replica (what.Request 1) ∷ enables ∷ fork ∷ disables ∷ []) → ⊥
-and_keeps_it_when_the_thread_enables law = absurd (false≢true law.0.enabled)
+and_keeps_it_when_the_thread_enables : refused (replica what.EndingCanceled ∷ replica (what.Request 1) ∷ enables ∷ fork ∷ disables ∷ []) ≡ true
+and_keeps_it_when_the_thread_enables = refl
 
 -- it is disabled once the thread begins to end, by each of the ending events, or to exit its process
-a_thread_that_ends_is_not_canceled : RequestsLaw (event what.EndingCanceled ∷ event (what.EndingExit 5) ∷ requested) → ⊥
-a_thread_that_ends_is_not_canceled law = absurd (false≢true law.0.enabled)
+a_thread_that_ends_is_not_canceled : refused (event what.EndingCanceled ∷ event (what.EndingExit 5) ∷ requested) ≡ true
+a_thread_that_ends_is_not_canceled = refl
 
-nor_is_one_that_was_canceled : RequestsLaw (event what.EndingCanceled ∷ event what.EndingCanceled ∷ requested) → ⊥
-nor_is_one_that_was_canceled law = absurd (false≢true law.0.enabled)
+nor_is_one_that_was_canceled : refused (event what.EndingCanceled ∷ event what.EndingCanceled ∷ requested) ≡ true
+nor_is_one_that_was_canceled = refl
 
-nor_one_that_was_canceled_in_a_wait : RequestsLaw (event what.EndingCanceled ∷ event (what.EndingInWait 1 0) ∷ requested) → ⊥
-nor_one_that_was_canceled_in_a_wait law = absurd (false≢true law.0.enabled)
+nor_one_that_was_canceled_in_a_wait : allows (event what.EndingCanceled) (event (what.EndingInWait 1 0) ∷ requested) ≡ false
+nor_one_that_was_canceled_in_a_wait = refl
 
-nor_one_that_exits_its_process : RequestsLaw (event what.EndingCanceled ∷ event (what.ExitBegun 5) ∷ requested) → ⊥
-nor_one_that_exits_its_process law = absurd (false≢true law.0.enabled)
+nor_one_that_exits_its_process : refused (event what.EndingCanceled ∷ event (what.ExitBegun 5) ∷ requested) ≡ true
+nor_one_that_exits_its_process = refl
 
 -- such a thread does not enable it again; it may disable it, and another thread may enable its own
-it_does_not_enable_it : RequestsLaw (enables ∷ event (what.EndingExit 5) ∷ []) → ⊥
-it_does_not_enable_it law = absurd (false≢true law.0)
+it_does_not_enable_it : refused (enables ∷ event (what.EndingExit 5) ∷ []) ≡ true
+it_does_not_enable_it = refl
 
-nor_after_a_request : RequestsLaw (enables ∷ event what.EndingCanceled ∷ requested) → ⊥
-nor_after_a_request law = absurd (false≢true law.0)
+nor_after_a_request : refused (enables ∷ event what.EndingCanceled ∷ requested) ≡ true
+nor_after_a_request = refl
 
-nor_as_it_exits_its_process : RequestsLaw (enables ∷ event (what.ExitBegun 5) ∷ []) → ⊥
-nor_as_it_exits_its_process law = absurd (false≢true law.0)
+nor_as_it_exits_its_process : refused (enables ∷ event (what.ExitBegun 5) ∷ []) ≡ true
+nor_as_it_exits_its_process = refl
 
-it_disables_it : RequestsLaw (disables ∷ event (what.EndingExit 5) ∷ [])
-it_disables_it = (tt, (tt, tt))
+it_disables_it : keeps (disables ∷ event (what.EndingExit 5) ∷ []) ≡ true
+it_disables_it = refl
 
-another_enables_its_own : RequestsLaw (other (what.StateSet true) ∷ event (what.EndingExit 5) ∷ [])
-another_enables_its_own = (refl, (tt, tt))
+another_enables_its_own : keeps (other (what.StateSet true) ∷ event (what.EndingExit 5) ∷ []) ≡ true
+another_enables_its_own = refl
 
 -- ---- condition waits
 
-a_wait_is_left_in_a_wait : RequestsLaw (event (what.WaitCanceled 1) ∷ requested) → ⊥
-a_wait_is_left_in_a_wait law = absurd (false≢true law.0.1)
+a_wait_is_left_in_a_wait : refused (event (what.WaitCanceled 1) ∷ requested) ≡ true
+a_wait_is_left_in_a_wait = refl
 
-before_the_mutex_is_owned : RequestsLaw (event (what.WaitCanceled 1) ∷ event (what.Acquired 0) ∷ waits) → ⊥
-before_the_mutex_is_owned law = absurd (false≢true law.0.1)
+before_the_mutex_is_owned : refused (event (what.WaitCanceled 1) ∷ event (what.Acquired 0) ∷ waits) ≡ true
+before_the_mutex_is_owned = refl
 
-and_once : RequestsLaw (event (what.WaitCanceled 1) ∷ event (what.WaitCanceled 1) ∷ waits) → ⊥
-and_once law = absurd (false≢true law.0.1)
+and_once : refused (event (what.WaitCanceled 1) ∷ event (what.WaitCanceled 1) ∷ waits) ≡ true
+and_once = refl
 
-a_thread_ends_in_a_wait_that_it_leaves : RequestsLaw (event (what.EndingInWait 1 0) ∷ event (what.Acquired 0) ∷ waits) → ⊥
-a_thread_ends_in_a_wait_that_it_leaves law = absurd (cc law.0.1)
+a_thread_ends_in_a_wait_that_it_leaves : refused (event (what.EndingInWait 1 0) ∷ event (what.Acquired 0) ∷ waits) ≡ true
+a_thread_ends_in_a_wait_that_it_leaves = refl
 
-it_ends_in_a_wait_alone : RequestsLaw (event (what.EndingInWait 1 0) ∷ requested) → ⊥
-it_ends_in_a_wait_alone law = absurd (cc law.0.1)
+it_ends_in_a_wait_alone : refused (event (what.EndingInWait 1 0) ∷ requested) ≡ true
+it_ends_in_a_wait_alone = refl
 
-with_its_mutex_owned : RequestsLaw (event (what.EndingInWait 1 0) ∷ event (what.WaitCanceled 1) ∷ waits) → ⊥
-with_its_mutex_owned law = absurd (cc law.0.1)
+with_its_mutex_owned : refused (event (what.EndingInWait 1 0) ∷ event (what.WaitCanceled 1) ∷ waits) ≡ true
+with_its_mutex_owned = refl
 
 -- ---- with a request to act upon
 
--- pthread_testcancel may return where there is no request to act upon, and another point after its call
-may_test : {pid tid : ℕ} → {earlier : List Event} → has_to_act pid tid earlier ≡ false → MayReturn testcancel_point pid tid earlier
-unfolding points point_kind
-may_test none = record { is_done = refl; tested = λ is. none; waited = λ is. absurd (false≢true is); called = λ is. absurd (false≢true is) }
-
-may_return : {index pid tid : ℕ} → {earlier : List Event} → has_own_return index ≡ false → nat_eq index testcancel_point ≡ false → nat_eq index cond_wait_point ≡ false → newest_event pid tid earlier ≡ Some (what.Called index) → MayReturn index pid tid earlier
-may_return own no_test no_wait called = record { is_done = own; tested = λ is. absurd (false≢true (sym no_test ∙ is)); waited = λ is. absurd (false≢true (sym no_wait ∙ is)); called = λ is. called }
-
 -- without a request, with cancelability disabled, and by another thread, points are called
-calls : RequestsLaw (event (what.Done testcancel_point) ∷ event (what.Called 25) ∷ [])
-calls = (may_test refl, (refl, tt))
+calls : keeps (event (what.Done testcancel_point) ∷ event (what.Called 25) ∷ []) ≡ true
+calls = refl
 
-calls_while_disabled : RequestsLaw (event (what.Done testcancel_point) ∷ event (what.Called 25) ∷ request ∷ disables ∷ [])
-calls_while_disabled = (may_test refl, (refl, (tt, (tt, tt))))
+calls_while_disabled : keeps (event (what.Done testcancel_point) ∷ event (what.Called 25) ∷ request ∷ disables ∷ []) ≡ true
+calls_while_disabled = refl
 
-calls_of_another : RequestsLaw (other (what.Done testcancel_point) ∷ other (what.Called 25) ∷ requested)
-calls_of_another = (may_test refl, (refl, (tt, tt)))
+calls_of_another : keeps (other (what.Done testcancel_point) ∷ other (what.Called 25) ∷ requested) ≡ true
+calls_of_another = refl
 
 -- the replica has no request to act upon
-calls_in_the_child : RequestsLaw (replica (what.Done testcancel_point) ∷ replica (what.Called 25) ∷ fork ∷ requested)
-calls_in_the_child = (may_test refl, (refl, (tt, (tt, tt))))
+calls_in_the_child : keeps (replica (what.Done testcancel_point) ∷ replica (what.Called 25) ∷ fork ∷ requested) ≡ true
+calls_in_the_child = refl
 
 -- a point that was called before the request may return, and so may a function that may be a cancellation point
-returns : RequestsLaw (event (what.Done 25) ∷ request ∷ event (what.Called 25) ∷ [])
-returns = (may_return refl refl refl refl, (tt, (refl, tt)))
+returns : keeps (event (what.Done 25) ∷ request ∷ event (what.Called 25) ∷ []) ≡ true
+unfolding points point_kind
+returns = refl
 
-waitpid_returns : RequestsLaw (event (what.Answer caller.WaitPid 3) ∷ request ∷ event (what.Called waitpid_point) ∷ [])
-waitpid_returns = (λ has. refl, (tt, (refl, tt)))
+waitpid_returns : keeps (event (what.Answer caller.WaitPid 3) ∷ request ∷ event (what.Called waitpid_point) ∷ []) ≡ true
+waitpid_returns = refl
 
-waitpid_returns_without_a_request : RequestsLaw (event (what.Answer caller.WaitPid 3) ∷ [])
-waitpid_returns_without_a_request = (λ has. absurd (false≢true has), tt)
+waitpid_returns_without_a_request : keeps (event (what.Answer caller.WaitPid 3) ∷ []) ≡ true
+waitpid_returns_without_a_request = refl
 
-no_point_is_called_with_a_request : RequestsLaw (event (what.Called 25) ∷ requested) → ⊥
-no_point_is_called_with_a_request law = absurd (false≢true (sym law.0))
+no_point_is_called_with_a_request : refused (event (what.Called 25) ∷ requested) ≡ true
+no_point_is_called_with_a_request = refl
 
-once_cancelability_is_enabled_again : RequestsLaw (event (what.Called 25) ∷ enables ∷ request ∷ disables ∷ []) → ⊥
-once_cancelability_is_enabled_again law = absurd (false≢true (sym law.0))
+once_cancelability_is_enabled_again : refused (event (what.Called 25) ∷ enables ∷ request ∷ disables ∷ []) ≡ true
+once_cancelability_is_enabled_again = refl
 
-nor_in_a_child : RequestsLaw (replica (what.Called 25) ∷ replica (what.Request 1) ∷ fork ∷ []) → ⊥
-nor_in_a_child law = absurd (false≢true (sym law.0))
+nor_in_a_child : refused (replica (what.Called 25) ∷ replica (what.Request 1) ∷ fork ∷ []) ≡ true
+nor_in_a_child = refl
 
-pthread_testcancel_does_not_return_with_a_request : RequestsLaw (event (what.Done testcancel_point) ∷ requested) → ⊥
-pthread_testcancel_does_not_return_with_a_request law = absurd (false≢true (sym (law.0.tested refl)))
-
--- the newest event of a thread, if it is a call of a point: its index
-abbrev point_of : Option What → ℕ
-point_of (Some (what.Called index)) = index
-point_of _ = 0
+pthread_testcancel_does_not_return_with_a_request : refused (event (what.Done testcancel_point) ∷ requested) ≡ true
+pthread_testcancel_does_not_return_with_a_request = refl
 
 -- without a call of waitpid, or with another event of the thread since then
-waitpid_finds_no_child_before_it_acts : RequestsLaw (event (what.Answer caller.WaitPid 3) ∷ requested) → ⊥
-waitpid_finds_no_child_before_it_acts law = let n : ◌≡◌ {A = ℕ} 0 waitpid_point = ap point_of (law.0 refl) in omega arith
+waitpid_finds_no_child_before_it_acts : refused (event (what.Answer caller.WaitPid 3) ∷ requested) ≡ true
+waitpid_finds_no_child_before_it_acts = refl
 
-waitpid_is_called_before_the_request : RequestsLaw (event (what.Answer caller.WaitPid 3) ∷ event (what.Emit 5) ∷ request ∷ event (what.Called waitpid_point) ∷ []) → ⊥
-waitpid_is_called_before_the_request law = let n : ◌≡◌ {A = ℕ} 0 waitpid_point = ap point_of (law.0 refl) in omega arith
+waitpid_is_called_before_the_request : refused (event (what.Answer caller.WaitPid 3) ∷ event (what.Emit 5) ∷ request ∷ event (what.Called waitpid_point) ∷ []) ≡ true
+waitpid_is_called_before_the_request = refl
 
 -- ---- calls and returns
 
@@ -251,57 +243,58 @@ abbrev optional_point : ℕ
 optional_point = 47
 
 -- read, sem_wait, waitpid and pthread_cond_wait return after their calls
-returned : RequestsLaw (event (what.Done read_point) ∷ event (what.Called read_point) ∷ [])
-returned = (may_return refl refl refl refl, (refl, tt))
-
-taken : RequestsLaw (event (what.Taken 0) ∷ event (what.Called sem_wait_point) ∷ [])
-taken = (refl, (refl, tt))
-
-reaped : RequestsLaw (event (what.Reaped 2 5) ∷ replica (what.ProcessEnded 5) ∷ event (what.Called waitpid_point) ∷ fork ∷ [])
-reaped = (refl, (tt, (refl, (tt, tt))))
-
-waited : RequestsLaw (event (what.Done cond_wait_point) ∷ event (what.Acquired 0) ∷ in_a_wait)
+returned : keeps (event (what.Done read_point) ∷ event (what.Called read_point) ∷ []) ≡ true
 unfolding points point_kind
-waited = (record { is_done = refl; tested = λ is. absurd (false≢true is); waited = λ is. refl; called = λ is. absurd (false≢true is) }, (tt, (tt, (refl, tt))))
+returned = refl
+
+taken : keeps (event (what.Taken 0) ∷ event (what.Called sem_wait_point) ∷ []) ≡ true
+taken = refl
+
+reaped : keeps (event (what.Reaped 2 5) ∷ replica (what.ProcessEnded 5) ∷ event (what.Called waitpid_point) ∷ fork ∷ []) ≡ true
+reaped = refl
+
+waited : keeps (event (what.Done cond_wait_point) ∷ event (what.Acquired 0) ∷ in_a_wait) ≡ true
+unfolding points point_kind
+waited = refl
 
 -- a function that may be a cancellation point has no event of its call
-may_be_a_point : RequestsLaw (event (what.Done optional_point) ∷ [])
+may_be_a_point : keeps (event (what.Done optional_point) ∷ []) ≡ true
 unfolding points point_kind
-may_be_a_point = (record { is_done = refl; tested = λ is. absurd (false≢true is); waited = λ is. absurd (false≢true is); called = λ is. absurd (false≢true is) }, tt)
+may_be_a_point = refl
 
-read_returns_after_its_call : RequestsLaw (event (what.Done read_point) ∷ []) → ⊥
+read_returns_after_its_call : refused (event (what.Done read_point) ∷ []) ≡ true
 unfolding points point_kind
-read_returns_after_its_call law = absurd (cc (law.0.called refl))
+read_returns_after_its_call = refl
 
-after_its_own : RequestsLaw (event (what.Done read_point) ∷ event (what.Called waitpid_point) ∷ []) → ⊥
+after_its_own : refused (event (what.Done read_point) ∷ event (what.Called waitpid_point) ∷ []) ≡ true
 unfolding points point_kind
-after_its_own law = let n : ◌≡◌ {A = ℕ} waitpid_point read_point = ap point_of (law.0.called refl) in omega arith
+after_its_own = refl
 
-a_call_returns_once : RequestsLaw (event (what.Done read_point) ∷ event (what.Done read_point) ∷ event (what.Called read_point) ∷ []) → ⊥
+a_call_returns_once : refused (event (what.Done read_point) ∷ event (what.Done read_point) ∷ event (what.Called read_point) ∷ []) ≡ true
 unfolding points point_kind
-a_call_returns_once law = absurd (cc (law.0.called refl))
+a_call_returns_once = refl
 
-sem_wait_is_called_before_a_take : RequestsLaw (event (what.Taken 0) ∷ []) → ⊥
-sem_wait_is_called_before_a_take law = absurd (cc law.0)
+sem_wait_is_called_before_a_take : refused (event (what.Taken 0) ∷ []) ≡ true
+sem_wait_is_called_before_a_take = refl
 
-waitpid_is_called_before_a_reap : RequestsLaw (event (what.Reaped 2 5) ∷ replica (what.ProcessEnded 5) ∷ fork ∷ []) → ⊥
-waitpid_is_called_before_a_reap law = absurd (cc law.0)
+waitpid_is_called_before_a_reap : refused (event (what.Reaped 2 5) ∷ replica (what.ProcessEnded 5) ∷ fork ∷ []) ≡ true
+waitpid_is_called_before_a_reap = refl
 
-pthread_cond_wait_returns_with_its_mutex : RequestsLaw (event (what.Done cond_wait_point) ∷ in_a_wait) → ⊥
-pthread_cond_wait_returns_with_its_mutex law = absurd (cc (law.0.waited refl))
+pthread_cond_wait_returns_with_its_mutex : refused (event (what.Done cond_wait_point) ∷ in_a_wait) ≡ true
+pthread_cond_wait_returns_with_its_mutex = refl
 
-and_after_its_call : RequestsLaw (event (what.Done cond_wait_point) ∷ event (what.Acquired 0) ∷ []) → ⊥
-and_after_its_call law = absurd (cc (law.0.waited refl))
+and_after_its_call : refused (event (what.Done cond_wait_point) ∷ event (what.Acquired 0) ∷ []) ≡ true
+and_after_its_call = refl
 
 -- pthread_join, sem_wait and waitpid return by a join, a take and a reap alone
-a_join_is_no_other_return : RequestsLaw (event (what.Done join_point) ∷ event (what.Called join_point) ∷ []) → ⊥
-a_join_is_no_other_return law = absurd (false≢true (sym law.0.is_done))
+a_join_is_no_other_return : refused (event (what.Done join_point) ∷ event (what.Called join_point) ∷ []) ≡ true
+a_join_is_no_other_return = refl
 
-nor_is_a_take : RequestsLaw (event (what.Done sem_wait_point) ∷ event (what.Called sem_wait_point) ∷ []) → ⊥
-nor_is_a_take law = absurd (false≢true (sym law.0.is_done))
+nor_is_a_take : refused (event (what.Done sem_wait_point) ∷ event (what.Called sem_wait_point) ∷ []) ≡ true
+nor_is_a_take = refl
 
-nor_is_a_reap : RequestsLaw (event (what.Done waitpid_point) ∷ event (what.Called waitpid_point) ∷ []) → ⊥
-nor_is_a_reap law = absurd (false≢true (sym law.0.is_done))
+nor_is_a_reap : refused (event (what.Done waitpid_point) ∷ event (what.Called waitpid_point) ∷ []) ≡ true
+nor_is_a_reap = refl
 
 -- ---- types, as the events report them
 

@@ -1,11 +1,9 @@
 -- Made steps that keep the law of the stages of an end with a limit of four passes, and its law of values, and made steps that do not. Each
 -- step that does not differs from one that does in one thing, and has the name of the sentence that it breaks.
-use Rattle.std.proofs.Common.{◌≡◌, ◌≢◌, ℕ, zero, suc, ◌<◌, ◌≤◌, Bool, true, false, cond, List, [], ◌∷◌, length, map, slice_get, nat_eq, Option, Some, None, refl, sym, ap, ◌∙◌, arith}
+use Rattle.std.proofs.Common.{◌≡◌, ℕ, zero, suc, Bool, true, false, List, [], ◌∷◌, map, slice_get, Option, Some, None, refl, sym, ap, arith}
 use Rattle.std.specs.Prelude.{IsTrue, codes}
-use Rattle.std.specs.List.{AllByRecursion}
 use Rattle.std.specs.Option.{option_map_or}
-use Rattle.std.proofs.lemmas.Bool.{false≢true, eqb-true}
-use Rattle.std.proofs.lemmas.List.Elements.{All-from_recursion}
+use Rattle.std.proofs.lemmas.Bool.{false≢true}
 use Rattle.std.proofs.lemmas.Option.{none-some}
 use Rattle.pct_model.specs.declared.event.What.{What}
 use Rattle.pct_model.specs.declared.event.What.TheVariants as what
@@ -13,16 +11,15 @@ use Rattle.pct_model.specs.declared.frame.Frame.{Frame}
 use Rattle.pct_model.specs.declared.script.Func.{Func}
 use Rattle.pct_model.specs.declared.script.Script.{Script}
 use Rattle.pct_model.specs.declared.state.FrameKind.TheVariants as kind
-use Rattle.pct_model.specs.declared.state.Status.{Status}
 use Rattle.pct_model.specs.declared.state.Status.TheVariants as status
 use Rattle.pct_model.specs.declared.statement.Operand.TheVariants as operand
 use Rattle.pct_model.specs.declared.statement.Stmt.{Stmt}
 use Rattle.pct_model.specs.declared.statement.Stmt.TheVariants as statement
-use Rattle.pct_model.specs.Ends.{count_due, HasRunHandlers, MayBegin, EachMayBegin, KeepsValue, KeepsValues}
-use Rattle.pct_model.specs.Keys.{KeyPlace, is_due, value_at}
+use Rattle.pct_laws.specs.Ends.{count_due, each_may_begin, KeepsValue, KeepsValues}
+use Rattle.pct_model.specs.Keys.{KeyPlace, value_at}
 use Rattle.pct_model.specs.Static.{is_static}
-use Rattle.pct_model.specs.ThreadSteps.{ThreadStep}
-use Rattle.pct_model.specs.World.{Thread, Process, thread_with, new_frame, new_thread, new_shared, first_process}
+use Rattle.pct_laws.specs.ThreadSteps.{ThreadStep}
+use Rattle.pct_model.specs.World.{Thread, Process, new_frame, new_thread, new_shared, first_process}
 use Rattle.pct_rows.proofs.ExampleScripts.{smallest}
 use Rattle.pct_rows.proofs.OnLiterals.{checks_on_literals, runs_on_literals}
 
@@ -69,26 +66,8 @@ abbrev step : Thread → List What → ThreadStep
 step before events = step_beside (another 2) before events
 
 -- the law of a step
-abbrev Keeps : ThreadStep → Type 0
-Keeps s = EachMayBegin 4 s
-
-keeps : (s : ThreadStep) → AllByRecursion (λ w. MayBegin 4 w s) s.events → Keeps s
-keeps s each = All-from_recursion (λ w. MayBegin 4 w s) s.events each
-
--- what it asks at the only event of a step, and at the first of two
-asked : {beside before after : Thread} → {w : What} → Keeps (step_to beside before after (w ∷ [])) → MayBegin 4 w (step_to beside before after (w ∷ []))
-asked {w = w} law = law 0 w (omega arith)
-
-asked_first : {beside before : Thread} → {w v : What} → Keeps (step_beside beside before (w ∷ v ∷ [])) → MayBegin 4 w (step_beside beside before (w ∷ v ∷ []))
-asked_first {w = w} law = law 0 w (omega arith)
-
--- the thread is ending
-abbrev is_ending : Status → Bool
-is_ending status.Ending = true
-is_ending _ = false
-
-abbrev how_many : {T : Type 0} → List T → ℕ
-how_many items = length items
+abbrev keeps : ThreadStep → Bool
+keeps s = each_may_begin 4 s
 
 -- a call that goes on
 abbrev calling : List Frame
@@ -107,14 +86,14 @@ with_handler = record (ending 0 [] []) { handlers = (3, 30) ∷ [] }
 abbrev handler_runs : Thread → ThreadStep
 handler_runs before = step before (what.HandlerRun 3 30 ∷ [])
 
-handler_may_run : Keeps (handler_runs with_handler)
-handler_may_run = keeps (handler_runs with_handler) (record { ending = refl; returned = refl }, tt)
+handler_may_run : keeps (handler_runs with_handler) ≡ true
+handler_may_run = refl
 
-a_handler_runs_in_an_ending_thread : Keeps (handler_runs (record with_handler { status = status.Running })) → ⊥
-a_handler_runs_in_an_ending_thread law = absurd (false≢true (ap is_ending (asked law).ending))
+a_handler_runs_in_an_ending_thread : keeps (handler_runs (record with_handler { status = status.Running })) ≡ false
+a_handler_runs_in_an_ending_thread = refl
 
-after_the_handler_before_returned : Keeps (handler_runs (record with_handler { frames = calling })) → ⊥
-after_the_handler_before_returned law = let n : ◌≡◌ {A = ℕ} 1 0 = ap how_many (asked law).returned in omega arith
+after_the_handler_before_returned : keeps (handler_runs (record with_handler { frames = calling })) ≡ false
+after_the_handler_before_returned = refl
 
 -- ---- passes
 
@@ -135,60 +114,49 @@ in_pass n = ending n (7 ∷ 0 ∷ 7 ∷ []) (true ∷ false ∷ true ∷ [])
 abbrev pass_begins : ℕ → Thread → ThreadStep
 pass_begins n before = step_to (another 2) before (in_pass n) (what.PassBegun n ∷ [])
 
--- the thread has run its handlers
-ready : {beside : Thread} → {after : Thread} → {pass : ℕ} → {values : List ℕ} → {in_pass : List Bool} → {events : List What} → HasRunHandlers (step_to beside (ending pass values in_pass) after events)
-ready = record { stage = record { ending = refl; returned = refl }; none = refl }
+first_pass_may_begin : keeps (pass_begins 1 before_passes) ≡ true
+first_pass_may_begin = refl
 
--- the keys 1 and 3 are due
-both_taken : (place : ℕ) → is_due keys (record { values = 7 ∷ 0 ∷ 7 ∷ []; in_pass = [] }) place ≡ true → slice_get (true ∷ false ∷ true ∷ []) place ≡ Some true
-both_taken zero is = refl
-both_taken (suc zero) is = absurd (false≢true is)
-both_taken (suc (suc zero)) is = refl
-both_taken (suc (suc (suc place))) is = absurd (false≢true is)
+next_pass_may_begin : keeps (pass_begins 2 after_a_pass) ≡ true
+next_pass_may_begin = refl
 
-first_pass_may_begin : Keeps (pass_begins 1 before_passes)
-first_pass_may_begin = keeps (pass_begins 1 before_passes) (record { handlers = ready; over = λ place is. absurd (none-some true is); due = omega arith; number = refl; taken = both_taken }, tt)
+after_the_last_handler_returned : keeps (pass_begins 1 (record before_passes { frames = calling })) ≡ false
+after_the_last_handler_returned = refl
 
-next_pass_may_begin : Keeps (pass_begins 2 after_a_pass)
-next_pass_may_begin = keeps (pass_begins 2 after_a_pass) (record { handlers = ready; over = λ place is. absurd (none-some true is); due = omega arith; number = refl; taken = both_taken }, tt)
+with_no_handler_left : keeps (pass_begins 1 (record before_passes { handlers = (3, 30) ∷ [] })) ≡ false
+with_no_handler_left = refl
 
-after_the_last_handler_returned : Keeps (pass_begins 1 (record before_passes { frames = calling })) → ⊥
-after_the_last_handler_returned law = let n : ◌≡◌ {A = ℕ} 1 0 = ap how_many (asked law).handlers.stage.returned in omega arith
+with_no_key_left_in_the_pass : keeps (pass_begins 2 in_a_pass) ≡ false
+with_no_key_left_in_the_pass = refl
 
-with_no_handler_left : Keeps (pass_begins 1 (record before_passes { handlers = (3, 30) ∷ [] })) → ⊥
-with_no_handler_left law = let n : ◌≡◌ {A = ℕ} 1 0 = ap how_many (asked law).handlers.none in omega arith
+with_keys_due : keeps (pass_begins 1 (ending 0 (0 ∷ 7 ∷ 0 ∷ []) [])) ≡ false
+with_keys_due = refl
 
-with_no_key_left_in_the_pass : Keeps (pass_begins 2 in_a_pass) → ⊥
-with_no_key_left_in_the_pass law = absurd (false≢true (sym ((asked law).over 2 refl)))
+a_pass_has_the_next_number : keeps (pass_begins 1 after_a_pass) ≡ false
+a_pass_has_the_next_number = refl
 
-with_keys_due : Keeps (pass_begins 1 (ending 0 (0 ∷ 7 ∷ 0 ∷ []) [])) → ⊥
-with_keys_due law = let none : 0 < 0 = (asked law).due in omega arith
+it_takes_a_key : keeps (step_to (another 2) before_passes (ending 1 (7 ∷ 0 ∷ 7 ∷ []) []) (what.PassBegun 1 ∷ [])) ≡ false
+it_takes_a_key = refl
 
-a_pass_has_the_next_number : Keeps (pass_begins 1 after_a_pass) → ⊥
-a_pass_has_the_next_number law = let n : ◌≡◌ {A = ℕ} 1 2 = (asked law).number in omega arith
-
-it_takes_a_key : Keeps (step_to (another 2) before_passes (ending 1 (7 ∷ 0 ∷ 7 ∷ []) []) (what.PassBegun 1 ∷ [])) → ⊥
-it_takes_a_key law = absurd (none-some true ((asked law).taken 0 refl))
-
-and_each_key_that_is_due : Keeps (step_to (another 2) before_passes (ending 1 (7 ∷ 0 ∷ 7 ∷ []) (true ∷ false ∷ false ∷ [])) (what.PassBegun 1 ∷ [])) → ⊥
-and_each_key_that_is_due law = absurd (false≢true (ap (λ (o : Option Bool). option_map_or (λ b. b) o false) ((asked law).taken 2 refl)))
+and_each_key_that_is_due : keeps (step_to (another 2) before_passes (ending 1 (7 ∷ 0 ∷ 7 ∷ []) (true ∷ false ∷ false ∷ [])) (what.PassBegun 1 ∷ [])) ≡ false
+and_each_key_that_is_due = refl
 
 -- ---- destructors
 
 abbrev destructor_runs : ℕ → Thread → ThreadStep
 destructor_runs pass before = step before (what.DtorRun pass 3 4 7 ∷ [])
 
-destructor_may_run : Keeps (destructor_runs 1 in_a_pass)
-destructor_may_run = keeps (destructor_runs 1 in_a_pass) ((ready, refl), tt)
+destructor_may_run : keeps (destructor_runs 1 in_a_pass) ≡ true
+destructor_may_run = refl
 
-after_the_destructor_before_returned : Keeps (destructor_runs 1 (record in_a_pass { frames = new_frame 4 7 kind.Destructor ∷ [] })) → ⊥
-after_the_destructor_before_returned law = let n : ◌≡◌ {A = ℕ} 1 0 = ap how_many (asked law).0.stage.returned in omega arith
+after_the_destructor_before_returned : keeps (destructor_runs 1 (record in_a_pass { frames = new_frame 4 7 kind.Destructor ∷ [] })) ≡ false
+after_the_destructor_before_returned = refl
 
-and_with_no_handler_left : Keeps (destructor_runs 1 (record in_a_pass { handlers = (3, 30) ∷ [] })) → ⊥
-and_with_no_handler_left law = let n : ◌≡◌ {A = ℕ} 1 0 = ap how_many (asked law).0.none in omega arith
+and_with_no_handler_left : keeps (destructor_runs 1 (record in_a_pass { handlers = (3, 30) ∷ [] })) ≡ false
+and_with_no_handler_left = refl
 
-in_the_pass_of_its_thread : Keeps (destructor_runs 2 in_a_pass) → ⊥
-in_the_pass_of_its_thread law = let n : ◌≡◌ {A = ℕ} 2 1 = (asked law).1 in omega arith
+in_the_pass_of_its_thread : keeps (destructor_runs 2 in_a_pass) ≡ false
+in_the_pass_of_its_thread = refl
 
 -- ---- values that are left
 
@@ -199,17 +167,17 @@ with_values = ending 4 (7 ∷ 7 ∷ 7 ∷ []) []
 abbrev values_left : ℕ → List What
 values_left n = what.Leftover n ∷ []
 
-two_left : Keeps (step with_values (values_left 2))
-two_left = keeps (step with_values (values_left 2)) ((refl, omega arith), tt)
+two_left : keeps (step with_values (values_left 2)) ≡ true
+two_left = refl
 
-each_due_key_is_counted : Keeps (step with_values (values_left 1)) → ⊥
-each_due_key_is_counted law = let n : ◌≡◌ {A = ℕ} 1 2 = (asked law).0 in omega arith
+each_due_key_is_counted : keeps (step with_values (values_left 1)) ≡ false
+each_due_key_is_counted = refl
 
-and_no_other : Keeps (step with_values (values_left 3)) → ⊥
-and_no_other law = let n : ◌≡◌ {A = ℕ} 3 2 = (asked law).0 in omega arith
+and_no_other : keeps (step with_values (values_left 3)) ≡ false
+and_no_other = refl
 
-none_is_no_event : Keeps (step (ending 4 (0 ∷ 7 ∷ 0 ∷ []) []) (values_left 0)) → ⊥
-none_is_no_event law = let none : 0 < 0 = (asked law).1 in omega arith
+none_is_no_event : keeps (step (ending 4 (0 ∷ 7 ∷ 0 ∷ []) []) (values_left 0)) ≡ false
+none_is_no_event = refl
 
 -- ---- ends
 
@@ -221,43 +189,35 @@ end = what.EndedWith 5
 abbrev without_values : Thread
 without_values = ending 1 (0 ∷ 7 ∷ 0 ∷ []) []
 
--- thread 2 has not ended, so it is not so that each other thread has
-goes_on : (before : Thread) → ((tid : ℕ) (u : Thread) → thread_with tid (process keys (before ∷ another 2 ∷ [])) ≡ Some u → u.gone ≡ false → tid ≢ before.id → u.ended ≡ true) → before.id ≡ 1 → ⊥
-goes_on before all first = absurd (false≢true (all 2 (another 2) (rw first refl) refl (λ same. let n : ◌≡◌ {A = ℕ} 2 1 = same ∙ first in omega arith)))
-
-ends_without_values : Keeps (step without_values (end ∷ []))
-ends_without_values =
-    keeps (step without_values (end ∷ []))
-    (record { handlers = ready; over = λ place is. absurd (none-some true is); passed = λ (none : 0 < 0). omega arith; last = λ all. absurd (goes_on without_values all refl); reported = λ (none : 0 < 0). absurd (omega arith) }, tt)
+ends_without_values : keeps (step without_values (end ∷ [])) ≡ true
+ends_without_values = refl
 
 -- with two keys that are due, after the last pass
-ends_with_values : Keeps (step with_values (what.Leftover 2 ∷ end ∷ []))
-ends_with_values =
-    keeps (step with_values (what.Leftover 2 ∷ end ∷ []))
-    ((refl, omega arith), (record { handlers = ready; over = λ place is. absurd (none-some true is); passed = λ some. omega arith; last = λ all. absurd (goes_on with_values all refl); reported = λ some. refl }, tt))
+ends_with_values : keeps (step with_values (what.Leftover 2 ∷ end ∷ [])) ≡ true
+ends_with_values = refl
 
-after_the_last_call_returned : Keeps (step (record without_values { frames = calling }) (end ∷ [])) → ⊥
-after_the_last_call_returned law = let n : ◌≡◌ {A = ℕ} 1 0 = ap how_many (asked law).handlers.stage.returned in omega arith
+after_the_last_call_returned : keeps (step (record without_values { frames = calling }) (end ∷ [])) ≡ false
+after_the_last_call_returned = refl
 
-it_has_no_handler_left : Keeps (step (record without_values { handlers = (3, 30) ∷ [] }) (end ∷ [])) → ⊥
-it_has_no_handler_left law = let n : ◌≡◌ {A = ℕ} 1 0 = ap how_many (asked law).handlers.none in omega arith
+it_has_no_handler_left : keeps (step (record without_values { handlers = (3, 30) ∷ [] }) (end ∷ [])) ≡ false
+it_has_no_handler_left = refl
 
 -- the last pass, with the key 3 left in it
-and_no_key_left_in_the_pass : Keeps (step (record in_a_pass { pass = 4 }) (end ∷ what.Leftover 2 ∷ [])) → ⊥
-and_no_key_left_in_the_pass law = absurd (false≢true (sym ((asked_first law).over 2 refl)))
+and_no_key_left_in_the_pass : keeps (step (record in_a_pass { pass = 4 }) (end ∷ what.Leftover 2 ∷ [])) ≡ false
+and_no_key_left_in_the_pass = refl
 
 -- the third pass is over
-with_keys_due_it_makes_all_passes : Keeps (step (ending 3 (7 ∷ 7 ∷ 7 ∷ []) []) (end ∷ what.Leftover 2 ∷ [])) → ⊥
-with_keys_due_it_makes_all_passes law = let n : 4 ≤ 3 = (asked_first law).passed (omega arith) in omega arith
+with_keys_due_it_makes_all_passes : keeps (step (ending 3 (7 ∷ 7 ∷ 7 ∷ []) []) (end ∷ what.Leftover 2 ∷ [])) ≡ false
+with_keys_due_it_makes_all_passes = refl
 
-also_before_the_first : Keeps (step before_passes (end ∷ what.Leftover 2 ∷ [])) → ⊥
-also_before_the_first law = let n : 4 ≤ 0 = (asked_first law).passed (omega arith) in omega arith
+also_before_the_first : keeps (step before_passes (end ∷ what.Leftover 2 ∷ [])) ≡ false
+also_before_the_first = refl
 
-it_reports_the_keys_that_are_due : Keeps (step with_values (end ∷ [])) → ⊥
-it_reports_the_keys_that_are_due law = absurd (false≢true ((asked law).reported (omega arith)))
+it_reports_the_keys_that_are_due : keeps (step with_values (end ∷ [])) ≡ false
+it_reports_the_keys_that_are_due = refl
 
-and_their_number : Keeps (step with_values (end ∷ what.Leftover 3 ∷ [])) → ⊥
-and_their_number law = absurd (false≢true ((asked_first law).reported (omega arith)))
+and_their_number : keeps (step with_values (end ∷ what.Leftover 3 ∷ [])) ≡ false
+and_their_number = refl
 
 -- ---- the last thread
 
@@ -268,40 +228,22 @@ ended = record (another 2) { ended = true }
 abbrev gone : Thread
 gone = record (another 2) { gone = true }
 
--- of two threads, one that is not the first is the second
-found_second : (a b u : Thread) (is_first is_second : Bool) → (is_first ≡ true → ⊥) → cond is_first (Some a) (cond is_second (Some b) None) ≡ Some u → b ≡ u
-found_second a b u true is_second other is = absurd (other refl)
-found_second a b u false true other is = ap (λ (t : Option Thread). option_map_or (λ x. x) t b) is
-found_second a b u false false other is = absurd (none-some u is)
-
-second : (a b : Thread) (tid : ℕ) (u : Thread) → thread_with tid (process keys (a ∷ b ∷ [])) ≡ Some u → tid ≢ a.id → b ≡ u
-second a b tid u is other = found_second a b u (nat_eq a.id tid) (nat_eq b.id tid) (λ first. other (sym (eqb-true a.id tid first))) is
-
--- so each other thread that the process has, has ended
-others_ended : (tid : ℕ) (u : Thread) → thread_with tid (process keys (without_values ∷ ended ∷ [])) ≡ Some u → u.gone ≡ false → tid ≢ 1 → u.ended ≡ true
-others_ended tid u is here other = sym (ap (λ (t : Thread). t.ended) (second without_values ended tid u is other))
-
-others_gone : (tid : ℕ) (u : Thread) → thread_with tid (process keys (without_values ∷ gone ∷ [])) ≡ Some u → u.gone ≡ false → tid ≢ 1 → u.ended ≡ true
-others_gone tid u is here other = absurd (false≢true (sym here ∙ sym (ap (λ (t : Thread). t.gone) (second without_values gone tid u is other))))
-
 -- it begins to exit the process with 0
-the_last_exits : Keeps (step_beside ended without_values (end ∷ what.ExitBegun 0 ∷ []))
-the_last_exits =
-    keeps (step_beside ended without_values (end ∷ what.ExitBegun 0 ∷ []))
-    (record { handlers = ready; over = λ place is. absurd (none-some true is); passed = λ (none : 0 < 0). omega arith; last = λ all. refl; reported = λ (none : 0 < 0). absurd (omega arith) }, (tt, tt))
+the_last_exits : keeps (step_beside ended without_values (end ∷ what.ExitBegun 0 ∷ [])) ≡ true
+the_last_exits = refl
 
-the_last_exits_the_process : Keeps (step_beside ended without_values (end ∷ [])) → ⊥
-the_last_exits_the_process law = absurd (false≢true ((asked law).last others_ended))
+the_last_exits_the_process : keeps (step_beside ended without_values (end ∷ [])) ≡ false
+the_last_exits_the_process = refl
 
-where_others_are_gone : Keeps (step_beside gone without_values (end ∷ [])) → ⊥
-where_others_are_gone law = absurd (false≢true ((asked law).last others_gone))
+where_others_are_gone : keeps (step_beside gone without_values (end ∷ [])) ≡ false
+where_others_are_gone = refl
 
-with_0 : Keeps (step_beside ended without_values (end ∷ what.ExitBegun 5 ∷ [])) → ⊥
-with_0 law = absurd (false≢true ((asked_first law).last others_ended))
+with_0 : keeps (step_beside ended without_values (end ∷ what.ExitBegun 5 ∷ [])) ≡ false
+with_0 = refl
 
 -- each event of a step counts, not the first one alone
-no_event_is_passed_over : Keeps (step with_values (end ∷ values_left 3)) → ⊥
-no_event_is_passed_over law = let n : ◌≡◌ {A = ℕ} 3 2 = (law 1 end (omega arith)).0 in omega arith
+no_event_is_passed_over : keeps (step with_values (end ∷ values_left 3)) ≡ false
+no_event_is_passed_over = refl
 
 -- ---- values that stay
 

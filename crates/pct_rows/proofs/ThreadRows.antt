@@ -5,9 +5,9 @@ use Rattle.pct_model.specs.declared.state.FrameKind.TheVariants as kind
 use Rattle.pct_model.specs.declared.script.Script.{Script}
 use Rattle.pct_model.specs.declared.state.Status.{Status}
 use Rattle.pct_model.specs.declared.state.Status.TheVariants as status
-use Rattle.pct_model.specs.Kept.{ThreadKept}
+use Rattle.pct_laws.specs.Kept.{ThreadKept}
 use Rattle.pct_model.specs.Keys.{KeyPlace}
-use Rattle.pct_model.specs.ThreadSummary.{ThreadSummary}
+use Rattle.pct_laws.specs.ThreadSummary.{ThreadSummary}
 use Rattle.pct_model.specs.World.{Thread, new_frame, new_thread}
 use Rattle.pct_model.specs.ThreadSlots.{is_ended_status, is_unreclaimed, exits_after_its_end, holds_slot, next_id, free_ids}
 

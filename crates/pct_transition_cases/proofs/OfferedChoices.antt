@@ -21,7 +21,7 @@ use Rattle.pct_model.specs.declared.statement.Stmt.{Stmt}
 use Rattle.pct_model.specs.declared.statement.Stmt.TheVariants as statement
 use Rattle.pct_model.specs.Cancelability.{is_deliverable, is_asynchronous}
 use Rattle.pct_model.specs.CancelCalls.{called_kind, is_required, is_optional, may_return}
-use Rattle.pct_model.specs.CancelLaw.{is_at_cancellation_point}
+use Rattle.pct_model.specs.StatusKinds.{is_at_cancellation_point}
 use Rattle.pct_model.specs.ChoiceTable.{ChoiceRow, first_row, go_if, act_if, new_or_go, dtor_or_go, pick_or_go, hand_on_or_act, unblocked_acts, is_create, is_key_create, is_signal, waiters_to_signal, running_rows, running_choices, ending_choices, choices_at, same_choice, offers}
 use Rattle.pct_model.specs.Keys.{new_keys, left_keys}
 use Rattle.pct_model.specs.OtherProcesses.{is_running_child}

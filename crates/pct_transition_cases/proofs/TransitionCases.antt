@@ -31,11 +31,11 @@ use Rattle.pct_model.specs.declared.transition.Action.TheVariants as action
 use Rattle.pct_model.specs.declared.transition.Transition.{Transition}
 use Rattle.pct_model.specs.Cancelability.{is_deliverable}
 use Rattle.pct_model.specs.CancelCalls.{state_number, mode_number, state_if, mode_if, testcancel_point, point_kind, is_required}
-use Rattle.pct_model.specs.CancelLaw.{calls_cancellation_point}
+use Rattle.pct_model.specs.StatusKinds.{calls_cancellation_point}
 use Rattle.pct_model.specs.CondCalls.{cond_wait_point}
 use Rattle.pct_model.specs.ForkCalls.{in_fork, next_handler, while_called, handler_event, waitpid_point}
 use Rattle.pct_model.specs.Jumps.{open_of}
-use Rattle.pct_model.specs.Kept.{has_left_wait}
+use Rattle.pct_model.specs.StatusKinds.{has_left_wait}
 use Rattle.pct_model.specs.Keys.{Key, key_place, key_with, new_keys, left_keys, value_at}
 use Rattle.pct_model.specs.NextStatement.{NextStatement, StatementIn}
 use Rattle.pct_model.specs.MutexCalls.{is_free_mutex, owns}

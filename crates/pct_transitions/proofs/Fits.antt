@@ -12,7 +12,7 @@ use Rattle.pct_model.specs.declared.statement.Stmt.{Stmt}
 use Rattle.pct_model.specs.declared.transition.Transition.{Transition}
 use Rattle.pct_model.specs.CancelCalls.{acts_on_request}
 use Rattle.pct_model.specs.Jumps.{holds, is_while, close_of}
-use Rattle.pct_model.specs.Kept.{is_forking}
+use Rattle.pct_model.specs.StatusKinds.{is_forking}
 use Rattle.pct_model.specs.NextStatement.{NextStatement, NoStatement, StatementIn, next_of, body_at}
 use Rattle.pct_model.specs.OtherThreads.{Others}
 use Rattle.pct_model.specs.ScriptStatements.{after_block, after_test}

@@ -6,7 +6,7 @@ use Rattle.pct_model.specs.declared.schedule.Alt.{Alt}
 use Rattle.pct_model.specs.declared.schedule.Config.{Config}
 use Rattle.pct_model.specs.declared.transition.Transition.{Transition}
 use Rattle.pct_model.specs.ChoiceTable.{offers}
-use Rattle.pct_model.specs.Kept.{is_forking}
+use Rattle.pct_model.specs.StatusKinds.{is_forking}
 use Rattle.pct_model.specs.OtherProcesses.{Family}
 use Rattle.pct_model.specs.World.{Thread}
 use Rattle.pct_engine_laws.specs.Seen.{SeenSlot, SeenProcess}

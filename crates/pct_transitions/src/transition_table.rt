@@ -4,7 +4,7 @@ ghost use Rattle.std.specs.Prelude.{◌≡◌, ◌≤◌, true, length};
 ghost use Rattle.pct_model.specs.declared.limits.TheConstants.{MAX_FRAMES, MAX_PASSES};
 ghost use Rattle.pct_model.specs.declared.state.Status.TheVariants as status;
 ghost use Rattle.pct_model.specs.World.{Thread, SharedState, body_of};
-ghost use Rattle.pct_model.specs.Kept.{is_forking};
+ghost use Rattle.pct_model.specs.StatusKinds.{is_forking};
 ghost use Rattle.pct_model.specs.OtherThreads.{Others};
 ghost use Rattle.pct_model.specs.StopTable.{stop_at};
 ghost use Rattle.pct_model.specs.NextStatement.{next_of, body_at};

@@ -16,7 +16,7 @@ use Rattle.pct_model.specs.declared.statement.Stmt.TheVariants as statement
 use Rattle.pct_model.specs.Cancelability.{is_asynchronous, is_deliverable}
 use Rattle.pct_model.specs.CancelCalls.{called_kind, is_optional, is_required, may_return}
 use Rattle.pct_model.specs.ChoiceTable.{choices_at, choices_of, dtor_or_go, ending_choices, go_if, is_create, is_enabled, is_key_create, is_signal, new_or_go, offers, pick_or_go, running_choices, running_rows, waiters_to_signal}
-use Rattle.pct_model.specs.Kept.{has_no_frame}
+use Rattle.pct_model.specs.StatusKinds.{has_no_frame}
 use Rattle.pct_model.specs.Keys.{left_keys, new_keys}
 use Rattle.pct_model.specs.LineParsing.{is_empty}
 use Rattle.pct_model.specs.MutexCalls.{is_blocked, is_free_mutex}

@@ -1,67 +1,48 @@
 -- What follows the end of a thread, and what a thread does that exits its process: no event but those of its exit functions; and the last
 -- thread of a process begins to exit it directly after its end, as each thread of the process has ended.
 use mathlib.Core.Bool.{and-false, or-false}
-use Rattle.std.proofs.Common.{◌≡◌, ℕ, Bool, true, false, not, ◌&&◌, ◌||◌, cond, List, [], ◌∷◌, ◌++◌, map, reverse, nat_eq, Option, Some, None, option_and_then, ◌⊎◌, inl, inr, refl, sym, ap, ap₂, ◌∙◌, subst, eqb-true, eq-eqb}
+use Rattle.std.proofs.Common.{◌≡◌, ℕ, Bool, true, false, ◌&&◌, ◌||◌, cond, List, [], ◌∷◌, ◌++◌, map, reverse, nat_eq, Option, Some, None, option_and_then, ◌⊎◌, inl, inr, refl, sym, ap, ap₂, ◌∙◌, subst, eqb-true, eq-eqb}
 use Rattle.std.specs.Prelude.{is_some}
 use Rattle.std.specs.List.{list_all, list_any}
-use Rattle.std.specs.Option.{IsSomeAnd}
 use Rattle.std.proofs.Math.Bool.{or_assoc}
-use Rattle.std.proofs.lemmas.Bool.{false≢true, true≢false, and_parts, and_from, and_left, or_left, or_right, eqb-false, not-true, false_from_ne_true}
+use Rattle.std.proofs.lemmas.Bool.{false≢true, and_parts, and_from, and_left, or_left, or_right, eqb-false, false_from_ne_true}
 use Rattle.pct_model.specs.declared.event.Event.{Event}
 use Rattle.pct_model.specs.declared.event.What.{What}
 use Rattle.pct_model.specs.declared.event.What.TheVariants as what
-use Rattle.pct_model.specs.declared.frame.Frame.{Frame}
 use Rattle.pct_model.specs.declared.schedule.Config.{Config}
 use Rattle.pct_model.specs.declared.schedule.Entry.{Entry}
 use Rattle.pct_model.specs.declared.script.Script.{Script}
-use Rattle.pct_model.specs.declared.state.FrameKind.TheVariants as kind
-use Rattle.pct_model.specs.declared.state.Reason.{Reason}
-use Rattle.pct_model.specs.declared.state.State.TheVariants.{Disable}
 use Rattle.pct_model.specs.declared.state.Status.{Status}
-use Rattle.pct_model.specs.declared.state.Status.TheVariants as status
 use Rattle.pct_model.specs.declared.statement.Stmt.{Stmt}
 use Rattle.pct_model.specs.declared.transition.Transition.{Transition}
-use Rattle.pct_model.specs.AfterEnd.{is_of_life, begins_exit, begins_exit_with_0, is_of_exit, MayFollowEnd, AfterEnd}
-use Rattle.pct_model.specs.Kept.{is_exit_kind}
-use Rattle.pct_model.specs.KnownThreads.{is_own, makes_process, is_fork_of, creates_id, is_known, has_own, reports_end, newest_event}
-use Rattle.pct_model.specs.LineKinds.{syntax_of}
-use Rattle.pct_model.specs.NextStatement.{NextStatement, next_of, body_at}
+use Rattle.pct_laws.specs.AfterEnd.{begins_exit_with_0, is_of_exit, all_have_ended, allows}
+use Rattle.pct_laws.specs.Each.{each}
+use Rattle.pct_laws.specs.KnownIds.{known_ids}
+use Rattle.pct_laws.specs.KnownThreads.{makes_process, is_fork_of, creates_id, is_known, reports_end}
+use Rattle.pct_model.specs.NextStatement.{NextStatement}
 use Rattle.pct_model.specs.OtherThreads.{Others, others_of}
 use Rattle.pct_model.specs.Run.{Run, event_of, run}
-use Rattle.pct_model.specs.Statements.{encode}
-use Rattle.pct_model.specs.StopTable.{has_begun_to_end}
 use Rattle.pct_model.specs.ThreadSlots.{holds_slot, is_live_thread}
-use Rattle.pct_model.specs.ThreadSummary.{ThreadSummary, with_event, summary_of}
+use Rattle.pct_laws.specs.ThreadSummary.{ThreadSummary, with_event, summary_of, thread_ended}
 use Rattle.pct_model.specs.TransitionTable.{transition_by}
 use Rattle.pct_model.specs.World.{Thread, SharedState, Process, made_process, thread_with}
-use Rattle.pct_transition_cases.proofs.CaseOfTransition.{case_of}
-use Rattle.pct_transition_cases.proofs.OfferedChoices.{deliverable_enabled}
-use Rattle.pct_transition_cases.proofs.PlacedStatements.{IsPlaced, on_top, is_placed}
-use Rattle.pct_transition_cases.proofs.TransitionCases.{TransitionCase, rests, main_returned, start_returned, canceled, fork_handler_called, last_ended, last_ended_with_keys}
+use Rattle.pct_transition_cases.proofs.TransitionCases.{TransitionCase, fork_handler_called, last_ended, last_ended_with_keys}
 use Rattle.pct_ending_laws.proofs.LastThreads.{LastExits, last_exits, others_if_last}
 use Rattle.pct_ending_laws.proofs.ThreadsOfRun.{threads_fit, threads_kept}
-use Rattle.pct_ending_laws.proofs.joins.LawfulJoins.{end_reported}
+use Rattle.pct_ending_laws.proofs.slots.KnownIds.{all_from_members, among_known}
 use Rattle.pct_ending_laws.proofs.slots.ReclaimedThreads.{IsPresent, known_present}
-use Rattle.pct_ending_laws.proofs.exits.PlainFunctions.{is_plain_next, plain_next}
 use Rattle.pct_ending_laws.proofs.lift.EveryProcess.{process_taken, moves_of_run}
 use Rattle.pct_ending_laws.proofs.lift.EveryThread.{OfItsThreads, of_its_threads, of_made_thread}
 use Rattle.pct_ending_laws.proofs.lift.HandlerEvents.{of_each_phase}
 use Rattle.pct_ending_laws.proofs.lift.TakenSteps.{IsTaken, AfterEveryRun, every_run}
 use Rattle.pct_ending_laws.proofs.lift.KeyedLists.{found_passes}
+use Rattle.pct_ending_laws.proofs.lift.SummaryEnds.{begins_exit, ended_after, exiting_after, ended_stays}
 use Rattle.pct_ending_laws.proofs.lift.ThreadsAfter.{Moves, mover}
-use Rattle.pct_ending_laws.proofs.thread.Ends.{not_both}
-use Rattle.pct_ending_laws.proofs.thread.ThreadRule.{summary, summary_reading, HasFrames, ByStatus, RunsExitFunction, ByAnyStatus, FitsAny}
+use Rattle.pct_ending_laws.proofs.steps.MovedThreads.{case_of_step}
+use Rattle.pct_ending_laws.proofs.thread.EndingSteps.{stands}
+use Rattle.pct_ending_laws.proofs.thread.ThreadRule.{summary, summary_reading, FitsAny}
 
 -- ---- the events of a step, newest first
-
--- the newest of some events is the end of their thread
-abbrev newest_ends : List What → Bool
-newest_ends [] = false
-newest_ends (w ∷ added) = reports_end w
-
--- some events are that their thread ends, and that it begins to exit its process
-abbrev ends_and_exits : List What → Bool
-ends_and_exits added = list_any reports_end added && list_any begins_exit added
 
 -- the event makes no thread
 abbrev makes_none : What → Bool
@@ -69,118 +50,36 @@ makes_none (what.Created id detached) = false
 makes_none (what.Forked child) = false
 makes_none _ = true
 
--- an event begins an exit with 0 directly after the end of its thread, and those before it make no thread
-abbrev exits_after : What → List What → Bool
-exits_after w added = begins_exit_with_0 w && (newest_ends added && list_all makes_none added)
-
--- an event may follow others of its step, before which the thread neither ended nor began to exit its process
-abbrev follows_end : What → List What → Bool
-follows_end w added =
-    (not (is_of_life w) || not (list_any reports_end added || list_any begins_exit added))
-    && ((not (list_any begins_exit added) || is_of_exit w) && (not (list_any reports_end added) || (list_any begins_exit added || exits_after w added)))
+-- an event may follow others of its step, before which the thread neither ended nor began to exit its process, where it is the last one of
+-- its process or not
+abbrev follows_end : Bool → What → List What → Bool
+follows_end last w added = cond (list_any begins_exit added) (is_of_exit w) (cond (list_any reports_end added) (begins_exit_with_0 w && (last && list_all makes_none added)) true)
 
 -- each of some events may
-abbrev all_follow_end : List What → Bool
-all_follow_end [] = true
-all_follow_end (w ∷ added) = follows_end w added && all_follow_end added
+abbrev all_follow_end : Bool → List What → Bool
+all_follow_end last [] = true
+all_follow_end last (w ∷ added) = follows_end last w added && all_follow_end last added
 
--- of the events of a step of a thread, by what is reported of it before: it neither ended nor began to exit its process, its events may
--- follow each other, and it is the last thread if it ends and exits; or it exits its process, and each event is one of the exit
-abbrev FollowEnd : Type 0 → ThreadSummary → List What → Type 0
-FollowEnd IsLast s added = record {
+-- of the events of a step of a thread, by what is reported of it before: it neither ended nor began to exit its process, and its events may
+-- follow each other; or it exits its process, and each event is one of the exit
+abbrev FollowEnd : Bool → ThreadSummary → List What → Type 0
+FollowEnd last s added = record {
   not_ended : s.ended ≡ None;
   not_exiting : s.exiting ≡ false;
-  all : all_follow_end added ≡ true;
-  last : ends_and_exits added ≡ true → IsLast;
+  all : all_follow_end last added ≡ true;
 } ⊎ ((s.exiting ≡ true) × (list_all is_of_exit added ≡ true))
-
--- what follows from that the thread is the last one may replace it
-last_follows : (A B : Type 0) → (A → B) → (s : ThreadSummary) (added : List What) → FollowEnd A s added → FollowEnd B s added
-last_follows A B to s added (inl alive) = inl (record { not_ended = alive.not_ended; not_exiting = alive.not_exiting; all = alive.all; last = λ both. to (alive.last both) })
-last_follows A B to s added (inr exits) = inr exits
 
 -- ---- transitions
 
 module _ (passes : ℕ) (shared : SharedState) (t : Thread) (others : Others) where
-  -- the events of any transition may follow each other
-  case_follows : {body : List Stmt} {next : NextStatement} {s : Status} {o : Transition} → TransitionCase passes body shared t others true next s o → all_follow_end (reverse o.events) ≡ true
-  case_follows (fork_handler_called next at call is) = of_each_phase (λ (w : What). all_follow_end (w ∷ []) ≡ true) call.func refl refl refl at.phase
+  -- the events of any transition may follow each other: a thread that ends and exits its process is the last one
+  case_follows : {body : List Stmt} {next : NextStatement} {s : Status} {o : Transition} → TransitionCase passes body shared t others true next s o → all_follow_end others.is_last (reverse o.events) ≡ true
+  case_follows (last_ended next none is_last nothing_due none_left) = and_from _ _ (and_from _ _ is_last refl) refl
+  case_follows (last_ended_with_keys next left none is_last some limit all none_left) = and_from _ _ (and_from _ _ is_last refl) refl
+  case_follows (fork_handler_called next at call is) = of_each_phase (λ (w : What). all_follow_end others.is_last (w ∷ []) ≡ true) call.func refl refl refl at.phase
   case_follows _ = refl
 
-  -- a thread with the status of its end has no transition
-  no_case_ended : {body : List Stmt} {next : NextStatement} {v : ℕ} {o : Transition} → TransitionCase passes body shared t others true next (status.Ended v) o → ⊥
-  no_case_ended (rests next s alive) = true≢false (alive refl)
-
-  -- a thread that ends and exits its process is the last one
-  case_last : {body : List Stmt} {next : NextStatement} {s : Status} {o : Transition} → TransitionCase passes body shared t others true next s o → ends_and_exits (reverse o.events) ≡ true → others.is_last ≡ true
-  case_last (last_ended next none is_last nothing_due none_left) both = is_last
-  case_last (last_ended_with_keys next left none is_last some limit all none_left) both = is_last
-  case_last (fork_handler_called next at call is) both =
-      absurd (of_each_phase (λ (w : What). ends_and_exits (w ∷ []) ≡ true → ⊥) call.func false≢true false≢true false≢true at.phase both)
-  case_last _ both = absurd (false≢true both)
-
-  -- a thread that exits its process, between the functions registered with atexit, has only events of the exit
-  case_exiting : {body : List Stmt} {next : NextStatement} {o : Transition} → TransitionCase passes body shared t others true next status.Exiting o → list_all is_of_exit (reverse o.events) ≡ true
-  case_exiting (rests next s alive) = refl
-  case_exiting _ = refl
-
-  -- and so in such a function, which is plain
-  case_plain : {body : List Stmt} {script : Script} {frame : Frame} {next : NextStatement} {o : Transition} → IsPlaced script (frame ∷ []) body next → frame.kind ≡ kind.ExitFn → t.state ≡ Disable
-      → TransitionCase passes body shared t others true next status.Running o → (list_all is_of_exit (reverse o.events) || not (is_plain_next next)) ≡ true
-  unfolding encode syntax_of
-  case_plain (on_top _ _ s at) exits disabled (start_returned _ _ v returns is) = absurd (true≢false (sym (ap is_exit_kind exits) ∙ ap is_exit_kind is))
-  case_plain (on_top _ _ s at) exits disabled (main_returned _ _ v returns is begun) = absurd (true≢false (sym (ap is_exit_kind exits) ∙ ap is_exit_kind is))
-  case_plain place exits disabled (canceled next delivered at_point) = absurd (not_both t.state disabled (deliverable_enabled t.state t.pending (delivered refl)))
-  case_plain place exits disabled _ = refl
-
-  module _ (script : Script) (why : Reason) (frames : List Frame) (handlers : List (ℕ × ℕ)) (reported : ThreadSummary) (disabled : (has_begun_to_end why || reported.exiting) ≡ true → t.state ≡ Disable) where
-    -- what is known of the events of a transition
-    abbrev Follow : Transition → Type 0
-    Follow o = FollowEnd (others.is_last ≡ true) reported (reverse o.events)
-
-    -- in a function registered with atexit
-    exit_follows : (s : Status) (frames : List Frame) {body : List Stmt} {next : NextStatement} {o : Transition} → RunsExitFunction script s frames reported → IsPlaced script frames body next → TransitionCase passes body shared t others true next s o → Follow o
-    exit_follows status.Running (frame ∷ []) {o = o} exits place c =
-        let plain = plain_next script frame [] exits.1 place in
-        inr (
-          exits.2,
-          sym (or-false (list_all is_of_exit (reverse o.events))) ∙ ap (λ (b : Bool). list_all is_of_exit (reverse o.events) || not b) (sym plain)
-              ∙ case_plain place exits.0 (disabled (or_right (has_begun_to_end why) reported.exiting exits.2)) c,
-        )
-    exit_follows _ _ exits place c = absurd exits
-
-    -- of a thread that neither ended nor began to exit its process
-    alive_follows : {s : Status} {body : List Stmt} {next : NextStatement} {o : Transition} → HasFrames script why frames handlers reported → TransitionCase passes body shared t others true next s o → Follow o
-    alive_follows fits c = inl (record { not_ended = fits.not_ended; not_exiting = fits.not_exiting; all = case_follows c; last = case_last c })
-
-    -- the events of a transition, by the status of the thread
-    status_follows : (s : Status) {body : List Stmt} {next : NextStatement} {o : Transition} → ByStatus script s why frames handlers reported → TransitionCase passes body shared t others true next s o → Follow o
-    status_follows status.Running fits c = alive_follows fits c
-    status_follows (status.AtPoint index) fits c = alive_follows fits.0 c
-    status_follows (status.Joining id) fits c = alive_follows fits.0 c
-    status_follows (status.InSem sem) fits c = alive_follows fits.0 c
-    status_follows (status.InWaitPid pid) fits c = alive_follows fits.0 c
-    status_follows (status.Waiting n m) fits c = alive_follows fits.0 c
-    status_follows (status.Reacquire n m cause) fits c = alive_follows fits.0 c
-    status_follows (status.Forking phase index length pid) fits c = alive_follows fits.0 c
-    status_follows status.Ending fits c = inl (record { not_ended = fits.not_ended; not_exiting = fits.not_exiting; all = case_follows c; last = case_last c })
-    status_follows (status.Ended v) fits c = absurd (no_case_ended c)
-    status_follows status.Exiting fits c = inr (fits.1, case_exiting c)
-
-    any_follows : (s : Status) {body : List Stmt} {next : NextStatement} {o : Transition} → ByAnyStatus script s why frames handlers reported → IsPlaced script frames body next → TransitionCase passes body shared t others true next s o → Follow o
-    any_follows s (inl fits) place c = status_follows s fits c
-    any_follows s (inr exits) place c = exit_follows s frames exits place c
-
 -- ---- the events of a run
-
--- whether a thread has ended, and has begun to exit its process, after an event of it
-ended_after : (w : What) (s : ThreadSummary) → is_some (with_event w s).ended ≡ (reports_end w || is_some s.ended)
-ended_after (what.EndedWith v) s = refl
-ended_after _ s = refl
-
-exiting_after : (w : What) (s : ThreadSummary) → (with_event w s).exiting ≡ (begins_exit w || s.exiting)
-exiting_after (what.ExitBegun v) s = refl
-exiting_after _ s = refl
 
 -- an event that makes no thread creates none, and makes no process
 creates_none : (id : ℕ) (w : What) → makes_none w ≡ true → creates_id id w ≡ false
@@ -190,21 +89,6 @@ creates_none id w none = refl
 makes_no_process : (pid : ℕ) (w : What) → makes_none w ≡ true → makes_process pid w ≡ false
 makes_no_process pid (what.Forked child) none = absurd (false≢true none)
 makes_no_process pid w none = refl
-
--- that exit begins with 0 is that exit begins
-is_exit : (w : What) → begins_exit_with_0 w ≡ true → begins_exit w ≡ true
-is_exit (what.ExitBegun v) is = refl
-is_exit _ is = absurd (false≢true is)
-
--- an event of the exit is none of the life of the thread
-not_of_life : (w : What) → is_of_exit w ≡ true → is_of_life w ≡ false
-not_of_life (what.Emit v) of = refl
-not_of_life (what.ExitRun f) of = refl
-not_of_life (what.Acquired m) of = refl
-not_of_life (what.Released m) of = refl
-not_of_life (what.ProcessEnded n) of = refl
-not_of_life (what.Stopped why) of = refl
-not_of_life _ of = absurd (false≢true of)
 
 module _ (e : Entry) (earlier : List Event) where
   -- what was reported of the thread of the entry before
@@ -225,10 +109,6 @@ module _ (e : Entry) (earlier : List Event) where
       let s : ThreadSummary = summary_of e.pid e.tid (later added) in
       let forked : ThreadSummary = cond (is_fork_of e.pid e.tid (event_of e w)) (record s { handlers = s.handlers }) s in
       ap (λ (own : Bool). cond own (with_event w s) forked) own_event
-
-  -- and is the newest event of the thread
-  own_newest : (w : What) (added : List What) → newest_event e.pid e.tid (later (w ∷ added)) ≡ Some w
-  own_newest w added = ap (λ (own : Bool). cond own (Some w) (newest_event e.pid e.tid (later added))) own_event
 
   -- whether the thread has ended, and has begun to exit its process, after events of the entry
   ended_later : (added : List What) → is_some (summary_of e.pid e.tid (later added)).ended ≡ (list_any reports_end added || is_some before.ended)
@@ -253,16 +133,11 @@ module _ (e : Entry) (earlier : List Event) where
     exiting_in : (summary_of e.pid e.tid (later added)).exiting ≡ list_any begins_exit added
     exiting_in = exiting_later added ∙ ap (λ (b : Bool). list_any begins_exit added || b) not_exiting ∙ or-false (list_any begins_exit added)
 
-  -- where the newest event of the step is the end of the thread, so is the newest of the thread
-  newest_by : (added : List What) → newest_ends added ≡ true → IsSomeAnd (newest_event e.pid e.tid (later added)) (λ last. reports_end last ≡ true)
-  newest_by [] ends = absurd (false≢true ends)
-  newest_by (w ∷ added) ends = subst (λ (o : Option What). IsSomeAnd o (λ last. reports_end last ≡ true)) (sym (own_newest w added)) ends
-
   -- ---- the other threads
 
   -- each other known thread of the process has ended
   abbrev OthersEnded : Type 0
-  OthersEnded = (id : ℕ) → is_known e.pid id earlier ≡ true → nat_eq e.tid id ≡ false → has_own reports_end e.pid id earlier ≡ true
+  OthersEnded = (id : ℕ) → is_known e.pid id earlier ≡ true → nat_eq e.tid id ≡ false → thread_ended e.pid id earlier ≡ true
 
   -- events that make no thread leave the known ones
   known_later : (id : ℕ) (added : List What) → list_all makes_none added ≡ true → is_known e.pid id (later added) ≡ is_known e.pid id earlier
@@ -274,70 +149,47 @@ module _ (e : Entry) (earlier : List Event) where
       ∙ known_later id added parts.1
 
   -- a thread that has ended has ended later
-  ended_still : (id : ℕ) (added : List What) → has_own reports_end e.pid id earlier ≡ true → has_own reports_end e.pid id (later added) ≡ true
+  ended_still : (id : ℕ) (added : List What) → thread_ended e.pid id earlier ≡ true → thread_ended e.pid id (later added) ≡ true
   ended_still id [] ended = ended
-  ended_still id (w ∷ added) ended = or_right (is_own e.pid id (event_of e w) && reports_end w) (has_own reports_end e.pid id (later added)) (ended_still id added ended)
-
-  -- so has the thread of the entry, where the newest event of the step is its end
-  own_ended : (added : List What) → newest_ends added ≡ true → has_own reports_end e.pid e.tid (later added) ≡ true
-  own_ended [] ends = absurd (false≢true ends)
-  own_ended (w ∷ added) ends =
-      or_left (is_own e.pid e.tid (event_of e w) && reports_end w) (has_own reports_end e.pid e.tid (later added)) (and_from (is_own e.pid e.tid (event_of e w)) (reports_end w) own_event ends)
+  ended_still id (w ∷ added) ended = ended_stays e.pid id (event_of e w) (later added) (ended_still id added ended)
 
   -- then each known thread of the process has, if each other one had ended
-  each_ended : (added : List What) → newest_ends added ≡ true → list_all makes_none added ≡ true → OthersEnded → (id : ℕ) → is_known e.pid id (later added) ≡ true → has_own reports_end e.pid id (later added) ≡ true
-  each_ended added ends none others id known = by (nat_eq e.tid id) refl
+  each_ended : (added : List What) → list_any reports_end added ≡ true → list_all makes_none added ≡ true → OthersEnded → all_have_ended e.pid (later added) ≡ true
+  each_ended added ends none others = all_from_members (λ (id : ℕ). thread_ended e.pid id (later added)) (known_ids e.pid (later added)) (λ id among. by id (sym (among_known id e.pid (later added)) ∙ among) (nat_eq e.tid id) refl)
     where
-      by : (same : Bool) → nat_eq e.tid id ≡ same → has_own reports_end e.pid id (later added) ≡ true
-      by true same = subst (λ (n : ℕ). has_own reports_end e.pid n (later added) ≡ true) (eqb-true e.tid id same) (own_ended added ends)
-      by false other = ended_still id added (others id (sym (known_later id added none) ∙ known) other)
+      by : (id : ℕ) → is_known e.pid id (later added) ≡ true → (same : Bool) → nat_eq e.tid id ≡ same → thread_ended e.pid id (later added) ≡ true
+      by id known true same = subst (λ (n : ℕ). thread_ended e.pid n (later added) ≡ true) (eqb-true e.tid id same) (ended_later added ∙ or_left (list_any reports_end added) (is_some before.ended) ends)
+      by id known false other = ended_still id added (others id (sym (known_later id added none) ∙ known) other)
 
   -- ---- the law
 
+  -- by whether the thread has begun to exit its process, and has ended
+  may_by : (w : What) (exiting ended last none all : Bool) → cond exiting (is_of_exit w) (cond ended (begins_exit_with_0 w && (last && none)) true) ≡ true → (ended ≡ true → last ≡ true → none ≡ true → all ≡ true)
+      → cond exiting (is_of_exit w) (cond ended (begins_exit_with_0 w && all) true) ≡ true
+  may_by w true ended last none all may then = may
+  may_by w false true last none all may then = let parts = and_parts (begins_exit_with_0 w) (last && none) may in let more = and_parts last none parts.1 in and_from _ _ parts.0 (then refl more.0 more.1)
+  may_by w false false last none all may then = refl
+
   -- an event that may follow the others of its step
-  alive_may : (w : What) (added : List What) → before.ended ≡ None → before.exiting ≡ false → follows_end w added ≡ true → (ends_and_exits (w ∷ added) ≡ true → OthersEnded) → MayFollowEnd w e.pid e.tid (later added)
-  alive_may w added not_ended not_exiting follows last =
-      let ended : Bool = list_any reports_end added in
-      let exits : Bool = list_any begins_exit added in
-      let parts = and_parts (not (is_of_life w) || not (ended || exits)) ((not exits || is_of_exit w) && (not ended || (exits || exits_after w added))) follows in
-      let more = and_parts (not exits || is_of_exit w) (not ended || (exits || exits_after w added)) parts.1 in
-      let ended_is = ended_in added not_ended not_exiting in
-      let exits_is = exiting_in added not_ended not_exiting in
-      record {
-        life = λ of. ap₂ (λ (a b : Bool). a || b) ended_is exits_is ∙ not-true (ended || exits) (sym (ap (λ (b : Bool). not b || not (ended || exits)) of) ∙ parts.0);
-        exits = λ exiting. sym (ap (λ (b : Bool). not b || is_of_exit w) (sym exits_is ∙ exiting)) ∙ more.0;
-        goes_on = λ has_ended alive.
-            let at_end : exits_after w added ≡ true = sym (ap₂ (λ (a b : Bool). not a || (b || exits_after w added)) (sym ended_is ∙ has_ended) (sym exits_is ∙ alive)) ∙ more.1 in
-            let both = and_parts (begins_exit_with_0 w) (newest_ends added && list_all makes_none added) at_end in
-            let newest = and_parts (newest_ends added) (list_all makes_none added) both.1 in
-            record {
-              exits = both.0;
-              directly = newest_by added newest.0;
-              last = each_ended added newest.0 newest.1 (last (and_from (reports_end w || ended) (begins_exit w || exits)
-                  (or_right (reports_end w) ended (sym ended_is ∙ has_ended)) (or_left (begins_exit w) exits (is_exit w both.0))));
-            };
-      }
+  alive_may : (last : Bool) (w : What) (added : List What) → before.ended ≡ None → before.exiting ≡ false → follows_end last w added ≡ true → (last ≡ true → OthersEnded) → allows (event_of e w) (later added) ≡ true
+  alive_may last w added not_ended not_exiting may others =
+      ap₂ (λ (exiting ended : Bool). cond exiting (is_of_exit w) (cond ended (begins_exit_with_0 w && all_have_ended e.pid (later added)) true)) (exiting_in added not_ended not_exiting) (ended_in added not_ended not_exiting)
+      ∙ may_by w (list_any begins_exit added) (list_any reports_end added) last (list_all makes_none added) (all_have_ended e.pid (later added)) may (λ ends is none. each_ended added ends none (others is))
 
   -- one of the exit, of a thread that exits its process
-  exiting_may : (w : What) (added : List What) → before.exiting ≡ true → is_of_exit w ≡ true → MayFollowEnd w e.pid e.tid (later added)
-  exiting_may w added exiting of_exit = record {
-    life = λ of. absurd (false≢true (sym (not_of_life w of_exit) ∙ of));
-    exits = λ exits. of_exit;
-    goes_on = λ has_ended alive. absurd (false≢true (sym alive ∙ exiting_later added ∙ or_right (list_any begins_exit added) before.exiting exiting));
-  }
+  exiting_may : (w : What) (added : List What) → before.exiting ≡ true → is_of_exit w ≡ true → allows (event_of e w) (later added) ≡ true
+  exiting_may w added exiting of_exit =
+      ap (λ (b : Bool). cond b (is_of_exit w) (cond (is_some (summary_of e.pid e.tid (later added)).ended) (begins_exit_with_0 w && all_have_ended e.pid (later added)) true)) (exiting_later added ∙ or_right (list_any begins_exit added) before.exiting exiting) ∙ of_exit
 
   -- the law after the events of a step
-  after_end_later : (added : List What) → FollowEnd OthersEnded before added → AfterEnd earlier → AfterEnd (later added)
-  after_end_later [] follow law = law
-  after_end_later (w ∷ added) (inl alive) law =
-      let parts = and_parts (follows_end w added) (all_follow_end added) alive.all in
-      let rest : ends_and_exits added ≡ true → OthersEnded = λ both.
-      let two = and_parts (list_any reports_end added) (list_any begins_exit added) both in
-      alive.last (and_from (reports_end w || list_any reports_end added) (begins_exit w || list_any begins_exit added) (or_right (reports_end w) (list_any reports_end added) two.0) (or_right (begins_exit w) (list_any begins_exit added) two.1)) in
-      (alive_may w added alive.not_ended alive.not_exiting parts.0 alive.last, after_end_later added (inl (record { not_ended = alive.not_ended; not_exiting = alive.not_exiting; all = parts.1; last = rest })) law)
-  after_end_later (w ∷ added) (inr exits) law =
+  after_end_later : (last : Bool) (added : List What) → FollowEnd last before added → (last ≡ true → OthersEnded) → each allows earlier ≡ true → each allows (later added) ≡ true
+  after_end_later last [] follow others law = law
+  after_end_later last (w ∷ added) (inl alive) others law =
+      let parts = and_parts (follows_end last w added) (all_follow_end last added) alive.all in
+      and_from _ _ (alive_may last w added alive.not_ended alive.not_exiting parts.0 others) (after_end_later last added (inl (record { not_ended = alive.not_ended; not_exiting = alive.not_exiting; all = parts.1 })) others law)
+  after_end_later last (w ∷ added) (inr exits) others law =
       let parts = and_parts (is_of_exit w) (list_all is_of_exit added) exits.1 in
-      (exiting_may w added exits.0 parts.0, after_end_later added (inr (exits.0, parts.1)) law)
+      and_from _ _ (exiting_may w added exits.0 parts.0) (after_end_later last added (inr (exits.0, parts.1)) others law)
 
 module _ (script : Script) (config : Config) (before : List Entry) (r : Run) (is : run script config before ≡ Some r) (e : Entry) (p : Process) (t : Thread) (taken : IsTaken script config r.world e p t) where
   -- its process was made, and it moves its thread
@@ -357,24 +209,29 @@ module _ (script : Script) (config : Config) (before : List Entry) (r : Run) (is
       let number : u.id ≡ id = eqb-true u.id id (found_passes (λ (x : Thread). nat_eq x.id id) p.threads u it.is) in
       let not_it : is_live_thread e.tid u ≡ false = and_left (nat_eq u.id e.tid) (holds_slot u) (false_from_ne_true (nat_eq u.id e.tid) (λ same. eqb-false e.tid id other (sym (eqb-true u.id e.tid same) ∙ number))) in
       let ended : u.ended ≡ true = others_if_last script config r.world p e t of_threads moves exits last id u it.is it.here not_it in
-      sym (end_reported e.pid id r.events) ∙ (threads_kept script config before r is e.pid id p u made it.is it.here).ended ∙ ended
+      (threads_kept script config before r is e.pid id p u made it.is it.here).ended ∙ ended
 
   -- the events of a legal entry, by what is reported of its thread before
-  follow_end : FollowEnd (OthersEnded e r.events) (summary_of e.pid e.tid r.events) (reverse (transition_by script config r.world p t e.alt).events)
+  follow_end : FollowEnd (others_of config.slots r.world p t.id).is_last (summary_of e.pid e.tid r.events) (reverse (transition_by script config r.world p t e.alt).events)
   follow_end =
       let m = mover script config r.world p e t moves in
       let found = ap (option_and_then (thread_with e.tid)) made ∙ m.found in
       let reported : ThreadSummary = summary_of e.pid e.tid r.events in
       let fits : FitsAny script config.passes t reported =
       subst (FitsAny script config.passes t) (sym (summary_reading e.tid e.pid r.events)) (of_made_thread summary (FitsAny script config.passes) r (threads_fit script config before r is) e.pid e.tid t found m.here) in
-      let others : Others = others_of config.slots r.world p t.id in
-      last_follows (others.is_last ≡ true) (OthersEnded e r.events) others_ended reported (reverse (transition_by script config r.world p t e.alt).events)
-      (any_follows config.passes p.shared t others script t.reason t.frames t.handlers reported fits.agrees.disabled t.status fits.by_status (is_placed script t.frames)
-      (case_of config.passes (body_at script t.frames) p.shared t others true e.alt (next_of script t.frames) t.status (λ known. taken.offered)))
+      elim (stands script config r.world p t reported e.alt taken.offered fits) [
+        | inl alive ↦ inl (record {
+          not_ended = alive.0;
+          not_exiting = alive.1;
+          all = case_follows config.passes p.shared t (others_of config.slots r.world p t.id) (case_of_step script config r.world p e t moves);
+        })
+        | inr exits ↦ inr (exits.0, exits.2)
+      ]
 
 module _ (script : Script) (config : Config) where
-  -- after every run, a thread that exits its process has only events of the exit; no event of the life of a thread follows its end, or that
-  -- it begins to exit its process; and a thread that has ended goes on only to exit its process, as the last one of it
-  pub after_end_of_run : AfterEveryRun script config (λ r. AfterEnd r.events)
-  after_end_of_run = every_run script config (λ r. AfterEnd r.events)
-      (λ before r is e p t taken law. after_end_later e r.events (reverse (transition_by script config r.world p t e.alt).events) (follow_end script config before r is e p t taken) law) (λ some. tt)
+  -- after every run, a thread that exits its process has only events of the exit, and one that has ended goes on only to exit its process, as
+  -- the last one of it
+  pub after_end_of_run : AfterEveryRun script config (λ r. each allows r.events ≡ true)
+  after_end_of_run = every_run script config (λ r. each allows r.events ≡ true)
+      (λ before r is e p t taken law.
+      after_end_later e r.events (others_of config.slots r.world p t.id).is_last (reverse (transition_by script config r.world p t e.alt).events) (follow_end script config before r is e p t taken) (others_ended script config before r is e p t taken) law) (λ some. refl)

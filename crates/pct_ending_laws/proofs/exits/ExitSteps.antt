@@ -14,13 +14,13 @@ use Rattle.pct_model.specs.declared.statement.Stmt.TheVariants as statement
 use Rattle.pct_model.specs.declared.transition.Action.TheVariants as action
 use Rattle.pct_model.specs.declared.transition.Transition.{Transition}
 use Rattle.pct_model.specs.Actions.{frames_written, thread_at, thread_after}
-use Rattle.pct_model.specs.Kept.{is_exit_kind, IsPlainFunction}
+use Rattle.pct_laws.specs.Kept.{is_exit_kind, IsPlainFunction}
 use Rattle.pct_model.specs.LineKinds.{syntax_of}
 use Rattle.pct_model.specs.NextStatement.{NextStatement}
 use Rattle.pct_model.specs.OtherThreads.{Others}
 use Rattle.pct_model.specs.Statements.{encode}
 use Rattle.pct_model.specs.StopTable.{has_begun_to_end}
-use Rattle.pct_model.specs.ThreadSummary.{ThreadSummary}
+use Rattle.pct_laws.specs.ThreadSummary.{ThreadSummary}
 use Rattle.pct_model.specs.Transitions.{acts}
 use Rattle.pct_model.specs.World.{Thread, SharedState, body_of}
 use Rattle.pct_transition_cases.proofs.OfferedChoices.{deliverable_enabled}
@@ -45,7 +45,7 @@ module _ (script : Script) (passes : ℕ) (matches : PushesMatch script) (t : Th
       by_status = inr (refl, plain, fits.by_status.1);
       in_passes = fits.in_passes;
     };
-    lawful = (tt, tt);
+    lawful = refl;
   }
 
   module _ (frame : Frame) (reported : ThreadSummary) (fits : FitsAny script passes (running t (frame ∷ [])) reported) (exits : RunsExitFunction script status.Running (frame ∷ []) reported) where
@@ -66,15 +66,15 @@ module _ (script : Script) (passes : ℕ) (matches : PushesMatch script) (t : Th
     pub exit_step_keeps : {shared : SharedState} {others : Others} {body : List Stmt} {next : NextStatement} {o : Transition} → IsPlaced script (frame ∷ []) body next
         → TransitionCase passes body shared (running t (frame ∷ [])) others true next status.Running o → is_plain_next next ≡ true → KeepsAny script passes (running t (frame ∷ [])) reported o
     unfolding thread_at thread_after encode syntax_of
-    exit_step_keeps place (rests next s alive) plain = record { own = fits; lawful = tt }
-    exit_step_keeps place (stopped _ s why) plain = record { own = fits; lawful = (tt, tt) }
-    exit_step_keeps {shared} (on_top _ _ s at) (jumped _ _ pc leads) plain = record { own = at_pc_fits pc (leads_within script passes matches frame shared.globals at leads); lawful = tt }
-    exit_step_keeps (on_top _ _ s at) (emitted _ v) plain = record { own = at_pc_fits (suc frame.pc) (matches.next_within frame (statement.Emit v) at refl); lawful = (tt, tt) }
-    exit_step_keeps (on_top _ _ s at) (variable_set _ d v) plain = record { own = written_fits d _ (suc frame.pc) (matches.next_within frame (statement.Set d v) at refl); lawful = tt }
-    exit_step_keeps (on_top _ _ s at) (variable_added _ d v) plain = record { own = written_fits d _ (suc frame.pc) (matches.next_within frame (statement.Add d v) at refl); lawful = tt }
-    exit_step_keeps (on_top _ _ s at) (mutex_locked _ m free) plain = record { own = at_pc_fits (suc frame.pc) (matches.next_within frame (statement.Lock m) at refl); lawful = (tt, tt) }
-    exit_step_keeps (on_top _ _ s at) (mutex_unlocked _ m owned) plain = record { own = at_pc_fits (suc frame.pc) (matches.next_within frame (statement.Unlock m) at refl); lawful = (tt, tt) }
-    exit_step_keeps (on_top _ _ s at) (exit_function_left _ _ v returns is) plain = record { own = record { agrees = fits.agrees; placed = tt; by_status = inl (refl, exits.2); in_passes = fits.in_passes }; lawful = tt }
+    exit_step_keeps place (rests next s alive) plain = record { own = fits; lawful = refl }
+    exit_step_keeps place (stopped _ s why) plain = record { own = fits; lawful = refl }
+    exit_step_keeps {shared} (on_top _ _ s at) (jumped _ _ pc leads) plain = record { own = at_pc_fits pc (leads_within script passes matches frame shared.globals at leads); lawful = refl }
+    exit_step_keeps (on_top _ _ s at) (emitted _ v) plain = record { own = at_pc_fits (suc frame.pc) (matches.next_within frame (statement.Emit v) at refl); lawful = refl }
+    exit_step_keeps (on_top _ _ s at) (variable_set _ d v) plain = record { own = written_fits d _ (suc frame.pc) (matches.next_within frame (statement.Set d v) at refl); lawful = refl }
+    exit_step_keeps (on_top _ _ s at) (variable_added _ d v) plain = record { own = written_fits d _ (suc frame.pc) (matches.next_within frame (statement.Add d v) at refl); lawful = refl }
+    exit_step_keeps (on_top _ _ s at) (mutex_locked _ m free) plain = record { own = at_pc_fits (suc frame.pc) (matches.next_within frame (statement.Lock m) at refl); lawful = refl }
+    exit_step_keeps (on_top _ _ s at) (mutex_unlocked _ m owned) plain = record { own = at_pc_fits (suc frame.pc) (matches.next_within frame (statement.Unlock m) at refl); lawful = refl }
+    exit_step_keeps (on_top _ _ s at) (exit_function_left _ _ v returns is) plain = record { own = record { agrees = fits.agrees; placed = tt; by_status = inl (refl, exits.2); in_passes = fits.in_passes }; lawful = refl }
     exit_step_keeps (on_top _ _ s at) (main_returned _ _ v returns is once) plain = absurd (other_kind kind.Main refl is)
     exit_step_keeps (on_top _ _ s at) (start_returned _ _ v returns is) plain = absurd (other_kind kind.Start refl is)
     exit_step_keeps (on_top _ _ s at) (call_left _ _ v returns (inl is)) plain = absurd (other_kind kind.Call refl is)

@@ -13,7 +13,7 @@ use Rattle.pct_model.specs.declared.statement.Dest.{Dest}
 use Rattle.pct_model.specs.declared.statement.Stmt.{Stmt}
 use Rattle.pct_model.specs.declared.statement.Stmt.TheVariants as statement
 use Rattle.pct_model.specs.Checks.{is_plain}
-use Rattle.pct_model.specs.Kept.{IsPlainFunction, IsPlainIfSome, ArePlainHandlers}
+use Rattle.pct_laws.specs.Kept.{IsPlainFunction, IsPlainIfSome, ArePlainHandlers}
 use Rattle.pct_model.specs.LineKinds.{syntax_of}
 use Rattle.pct_model.specs.NextStatement.{NextStatement, NoStatement, StatementIn}
 use Rattle.pct_model.specs.Statements.{encode, optional, role_of}

@@ -17,7 +17,7 @@ use Rattle.pct_model.specs.declared.statement.Stmt.{Stmt}
 use Rattle.pct_model.specs.declared.transition.Transition.{Transition}
 use Rattle.pct_model.specs.Actions.{without_first, shared_after, for_each, child_of, changed}
 use Rattle.pct_model.specs.ForkCalls.{handler_for, handler_at, handlers_among, indexes_left, next_handler}
-use Rattle.pct_model.specs.Kept.{IsPlainFunction, IsPlainIfSome, ArePlainHandlers}
+use Rattle.pct_laws.specs.Kept.{IsPlainFunction, IsPlainIfSome, ArePlainHandlers}
 use Rattle.pct_model.specs.NextStatement.{NextStatement, next_of, body_at}
 use Rattle.pct_model.specs.OtherThreads.{Others, others_of}
 use Rattle.pct_model.specs.TransitionTable.{transition_by}

@@ -27,7 +27,7 @@ use Rattle.pct_ending_laws.proofs.lift.InheritedThreads.{each_heir}
 use Rattle.pct_ending_laws.proofs.lift.EveryProcess.{OfEveryProcess, IsProcessRule, unread, every_process_keeps, moves_of_run}
 use Rattle.pct_ending_laws.proofs.joins.JoinTransitions.{is_in_join, MayJoin, Kind, ends, detaches_one, kind_of, moves_alive}
 use Rattle.pct_ending_laws.proofs.joins.NamedThreads.{names_join, names_detach, releases, naming, unnamed, joined_after, detached_after}
-use Rattle.pct_ending_laws.proofs.joins.NewestEvents.{InJoin, stays, begun, in_join_after}
+use Rattle.pct_ending_laws.proofs.joins.ThreadsInJoin.{InJoin, stays, begun, in_join_after}
 
 -- ---- the rule of a process
 

@@ -1,69 +1,47 @@
 -- The law of joins holds of the events of every run.
-use Rattle.std.proofs.Common.{◌≡◌, ℕ, Bool, true, false, not, ◌&&◌, ◌||◌, cond, List, [], ◌∷◌, ◌++◌, map, reverse, nat_eq, is_some, Option, Some, None, option_and_then, refl, sym, ap, ◌∙◌, eq-eqb}
+use Rattle.std.proofs.Common.{◌≡◌, ℕ, Bool, true, false, not, ◌&&◌, ◌||◌, List, ◌∷◌, ◌++◌, map, reverse, nat_eq, Option, Some, option_and_then, refl, sym, ap, ◌∙◌, eq-eqb}
 use Rattle.std.specs.List.{list_all}
 use Rattle.std.specs.Option.{option_map_or}
-use Rattle.std.proofs.lemmas.Bool.{false≢true, true≢false, and_parts, or_left, true_from_ne_false, false_from_ne_true}
-use Rattle.std.proofs.lemmas.Option.{none-some, same_Some}
+use Rattle.std.proofs.lemmas.Bool.{false≢true, true≢false, and_from, true_from_ne_false, false_from_ne_true}
+use Rattle.std.proofs.lemmas.Option.{same_Some}
 use Rattle.pct_model.specs.declared.script.Script.{Script}
 use Rattle.pct_model.specs.declared.schedule.Config.{Config}
 use Rattle.pct_model.specs.declared.schedule.Entry.{Entry}
-use Rattle.pct_model.specs.declared.event.Event.{Event}
 use Rattle.pct_model.specs.declared.event.What.{What}
 use Rattle.pct_model.specs.declared.event.What.TheVariants as what
+use Rattle.pct_model.specs.declared.state.Status.{Status}
 use Rattle.pct_model.specs.declared.state.Status.TheVariants as status
+use Rattle.pct_model.specs.declared.statement.Stmt.{Stmt}
+use Rattle.pct_model.specs.NextStatement.{NextStatement}
+use Rattle.pct_model.specs.OtherThreads.{others_of}
+use Rattle.pct_transition_cases.proofs.TransitionCases.{TransitionCase, join_ended, thread_detached, request_sent, fork_handler_called}
 use Rattle.pct_model.specs.declared.transition.Transition.{Transition}
-use Rattle.pct_model.specs.CancelCalls.{requests, acts_on_request}
-use Rattle.pct_model.specs.JoinLaw.{NamesLive, JoinsEnded, MayName, JoinLaw}
-use Rattle.pct_model.specs.Kept.{ThreadKept}
-use Rattle.pct_model.specs.KnownThreads.{is_own, is_fork_of, is_joined, is_detached, ends_with, reports_end, has_own}
-use Rattle.pct_model.specs.World.{made_process, thread_with, made_thread, Thread, Process}
+use Rattle.pct_laws.specs.Each.{each}
+use Rattle.pct_laws.specs.JoinLaw.{is_live, may_name, allows}
+use Rattle.pct_laws.specs.NewestEvents.{calls_point}
+use Rattle.pct_laws.specs.Kept.{ThreadKept}
+use Rattle.pct_laws.specs.KnownThreads.{is_joined, is_detached}
+use Rattle.pct_model.specs.World.{made_process, thread_with, made_thread, Thread, Process, value_of}
 use Rattle.pct_model.specs.Run.{Run, event_of, run}
-use Rattle.pct_model.specs.ThreadCalls.{creates, begins_join, ends_join, detaches}
+use Rattle.pct_model.specs.ThreadCalls.{join_point}
 use Rattle.pct_model.specs.ThreadSlots.{is_ended_status, with_id}
-use Rattle.pct_model.specs.ThreadSummary.{ThreadSummary, with_event, summary_of}
+use Rattle.pct_laws.specs.ThreadSummary.{ThreadSummary, summary_of}
 use Rattle.pct_model.specs.TransitionTable.{transition_by}
 use Rattle.pct_ending_laws.proofs.ThreadsOfRun.{threads_fit, threads_kept}
 use Rattle.pct_ending_laws.proofs.LastThreads.{last_exits}
+use Rattle.pct_ending_laws.proofs.lift.HandlerEvents.{of_each_phase}
+use Rattle.pct_ending_laws.proofs.steps.MovedThreads.{case_of_step}
 use Rattle.pct_ending_laws.proofs.lift.TakenSteps.{IsTaken, every_run}
 use Rattle.pct_ending_laws.proofs.lift.ReportedBy.{reported_by, of_thread}
 use Rattle.pct_ending_laws.proofs.lift.EveryThread.{of_made_thread}
 use Rattle.pct_ending_laws.proofs.lift.MadeThreads.{IsLive, live_thread}
-use Rattle.pct_ending_laws.proofs.lift.EveryProcess.{process_taken, ids_of_run}
+use Rattle.pct_ending_laws.proofs.lift.EveryProcess.{process_taken, ids_of_run, moves_of_run}
 use Rattle.pct_ending_laws.proofs.thread.EndingSteps.{goes_on}
 use Rattle.pct_ending_laws.proofs.thread.ThreadRule.{summary, FitsAny}
-use Rattle.pct_ending_laws.proofs.joins.JoinTransitions.{is_in_join, names_none, Kind, quiet, ends, detaches_one, requests_one, kind_of}
+use Rattle.pct_ending_laws.proofs.joins.JoinTransitions.{names_none}
 use Rattle.pct_ending_laws.proofs.joins.ReportedFlags.{known_of_run, joined_of_run, detached_of_run}
-use Rattle.pct_ending_laws.proofs.joins.NewestEvents.{newest_of_run}
+use Rattle.pct_ending_laws.proofs.requests.SuspendedCalls.{call_event, newest_call_of_run}
 use Rattle.pct_ending_laws.proofs.joins.JoiningThreads.{JoinsOne, joins_of_processes}
-
--- ---- the event of the end of a thread
-
--- what each event of the thread keeps of its summary and of whether it has an event that passes a test, holds of them after every event
-module _ (test : What → Bool) (Q : Option ℕ → Bool → Type 0) (start : Q None false) (next : (w : What) (s : ThreadSummary) (k : Bool) → Q s.ended k → Q (with_event w s).ended (test w || k)) where
-  end_by : (own fork : Bool) (w : What) (s parent : ThreadSummary) (k : Bool) → Q s.ended k → Q (cond own (with_event w s) (cond fork (record s { handlers = parent.handlers }) s)).ended ((own && test w) || k)
-  end_by true fork w s parent k holds = next w s k holds
-  end_by false true w s parent k holds = holds
-  end_by false false w s parent k holds = holds
-
-  end_after : (pid tid : ℕ) (events : List Event) → Q (summary_of pid tid events).ended (has_own test pid tid events)
-  end_after pid tid [] = start
-  end_after pid tid (e ∷ earlier) = end_by (is_own pid tid e) (is_fork_of pid tid e) e.what (summary_of pid tid earlier) (summary_of e.pid tid earlier) (has_own test pid tid earlier) (end_after pid tid earlier)
-
--- the summary of a thread has a value exactly if the thread has an event of its end
-reported_after : (w : What) (s : ThreadSummary) (earlier : Bool) → is_some s.ended ≡ earlier → is_some (with_event w s).ended ≡ (reports_end w || earlier)
-reported_after (what.EndedWith v) s earlier same = refl
-reported_after w s earlier same = same
-
-pub end_reported : (pid tid : ℕ) (events : List Event) → is_some (summary_of pid tid events).ended ≡ has_own reports_end pid tid events
-end_reported = end_after reports_end (λ value k. is_some value ≡ k) refl reported_after
-
--- it has an event of its end with this value
-value_after : (v : ℕ) (w : What) (s : ThreadSummary) (earlier : Bool) → (s.ended ≡ Some v → earlier ≡ true) → (with_event w s).ended ≡ Some v → (ends_with v w || earlier) ≡ true
-value_after v (what.EndedWith n) s earlier before is = or_left (nat_eq n v) earlier (eq-eqb n v (same_Some n v is))
-value_after v w s earlier before is = before is
-
-value_reported : (v pid tid : ℕ) (events : List Event) → (summary_of pid tid events).ended ≡ Some v → has_own (ends_with v) pid tid events ≡ true
-value_reported v = end_after (ends_with v) (λ value k. value ≡ Some v → k ≡ true) (λ none. absurd (none-some v none)) (value_after v)
 
 -- ---- one thread
 
@@ -76,19 +54,6 @@ unreclaimed_by false true true true holds has_status = absurd (false≢true hold
 unreclaimed_by gone true false true holds has_status = absurd (false≢true (has_status refl))
 
 -- ---- a step
-
-silent_may : (w : What) → names_none w ≡ true → (pid tid : ℕ) (earlier : List Event) → MayName w pid tid earlier
-silent_may (what.Joined id v) none pid tid earlier = absurd (false≢true none)
-silent_may (what.Request id) none pid tid earlier = absurd (false≢true none)
-silent_may (what.Detached id) none pid tid earlier = absurd (false≢true none)
-silent_may w none pid tid earlier = tt
-
--- events that name no thread may come at any time
-silent_lawful : (e : Entry) (added : List What) → list_all names_none added ≡ true → (earlier : List Event) → JoinLaw earlier → JoinLaw (map (event_of e) added ++ earlier)
-silent_lawful e [] all earlier law = law
-silent_lawful e (w ∷ added) all earlier law =
-    let parts = and_parts (names_none w) (list_all names_none added) all in
-    (silent_may w parts.0 e.pid e.tid (map (event_of e) added ++ earlier), silent_lawful e added parts.1 earlier law)
 
 module _ (script : Script) (config : Config) (before : List Entry) (r : Run) (is : run script config before ≡ Some r) (e : Entry) (p : Process) (t : Thread) (taken : IsTaken script config r.world e p t) where
   process_is : made_process e.pid r.world ≡ Some p
@@ -116,48 +81,46 @@ module _ (script : Script) (config : Config) (before : List Entry) (r : Run) (is
   not_ended silent = false_from_ne_true t.ended (λ ended. false≢true (silent ended))
 
   -- a thread that another one names, which has not ended
-  names_live : (id : ℕ) (u : Thread) → t.ended ≡ false → with_id id p.threads ≡ Some u → NamesLive e.pid id r.events
+  names_live : (id : ℕ) (u : Thread) → t.ended ≡ false → with_id id p.threads ≡ Some u → is_live e.pid id r.events ≡ true
   names_live id u alive is_u =
       let target : IsLive p id u = live id u is_u in
       let kept : ThreadKept script p.shared.keys u (summary_of e.pid id r.events) = threads_kept script config before r is e.pid id p u process_is target.found target.here in
       let has_status : u.ended ≡ true → is_ended_status u.status ≡ true = λ ended. true_from_ne_false (is_ended_status u.status) (λ exits.
       true≢false (sym (last_exits script config (threads_fit script config) before r is e.pid p process_is id u target.found (target.here, ended, exits) e.tid t it.found it.here) ∙ alive)) in
-      record {
-        known = known_of_run script config before r is e.pid id ∙ ap (λ (found : Option Thread). option_map_or (λ x. not x.gone) found false) (made id u is_u) ∙ ap not target.here;
-        unreclaimed =
-            ap (λ (b : Bool). b && (is_joined e.pid id r.events || is_detached e.pid id r.events)) (sym (end_reported e.pid id r.events) ∙ kept.ended)
-            ∙ ap (λ (b : Bool). u.ended && (b || is_detached e.pid id r.events)) (sym (joined_of_run script config before r is e.pid id u (made id u is_u) target.here))
-            ∙ ap (λ (b : Bool). u.ended && (u.joined || b)) (sym (detached_of_run script config before r is e.pid id u (made id u is_u) target.here))
-            ∙ unreclaimed_by u.gone u.ended (is_ended_status u.status) (u.joined || u.detached) target.holds has_status;
-      }
+      and_from _ _ (known_of_run script config before r is e.pid id ∙ ap (λ (found : Option Thread). option_map_or (λ x. not x.gone) found false) (made id u is_u) ∙ ap not target.here)
+      (ap not (
+      ap (λ (b : Bool). b && (is_joined e.pid id r.events || is_detached e.pid id r.events)) kept.ended
+      ∙ ap (λ (b : Bool). u.ended && (b || is_detached e.pid id r.events)) (sym (joined_of_run script config before r is e.pid id u (made id u is_u) target.here))
+      ∙ ap (λ (b : Bool). u.ended && (u.joined || b)) (sym (detached_of_run script config before r is e.pid id u (made id u is_u) target.here))
+      ∙ unreclaimed_by u.gone u.ended (is_ended_status u.status) (u.joined || u.detached) target.holds has_status
+      ))
 
   -- a thread that is joined
-  joins_ended : (id v : ℕ) (u : Thread) → t.status ≡ status.Joining id → with_id id p.threads ≡ Some u → u.status ≡ status.Ended v → JoinsEnded e.pid e.tid id v r.events
+  joins_ended : (id v : ℕ) (u : Thread) → t.status ≡ status.Joining id → with_id id p.threads ≡ Some u → u.status ≡ status.Ended v → may_name (what.Joined id v) e.pid e.tid r.events ≡ true
   joins_ended id v u joins is_u ended =
       let target : IsLive p id u = live id u is_u in
       let kept : ThreadKept script p.shared.keys u (summary_of e.pid id r.events) = threads_kept script config before r is e.pid id p u process_is target.found target.here in
       let one : JoinsOne p.threads e.tid id = (joins_of_processes script config before r is e.pid p process_is).joins e.tid t it.found it.here id joins in
       let same : one.target ≡ u = same_Some one.target u (sym one.made ∙ target.found) in
-      record {
-        ended = value_reported v e.pid id r.events (kept.value v ended);
-        not_joined = sym (joined_of_run script config before r is e.pid id u (made id u is_u) target.here) ∙ ap (λ (x : Thread). x.joined) (sym same) ∙ one.not_joined;
-        joinable = sym (detached_of_run script config before r is e.pid id u (made id u is_u) target.here) ∙ ap (λ (x : Thread). x.detached) (sym same) ∙ one.joinable;
-        suspended = newest_of_run script config before r is e.pid e.tid t it_made it.here (ap is_in_join joins);
-      }
+      and_from _ _ (and_from _ _ (and_from _ _ (ap (λ (value : Option ℕ). option_map_or (λ n. nat_eq n v) value false) (kept.value v ended) ∙ eq-eqb v v refl)
+      (ap not (sym (joined_of_run script config before r is e.pid id u (made id u is_u) target.here) ∙ ap (λ (x : Thread). x.joined) (sym same) ∙ one.not_joined)))
+      (ap not (sym (detached_of_run script config before r is e.pid id u (made id u is_u) target.here) ∙ ap (λ (x : Thread). x.detached) (sym same) ∙ one.joinable)))
+      (ap (λ (o : Option What). option_map_or (calls_point join_point) o false) (newest_call_of_run script config before r is e.pid e.tid t it_made it.here (what.Called join_point) (ap call_event joins)))
 
-  -- the events of the step
-  lawful_by : (o : Transition) → Kind t.id p.threads t.status o → (t.ended ≡ true → list_all names_none (reverse o.events) ≡ true) → JoinLaw r.events → JoinLaw (map (event_of e) (reverse o.events) ++ r.events)
-  unfolding creates begins_join ends_join detaches requests acts_on_request
-  lawful_by o (quiet is nothing) silent law = silent_lawful e (reverse o.events) is.events r.events law
-  lawful_by o (ends next d n v target s is_target ended) silent law = (joins_ended n v target s is_target ended, law)
-  lawful_by o (detaches_one next n target s is_target alone) silent law = (names_live n target (not_ended silent) is_target, law)
-  lawful_by o (requests_one next n target s is_target) silent law = (names_live n target (not_ended silent) is_target, law)
-  lawful_by o _ silent law = (tt, law)
+  -- the events of a transition
+  case_lawful : {body : List Stmt} {next : NextStatement} {s : Status} {o : Transition} → t.status ≡ s → TransitionCase config.passes body p.shared t (others_of config.slots r.world p t.id) true next s o → (t.ended ≡ true → list_all names_none (reverse o.events) ≡ true) → each allows r.events ≡ true
+      → each allows (map (event_of e) (reverse o.events) ++ r.events) ≡ true
+  unfolding others_of
+  case_lawful joins (join_ended frame operand d id v target is ended) silent law = and_from _ _ (joins_ended id v target joins is ended) law
+  case_lawful runs (thread_detached frame id target is joinable alone) silent law = and_from _ _ (names_live (value_of p.shared.globals frame id) target (not_ended silent) is) law
+  case_lawful runs (request_sent frame id target is) silent law = and_from _ _ (names_live (value_of p.shared.globals frame id) target (not_ended silent) is) law
+  case_lawful runs (fork_handler_called next at call is) silent law = of_each_phase (λ (w : What). each allows (event_of e w ∷ r.events) ≡ true) call.func law law law at.phase
+  case_lawful runs _ silent law = assumption
 
 -- ---- every run
 
 -- the law of joins
-pub joins_of_run : (script : Script) (config : Config) (entries : List Entry) (r : Run) → run script config entries ≡ Some r → JoinLaw r.events
+pub joins_of_run : (script : Script) (config : Config) (entries : List Entry) (r : Run) → run script config entries ≡ Some r → each allows r.events ≡ true
 joins_of_run script config entries r is =
-    every_run script config (λ r. JoinLaw r.events)
-    (λ before r is e p t taken law. lawful_by script config before r is e p t taken (transition_by script config r.world p t e.alt) (kind_of script config r.world p t e.alt) (ended_silent script config before r is e p t taken) law) (λ some. tt) entries r is
+    every_run script config (λ r. each allows r.events ≡ true)
+    (λ before r is e p t taken law. case_lawful script config before r is e p t taken refl (case_of_step script config r.world p e t (moves_of_run script config before r is e p t taken)) (ended_silent script config before r is e p t taken) law) (λ some. refl) entries r is

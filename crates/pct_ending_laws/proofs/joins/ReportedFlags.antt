@@ -18,7 +18,7 @@ use Rattle.pct_model.specs.World.{Thread, Process, World, made_process, thread_w
 use Rattle.pct_model.specs.TransitionTable.{transition_by}
 use Rattle.pct_model.specs.Actions.{replica_of, thread_moved, changed}
 use Rattle.pct_model.specs.Run.{Run, event_of, run}
-use Rattle.pct_model.specs.KnownThreads.{makes_process, is_in, is_fork_of, creates_id, is_known, detaches_id, is_detached, joins_id, is_joined}
+use Rattle.pct_laws.specs.KnownThreads.{makes_process, is_in, is_fork_of, creates_id, is_known, detaches_id, is_detached, joins_id, is_joined}
 use Rattle.pct_model.specs.ThreadSlots.{holds_slot}
 use Rattle.pct_ending_laws.proofs.lift.KeyedLists.{found_passes}
 use Rattle.pct_ending_laws.proofs.lift.TakenSteps.{AfterEveryRun}

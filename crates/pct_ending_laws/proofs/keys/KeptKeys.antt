@@ -10,7 +10,7 @@ use Rattle.pct_model.specs.declared.limits.TheConstants.{MAX_KEYS}
 use Rattle.pct_model.specs.declared.script.Script.{Script}
 use Rattle.pct_model.specs.declared.transition.Action.{Action}
 use Rattle.pct_model.specs.declared.transition.Action.TheVariants as action
-use Rattle.pct_model.specs.Kept.{KeysKept, IsLastMade}
+use Rattle.pct_laws.specs.Kept.{KeysKept, IsLastMade}
 use Rattle.pct_model.specs.Keys.{Key, KeyPlace, no_keys, KeyValues, no_values, key_place, key_at, next_key, new_keys, with_key, without_key, value_at, with_value, without_value, with_pass}
 use Rattle.pct_ending_laws.proofs.lift.OfferedNumbers.{IsNumberOf, new_key_of}
 use Rattle.pct_ending_laws.proofs.keys.KeyPlaces.{default_set, default_stays, default_of_replicate, item_of_replicate, item_set, place_of_next}

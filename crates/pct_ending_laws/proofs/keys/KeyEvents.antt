@@ -4,7 +4,7 @@ use mathlib.Core.Bool.{or-false}
 use Rattle.std.proofs.Common.{◌≡◌, ◌≢◌, ℕ, zero, suc, ◌+◌, ◌<◌, Bool, true, false, not, ◌&&◌, ◌||◌, cond, List, [], ◌∷◌, ◌++◌, length, map, reverse, nat_eq, set, replicate, slice_get, is_none, is_some, Option, Some, None, option_and_then, refl, sym, ap, ◌∙◌, subst, eqb-true, ne_eqb, arith}
 use Rattle.std.specs.List.{list_any}
 use Rattle.std.specs.Option.{option_map_or}
-use Rattle.std.proofs.lemmas.Bool.{true≢false, false≢true, eqb-false, eq-eqb}
+use Rattle.std.proofs.lemmas.Bool.{true≢false, false≢true, and_from, eqb-false, eq-eqb}
 use Rattle.std.proofs.lemmas.Option.{none-some, slice_get-get_or, slice_get_within}
 use Rattle.pct_model.specs.declared.event.Event.{Event}
 use Rattle.pct_model.specs.declared.event.What.{What}
@@ -16,9 +16,10 @@ use Rattle.pct_model.specs.declared.state.Status.{Status}
 use Rattle.pct_model.specs.declared.statement.Stmt.{Stmt}
 use Rattle.pct_model.specs.declared.transition.Transition.{Transition}
 use Rattle.pct_model.specs.Actions.{shared_after, for_each, child_of, changed}
-use Rattle.pct_model.specs.Calls.{KeysLaw}
-use Rattle.pct_model.specs.Kept.{EachProcess, KeysKept}
-use Rattle.pct_model.specs.KeyEvents.{key_after, has_key}
+use Rattle.pct_laws.specs.Each.{each}
+use Rattle.pct_laws.specs.KeysLaw.{allows}
+use Rattle.pct_laws.specs.Kept.{EachProcess, KeysKept}
+use Rattle.pct_laws.specs.KeyEvents.{key_after, has_key}
 use Rattle.pct_model.specs.Keys.{Key, KeyPlace, no_keys, key_place, key_at, next_key, if_number, key_with, new_keys, with_key, without_key, value_at}
 use Rattle.pct_model.specs.NextStatement.{NextStatement, next_of, body_at}
 use Rattle.pct_model.specs.OtherThreads.{Others, others_of}
@@ -196,11 +197,11 @@ module _ (script : Script) (passes : ℕ) (body : List Stmt) (shared : SharedSta
 
   -- the law after the events of a transition
   case_lawful : (earlier : List Event) → AreReported shared.keys (λ n. has_key e.pid n earlier) → {next : NextStatement} {s : Status} {o : Transition} → TransitionCase passes body shared t others true next s o
-      → KeysLaw earlier → KeysLaw (map (event_of e) (reverse o.events) ++ earlier)
+      → each allows earlier ≡ true → each allows (map (event_of e) (reverse o.events) ++ earlier) ≡ true
   case_lawful earlier fits (destructor_called next k f key none found named left) law =
       let not_null : nat_eq (value_at (key_place k) t.specific) 0 ≡ false = left_has_value script shared.keys kept t.specific k (left_key_of shared.keys t.specific k (left refl)) in
-      ((eqb-false (value_at (key_place k) t.specific) 0 not_null, sym (fits k) ∙ ap is_some found), law)
-  case_lawful earlier fits (fork_handler_called next at call is) law = of_each_phase (λ (w : What). KeysLaw (event_of e w ∷ earlier)) call.func (tt, law) (tt, law) (tt, law) at.phase
+      and_from _ _ (and_from _ _ (ap not not_null) (sym (fits k) ∙ ap is_some found)) law
+  case_lawful earlier fits (fork_handler_called next at call is) law = of_each_phase (λ (w : What). each allows (event_of e w ∷ earlier) ≡ true) call.func law law law at.phase
   case_lawful earlier fits _ law = assumption
 
 -- ---- runs
@@ -243,7 +244,7 @@ module _ (script : Script) (config : Config) where
         (case_reported script config.passes (body_at script t.frames) p.shared t others known.0.keys e reported fits its_case)
 
     -- the law after the transition
-    lawful_after : (earlier : List Event) → Fit p (λ n. has_key e.pid n earlier) → KeysLaw earlier → KeysLaw (map (event_of e) (reverse o.events) ++ earlier)
+    lawful_after : (earlier : List Event) → Fit p (λ n. has_key e.pid n earlier) → each allows earlier ≡ true → each allows (map (event_of e) (reverse o.events) ++ earlier) ≡ true
     lawful_after earlier fits = case_lawful script config.passes (body_at script t.frames) p.shared t others known.0.keys e earlier fits its_case
 
   -- each step keeps it that the keys of a process are those that are reported
@@ -265,6 +266,6 @@ module _ (script : Script) (config : Config) where
   key_events_of_run entries r is pid p made key = of_made has Fit r (keys_fit entries r is) pid p made key ∙ sym (has_reading key pid r.events)
 
   -- after every run, each destructor was called with a value that is not NULL, for a key that was made and not deleted
-  pub keys_law_of_run : AfterEveryRun script config (λ r. KeysLaw r.events)
-  keys_law_of_run = every_run script config (λ r. KeysLaw r.events) (λ before r is e p t taken.
-      lawful_after r.world p e t (moves_in script config (KeysFit script) (keys_of_run script config) before r is e p t taken) r.events (key_events_of_run before r is e.pid p (process_taken script config before r is e p t taken))) (λ some. tt)
+  pub keys_law_of_run : AfterEveryRun script config (λ r. each allows r.events ≡ true)
+  keys_law_of_run = every_run script config (λ r. each allows r.events ≡ true) (λ before r is e p t taken.
+      lawful_after r.world p e t (moves_in script config (KeysFit script) (keys_of_run script config) before r is e p t taken) r.events (key_events_of_run before r is e.pid p (process_taken script config before r is e p t taken))) (λ some. refl)

@@ -14,7 +14,7 @@ use Rattle.pct_model.specs.declared.transition.Action.TheVariants as action
 use Rattle.pct_model.specs.declared.transition.Transition.{Transition}
 use Rattle.pct_model.specs.Actions.{without_first, thread_at, thread_after, named_after, shared_after, for_each, child_of, moved, thread_moved, changed}
 use Rattle.pct_model.specs.CondCalls.{is_waiting_on, unblocked}
-use Rattle.pct_model.specs.Kept.{KeysKept}
+use Rattle.pct_laws.specs.Kept.{KeysKept}
 use Rattle.pct_model.specs.Keys.{KeyPlace, KeyValues}
 use Rattle.pct_model.specs.ThreadSlots.{is_live_thread}
 use Rattle.pct_model.specs.TransitionTable.{transition_by}

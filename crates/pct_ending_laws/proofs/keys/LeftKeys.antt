@@ -5,7 +5,7 @@ use Rattle.std.proofs.lemmas.Bool.{false≢true, and_parts, not-true}
 use Rattle.std.proofs.lemmas.Option.{none-some, slice_get_within, get_or_from_slice_get, option_and_then_some}
 use Rattle.pct_model.specs.declared.limits.TheConstants.{MAX_KEYS}
 use Rattle.pct_model.specs.declared.script.Script.{Script}
-use Rattle.pct_model.specs.Kept.{KeysKept, IsLastMade}
+use Rattle.pct_laws.specs.Kept.{KeysKept, IsLastMade}
 use Rattle.pct_model.specs.Keys.{Key, KeyPlace, KeyValues, key_place, key_at, if_number, key_with, number_at, value_at, is_due, is_left}
 use Rattle.pct_ending_laws.proofs.lift.OfferedNumbers.{IsNumberOf}
 use Rattle.pct_ending_laws.proofs.keys.KeyPlaces.{place_of_last}

@@ -21,7 +21,7 @@ use Rattle.pct_model.specs.declared.transition.Transition.{Transition}
 use Rattle.pct_model.specs.Actions.{child_by}
 use Rattle.pct_model.specs.ChoiceTable.{offers, choices_of}
 use Rattle.pct_model.specs.ForkCalls.{forks_by}
-use Rattle.pct_model.specs.KnownThreads.{creates_id, makes_process}
+use Rattle.pct_laws.specs.KnownThreads.{creates_id, makes_process}
 use Rattle.pct_model.specs.NextStatement.{NextStatement, next_of, body_at}
 use Rattle.pct_model.specs.OtherProcesses.{family_among, is_unreaped, relative_of}
 use Rattle.pct_model.specs.OtherThreads.{Others, others_of}

@@ -10,7 +10,7 @@ use Rattle.pct_model.specs.declared.event.Event.{Event}
 use Rattle.pct_model.specs.declared.event.What.{What}
 use Rattle.pct_model.specs.declared.event.What.TheVariants as what
 use Rattle.pct_model.specs.World.{Thread, Process, World, made_process, thread_with, made_thread}
-use Rattle.pct_model.specs.KnownThreads.{is_own, is_fork_of, makes_process}
+use Rattle.pct_laws.specs.KnownThreads.{is_own, is_fork_of, makes_process}
 use Rattle.pct_model.specs.ThreadNumbers.{ForksMade, NumbersThreads}
 use Rattle.pct_ending_laws.proofs.lift.TakenSteps.{AfterEveryRun}
 use Rattle.pct_ending_laws.proofs.lift.ProcessIds.{have_pids}

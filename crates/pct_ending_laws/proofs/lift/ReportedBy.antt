@@ -3,7 +3,7 @@ use mathlib.Core.Bool.{and-true}
 use Rattle.std.proofs.Common.{◌≡◌, ℕ, Bool, true, false, ◌&&◌, cond, List, [], ◌∷◌, ◌++◌, map, nat_eq, refl, ap, ap₂, ◌∙◌, eq-eqb}
 use Rattle.std.specs.List.{list_any}
 use Rattle.std.proofs.lemmas.Bool.{or_parts, and_right}
-use Rattle.pct_model.specs.KnownThreads.{makes_process, is_in, is_own}
+use Rattle.pct_laws.specs.KnownThreads.{makes_process, is_in, is_own}
 use Rattle.pct_model.specs.declared.event.Event.{Event}
 use Rattle.pct_model.specs.declared.event.What.{What}
 use Rattle.pct_model.specs.declared.event.What.TheVariants.{Forked}

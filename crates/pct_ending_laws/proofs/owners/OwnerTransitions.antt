@@ -1,8 +1,8 @@
 -- What each transition does with the owners of mutexes, by the tables: it sets those that its events report, a mutex that it acquires has
 -- no owner before, and one that it releases is owned by its thread.
-use Rattle.std.proofs.Common.{◌≡◌, ℕ, ◌<◌, Bool, true, false, cond, List, [], ◌∷◌, ◌++◌, length, map, reverse, nat_eq, refl, sym, ap₂, ◌∙◌, subst, eqb-true}
+use Rattle.std.proofs.Common.{◌≡◌, ℕ, ◌<◌, Bool, true, false, cond, List, [], ◌∷◌, ◌++◌, length, map, reverse, nat_eq, refl, sym, ap, ap₂, ◌∙◌, subst, eqb-true}
 use Rattle.std.specs.Prelude.{slice_index, slice_set}
-use Rattle.std.proofs.lemmas.Bool.{eqb-false}
+use Rattle.std.proofs.lemmas.Bool.{eqb-false, and_from}
 use Rattle.std.proofs.lemmas.List.{get_or-set_same, get_or-set_other, length-set}
 use Rattle.pct_model.specs.declared.event.Event.{Event}
 use Rattle.pct_model.specs.declared.event.What.{What}
@@ -15,10 +15,11 @@ use Rattle.pct_model.specs.declared.statement.Stmt.{Stmt}
 use Rattle.pct_model.specs.declared.transition.Transition.{Transition}
 use Rattle.pct_model.specs.Actions.{shared_after, for_each}
 use Rattle.pct_model.specs.CondCalls.{cond_wait_point}
-use Rattle.pct_model.specs.CondLaw.{OwnersLaw}
-use Rattle.pct_model.specs.Kept.{IsSuspendedAt}
+use Rattle.pct_laws.specs.Each.{each}
+use Rattle.pct_laws.specs.CondLaw.{owners_allow}
+use Rattle.pct_laws.specs.Kept.{IsSuspendedAt}
 use Rattle.pct_model.specs.MutexCalls.{owns}
-use Rattle.pct_model.specs.MutexOwners.{owner_after, owner_of}
+use Rattle.pct_laws.specs.MutexOwners.{owner_after, owner_of}
 use Rattle.pct_model.specs.NextStatement.{NextStatement}
 use Rattle.pct_model.specs.OtherThreads.{Others}
 use Rattle.pct_model.specs.Run.{event_of}
@@ -79,17 +80,20 @@ module _ (script : Script) (passes : ℕ) (shared : SharedState) (t : Thread) (o
   module _ (earlier : List Event) (fits : OwnersFit script shared.owners (λ m. reported_by (owner m) e.pid earlier)) where
     -- the owner of a mutex, after the earlier events and some of the transition that do not change it
     owned : (m id : ℕ) (added : List What) → after_own (owner m) (map (event_of e) added) (reported_by (owner m) e.pid earlier) ≡ reported_by (owner m) e.pid earlier
-        → owns id m shared ≡ true → owner_of e.pid m (map (event_of e) added ++ earlier) ≡ id
+        → owns id m shared ≡ true → nat_eq (owner_of e.pid m (map (event_of e) added ++ earlier)) id ≡ true
     owned m id added same is =
-        owner_reading m e.pid (map (event_of e) added ++ earlier) ∙ own_after (owner m) e earlier added ∙ same ∙ sym (fits.same m) ∙ eqb-true (slice_index shared.owners m) id is
+        ap (λ n. nat_eq n id) (owner_reading m e.pid (map (event_of e) added ++ earlier) ∙ own_after (owner m) e earlier added ∙ same ∙ sym (fits.same m)) ∙ is
+
+    own_id : (m : ℕ) (added : List What) → after_own (owner m) (map (event_of e) added) (reported_by (owner m) e.pid earlier) ≡ reported_by (owner m) e.pid earlier → owns t.id m shared ≡ true → nat_eq (owner_of e.pid m (map (event_of e) added ++ earlier)) e.tid ≡ true
+    own_id m added same is = subst (λ (id : ℕ). nat_eq (owner_of e.pid m (map (event_of e) added ++ earlier)) id ≡ true) is_own (owned m t.id added same is)
 
     -- the law after the events of a transition
     pub case_lawful : {body : List Stmt} {next : NextStatement} {s : Status} {o : Transition} → TransitionCase passes body shared t others true next s o
-        → OwnersLaw earlier → OwnersLaw (map (event_of e) (reverse o.events) ++ earlier)
-    case_lawful (mutex_locked frame m free) law = (owned m 0 [] refl (free refl), law)
-    case_lawful (mutex_unlocked frame m is) law = (owned m t.id [] refl is ∙ is_own, law)
-    case_lawful (wait_begun frame c m is one unasked) law = (owned m t.id (what.Called cond_wait_point ∷ []) refl is ∙ is_own, (tt, law))
-    case_lawful (wait_ended frame _ _ c m why stays free) law = (tt, (owned m 0 [] refl (free refl), law))
-    case_lawful (ended_in_wait next c m free) law = (tt, (owned m 0 [] refl (free refl), law))
-    case_lawful (fork_handler_called next at call is) law = of_each_phase (λ (w : What). OwnersLaw (event_of e w ∷ earlier)) call.func (tt, law) (tt, law) (tt, law) at.phase
+        → each owners_allow earlier ≡ true → each owners_allow (map (event_of e) (reverse o.events) ++ earlier) ≡ true
+    case_lawful (mutex_locked frame m free) law = and_from _ _ (owned m 0 [] refl (free refl)) law
+    case_lawful (mutex_unlocked frame m is) law = and_from _ _ (own_id m [] refl is) law
+    case_lawful (wait_begun frame c m is one unasked) law = and_from _ _ (own_id m (what.Called cond_wait_point ∷ []) refl is) law
+    case_lawful (wait_ended frame _ _ c m why stays free) law = and_from _ _ (owned m 0 [] refl (free refl)) law
+    case_lawful (ended_in_wait next c m free) law = and_from _ _ (owned m 0 [] refl (free refl)) law
+    case_lawful (fork_handler_called next at call is) law = of_each_phase (λ (w : What). each owners_allow (event_of e w ∷ earlier) ≡ true) call.func law law law at.phase
     case_lawful _ law = assumption

@@ -9,8 +9,9 @@ use Rattle.pct_model.specs.declared.schedule.Entry.{Entry}
 use Rattle.pct_model.specs.declared.script.Script.{Script}
 use Rattle.pct_model.specs.declared.transition.Transition.{Transition}
 use Rattle.pct_model.specs.Actions.{child_of, changed}
-use Rattle.pct_model.specs.CondLaw.{OwnersLaw}
-use Rattle.pct_model.specs.Kept.{IsSuspendedAt, EachProcess, OwnersKept}
+use Rattle.pct_laws.specs.Each.{each}
+use Rattle.pct_laws.specs.CondLaw.{owners_allow}
+use Rattle.pct_laws.specs.Kept.{IsSuspendedAt, EachProcess, OwnersKept}
 use Rattle.pct_model.specs.NextStatement.{next_of, body_at}
 use Rattle.pct_model.specs.OtherThreads.{Others, others_of}
 use Rattle.pct_model.specs.Run.{event_of}
@@ -67,7 +68,7 @@ module _ (script : Script) (config : Config) where
         subst (λ (s : SharedState). OwnersFit script s.owners (λ m. after_own (owner m) (map (event_of e) (reverse o.events)) (reported m))) (sym (changed_shared e.tid o p))
         (case_fits script config.passes p.shared t others e its_id reported fits (is_placed script t.frames) moves.1 its_case)
 
-    lawful_after : (earlier : List Event) → Fit p (λ m. reported_by (owner m) e.pid earlier) → OwnersLaw earlier → OwnersLaw (map (event_of e) (reverse o.events) ++ earlier)
+    lawful_after : (earlier : List Event) → Fit p (λ m. reported_by (owner m) e.pid earlier) → each owners_allow earlier ≡ true → each owners_allow (map (event_of e) (reverse o.events) ++ earlier) ≡ true
     lawful_after earlier fits = case_lawful script config.passes p.shared t others e its_id earlier fits its_case
 
   owners_rule : IsProcessRule owner Fit script config MovesAt
@@ -89,6 +90,6 @@ module _ (script : Script) (config : Config) where
       record { mutexes = fits.places; owners = λ m. fits.same m ∙ sym (owner_reading m pid r.events) }
 
   -- the law of the owners of mutexes
-  pub owners_of_run : AfterEveryRun script config (λ r. OwnersLaw r.events)
-  owners_of_run = every_run script config (λ r. OwnersLaw r.events) (λ before r is e p t taken.
-      lawful_after r.world p e t (moves_at before r is e p t taken) r.events (of_made owner Fit r (owners_fit before r is) e.pid p (process_taken script config before r is e p t taken))) (λ some. tt)
+  pub owners_of_run : AfterEveryRun script config (λ r. each owners_allow r.events ≡ true)
+  owners_of_run = every_run script config (λ r. each owners_allow r.events ≡ true) (λ before r is e p t taken.
+      lawful_after r.world p e t (moves_at before r is e p t taken) r.events (of_made owner Fit r (owners_fit before r is) e.pid p (process_taken script config before r is e p t taken))) (λ some. refl)

@@ -12,8 +12,8 @@ use Rattle.pct_model.specs.declared.schedule.Config.{Config}
 use Rattle.pct_model.specs.declared.schedule.Entry.{Entry}
 use Rattle.pct_model.specs.declared.script.Script.{Script}
 use Rattle.pct_model.specs.Actions.{is_live_process}
-use Rattle.pct_model.specs.KnownThreads.{is_in, is_fork_of, creates_id, is_known, makes_process}
-use Rattle.pct_model.specs.ProcessLaw.{was_made}
+use Rattle.pct_laws.specs.KnownThreads.{is_in, is_fork_of, creates_id, is_known, makes_process}
+use Rattle.pct_laws.specs.ProcessLaw.{was_made}
 use Rattle.pct_model.specs.Run.{Run, event_of, run}
 use Rattle.pct_model.specs.ThreadNumbers.{ForksMade, NumbersThreads}
 use Rattle.pct_model.specs.World.{Thread, Process, World, made_process, thread_with}

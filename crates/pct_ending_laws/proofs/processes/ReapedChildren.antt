@@ -1,11 +1,10 @@
 -- waitpid gives the status of a child that a fork of the process made, that has ended, and that was not reaped before: the parent of a
 -- process forked it, its end is that of an event, and it was reaped if an event reports so.
 use mathlib.Core.Bool.{or-false}
-use Rattle.std.proofs.Common.{◌≡◌, ◌≢◌, ℕ, ◌+◌, ◌%◌, Bool, true, false, not, ◌&&◌, ◌||◌, cond, List, [], ◌∷◌, map, filter, find, reverse, nat_eq, Option, Some, None, is_some, option_map, ◌⊎◌, inl, inr, refl, sym, ap, ◌∙◌, subst, eq-eqb, eqb-true, arith}
-use Rattle.std.specs.Prelude.{IfSome}
+use Rattle.std.proofs.Common.{◌≡◌, ◌≢◌, ℕ, ◌+◌, Bool, true, false, not, ◌&&◌, ◌||◌, cond, List, [], ◌∷◌, map, filter, find, reverse, nat_eq, Option, Some, None, is_some, option_map, ◌⊎◌, inl, inr, refl, sym, ap, ◌∙◌, subst, eq-eqb, eqb-true, arith}
 use Rattle.std.specs.List.{list_any, position_or_len}
 use Rattle.std.specs.Option.{IsSomeAnd, option_or}
-use Rattle.std.proofs.lemmas.Bool.{false≢true, true≢false, and_parts, and_right, or_left, or_right, or_cases, not-true, false_from_ne_true}
+use Rattle.std.proofs.lemmas.Bool.{false≢true, true≢false, and_parts, and_from, and_right, or_right, or_cases, not-true, false_from_ne_true}
 use Rattle.std.proofs.lemmas.List.Folds.{list_any-append}
 use Rattle.std.proofs.lemmas.Option.{none-some, same_Some}
 use Rattle.pct_model.specs.declared.event.Event.{Event}
@@ -22,17 +21,17 @@ use Rattle.pct_model.specs.declared.transition.Action.{Action}
 use Rattle.pct_model.specs.declared.transition.Action.TheVariants as action
 use Rattle.pct_model.specs.declared.transition.Transition.{Transition}
 use Rattle.pct_model.specs.Actions.{has_ended, orphaned, as_reaped, other_process_after, process_after, shared_after, for_each, child_of, threads_moved, changed, is_live_process, process_moved, after_transition}
-use Rattle.pct_model.specs.Kept.{EachProcess}
-use Rattle.pct_model.specs.KnownThreads.{is_in, makes_process}
+use Rattle.pct_laws.specs.Kept.{EachProcess}
+use Rattle.pct_laws.specs.KnownThreads.{is_in, makes_process}
 use Rattle.pct_model.specs.NextStatement.{NextStatement, next_of, body_at}
 use Rattle.pct_model.specs.OtherProcesses.{is_unreaped, relative_of, family_among, family_of}
 use Rattle.pct_model.specs.OtherThreads.{Others, others_of}
-use Rattle.pct_model.specs.ProcessLaw.{has_in, ends_process_with, reaps_process, MayChange}
+use Rattle.pct_laws.specs.ProcessLaw.{has_status, has_in, reaps_process, may_change}
 use Rattle.pct_model.specs.Run.{Run, event_of, run}
 use Rattle.pct_model.specs.TransitionTable.{transition_by}
-use Rattle.pct_model.specs.World.{Thread, SharedState, ProcessEnd, Process, World, was_reaped, made_process, value_of}
+use Rattle.pct_model.specs.World.{Thread, SharedState, ProcessEnd, Process, World, was_reaped, made_process}
 use Rattle.pct_transition_cases.proofs.CaseOfTransition.{case_of}
-use Rattle.pct_transition_cases.proofs.TransitionCases.{TransitionCase, fork_handler_called, child_reaped, process_ended_now, process_ended}
+use Rattle.pct_transition_cases.proofs.TransitionCases.{TransitionCase, fork_handler_called, child_reaped}
 use Rattle.pct_ending_laws.proofs.lift.ChangedThreads.{all_keep, pids_of}
 use Rattle.pct_ending_laws.proofs.lift.EveryProcess.{process_taken, of_made, IsProcessRule, every_process}
 use Rattle.pct_ending_laws.proofs.lift.HandlerEvents.{of_each_phase}
@@ -41,7 +40,7 @@ use Rattle.pct_ending_laws.proofs.lift.MadeThreads.{child_made, IsStep, is_step,
 use Rattle.pct_ending_laws.proofs.lift.ProcessIds.{HavePids, have_pids, ids_of_made}
 use Rattle.pct_ending_laws.proofs.lift.ReportedBy.{Reading, reported_by, after_own}
 use Rattle.pct_ending_laws.proofs.lift.TakenSteps.{IsTaken, with_step, AfterEveryRun, every_run}
-use Rattle.pct_ending_laws.proofs.processes.EndedProcesses.{has_reading, has_in_reading}
+use Rattle.pct_ending_laws.proofs.processes.ProcessEnds.{end_status_of_run}
 use Rattle.pct_ending_laws.proofs.processes.StoppedRuns.{any_added}
 
 -- ---- another process
@@ -103,36 +102,6 @@ made_event n pid [] is = absurd (false≢true is)
 made_event n pid (e ∷ earlier) is =
     made_by (is_in pid e) (nat_eq e.pid n && makes_process pid e.what) (reported_by (made_reading n) pid earlier) (has_in (makes_process pid) n earlier) (made_event n pid earlier) is
 
--- ---- ends
-
--- the status of the end of a process, if it has ended, is that of an event
-abbrev EndReported : Process → (ℕ → Bool) → Type 0
-EndReported p k = IfSome p.ended (λ end. k end.status ≡ true)
-
--- a process whose parent ends keeps its status
-orphan_end : (k : ℕ → Bool) (end : Option ProcessEnd) (p : Process) → p.ended ≡ end → EndReported p k → EndReported (orphaned end p) k
-orphan_end k None p is holds = holds
-orphan_end k (Some end) p is holds = subst (λ (o : Option ProcessEnd). IfSome o (λ end. k end.status ≡ true)) is holds
-
--- and so does one that is reaped
-reaped_end : (k : ℕ → Bool) (end : Option ProcessEnd) → IfSome end (λ end. k end.status ≡ true) → IfSome (as_reaped end) (λ end. k end.status ≡ true)
-reaped_end k None holds = holds
-reaped_end k (Some end) holds = holds
-
--- the status of an event is the one that it reports
-its_status : (n : ℕ) (k : Bool) → (nat_eq n n || k) ≡ true
-its_status n k = or_left (nat_eq n n) k (eq-eqb n n refl)
-
-module _ (passes : ℕ) (body : List Stmt) (shared : SharedState) (t : Thread) (others : Others) (offered : Bool) (e : Entry) where
-  -- the end of the process of the thread that moves
-  case_end : (p : Process) (k : ℕ → Bool) → EndReported p k → {next : NextStatement} {s : Status} {o : Transition} → TransitionCase passes body shared t others offered next s o
-      → EndReported (for_each process_after o.actions p) (λ n. after_own (has_reading (ends_process_with n)) (map (event_of e) (reverse o.events)) (k n))
-  unfolding process_after
-  case_end p k holds (process_ended_now frame v) = its_status (value_of shared.globals frame v % 256) (k (value_of shared.globals frame v % 256))
-  case_end p k holds (process_ended next v is none) = its_status (v % 256) (k (v % 256))
-  case_end p k holds (fork_handler_called next at call is) = of_each_phase (λ (w : What). EndReported p (λ n. ends_process_with n w || k n)) call.func holds holds holds at.phase
-  case_end p k holds _ = holds
-
 -- ---- every run
 
 module _ (script : Script) (config : Config) where
@@ -160,20 +129,6 @@ module _ (script : Script) (config : Config) where
     other = λ pid o p k holds. other_keeps (λ q. MadeByParent q k) (λ q made. made) (λ q made. orphan_parent k q.ended q made) pid o.actions p holds;
   }
 
-  -- as a rule of every process
-  end_rule : IsProcessRule (λ n. has_reading (ends_process_with n)) EndReported script config (λ w p e t. Unit {0})
-  unfolding child_of
-  end_rule = record {
-    initial = tt;
-    own = λ w p e t k known holds.
-        let others : Others = others_of config.slots w p t.id in
-        let o : Transition = transition_by script config w p t e.alt in
-        case_end config.passes (body_at script t.frames) p.shared t others false e (record p { threads = threads_moved e.tid o p.threads; shared = for_each shared_after o.actions p.shared }) k holds
-        (case_of config.passes (body_at script t.frames) p.shared t others false e.alt (next_of script t.frames) t.status (λ known. absurd (false≢true known)));
-    born = λ w p e t k new known fork holds. tt;
-    other = λ pid o p k holds. other_keeps (λ q. EndReported q k) (λ q end. reaped_end k q.ended end) (λ q end. orphan_end k q.ended q refl end) pid o.actions p holds;
-  }
-
   -- the parent of a process, if it has one, made it by a fork
   pub parents_of_run : AfterEveryRun script config (λ r. EachProcess r.world (λ pid p. p.parent ≢ 0 → has_in (makes_process pid) p.parent r.events ≡ true))
   parents_of_run entries r is pid p made some =
@@ -181,13 +136,6 @@ module _ (script : Script) (config : Config) where
         | inl none ↦ absurd (some none)
         | inr forked ↦ made_event p.parent pid r.events forked
       ]
-
-  -- the status of a process that has ended is that of the event of its end
-  pub end_status_of_run : AfterEveryRun script config (λ r. EachProcess r.world (λ pid p. (end : ProcessEnd) → p.ended ≡ Some end → has_in (ends_process_with end.status) pid r.events ≡ true))
-  end_status_of_run entries r is pid p made end ended =
-      has_in_reading (ends_process_with end.status) pid r.events
-      ∙ subst (λ (o : Option ProcessEnd). IfSome o (λ x. reported_by (has_reading (ends_process_with x.status)) pid r.events ≡ true)) ended
-      (of_made (λ n. has_reading (ends_process_with n)) EndReported r (every_process (λ n. has_reading (ends_process_with n)) EndReported script config (λ w p e t. Unit {0}) end_rule (λ entries r is e p t taken. tt) entries r is) pid p made)
 
 -- ---- children
 
@@ -371,12 +319,11 @@ module _ (script : Script) (config : Config) where
         absurd (omega (arith, number, none))
 
     -- what the law asks of the event
-    pub reaps_child : (pid n : ℕ) (child : Child) → (others_of config.slots r.world p t.id).family.child pid ≡ Some child → child.ended ≡ Some n → MayChange (what.Reaped pid n) e.pid e.tid r.events
+    pub reaps_child : (pid n : ℕ) (child : Child) → (others_of config.slots r.world p t.id).family.child pid ≡ Some child → child.ended ≡ Some n → may_change (what.Reaped pid n) e.pid e.tid r.events ≡ true
     unfolding others_of
     reaps_child pid n child is_child ended =
         let found : IsEndedChild r.world p.pid pid n = ended_child r.world (have_pids script config before r is).distinct p.pid pid n child is_child ended in
-        let same : p.pid ≡ e.pid = have_pid script config before r is e p t taken in (
-          subst (λ (parent : ℕ). has_in (makes_process pid) parent r.events ≡ true) (found.its_parent ∙ same) (parents_of_run script config before r is pid found.child found.made (λ none. some_pid (sym found.its_parent ∙ none))),
-          subst (λ (m : ℕ). has_in (ends_process_with m) pid r.events ≡ true) found.its_status (end_status_of_run script config before r is pid found.child found.made found.end found.has_end),
-          false_from_ne_true (list_any (λ e. reaps_process pid e.what) r.events) (λ reaped. true≢false (sym (subst (λ (q : Option Process). IsSomeAnd q (λ q. was_reaped q.ended ≡ true)) found.made (reaped_of_run before r is pid reaped)) ∙ found.unreaped)),
-        )
+        let same : p.pid ≡ e.pid = have_pid script config before r is e p t taken in
+        and_from _ _ (and_from _ _ (subst (λ (parent : ℕ). has_in (makes_process pid) parent r.events ≡ true) (found.its_parent ∙ same) (parents_of_run script config before r is pid found.child found.made (λ none. some_pid (sym found.its_parent ∙ none))))
+        (ap (has_status n) (sym (end_status_of_run script config before r is pid found.child found.made) ∙ ap (λ (end : Option ProcessEnd). option_map (λ x. x.status) end) found.has_end) ∙ eq-eqb found.end.status n found.its_status))
+        (ap not (false_from_ne_true (list_any (λ e. reaps_process pid e.what) r.events) (λ reaped. true≢false (sym (subst (λ (q : Option Process). IsSomeAnd q (λ q. was_reaped q.ended ≡ true)) found.made (reaped_of_run before r is pid reaped)) ∙ found.unreaped))))

@@ -1,11 +1,12 @@
 -- A run that was not stopped has no event of a stop; and of the events of a step only the last one stops the run or ends the process.
-use Rattle.std.proofs.Common.{◌≡◌, ℕ, Bool, false, ◌||◌, List, [], ◌∷◌, ◌++◌, map, reverse, Option, None, refl, sym, ap, ◌∙◌}
+use Rattle.std.proofs.Common.{◌≡◌, ℕ, Bool, true, false, ◌||◌, List, [], ◌∷◌, ◌++◌, map, reverse, Option, None, refl, sym, ap, ◌∙◌}
 use Rattle.std.specs.List.{list_any}
 use Rattle.std.proofs.lemmas.Bool.{false≢true, or_from}
 use Rattle.std.proofs.lemmas.List.Folds.{list_any-append}
 use Rattle.std.proofs.lemmas.Option.{none-some}
 use Rattle.pct_model.specs.declared.event.Event.{Event}
 use Rattle.pct_model.specs.declared.event.What.{What}
+use Rattle.pct_model.specs.declared.event.What.TheVariants as what
 use Rattle.pct_model.specs.declared.schedule.Alt.{Alt}
 use Rattle.pct_model.specs.declared.schedule.Config.{Config}
 use Rattle.pct_model.specs.declared.schedule.Entry.{Entry}
@@ -17,7 +18,7 @@ use Rattle.pct_model.specs.declared.transition.Transition.{Transition}
 use Rattle.pct_model.specs.Actions.{without_first, stop_after, for_each, after_transition}
 use Rattle.pct_model.specs.NextStatement.{NextStatement, next_of, body_at}
 use Rattle.pct_model.specs.OtherThreads.{Others, others_of}
-use Rattle.pct_model.specs.ProcessLaw.{ends_process, is_stop}
+use Rattle.pct_laws.specs.ProcessLaw.{is_stop}
 use Rattle.pct_model.specs.Run.{Run, event_of}
 use Rattle.pct_model.specs.TransitionTable.{transition_by}
 use Rattle.pct_model.specs.World.{Thread, SharedState, Process, World}
@@ -38,6 +39,11 @@ pub none_later : (test : What → Bool) (e : Entry) (added : List What) (earlier
 none_later test e added earlier none before =
     list_any-append (λ (x : Event). test x.what) (map (event_of e) added) earlier
     ∙ or_from (list_any (λ x. test x.what) (map (event_of e) added)) (list_any (λ x. test x.what) earlier) (any_added test e added ∙ none) before
+
+-- the event is the end of a process
+abbrev pub ends_process : What → Bool
+ends_process (what.ProcessEnded n) = true
+ends_process _ = false
 
 -- the event stops the run, or ends its process
 abbrev pub is_closing : What → Bool

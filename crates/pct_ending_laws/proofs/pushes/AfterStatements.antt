@@ -3,7 +3,7 @@ use Rattle.std.proofs.Common.{◌≡◌, ℕ, zero, suc, ◌+◌, List, [], ◌�
 use Rattle.std.proofs.lemmas.Option.{same_Some}
 use Rattle.pct_model.specs.declared.statement.Stmt.{Stmt}
 use Rattle.pct_model.specs.declared.statement.Stmt.TheVariants as statement
-use Rattle.pct_model.specs.OpenPushes.{pushes_after, open_pushes}
+use Rattle.pct_laws.specs.OpenPushes.{pushes_after, open_pushes}
 
 -- one statement, then the others
 pub pushes_after-cons : (s : Stmt) (stmts : List Stmt) (pushes : List ℕ) → pushes_after (s ∷ stmts) pushes ≡ pushes_after stmts (pushes_after (s ∷ []) pushes)

@@ -15,7 +15,7 @@ use Rattle.pct_model.specs.declared.statement.Stmt.TheVariants as statement
 use Rattle.pct_model.specs.Jumps.{is_else, is_end, close_of, is_if, holds, begins, ends, closes, closes_else, first_later, closing}
 use Rattle.pct_model.specs.LineKinds.{syntax_of}
 use Rattle.pct_model.specs.Nesting.{inside, change_at, are_nested}
-use Rattle.pct_model.specs.OpenPushes.{pushes_after, open_pushes}
+use Rattle.pct_laws.specs.OpenPushes.{pushes_after, open_pushes}
 use Rattle.pct_model.specs.Statements.{encode, role_of}
 use Rattle.pct_jumps.proofs.NestedBodies.{begins_block, count-cons, get-drop}
 use Rattle.pct_jumps.specs.JumpTable.{opens_block}

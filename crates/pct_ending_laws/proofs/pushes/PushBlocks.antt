@@ -14,7 +14,7 @@ use Rattle.pct_model.specs.Checks.{none_wrong, is_push, is_pop, is_in_push}
 use Rattle.pct_model.specs.Jumps.{is_end}
 use Rattle.pct_model.specs.LineKinds.{syntax_of}
 use Rattle.pct_model.specs.Nesting.{outside, inside, change_at, open_after as blocks_after, are_nested}
-use Rattle.pct_model.specs.OpenPushes.{pushes_after, open_pushes}
+use Rattle.pct_laws.specs.OpenPushes.{pushes_after, open_pushes}
 use Rattle.pct_model.specs.Statements.{encode, role_of}
 use Rattle.pct_jumps.specs.JumpTable.{opens_block}
 use Rattle.pct_jumps.proofs.NestedBodies.{begins_block}

@@ -1,5 +1,5 @@
 -- A thread that is to call a function that shall be a cancellation point, with a request to act upon, acts upon it, or the call is a stop.
-use Rattle.std.proofs.Common.{◌≡◌, ℕ, true, false, List, Option, Some, None, refl, sym, ◌∙◌, subst}
+use Rattle.std.proofs.Common.{◌≡◌, ℕ, Bool, true, false, not, ◌&&◌, ◌||◌, List, Option, Some, None, refl, sym, ◌∙◌, subst}
 use Rattle.std.proofs.lemmas.Bool.{false≢true, true≢false}
 use Rattle.pct_model.specs.declared.schedule.Alt.{Alt}
 use Rattle.pct_model.specs.declared.schedule.Alt.TheVariants as alt
@@ -14,7 +14,8 @@ use Rattle.pct_model.specs.declared.statement.Stmt.TheVariants as statement
 use Rattle.pct_model.specs.declared.stop.Why.{Why}
 use Rattle.pct_model.specs.Cancelability.{is_deliverable}
 use Rattle.pct_model.specs.CancelCalls.{called_kind, is_required, acts_on_request}
-use Rattle.pct_model.specs.CancelLaw.{calls_required_point, acts_or_stops, ActsAtCalls}
+use Rattle.pct_laws.specs.CancelEvents.{has_to_act}
+use Rattle.pct_laws.specs.CancelLaw.{is_running, calls_required_point, acts_or_stops, acts_at_calls}
 use Rattle.pct_model.specs.ChoiceTable.{choices_at, offers}
 use Rattle.pct_model.specs.NextStatement.{NextStatement, NoStatement, StatementIn, next_of, body_at}
 use Rattle.pct_model.specs.OtherThreads.{Others, others_of}
@@ -70,16 +71,30 @@ module _ (passes : ℕ) (body : List Stmt) (shared : SharedState) (t : Thread) (
   at_call (alt.Act n) next required asked offered = refl
   at_call choice (StatementIn frame s) required asked offered = goes_on_at_call choice frame s required asked offered refl
 
+-- ---- steps
+
+-- what follows from three tests
+implied : (a b c d : Bool) → (a ≡ true → b ≡ true → c ≡ true → d ≡ true) → (not (a && b && c) || d) ≡ true
+implied true true true d then = then refl refl refl
+implied true true false d then = refl
+implied true false c d then = refl
+implied false b c d then = refl
+
+-- a thread that runs
+its_status : (s : Status) → is_running s ≡ true → s ≡ status.Running
+its_status status.Running is = refl
+its_status _ is = absurd (false≢true is)
+
 module _ (script : Script) (config : Config) where
   -- so it is of the step of an entry that moves a thread
-  acts_at_call : (before : List Entry) (r : Run) → run script config before ≡ Some r → (e : Entry) (p : Process) (t : Thread) → IsTaken script config r.world e p t → ActsAtCalls script (step_of script config r p e t)
-  acts_at_call before r is e p t taken running required acts =
+  acts_at_call : (before : List Entry) (r : Run) → run script config before ≡ Some r → (e : Entry) (p : Process) (t : Thread) → IsTaken script config r.world e p t → acts_at_calls script (step_of script config r p e t) ≡ true
+  acts_at_call before r is e p t taken = implied (is_running t.status) (calls_required_point (next_of script t.frames)) (has_to_act e.pid e.tid r.events) _ (λ running required acts.
       let body : List Stmt = body_at script t.frames in
       let others : Others = others_of config.slots r.world p t.id in
       let next : NextStatement = next_of script t.frames in
-      subst (λ (s : Status). offers (choices_at body p.shared t others next s) e.alt ≡ true → acts_or_stops (acts_or e.alt s (transition_at config.passes body p.shared t others e.alt next s)).events ≡ true) (sym running)
-      (at_call config.passes body p.shared t others e.alt next required (sym (mover_acts script config before r is e p t taken) ∙ acts)) taken.offered
+      subst (λ (s : Status). offers (choices_at body p.shared t others next s) e.alt ≡ true → acts_or_stops (acts_or e.alt s (transition_at config.passes body p.shared t others e.alt next s)).events ≡ true) (sym (its_status t.status running))
+      (at_call config.passes body p.shared t others e.alt next required (sym (mover_acts script config before r is e p t taken) ∙ acts)) taken.offered)
 
   -- each step of every run acts at such a call, or is a stop
-  pub acts_at_calls_of_run : EveryStep script config (ActsAtCalls script)
-  acts_at_calls_of_run = every_step script config (ActsAtCalls script) acts_at_call
+  pub acts_at_calls_of_run : EveryStep script config (λ s. acts_at_calls script s ≡ true)
+  acts_at_calls_of_run = every_step script config (λ s. acts_at_calls script s ≡ true) acts_at_call

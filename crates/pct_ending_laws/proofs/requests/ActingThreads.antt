@@ -11,14 +11,12 @@ use Rattle.pct_model.specs.declared.state.Mode.TheVariants.{Deferred, Asynchrono
 use Rattle.pct_model.specs.declared.state.State.{State}
 use Rattle.pct_model.specs.Cancelability.{is_deliverable}
 use Rattle.pct_model.specs.CancelCalls.{state_if, mode_if}
-use Rattle.pct_model.specs.CancelEvents.{is_requested, is_enabled_last, is_asynchronous_last, has_not_begun, is_enabled_by, has_to_act}
-use Rattle.pct_model.specs.CancelLaw.{MayAct}
-use Rattle.pct_model.specs.declared.event.Event.{Event}
-use Rattle.pct_model.specs.Kept.{ThreadKept}
+use Rattle.pct_laws.specs.CancelEvents.{is_requested, is_enabled_last, is_asynchronous_last, has_not_begun, is_enabled_by, has_to_act}
+use Rattle.pct_laws.specs.Kept.{ThreadKept}
 use Rattle.pct_model.specs.Run.{Run, run}
 use Rattle.pct_model.specs.StopTable.{has_begun_to_end}
 use Rattle.pct_model.specs.ThreadSlots.{is_ended_status}
-use Rattle.pct_model.specs.ThreadSummary.{ThreadSummary, summary_of}
+use Rattle.pct_laws.specs.ThreadSummary.{ThreadSummary, summary_of}
 use Rattle.pct_model.specs.World.{Thread, Process, made_process, thread_with, made_thread}
 use Rattle.pct_ending_laws.proofs.ThreadsOfRun.{threads_kept}
 use Rattle.pct_ending_laws.proofs.joins.JoinTransitions.{moves_alive}
@@ -27,10 +25,6 @@ use Rattle.pct_ending_laws.proofs.lift.MadeThreads.{IsLive, live_thread}
 use Rattle.pct_ending_laws.proofs.lift.TakenSteps.{IsTaken}
 use Rattle.pct_ending_laws.proofs.requests.CancelStates.{cancelability_of_run}
 use Rattle.pct_ending_laws.proofs.requests.PendingRequests.{pending_of_run}
-
--- one that has to act may act
-pub may_act : (pid tid : ℕ) (events : List Event) → has_to_act pid tid events ≡ true → MayAct pid tid events
-may_act pid tid events has = let parts = and_parts (is_requested pid tid events) (is_enabled_by pid tid events) has in record { requested = parts.0; enabled = parts.1 }
 
 -- a thread with its cancelability enabled or disabled acts upon a request or not
 delivered : (enabled requested : Bool) → (requested && (enabled && true)) ≡ is_deliverable (state_if enabled) requested

@@ -11,7 +11,7 @@ use Rattle.pct_model.specs.declared.state.Status.{Status}
 use Rattle.pct_model.specs.declared.state.Status.TheVariants as status
 use Rattle.pct_model.specs.declared.statement.Stmt.{Stmt}
 use Rattle.pct_model.specs.Cancelability.{is_deliverable}
-use Rattle.pct_model.specs.CancelLaw.{is_suspended, is_to_act, Awakened}
+use Rattle.pct_laws.specs.CancelLaw.{is_suspended, is_to_act, Awakened}
 use Rattle.pct_model.specs.ChoiceTable.{go_if, act_if, hand_on_or_act, choices_at}
 use Rattle.pct_model.specs.NextStatement.{NextStatement, next_of, body_at}
 use Rattle.pct_model.specs.OtherThreads.{Waiter, Others, others_of}

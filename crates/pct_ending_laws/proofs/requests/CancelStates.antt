@@ -11,13 +11,14 @@ use Rattle.pct_model.specs.declared.transition.Action.{Action}
 use Rattle.pct_model.specs.declared.transition.Transition.{Transition}
 use Rattle.pct_model.specs.Actions.{thread_at, thread_after, named_after, moved}
 use Rattle.pct_model.specs.CancelCalls.{state_if, mode_if}
-use Rattle.pct_model.specs.CancelEvents.{enabled_after, is_enabled_last, asynchronous_after, is_asynchronous_last, has_not_begun}
-use Rattle.pct_model.specs.Kept.{EachThread, is_forking}
-use Rattle.pct_model.specs.KnownThreads.{is_own, is_fork_of}
+use Rattle.pct_laws.specs.CancelEvents.{enabled_after, is_enabled_last, asynchronous_after, is_asynchronous_last, has_not_begun}
+use Rattle.pct_model.specs.StatusKinds.{is_forking}
+use Rattle.pct_laws.specs.Kept.{EachThread}
+use Rattle.pct_laws.specs.KnownThreads.{is_own, is_fork_of}
 use Rattle.pct_model.specs.NextStatement.{NextStatement, next_of, body_at}
 use Rattle.pct_model.specs.OtherThreads.{Others, others_of}
 use Rattle.pct_model.specs.StopTable.{has_begun_to_end}
-use Rattle.pct_model.specs.ThreadSummary.{ThreadSummary, no_events, with_event, summary_of}
+use Rattle.pct_laws.specs.ThreadSummary.{ThreadSummary, no_events, with_event, summary_of}
 use Rattle.pct_model.specs.TransitionTable.{transition_by}
 use Rattle.pct_model.specs.World.{Thread, SharedState}
 use Rattle.pct_transition_cases.proofs.CaseOfTransition.{case_of}

@@ -1,10 +1,9 @@
 -- The events of every run keep the law of cancellation: a thread is canceled only by a request that came, with its cancelability enabled,
 -- a thread that has to act upon a request calls no cancellation point, a thread returns from one after its call, and one that has begun to
 -- end does not enable its cancelability.
-use Rattle.std.proofs.Common.{◌≡◌, ℕ, Bool, true, false, not, ◌&&◌, ◌||◌, cond, List, [], ◌∷◌, ◌++◌, map, reverse, nat_eq, Some, refl, sym, ap, ap₂, ◌∙◌, subst, eq-eqb, eqb-true}
-use Rattle.std.specs.List.{list_all}
-use Rattle.std.proofs.lemmas.Bool.{false≢true, true≢false, and_parts, and_from}
-use Rattle.pct_model.specs.declared.event.Caller.TheVariants as caller
+use Rattle.std.proofs.Common.{◌≡◌, ℕ, Bool, true, false, not, ◌&&◌, ◌||◌, cond, List, ◌∷◌, ◌++◌, map, reverse, nat_eq, Option, Some, refl, sym, ap, ◌∙◌, subst, eq-eqb, eqb-true}
+use Rattle.std.specs.Option.{option_map_or}
+use Rattle.std.proofs.lemmas.Bool.{false≢true, true≢false, and_parts, and_from, or_left, or_right}
 use Rattle.pct_model.specs.declared.event.Event.{Event}
 use Rattle.pct_model.specs.declared.event.What.{What}
 use Rattle.pct_model.specs.declared.event.What.TheVariants as what
@@ -23,20 +22,23 @@ use Rattle.pct_model.specs.declared.transition.Transition.{Transition}
 use Rattle.pct_model.specs.Actions.{thread_at, thread_after, moved}
 use Rattle.pct_model.specs.Cancelability.{is_deliverable}
 use Rattle.pct_model.specs.CancelCalls.{testcancel_point, point_kind, is_required}
-use Rattle.pct_model.specs.CancelEvents.{is_requested, is_enabled_last, has_to_act}
-use Rattle.pct_model.specs.CancelLaw.{MayAct, is_in_wait, is_called_before, MayReturn, MayCancel, RequestsLaw}
+use Rattle.pct_laws.specs.CancelEvents.{is_requested, is_enabled_last, has_to_act}
+use Rattle.pct_laws.specs.Each.{each}
+use Rattle.pct_laws.specs.NewestEvents.{newest_is, calls_point}
+use Rattle.pct_laws.specs.RequestsLaw.{is_in_wait, is_to_return, is_to_end, has_own_return, may_return, allows}
 use Rattle.pct_model.specs.CondCalls.{cond_wait_point}
 use Rattle.pct_model.specs.ForkCalls.{waitpid_point}
-use Rattle.pct_model.specs.Kept.{is_call_of, has_left_wait, is_leaving, WaitKept}
-use Rattle.pct_model.specs.KnownThreads.{is_own, newest_event}
+use Rattle.pct_model.specs.StatusKinds.{has_left_wait}
+use Rattle.pct_laws.specs.Kept.{is_call_of, is_leaving, WaitKept}
+use Rattle.pct_laws.specs.KnownThreads.{is_own}
 use Rattle.pct_model.specs.NextStatement.{NextStatement, StatementIn, next_of}
 use Rattle.pct_model.specs.OtherThreads.{others_of}
 use Rattle.pct_model.specs.Run.{Run, event_of, run}
 use Rattle.pct_model.specs.SemCalls.{sem_wait_point}
 use Rattle.pct_model.specs.StopTable.{has_begun_to_end}
-use Rattle.pct_model.specs.ThreadSummary.{ThreadSummary, summary_of}
+use Rattle.pct_laws.specs.ThreadSummary.{ThreadSummary, summary_of}
 use Rattle.pct_model.specs.TransitionTable.{transition_by}
-use Rattle.pct_model.specs.WaitStages.{WaitStage, InWait, ToReturn, Leaving, LeavingSignal, ToEnd, stage_after, wait_stage}
+use Rattle.pct_laws.specs.WaitStages.{WaitStage, InWait, ToReturn, Leaving, LeavingSignal, stage_after, wait_stage}
 use Rattle.pct_model.specs.World.{Thread, Process, statement_at, made_thread}
 use Rattle.pct_transition_cases.proofs.PlacedStatements.{IsPlaced, is_placed, statement_placed}
 use Rattle.pct_transition_cases.proofs.TransitionCases.{TransitionCase, join_begun, state_set, cancel_tested, point_begun, point_done, point_passed, canceled, canceled_at_point, canceled_in_join, canceled_in_sem_wait, canceled_in_waitpid, wait_begun, wait_ended, canceled_in_wait, canceled_after_wait, signal_handed_on, ended_in_wait, sem_wait_begun, sem_taken, fork_handler_called, waitpid_begun, child_reaped, no_child_found, child_lost}
@@ -46,7 +48,7 @@ use Rattle.pct_ending_laws.proofs.lift.EveryThread.{of_made_thread}
 use Rattle.pct_ending_laws.proofs.lift.HandlerEvents.{of_each_phase}
 use Rattle.pct_ending_laws.proofs.lift.ReportedBy.{after_all}
 use Rattle.pct_ending_laws.proofs.lift.TakenSteps.{IsTaken, AfterEveryRun, every_run}
-use Rattle.pct_ending_laws.proofs.requests.ActingThreads.{may_act, mover_process, mover_live, mover_made, mover_acts}
+use Rattle.pct_ending_laws.proofs.requests.ActingThreads.{mover_process, mover_live, mover_made, mover_acts}
 use Rattle.pct_ending_laws.proofs.requests.CancelStates.{not_begun}
 use Rattle.pct_ending_laws.proofs.requests.LeftWaits.{left_waits_of_run}
 use Rattle.pct_ending_laws.proofs.requests.SuspendedCalls.{call_event, newest_call_of_run}
@@ -55,41 +57,7 @@ use Rattle.pct_ending_laws.proofs.thread.ThreadRule.{summary, summary_reading, F
 use Rattle.pct_ending_laws.proofs.waits.GenericPoints.{is_other_point, is_no_test, has_no_own_return}
 use Rattle.pct_ending_laws.proofs.waits.WaitsOfRun.{waits_kept_of_run}
 
--- ---- events of which the law asks nothing
-
--- the law asks nothing of the event
-abbrev is_free : What → Bool
-is_free what.EndingCanceled = false
-is_free (what.WaitCanceled c) = false
-is_free (what.EndingInWait c m) = false
-is_free (what.Called index) = false
-is_free (what.Done index) = false
-is_free (what.Taken s) = false
-is_free (what.Reaped q n) = false
-is_free (what.Answer caller.WaitPid n) = false
-is_free (what.StateSet enable) = not enable
-is_free _ = true
-
--- such an event may come
-free_may : (w : What) → is_free w ≡ true → (pid tid : ℕ) (earlier : List Event) → MayCancel w pid tid earlier
-free_may what.EndingCanceled free pid tid earlier = absurd (false≢true free)
-free_may (what.WaitCanceled c) free pid tid earlier = absurd (false≢true free)
-free_may (what.EndingInWait c m) free pid tid earlier = absurd (false≢true free)
-free_may (what.Called index) free pid tid earlier = absurd (false≢true free)
-free_may (what.Done index) free pid tid earlier = absurd (false≢true free)
-free_may (what.Taken s) free pid tid earlier = absurd (false≢true free)
-free_may (what.Reaped q n) free pid tid earlier = absurd (false≢true free)
-free_may (what.Answer caller.WaitPid n) free pid tid earlier = absurd (false≢true free)
-free_may (what.StateSet true) free pid tid earlier = absurd (false≢true free)
-free_may (what.StateSet false) free pid tid earlier = tt
-free_may _ free pid tid earlier = tt
-
--- such events keep the law
-free_lawful : (e : Entry) (added : List What) → list_all is_free added ≡ true → (earlier : List Event) → RequestsLaw earlier → RequestsLaw (map (event_of e) added ++ earlier)
-free_lawful e [] all earlier law = law
-free_lawful e (w ∷ added) all earlier law =
-    let parts = and_parts (is_free w) (list_all is_free added) all in
-    (free_may w parts.0 e.pid e.tid (map (event_of e) added ++ earlier), free_lawful e added parts.1 earlier law)
+-- ---- a mutex is acquired
 
 -- that a thread acquires a mutex does not change whether it has to act upon a request
 acts_after : (e : Entry) (m : ℕ) (earlier : List Event) → has_to_act e.pid e.tid (event_of e (what.Acquired m) ∷ earlier) ≡ has_to_act e.pid e.tid earlier
@@ -119,32 +87,20 @@ unblocked_stage c m cause.Broadcast stage stays is = is
 unblocked_stage c m cause.Canceled stage leaves is = absurd (false≢true (sym leaves))
 
 -- a thread that leaves its wait, and owns its mutex again, begins to end next
-owned_again : (c m : ℕ) (stage : WaitStage) → is_leaving c m stage ≡ true → stage_after (what.Acquired m) stage ≡ ToEnd c m
-owned_again c m (Leaving cond mutex) is =
-    let parts = and_parts (nat_eq cond c) (nat_eq mutex m) is in
-    ap₂ (λ (d n : ℕ). ToEnd d n) (eqb-true cond c parts.0) (eqb-true mutex m parts.1)
-owned_again c m (LeavingSignal cond mutex) is =
-    let parts = and_parts (nat_eq cond c) (nat_eq mutex m) is in
-    ap₂ (λ (d n : ℕ). ToEnd d n) (eqb-true cond c parts.0) (eqb-true mutex m parts.1)
+owned_again : (c m : ℕ) (stage : WaitStage) → is_leaving c m stage ≡ true → is_to_end c m (stage_after (what.Acquired m) stage) ≡ true
+owned_again c m (Leaving cond mutex) is = is
+owned_again c m (LeavingSignal cond mutex) is = is
 owned_again c m _ is = absurd (false≢true is)
 
 -- ---- the return from a cancellation point
 
--- the call and the return of a generic point that is not required are one event
-not_called_before : (index : ℕ) → is_required (point_kind index) ≡ false → is_called_before index ≡ true → ⊥
-not_called_before index optional called =
-    let generic = and_parts (is_required (point_kind index) && not (nat_eq index testcancel_point)) (not (nat_eq index cond_wait_point)) called in
-    true≢false (sym (and_parts (is_required (point_kind index)) (not (nat_eq index testcancel_point)) generic.0).0 ∙ optional)
-
--- pthread_testcancel is no generic point
-test_not_called : is_called_before testcancel_point ≡ true → ⊥
-test_not_called called =
-    let generic = and_parts (is_required (point_kind testcancel_point) && false) true called in
-    false≢true (and_parts (is_required (point_kind testcancel_point)) false generic.0).1
-
--- and neither is pthread_cond_wait
-wait_not_called : is_called_before cond_wait_point ≡ true → ⊥
-wait_not_called called = false≢true (and_parts (is_required (point_kind cond_wait_point) && true) false called).1
+-- a generic point, by whether it returns by an event of its own, is pthread_testcancel or pthread_cond_wait, or shall be a cancellation point
+return_by : (own tests waits required acts returns called : Bool) → own ≡ false → tests ≡ false → waits ≡ false → (required ≡ true → called ≡ true) → cond own false (cond tests (not acts) (cond waits returns (not required || called))) ≡ true
+return_by false false false true acts returns called no_own no_test no_wait calls = calls refl
+return_by false false false false acts returns called no_own no_test no_wait calls = refl
+return_by true tests waits required acts returns called no_own no_test no_wait calls = absurd (true≢false no_own)
+return_by own true waits required acts returns called no_own no_test no_wait calls = absurd (true≢false no_test)
+return_by own tests true required acts returns called no_own no_test no_wait calls = absurd (true≢false no_wait)
 
 -- ---- a thread that has begun to end
 
@@ -160,7 +116,7 @@ unbegun false true disabled = absurd (not_disabled (disabled refl))
 
 -- ---- a step
 
-module _ (script : Script) (config : Config) (before : List Entry) (r : Run) (is : run script config before ≡ Some r) (e : Entry) (p : Process) (t : Thread) (taken : IsTaken script config r.world e p t) (law : RequestsLaw r.events) where
+module _ (script : Script) (config : Config) (before : List Entry) (r : Run) (is : run script config before ≡ Some r) (e : Entry) (p : Process) (t : Thread) (taken : IsTaken script config r.world e p t) (law : each allows r.events ≡ true) where
   -- the thread was made
   it_made : made_thread e.pid e.tid r.world ≡ Some t
   it_made = mover_made script config before r is e p t taken
@@ -174,8 +130,8 @@ module _ (script : Script) (config : Config) (before : List Entry) (r : Run) (is
   acts = mover_acts script config before r is e p t taken
 
   -- it has a request and acts upon it
-  cancels : (true ≡ true → is_deliverable t.state t.pending ≡ true) → MayAct e.pid e.tid r.events
-  cancels asked = may_act e.pid e.tid r.events (acts ∙ asked refl)
+  cancels : (true ≡ true → is_deliverable t.state t.pending ≡ true) → has_to_act e.pid e.tid r.events ≡ true
+  cancels asked = acts ∙ asked refl
 
   -- it has none, and calls a cancellation point
   calls : (true ≡ true → is_deliverable t.state t.pending ≡ false) → has_to_act e.pid e.tid r.events ≡ false
@@ -186,13 +142,13 @@ module _ (script : Script) (config : Config) (before : List Entry) (r : Run) (is
   in_wait status_is = subst (λ (s : Status). WaitKept s (wait_stage e.pid e.tid r.events)) status_is (waits_kept_of_run script config before r is e.pid e.tid t it_made here)
 
   -- it left its wait by a request, and owns its mutex again
-  ends_in_wait : (m : ℕ) → has_left_wait t.status ≡ true → MayAct e.pid e.tid (event_of e (what.Acquired m) ∷ r.events)
-  ends_in_wait m left =
-      may_act e.pid e.tid (event_of e (what.Acquired m) ∷ r.events) (acts_after e m r.events ∙ acts ∙ left_waits_of_run script config before r is e.pid e.tid t it_made here left)
+  ends_in_wait : (m : ℕ) → has_left_wait t.status ≡ true → has_to_act e.pid e.tid (event_of e (what.Acquired m) ∷ r.events) ≡ true
+  ends_in_wait m left = acts_after e m r.events ∙ acts ∙ left_waits_of_run script config before r is e.pid e.tid t it_made here left
 
   -- the newest event of a thread that is suspended in a call
-  called : {s : Status} (w : What) → t.status ≡ s → call_event s ≡ Some w → newest_event e.pid e.tid r.events ≡ Some w
-  called w status_is in_call = newest_call_of_run script config before r is e.pid e.tid t it_made here w (ap call_event status_is ∙ in_call)
+  called : {s : Status} (index : ℕ) → t.status ≡ s → call_event s ≡ Some (what.Called index) → newest_is (calls_point index) e.pid e.tid r.events ≡ true
+  called index status_is in_call =
+      ap (λ (o : Option What). option_map_or (calls_point index) o false) (newest_call_of_run script config before r is e.pid e.tid t it_made here (what.Called index) (ap call_event status_is ∙ in_call)) ∙ eq-eqb index index refl
 
   -- the point at which it is suspended is that of its statement
   same_point : (index i : ℕ) (frame : Frame) → next_of script t.frames ≡ StatementIn frame (statement.PointCall i) → t.status ≡ status.AtPoint index → i ≡ index
@@ -201,53 +157,49 @@ module _ (script : Script) (config : Config) (before : List Entry) (r : Run) (is
       eqb-true i index (and_parts (nat_eq i index) (is_required (point_kind index)) (ap (is_call_of index) (sym next_is) ∙ kept.at_point index status_is)).0
 
   -- a statement of the script calls a generic point, from which the thread may return
-  may_return : (index : ℕ) (frame : Frame) → statement_at script frame ≡ Some (statement.PointCall index) → (is_called_before index ≡ true → newest_event e.pid e.tid r.events ≡ Some (what.Called index)) → MayReturn index e.pid e.tid r.events
-  may_return index frame at called_is = record {
-    is_done = has_no_own_return script frame index at;
-    tested = λ same. absurd (true≢false (sym same ∙ is_no_test script frame index at));
-    waited = λ same. absurd (true≢false (sym same ∙ is_other_point script frame index at));
-    called = called_is;
-  }
+  returns : (index : ℕ) (frame : Frame) → statement_at script frame ≡ Some (statement.PointCall index) → (is_required (point_kind index) ≡ true → newest_is (calls_point index) e.pid e.tid r.events ≡ true) → may_return index e.pid e.tid r.events ≡ true
+  returns index frame at = return_by (has_own_return index) (nat_eq index testcancel_point) (nat_eq index cond_wait_point) (is_required (point_kind index)) (has_to_act e.pid e.tid r.events) (is_to_return (wait_stage e.pid e.tid r.events)) (newest_is (calls_point index) e.pid e.tid r.events)
+      (has_no_own_return script frame index at) (is_no_test script frame index at) (is_other_point script frame index at)
 
   -- the events of a transition keep the law
   case_lawful : {body : List Stmt} {next : NextStatement} {s : Status} {o : Transition} → IsPlaced script t.frames body next → next_of script t.frames ≡ next → t.status ≡ s
       → FitsAny script config.passes (moved o t) (after_all summary (reverse o.events) (summary_of e.pid e.tid r.events))
-      → TransitionCase config.passes body p.shared t (others_of config.slots r.world p t.id) true next s o → RequestsLaw (map (event_of e) (reverse o.events) ++ r.events)
+      → TransitionCase config.passes body p.shared t (others_of config.slots r.world p t.id) true next s o → each allows (map (event_of e) (reverse o.events) ++ r.events) ≡ true
   unfolding thread_at thread_after
-  case_lawful place next_is status_is fits (canceled next asked where_it_may) = (cancels asked, law)
-  case_lawful place next_is status_is fits (canceled_at_point next index asked) = (cancels asked, law)
-  case_lawful place next_is status_is fits (canceled_in_join next id asked) = (cancels asked, law)
-  case_lawful place next_is status_is fits (canceled_in_sem_wait next sem asked) = (cancels asked, law)
-  case_lawful place next_is status_is fits (canceled_in_waitpid next pid asked) = (cancels asked, law)
-  case_lawful place next_is status_is fits (canceled_in_wait next c m asked) = ((cancels asked, ap is_in_wait (in_wait status_is)), law)
-  case_lawful place next_is status_is fits (canceled_after_wait next c m why stays asked) = ((cancels asked, ap is_in_wait (unblocked_stage c m why (wait_stage e.pid e.tid r.events) stays (in_wait status_is))), law)
-  case_lawful place next_is status_is fits (signal_handed_on next c m u asked among) = (tt, ((cancels asked, ap is_in_wait (in_wait status_is)), law))
+  case_lawful place next_is status_is fits (canceled next asked where_it_may) = and_from _ _ (cancels asked) law
+  case_lawful place next_is status_is fits (canceled_at_point next index asked) = and_from _ _ (cancels asked) law
+  case_lawful place next_is status_is fits (canceled_in_join next id asked) = and_from _ _ (cancels asked) law
+  case_lawful place next_is status_is fits (canceled_in_sem_wait next sem asked) = and_from _ _ (cancels asked) law
+  case_lawful place next_is status_is fits (canceled_in_waitpid next pid asked) = and_from _ _ (cancels asked) law
+  case_lawful place next_is status_is fits (canceled_in_wait next c m asked) = and_from _ _ (and_from _ _ (cancels asked) (ap is_in_wait (in_wait status_is))) law
+  case_lawful place next_is status_is fits (canceled_after_wait next c m why stays asked) = and_from _ _ (and_from _ _ (cancels asked) (ap is_in_wait (unblocked_stage c m why (wait_stage e.pid e.tid r.events) stays (in_wait status_is)))) law
+  case_lawful place next_is status_is fits (signal_handed_on next c m u asked among) = and_from _ _ (and_from _ _ (cancels asked) (ap is_in_wait (in_wait status_is))) law
   case_lawful place next_is status_is fits (ended_in_wait next c m free) =
-      ((ends_in_wait m (ap has_left_wait status_is), next_stage e (what.Acquired m) r.events ∙ owned_again c m (wait_stage e.pid e.tid r.events) (in_wait status_is)), (tt, law))
-  case_lawful place next_is status_is fits (join_begun frame id d target is other joinable alone unasked) = (calls unasked, law)
-  case_lawful place next_is status_is fits (point_begun frame index required unasked) = (calls unasked, law)
-  case_lawful place next_is status_is fits (wait_begun frame c m owner same unasked) = (tt, (calls unasked, law))
-  case_lawful place next_is status_is fits (sem_wait_begun frame sem unasked) = (calls unasked, law)
-  case_lawful place next_is status_is fits (waitpid_begun frame result d pid unasked) = (calls unasked, law)
+      and_from _ _ (and_from _ _ (ends_in_wait m (ap has_left_wait status_is)) (ap (is_to_end c m) (next_stage e (what.Acquired m) r.events) ∙ owned_again c m (wait_stage e.pid e.tid r.events) (in_wait status_is))) law
+  case_lawful place next_is status_is fits (join_begun frame id d target is other joinable alone unasked) = and_from _ _ (ap not (calls unasked)) law
+  case_lawful place next_is status_is fits (point_begun frame index required unasked) = and_from _ _ (ap not (calls unasked)) law
+  case_lawful place next_is status_is fits (wait_begun frame c m owner same unasked) = and_from _ _ (ap not (calls unasked)) law
+  case_lawful place next_is status_is fits (sem_wait_begun frame sem unasked) = and_from _ _ (ap not (calls unasked)) law
+  case_lawful place next_is status_is fits (waitpid_begun frame result d pid unasked) = and_from _ _ (ap not (calls unasked)) law
   case_lawful place next_is status_is fits (cancel_tested frame unasked) =
-      (record { is_done = refl; tested = λ same. calls unasked; waited = λ same. absurd (false≢true same); called = λ before. absurd (test_not_called before) }, law)
-  case_lawful place next_is status_is fits (no_child_found frame result d operand unasked) = (λ asked. absurd (true≢false (sym asked ∙ calls unasked)), law)
-  case_lawful place next_is status_is fits (child_lost frame result d operand pid) = (λ asked. called (what.Called waitpid_point) status_is refl, law)
-  case_lawful place next_is status_is fits (child_reaped frame result d operand pid n child found ended) = (called (what.Called waitpid_point) status_is refl, law)
-  case_lawful place next_is status_is fits (sem_taken frame s sem above) = (called (what.Called sem_wait_point) status_is refl, law)
-  case_lawful place next_is status_is fits (point_done frame index optional) = (may_return index frame (statement_placed place) (λ before. absurd (not_called_before index optional before)), law)
+      and_from _ _ (ap not (calls unasked)) law
+  case_lawful place next_is status_is fits (no_child_found frame result d operand unasked) = and_from _ _ (or_left (not (has_to_act e.pid e.tid r.events)) _ (ap not (calls unasked))) law
+  case_lawful place next_is status_is fits (child_lost frame result d operand pid) = and_from _ _ (or_right (not (has_to_act e.pid e.tid r.events)) _ (called waitpid_point status_is refl)) law
+  case_lawful place next_is status_is fits (child_reaped frame result d operand pid n child found ended) = and_from _ _ (called waitpid_point status_is refl) law
+  case_lawful place next_is status_is fits (sem_taken frame s sem above) = and_from _ _ (called sem_wait_point status_is refl) law
+  case_lawful place next_is status_is fits (point_done frame index optional) = and_from _ _ (returns index frame (statement_placed place) (λ required. absurd (true≢false (sym required ∙ optional)))) law
   case_lawful place next_is status_is fits (point_passed frame index i) =
-      (may_return index frame (statement_placed place ∙ ap (λ (n : ℕ). Some (statement.PointCall n)) (same_point index i frame next_is status_is)) (λ before. called (what.Called index) status_is refl), law)
+      and_from _ _ (returns index frame (statement_placed place ∙ ap (λ (n : ℕ). Some (statement.PointCall n)) (same_point index i frame next_is status_is)) (λ required. called index status_is refl)) law
   case_lawful place next_is status_is fits (wait_ended frame cond mutex c m why stays free) =
       let owned : wait_stage e.pid e.tid (event_of e (what.Acquired m) ∷ r.events) ≡ ToReturn =
       next_stage e (what.Acquired m) r.events ∙ ap (stage_after (what.Acquired m)) (unblocked_stage c m why (wait_stage e.pid e.tid r.events) stays (in_wait status_is)) in
-      (record { is_done = refl; tested = λ same. absurd (false≢true same); waited = λ same. owned; called = λ before. absurd (wait_not_called before) }, (tt, law))
+      and_from _ _ (ap is_to_return owned) law
   case_lawful place next_is status_is fits (state_set frame true old allowed) =
       let reported : ThreadSummary = summary_of e.pid e.tid r.events in
-      (unbegun (has_begun_to_end reported.reason) reported.exiting (λ begun. fits.agrees.disabled (ap (λ why. has_begun_to_end why || reported.exiting) (sym fits.agrees.reason) ∙ begun)), law)
-  case_lawful place next_is status_is fits (state_set frame false old allowed) = (tt, law)
-  case_lawful place next_is status_is fits (fork_handler_called next at call handler) = (of_each_phase (λ (w : What). MayCancel w e.pid e.tid r.events) call.func tt tt tt at.phase, law)
-  case_lawful {o = o} place next_is status_is fits _ = free_lawful e (reverse o.events) refl r.events law
+      and_from _ _ (unbegun (has_begun_to_end reported.reason) reported.exiting (λ begun. fits.agrees.disabled (ap (λ why. has_begun_to_end why || reported.exiting) (sym fits.agrees.reason) ∙ begun))) law
+  case_lawful place next_is status_is fits (state_set frame false old allowed) = law
+  case_lawful place next_is status_is fits (fork_handler_called next at call handler) = of_each_phase (λ (w : What). each allows (event_of e w ∷ r.events) ≡ true) call.func law law law at.phase
+  case_lawful place next_is status_is fits _ = assumption
 
 -- ---- every run
 
@@ -262,10 +214,10 @@ module _ (script : Script) (config : Config) where
       (thread_rule script config).kept r.world p t (summary_of e.pid e.tid r.events) e.alt (processes_fit script config before r is e.pid p (mover_process script config before r is e p t taken)) taken.offered fits
 
   -- the law of cancellation, of the events of every run
-  pub requests_of_run : AfterEveryRun script config (λ r. RequestsLaw r.events)
+  pub requests_of_run : AfterEveryRun script config (λ r. each allows r.events ≡ true)
   requests_of_run =
-      every_run script config (λ r. RequestsLaw r.events)
+      every_run script config (λ r. each allows r.events ≡ true)
       (λ before r is e p t taken law.
       case_lawful script config before r is e p t taken law (is_placed script t.frames) refl refl (fits_after before r is e p t taken)
       (case_of_step script config r.world p e t (moves_of_run script config before r is e p t taken)))
-      (λ some. tt)
+      (λ some. refl)

@@ -16,7 +16,8 @@ use Rattle.pct_model.specs.declared.transition.Transition.{Transition}
 use Rattle.pct_model.specs.Actions.{thread_at, thread_after, named_after, in_child, moved}
 use Rattle.pct_model.specs.Cancelability.{is_deliverable}
 use Rattle.pct_model.specs.CondCalls.{is_waiting_on, unblocked}
-use Rattle.pct_model.specs.Kept.{EachThread, has_left_wait}
+use Rattle.pct_model.specs.StatusKinds.{has_left_wait}
+use Rattle.pct_laws.specs.Kept.{EachThread}
 use Rattle.pct_model.specs.NextStatement.{NextStatement, next_of, body_at}
 use Rattle.pct_model.specs.OtherThreads.{Others, others_of}
 use Rattle.pct_model.specs.ThreadSlots.{is_live_thread}

@@ -19,10 +19,10 @@ use Rattle.pct_model.specs.declared.transition.Action.TheVariants as action
 use Rattle.pct_model.specs.declared.transition.Transition.{Transition}
 use Rattle.pct_model.specs.Actions.{thread_at, thread_after, named_after, for_each, moved, thread_moved, changed}
 use Rattle.pct_model.specs.CancelCalls.{requests}
-use Rattle.pct_model.specs.CancelEvents.{requests_id, is_requested}
+use Rattle.pct_laws.specs.CancelEvents.{requests_id, is_requested}
 use Rattle.pct_model.specs.CondCalls.{is_waiting_on, unblocked}
-use Rattle.pct_model.specs.Kept.{EachThread}
-use Rattle.pct_model.specs.KnownThreads.{is_in}
+use Rattle.pct_laws.specs.Kept.{EachThread}
+use Rattle.pct_laws.specs.KnownThreads.{is_in}
 use Rattle.pct_model.specs.NextStatement.{NextStatement, next_of, body_at}
 use Rattle.pct_model.specs.OtherThreads.{others_of}
 use Rattle.pct_model.specs.Run.{event_of}

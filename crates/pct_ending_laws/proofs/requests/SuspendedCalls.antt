@@ -1,6 +1,8 @@
--- The newest event of a thread that is suspended at a generic cancellation point, in sem_wait or in waitpid is that of the call.
-use Rattle.std.proofs.Common.{◌≡◌, ℕ, true, List, reverse, Option, Some, None, refl, sym, ap, ◌∙◌}
+-- The newest event of a thread that is suspended at a generic cancellation point, in pthread_join, in sem_wait or in waitpid is that of the
+-- call.
+use Rattle.std.proofs.Common.{◌≡◌, ℕ, true, false, List, reverse, Option, Some, None, refl, sym, ap, ◌∙◌}
 use Rattle.std.proofs.lemmas.Option.{none-some}
+use Rattle.pct_model.specs.declared.event.Event.{Event}
 use Rattle.pct_model.specs.declared.event.What.{What}
 use Rattle.pct_model.specs.declared.event.What.TheVariants.{Called}
 use Rattle.pct_model.specs.declared.schedule.Config.{Config}
@@ -11,23 +13,36 @@ use Rattle.pct_model.specs.declared.statement.Stmt.{Stmt}
 use Rattle.pct_model.specs.declared.transition.Transition.{Transition}
 use Rattle.pct_model.specs.Actions.{thread_at, thread_after, in_child, moved}
 use Rattle.pct_model.specs.ForkCalls.{waitpid_point}
-use Rattle.pct_model.specs.Kept.{EachThread}
-use Rattle.pct_model.specs.KnownThreads.{newest_event}
+use Rattle.pct_laws.specs.Kept.{EachThread}
+use Rattle.pct_laws.specs.NewestEvents.{newest_event}
 use Rattle.pct_model.specs.NextStatement.{NextStatement, next_of, body_at}
 use Rattle.pct_model.specs.OtherThreads.{Others, others_of}
 use Rattle.pct_model.specs.SemCalls.{sem_wait_point}
+use Rattle.pct_model.specs.ThreadCalls.{join_point}
 use Rattle.pct_model.specs.World.{Thread, SharedState}
 use Rattle.pct_transition_cases.proofs.CaseOfTransition.{case_of}
-use Rattle.pct_transition_cases.proofs.TransitionCases.{TransitionCase, rests, point_begun, sem_wait_begun, waitpid_begun}
-use Rattle.pct_ending_laws.proofs.joins.NewestEvents.{newest, newest_reading}
+use Rattle.pct_transition_cases.proofs.TransitionCases.{TransitionCase, rests, join_begun, point_begun, sem_wait_begun, waitpid_begun}
 use Rattle.pct_ending_laws.proofs.lift.ChangedThreads.{same_settled, named_keeps}
 use Rattle.pct_ending_laws.proofs.lift.TakenSteps.{AfterEveryRun}
-use Rattle.pct_ending_laws.proofs.lift.ReportedBy.{after_all}
+use Rattle.pct_ending_laws.proofs.lift.ReportedBy.{reported_by, ThreadReading, of_thread, is_thread_reading, after_all}
 use Rattle.pct_ending_laws.proofs.lift.EveryThread.{of_made_thread, IsThreadRule, every_thread}
 
--- the event of the call in which a thread with this status is suspended, if that is of a generic point, of sem_wait or of waitpid
+-- ---- the newest event of a thread
+
+-- the reading of the newest event of a thread
+abbrev newest : ThreadReading (Option What)
+newest = record { start = None; next = λ w k. Some w; inherits = false; replica = λ parent k. k }
+
+newest_reading : (tid pid : ℕ) (events : List Event) → newest_event pid tid events ≡ reported_by (of_thread newest tid) pid events
+newest_reading tid = is_thread_reading newest tid (λ pid events. newest_event pid tid events) (λ pid. refl) (λ pid e earlier. refl)
+
+-- ---- threads in calls
+
+-- the event of the call in which a thread with this status is suspended, if that is of a generic point, of pthread_join, of sem_wait or of
+-- waitpid
 abbrev pub call_event : Status → Option What
 call_event (status.AtPoint index) = Some (Called index)
+call_event (status.Joining id) = Some (Called join_point)
 call_event (status.InSem s) = Some (Called sem_wait_point)
 call_event (status.InWaitPid pid) = Some (Called waitpid_point)
 call_event _ = None
@@ -42,6 +57,7 @@ module _ (passes : ℕ) (body : List Stmt) (shared : SharedState) (t : Thread) (
       → NewestIsCall (moved o (record t { status = s })) (after_all newest (reverse o.events) k)
   unfolding thread_at thread_after
   case_newest k (rests next s alive) newest_is = newest_is
+  case_newest k (join_begun frame id d target is other joinable alone unasked) newest_is = λ w called. called
   case_newest k (point_begun frame index required unasked) newest_is = λ w called. called
   case_newest k (sem_wait_begun frame sem unasked) newest_is = λ w called. called
   case_newest k (waitpid_begun frame result d pid unasked) newest_is = λ w called. called

@@ -5,7 +5,7 @@ use Rattle.pct_model.specs.declared.script.Script.{Script}
 use Rattle.pct_model.specs.declared.schedule.Config.{Config}
 use Rattle.pct_model.specs.declared.schedule.Entry.{Entry}
 use Rattle.pct_model.specs.declared.transition.NewThread.{NewThread}
-use Rattle.pct_model.specs.KnownThreads.{is_known}
+use Rattle.pct_laws.specs.KnownThreads.{is_known}
 use Rattle.pct_model.specs.Run.{Run, run}
 use Rattle.pct_model.specs.World.{Thread, Process, made_process, thread_with}
 use Rattle.pct_ending_laws.proofs.lift.KeyedLists.{not_found}

@@ -7,15 +7,14 @@ use Rattle.pct_model.specs.declared.schedule.Config.{Config}
 use Rattle.pct_model.specs.declared.schedule.Entry.{Entry}
 use Rattle.pct_model.specs.declared.state.Status.{Status}
 use Rattle.pct_model.specs.declared.state.Status.TheVariants as status
-use Rattle.pct_model.specs.Kept.{ThreadKept}
-use Rattle.pct_model.specs.KnownThreads.{is_known, is_detached, is_joined, reports_end, has_own, is_reclaimed}
+use Rattle.pct_laws.specs.Kept.{ThreadKept}
+use Rattle.pct_laws.specs.KnownThreads.{is_known, is_detached, is_joined}
 use Rattle.pct_model.specs.Run.{Run, run}
 use Rattle.pct_model.specs.ThreadSlots.{is_ended_status}
-use Rattle.pct_model.specs.ThreadSummary.{summary_of}
+use Rattle.pct_laws.specs.ThreadSummary.{summary_of, thread_ended, is_reclaimed}
 use Rattle.pct_model.specs.World.{Thread, Process, made_process, thread_with, made_thread}
 use Rattle.pct_ending_laws.proofs.ThreadsOfRun.{threads_kept}
 use Rattle.pct_ending_laws.proofs.joins.ReportedFlags.{known_of_run, joined_of_run, detached_of_run}
-use Rattle.pct_ending_laws.proofs.joins.LawfulJoins.{end_reported}
 
 -- ---- one thread
 
@@ -52,7 +51,7 @@ module _ (script : Script) (config : Config) (entries : List Entry) (r : Run) (i
   reclaimed_of_run t found here ended released =
       let kept : ThreadKept script p.shared.keys t (summary_of pid tid r.events) = threads_kept script config entries r is pid tid p t made found here in
       let value = value_in t.status ended in
-      and_from (has_own reports_end pid tid r.events) (is_joined pid tid r.events || is_detached pid tid r.events)
-      (sym (end_reported pid tid r.events) ∙ ap is_some (kept.value value.0 value.1))
+      and_from (thread_ended pid tid r.events) (is_joined pid tid r.events || is_detached pid tid r.events)
+      (ap is_some (kept.value value.0 value.1))
       (ap (λ (b : Bool). b || is_detached pid tid r.events) (sym (joined_of_run script config entries r is pid tid t (of_process ∙ found) here))
       ∙ ap (λ (b : Bool). t.joined || b) (sym (detached_of_run script config entries r is pid tid t (of_process ∙ found) here)) ∙ released)

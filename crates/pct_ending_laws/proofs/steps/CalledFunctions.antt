@@ -19,14 +19,14 @@ use Rattle.pct_model.specs.declared.state.Status.TheVariants as status
 use Rattle.pct_model.specs.declared.statement.Stmt.{Stmt}
 use Rattle.pct_model.specs.declared.transition.Transition.{Transition}
 use Rattle.pct_model.specs.Actions.{at_pc, without_first, thread_at, thread_after, named_after, shared_after, process_after, for_each, moved, changed}
-use Rattle.pct_model.specs.Calls.{IsCall, RunsOnly, RunsAbove, by_exit, by_call, IsCalled, EachIsCalled}
-use Rattle.pct_model.specs.Kept.{KeysKept}
+use Rattle.pct_laws.specs.Calls.{IsCall, RunsOnly, RunsAbove, by_exit, by_call, IsCalled, EachIsCalled}
+use Rattle.pct_laws.specs.Kept.{KeysKept}
 use Rattle.pct_model.specs.Keys.{Key, KeyPlace, KeyValues, key_place, key_at, if_number, key_with, value_at, is_due}
 use Rattle.pct_model.specs.NextStatement.{NextStatement, StatementIn, next_in, next_of}
 use Rattle.pct_model.specs.OtherThreads.{Others, others_of}
 use Rattle.pct_model.specs.Run.{Run, run}
 use Rattle.pct_model.specs.ThreadSlots.{is_live_thread}
-use Rattle.pct_model.specs.ThreadSteps.{ThreadStep}
+use Rattle.pct_laws.specs.ThreadSteps.{ThreadStep}
 use Rattle.pct_model.specs.TransitionTable.{transition_by}
 use Rattle.pct_model.specs.World.{Thread, Process, value_of, new_frame}
 use Rattle.pct_transition_cases.proofs.PlacedStatements.{IsPlaced, on_top, is_placed}

@@ -10,7 +10,7 @@ use Rattle.pct_model.specs.declared.statement.Stmt.{Stmt}
 use Rattle.pct_model.specs.declared.statement.Stmt.TheVariants as statement
 use Rattle.pct_model.specs.declared.transition.Transition.{Transition}
 use Rattle.pct_model.specs.Actions.{shared_after, for_each}
-use Rattle.pct_model.specs.Calls.{calls_exit_function, KeepsExits, KeepsExitFunctions}
+use Rattle.pct_laws.specs.Calls.{calls_exit_function, KeepsExits, KeepsExitFunctions}
 use Rattle.pct_model.specs.NextStatement.{NextStatement, StatementIn, next_of, body_at}
 use Rattle.pct_model.specs.OtherThreads.{Others, others_of}
 use Rattle.pct_model.specs.Run.{Run, run}

@@ -10,7 +10,7 @@ use Rattle.pct_model.specs.declared.state.Status.{Status}
 use Rattle.pct_model.specs.declared.statement.Stmt.{Stmt}
 use Rattle.pct_model.specs.declared.transition.Transition.{Transition}
 use Rattle.pct_model.specs.Actions.{shared_after, for_each}
-use Rattle.pct_model.specs.Calls.{changes_key, KeepsKeys}
+use Rattle.pct_laws.specs.Calls.{changes_key, KeepsKeys}
 use Rattle.pct_model.specs.Keys.{KeyPlace, key_place, key_at, on_place}
 use Rattle.pct_model.specs.NextStatement.{NextStatement, body_at}
 use Rattle.pct_model.specs.OtherThreads.{Others, others_of}

@@ -13,7 +13,7 @@ use Rattle.pct_model.specs.declared.transition.Action.{Action}
 use Rattle.pct_model.specs.declared.transition.Action.TheVariants as action
 use Rattle.pct_model.specs.declared.transition.Transition.{Transition}
 use Rattle.pct_model.specs.Actions.{thread_moved}
-use Rattle.pct_model.specs.Ends.{changes_value, changes_pass, sets_value, KeepsValues}
+use Rattle.pct_laws.specs.Ends.{changes_value, changes_pass, sets_value, KeepsValues}
 use Rattle.pct_model.specs.Keys.{KeyValues, key_place, value_at}
 use Rattle.pct_model.specs.NextStatement.{NextStatement, next_of}
 use Rattle.pct_model.specs.OtherThreads.{Others}

@@ -1,7 +1,7 @@
 -- The law of calls, of a step: a frame is made by a statement that calls a function, or in a step with an event that says so.
-use Rattle.std.proofs.Common.{◌≡◌, ℕ, ◌≤◌, Bool, true, false, ◌||◌, cond, List, [], ◌∷◌, length, Option, Some, None, refl, sym, ap, ◌∙◌, arith}
+use Rattle.std.proofs.Common.{◌≡◌, ℕ, ◌≤◌, Bool, true, false, ◌||◌, cond, List, [], ◌∷◌, length, Option, Some, None, refl, ap, arith, nat_le}
 use Rattle.std.specs.List.{list_all, list_any}
-use Rattle.std.proofs.lemmas.Bool.{true≢false, false≢true, and_parts}
+use Rattle.std.proofs.lemmas.Bool.{false≢true, and_parts, le-leb}
 use Rattle.pct_model.specs.declared.event.What.{What}
 use Rattle.pct_model.specs.declared.frame.Frame.{Frame}
 use Rattle.pct_model.specs.declared.schedule.Config.{Config}
@@ -15,7 +15,7 @@ use Rattle.pct_model.specs.declared.transition.Action.{Action}
 use Rattle.pct_model.specs.declared.transition.Action.TheVariants as action
 use Rattle.pct_model.specs.declared.transition.Transition.{Transition}
 use Rattle.pct_model.specs.Actions.{at_pc, without_first, frames_written, thread_at, thread_after, named_after, for_each, moved, thread_moved}
-use Rattle.pct_model.specs.Calls.{says_call, calls_function, SaysCalls}
+use Rattle.pct_laws.specs.Calls.{says_call, calls_function, says_calls}
 use Rattle.pct_model.specs.NextStatement.{NextStatement, next_of, body_at}
 use Rattle.pct_model.specs.OtherThreads.{Others, others_of}
 use Rattle.pct_model.specs.Run.{Run, run}
@@ -102,19 +102,21 @@ moved_depth tid o t live none =
 
 module _ (script : Script) (config : Config) where
   -- so it is of the step of an entry that moves a thread
-  says_of_step : (before : List Entry) (r : Run) → run script config before ≡ Some r → (e : Entry) (p : Process) (t : Thread) → IsTaken script config r.world e p t → SaysCalls script (step_of script config r p e t)
-  says_of_step before r is e p t taken more no_call =
+  says_of_step : (before : List Entry) (r : Run) → run script config before ≡ Some r → (e : Entry) (p : Process) (t : Thread) → IsTaken script config r.world e p t → says_calls script (step_of script config r p e t) ≡ true
+  says_of_step before r is e p t taken =
       let o : Transition = transition_by script config r.world p t e.alt in
       let moves : Moves script config r.world p e t = moves_of_run script config before r is e p t taken in
-      by_test (list_all makes_no_frame o.actions) (list_any says_call o.events) (calls_function (next_of script t.frames))
-      (λ none. absurd (omega (arith, more, moved_depth e.tid o t (mover script config r.world p e t moves).live none))) no_call
+      by_test (nat_le (depth (thread_moved e.tid o t)) (depth t)) (list_all makes_no_frame o.actions) (list_any says_call o.events) (calls_function (next_of script t.frames))
+      (λ none. le-leb _ _ (moved_depth e.tid o t (mover script config r.world p e t moves).live none))
       (case_says config.passes (body_at script t.frames) p.shared t (others_of config.slots r.world p t.id) (case_of_step script config r.world p e t moves))
     where
-      by_test : (none said calls : Bool) → (none ≡ true → said ≡ true) → calls ≡ false → (none || (said || calls)) ≡ true → said ≡ true
-      by_test true said calls if_none no_call one = if_none refl
-      by_test false true calls if_none no_call one = refl
-      by_test false false calls if_none no_call one = absurd (true≢false (sym one ∙ no_call))
+      by_test : (kept none said calls : Bool) → (none ≡ true → kept ≡ true) → (none || (said || calls)) ≡ true → (kept || calls || said) ≡ true
+      by_test true none said calls if_none one = refl
+      by_test false true said calls if_none one = absurd (false≢true (if_none refl))
+      by_test false false true true if_none one = refl
+      by_test false false true false if_none one = refl
+      by_test false false false calls if_none one = ap (λ (b : Bool). b || false) one
 
   -- a frame is made by a statement that calls a function, or in a step with an event that says so
-  pub says_calls_of_run : EveryStep script config (SaysCalls script)
-  says_calls_of_run = every_step script config (SaysCalls script) says_of_step
+  pub says_calls_of_run : EveryStep script config (λ s. says_calls script s ≡ true)
+  says_calls_of_run = every_step script config (λ s. says_calls script s ≡ true) says_of_step

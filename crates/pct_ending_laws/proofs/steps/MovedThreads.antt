@@ -14,7 +14,7 @@ use Rattle.pct_model.specs.NextStatement.{next_of, body_at}
 use Rattle.pct_model.specs.OtherThreads.{others_of}
 use Rattle.pct_model.specs.Run.{Run, run}
 use Rattle.pct_model.specs.Step.{Legal}
-use Rattle.pct_model.specs.ThreadSteps.{ThreadStep, IsThreadStep, EachStep}
+use Rattle.pct_laws.specs.ThreadSteps.{ThreadStep, IsThreadStep, EachStep}
 use Rattle.pct_model.specs.TransitionTable.{transition_by}
 use Rattle.pct_model.specs.World.{Thread, Process, World, made_process, thread_with, made_thread}
 use Rattle.pct_transition_cases.proofs.CaseOfTransition.{case_of}

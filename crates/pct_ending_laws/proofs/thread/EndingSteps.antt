@@ -1,13 +1,16 @@
--- Which transitions let a thread end, and what a thread does that has ended.
-use Rattle.std.proofs.Common.{◌≡◌, ℕ, Bool, true, false, List, [], ◌∷◌, reverse, None, ◌⊎◌, inl, inr, refl, sym, ap, ◌∙◌}
+-- Which transitions let a thread end, and what a thread does that exits its process.
+use Rattle.std.proofs.Common.{◌≡◌, ℕ, Bool, true, false, not, ◌||◌, List, [], ◌∷◌, reverse, None, ◌⊎◌, inl, inr, refl, sym, ap, ◌∙◌}
 use Rattle.std.specs.Prelude.{is_some}
 use Rattle.std.specs.List.{list_all}
-use Rattle.std.proofs.lemmas.Bool.{false≢true, true≢false}
+use Rattle.std.proofs.lemmas.Bool.{false≢true, true≢false, or_right}
+use mathlib.Core.Bool.{or-false}
 use Rattle.pct_model.specs.declared.frame.Frame.{Frame}
 use Rattle.pct_model.specs.declared.schedule.Alt.{Alt}
 use Rattle.pct_model.specs.declared.schedule.Config.{Config}
 use Rattle.pct_model.specs.declared.script.Script.{Script}
+use Rattle.pct_model.specs.declared.state.FrameKind.TheVariants as kind
 use Rattle.pct_model.specs.declared.state.Reason.{Reason}
+use Rattle.pct_model.specs.declared.state.State.TheVariants.{Disable}
 use Rattle.pct_model.specs.declared.state.Status.{Status}
 use Rattle.pct_model.specs.declared.state.Status.TheVariants as status
 use Rattle.pct_model.specs.declared.statement.Stmt.{Stmt}
@@ -21,16 +24,21 @@ use Rattle.pct_model.specs.NextStatement.{NextStatement, next_of, body_at}
 use Rattle.pct_model.specs.OtherThreads.{Others, others_of}
 use Rattle.pct_model.specs.Statements.{encode}
 use Rattle.pct_model.specs.ThreadSlots.{is_ended_status}
-use Rattle.pct_model.specs.ThreadSummary.{ThreadSummary}
+use Rattle.pct_model.specs.StopTable.{has_begun_to_end}
+use Rattle.pct_laws.specs.AfterEnd.{is_of_exit}
+use Rattle.pct_laws.specs.Kept.{is_exit_kind}
+use Rattle.pct_laws.specs.ThreadSummary.{ThreadSummary}
 use Rattle.pct_model.specs.TransitionTable.{transition_by}
 use Rattle.pct_model.specs.World.{Thread, SharedState, Process, World}
-use Rattle.pct_transition_cases.proofs.TransitionCases.{TransitionCase, rests, thread_made, thread_detached, request_sent, thread_ended, thread_ended_with_keys, last_ended, last_ended_with_keys}
+use Rattle.pct_transition_cases.proofs.TransitionCases.{TransitionCase, rests, main_returned, start_returned, canceled, thread_made, thread_detached, request_sent, thread_ended, thread_ended_with_keys, last_ended, last_ended_with_keys}
 use Rattle.pct_transition_cases.proofs.CaseOfTransition.{case_of}
-use Rattle.pct_transition_cases.proofs.PlacedStatements.{IsPlaced, is_placed}
+use Rattle.pct_transition_cases.proofs.OfferedChoices.{deliverable_enabled}
+use Rattle.pct_transition_cases.proofs.PlacedStatements.{IsPlaced, on_top, is_placed}
 use Rattle.pct_ending_laws.proofs.lift.ChangedThreads.{all_keep_if, going_on_keeps}
 use Rattle.pct_ending_laws.proofs.exits.PlainFunctions.{is_plain_next, plain_next}
 use Rattle.pct_ending_laws.proofs.joins.JoinTransitions.{names_none}
-use Rattle.pct_ending_laws.proofs.thread.ThreadRule.{ByStatus, RunsExitFunction, ByAnyStatus, outside_exit, FitsAny}
+use Rattle.pct_ending_laws.proofs.thread.Ends.{not_both}
+use Rattle.pct_ending_laws.proofs.thread.ThreadRule.{HasFrames, ByStatus, RunsExitFunction, ByAnyStatus, outside_exit, FitsAny}
 
 -- ---- actions
 
@@ -61,8 +69,8 @@ pub record EndsThread (t : Thread) (others : Others) (o : Transition) : Type 0 w
   pub none : o.created ≡ None
   pub last : is_ended_status (moved o t).status ≡ false → others.is_last ≡ true
 
--- a thread that has ended and has a choice does not have the status of its end, and its transition ends nothing, creates nothing and
--- names no thread
+-- a thread that exits its process, and so may have ended, does not have the status of its end, and its transition ends nothing, creates
+-- nothing and names no thread
 pub record GoesOn (s : Status) (o : Transition) : Type 0 where
   pub alive : is_ended_status s ≡ false
   pub never : NeverEnds o
@@ -79,11 +87,11 @@ module _ (passes : ℕ) (body : List Stmt) (shared : SharedState) (t : Thread) (
   ends_only (last_ended_with_keys next left no_handlers is_last some limit all none_left) = inr (record { none = refl; last = λ alive. is_last })
   ends_only _ = inl refl
 
-  -- ---- a thread that has ended
+  -- ---- a thread that exits its process
 
-  case_exiting : {next : NextStatement} {o : Transition} → TransitionCase passes body shared t others true next status.Exiting o → GoesOn status.Exiting o
-  case_exiting (rests next s alive) = record { alive = refl; never = refl; none = refl; silent = refl }
-  case_exiting _ = record { alive = refl; never = refl; none = refl; silent = refl }
+  case_exiting : {next : NextStatement} {o : Transition} → TransitionCase passes body shared t others true next status.Exiting o → GoesOn status.Exiting o × (list_all is_of_exit (reverse o.events) ≡ true)
+  case_exiting (rests next s alive) = (record { alive = refl; never = refl; none = refl; silent = refl }, refl)
+  case_exiting _ = (record { alive = refl; never = refl; none = refl; silent = refl }, refl)
 
   -- in a plain function
   case_plain : {next : NextStatement} {o : Transition} → TransitionCase passes body shared t others true next status.Running o → is_plain_next next ≡ true → GoesOn status.Running o
@@ -93,40 +101,64 @@ module _ (passes : ℕ) (body : List Stmt) (shared : SharedState) (t : Thread) (
   case_plain (request_sent frame id target seen) plain = absurd (false≢true plain)
   case_plain _ plain = record { alive = refl; never = refl; none = refl; silent = refl }
 
+  -- its events are those of the exit
+  case_of_exit : {body : List Stmt} {script : Script} {frame : Frame} {next : NextStatement} {o : Transition} → IsPlaced script (frame ∷ []) body next → frame.kind ≡ kind.ExitFn → t.state ≡ Disable
+      → TransitionCase passes body shared t others true next status.Running o → (list_all is_of_exit (reverse o.events) || not (is_plain_next next)) ≡ true
+  unfolding encode syntax_of
+  case_of_exit (on_top _ _ s at) exits disabled (start_returned _ _ v returns is) = absurd (true≢false (sym (ap is_exit_kind exits) ∙ ap is_exit_kind is))
+  case_of_exit (on_top _ _ s at) exits disabled (main_returned _ _ v returns is begun) = absurd (true≢false (sym (ap is_exit_kind exits) ∙ ap is_exit_kind is))
+  case_of_exit place exits disabled (canceled next delivered at_point) = absurd (not_both t.state disabled (deliverable_enabled t.state t.pending (delivered refl)))
+  case_of_exit place exits disabled _ = refl
+
+  -- a thread with the status of its end has no transition
   case_ended : {next : NextStatement} {v : ℕ} {o : Transition} → TransitionCase passes body shared t others true next (status.Ended v) o → ⊥
   case_ended (rests next s alive) = true≢false (alive refl)
 
-  exit_after_end : (script : Script) (reported : ThreadSummary) (s : Status) (frames : List Frame) {next : NextStatement} {o : Transition} → RunsExitFunction script s frames reported → IsPlaced script frames body next → TransitionCase passes body shared t others true next s o → GoesOn s o
-  exit_after_end script reported status.Running (frame ∷ []) exits placed c = case_plain c (plain_next script frame [] exits.1 placed)
-  exit_after_end script reported _ _ exits placed c = absurd exits
+  module _ (script : Script) (why : Reason) (handlers : List (ℕ × ℕ)) (reported : ThreadSummary) (disabled : (has_begun_to_end why || reported.exiting) ≡ true → t.state ≡ Disable) where
+    -- a thread that moves has neither ended nor begun to exit its process, or it exits its process
+    abbrev pub Stands : Status → Transition → Type 0
+    Stands s o = ((reported.ended ≡ None) × (reported.exiting ≡ false)) ⊎ ((reported.exiting ≡ true) × GoesOn s o × (list_all is_of_exit (reverse o.events) ≡ true))
 
-  module _ (script : Script) (why : Reason) (frames : List Frame) (handlers : List (ℕ × ℕ)) (reported : ThreadSummary) (ended : is_some reported.ended ≡ true) where
-    not_ended : reported.ended ≡ None → ⊥
-    not_ended none = false≢true (sym (ap is_some none) ∙ ended)
+    exit_stands : (s : Status) (frames : List Frame) {next : NextStatement} {o : Transition} → RunsExitFunction script s frames reported → IsPlaced script frames body next → TransitionCase passes body shared t others true next s o → Stands s o
+    exit_stands status.Running (frame ∷ []) {o = o} exits placed c =
+        let plain = plain_next script frame [] exits.1 placed in
+        let of_exit : (list_all is_of_exit (reverse o.events) || false) ≡ true = ap (λ (b : Bool). list_all is_of_exit (reverse o.events) || not b) (sym plain) ∙ case_of_exit placed exits.0 (disabled (or_right (has_begun_to_end why) reported.exiting exits.2)) c in
+        inr (exits.2, case_plain c plain, sym (or-false (list_all is_of_exit (reverse o.events))) ∙ of_exit)
+    exit_stands _ _ exits placed c = absurd exits
 
-    after_end : (s : Status) {next : NextStatement} {o : Transition} → ByStatus script s why frames handlers reported → TransitionCase passes body shared t others true next s o → GoesOn s o
-    after_end status.Running fits c = absurd (not_ended fits.not_ended)
-    after_end (status.AtPoint index) fits c = absurd (not_ended fits.0.not_ended)
-    after_end (status.Joining id) fits c = absurd (not_ended fits.0.not_ended)
-    after_end (status.InSem sem) fits c = absurd (not_ended fits.0.not_ended)
-    after_end (status.InWaitPid pid) fits c = absurd (not_ended fits.0.not_ended)
-    after_end (status.Waiting n m) fits c = absurd (not_ended fits.0.not_ended)
-    after_end (status.Reacquire n m cause) fits c = absurd (not_ended fits.0.not_ended)
-    after_end status.Ending fits c = absurd (not_ended fits.not_ended)
-    after_end (status.Forking phase index length pid) fits c = absurd (not_ended fits.0.not_ended)
-    after_end (status.Ended v) fits c = absurd (case_ended c)
-    after_end status.Exiting fits c = case_exiting c
+    with_frames : {s : Status} {o : Transition} → (frames : List Frame) → HasFrames script why frames handlers reported → Stands s o
+    with_frames frames fits = inl (fits.not_ended, fits.not_exiting)
 
-    any_after_end : (s : Status) {next : NextStatement} {o : Transition} → ByAnyStatus script s why frames handlers reported → IsPlaced script frames body next → TransitionCase passes body shared t others true next s o → GoesOn s o
-    any_after_end s (inl fits) placed c = after_end s fits c
-    any_after_end s (inr exits) placed c = exit_after_end script reported s frames exits placed c
+    status_stands : (s : Status) (frames : List Frame) {next : NextStatement} {o : Transition} → ByStatus script s why frames handlers reported → TransitionCase passes body shared t others true next s o → Stands s o
+    status_stands status.Running frames fits c = with_frames frames fits
+    status_stands (status.AtPoint index) frames fits c = with_frames frames fits.0
+    status_stands (status.Joining id) frames fits c = with_frames frames fits.0
+    status_stands (status.InSem sem) frames fits c = with_frames frames fits.0
+    status_stands (status.InWaitPid pid) frames fits c = with_frames frames fits.0
+    status_stands (status.Waiting n m) frames fits c = with_frames frames fits.0
+    status_stands (status.Reacquire n m cause) frames fits c = with_frames frames fits.0
+    status_stands (status.Forking phase index length pid) frames fits c = with_frames frames fits.0
+    status_stands status.Ending frames fits c = inl (fits.not_ended, fits.not_exiting)
+    status_stands (status.Ended v) frames fits c = absurd (case_ended c)
+    status_stands status.Exiting frames fits c = let goes = case_exiting c in inr (fits.1, goes.0, goes.1)
+
+    pub any_stands : (s : Status) (frames : List Frame) {next : NextStatement} {o : Transition} → ByAnyStatus script s why frames handlers reported → IsPlaced script frames body next → TransitionCase passes body shared t others true next s o → Stands s o
+    any_stands s frames (inl fits) placed c = status_stands s frames fits c
+    any_stands s frames (inr exits) placed c = exit_stands s frames exits placed c
+
+-- how the thread of a transition stands
+pub stands : (script : Script) (config : Config) (w : World) (p : Process) (t : Thread) (reported : ThreadSummary) (choice : Alt) → offers (choices_of script config w p t) choice ≡ true → (fits : FitsAny script config.passes t reported)
+    → Stands config.passes (body_at script t.frames) p.shared t (others_of config.slots w p t.id) script t.reason t.handlers reported fits.agrees.disabled t.status (transition_by script config w p t choice)
+stands script config w p t reported choice offered fits =
+    any_stands config.passes (body_at script t.frames) p.shared t (others_of config.slots w p t.id) script t.reason t.handlers reported fits.agrees.disabled t.status t.frames fits.by_status (is_placed script t.frames)
+    (case_of config.passes (body_at script t.frames) p.shared t (others_of config.slots w p t.id) true choice (next_of script t.frames) t.status (λ known. offered))
 
 -- a thread that has ended goes on to exit its process
 pub goes_on : (script : Script) (config : Config) (w : World) (p : Process) (t : Thread) (reported : ThreadSummary) (choice : Alt) → offers (choices_of script config w p t) choice ≡ true → FitsAny script config.passes t reported → t.ended ≡ true → GoesOn t.status (transition_by script config w p t choice)
-goes_on script config w p t reported choice offered fits ended =
-    let others : Others = others_of config.slots w p t.id in
-    any_after_end config.passes (body_at script t.frames) p.shared t others script t.reason t.frames t.handlers reported (fits.agrees.end ∙ ended) t.status fits.by_status (is_placed script t.frames)
-    (case_of config.passes (body_at script t.frames) p.shared t others true choice (next_of script t.frames) t.status (λ known. offered))
+goes_on script config w p t reported choice offered fits ended = elim (stands script config w p t reported choice offered fits) [
+  | inl alive ↦ absurd (false≢true (sym (ap is_some alive.0) ∙ fits.agrees.end ∙ ended))
+  | inr exits ↦ exits.1
+]
 
 -- a thread with the status of its end has ended
 pub ended_by_status : (script : Script) (s : Status) (why : Reason) (frames : List Frame) (handlers : List (ℕ × ℕ)) (reported : ThreadSummary) → is_ended_status s ≡ true → ByAnyStatus script s why frames handlers reported → is_some reported.ended ≡ true

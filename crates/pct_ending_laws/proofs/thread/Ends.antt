@@ -1,5 +1,5 @@
 -- The end of a thread, and the exit of its process.
-use Rattle.std.proofs.Common.{◌≡◌, ℕ, suc, ◌<◌, ◌≤◌, true, false, List, [], ◌∷◌, ◌++◌, length, map, Some, None, refl, sym, ap, ◌∙◌, subst, le_antisymm, arith, Bool, ◌||◌}
+use Rattle.std.proofs.Common.{◌≡◌, ℕ, suc, ◌<◌, ◌≤◌, true, false, List, [], ◌∷◌, ◌++◌, length, map, Some, None, refl, sym, ap, ◌∙◌, subst, le_antisymm, arith, Bool, ◌||◌, ◌&&◌, not, is_none, eq-eqb}
 use Rattle.pct_model.specs.declared.event.What.TheVariants as what
 use Rattle.pct_model.specs.declared.frame.Frame.{Frame}
 use Rattle.pct_model.specs.declared.script.Script.{Script}
@@ -12,23 +12,28 @@ use Rattle.pct_model.specs.declared.state.Status.TheVariants as status
 use Rattle.pct_model.specs.declared.transition.Action.TheVariants as action
 use Rattle.pct_model.specs.Actions.{without_first, thread_at, thread_after}
 use Rattle.pct_model.specs.Cancelability.{ending_state, ending_mode, is_deliverable}
-use Rattle.pct_model.specs.Kept.{AreOpen, open_functions, IsSuspendedAt}
+use Rattle.pct_laws.specs.Kept.{AreOpen, open_functions, IsSuspendedAt}
 use Rattle.pct_model.specs.Keys.{key_place, value_at, with_pass}
 use Rattle.pct_model.specs.NextStatement.{next_of}
-use Rattle.pct_model.specs.Once.{MayCome, newest}
-use Rattle.pct_model.specs.OpenPushes.{open_pushes}
+use Rattle.pct_model.specs.LineParsing.{is_empty}
+use Rattle.pct_laws.specs.Once.{is_newest, may_come}
+use Rattle.pct_laws.specs.OpenPushes.{open_pushes}
 use Rattle.pct_model.specs.StopTable.{has_begun_to_end}
 use Rattle.pct_model.specs.ThreadEnds.{end_value}
-use Rattle.pct_model.specs.ThreadSummary.{ThreadSummary, with_ending}
+use Rattle.pct_laws.specs.ThreadSummary.{ThreadSummary, with_ending}
 use Rattle.pct_model.specs.Transitions.{acts}
 use Rattle.pct_model.specs.World.{Thread, body_of}
 use Rattle.pct_ending_laws.proofs.StaticPushes.{PushesMatch}
 use Rattle.pct_ending_laws.proofs.thread.Passes.{is_in, PassesFit, takes_key, begins_pass, has_pass, not_taken}
 use Rattle.pct_ending_laws.proofs.thread.ThreadRule.{AllMayCome, FramesFit, Agrees, Fits, Keeps, HasFrames, ByStatus}
 use Rattle.pct_ending_laws.proofs.thread.GoingOn.{running}
-use Rattle.std.proofs.lemmas.Bool.{false≢true}
+use Rattle.pct_ending_laws.proofs.thread.Handlers.{same_pair}
+use Rattle.std.proofs.lemmas.Bool.{false≢true, and_from, lt-ltb, le-leb}
 use Rattle.pct_model.specs.declared.state.State.{State}
 use Rattle.pct_model.specs.declared.state.State.TheVariants.{Enable, Disable}
+
+abbrev not_reported : Reason → Bool
+not_reported why = not (has_begun_to_end why) && true
 
 -- ---- threads that act upon a cancellation request
 
@@ -91,7 +96,7 @@ module _ (script : Script) (passes : ℕ) where
     -- it begins to end then
     pub cancel_keeps : t.state ≡ Enable → Keeps script passes (record t { status = s; frames = frames }) reported (acts (action.BeginEnd reason.Canceled ∷ []) (what.EndingCanceled ∷ []))
     unfolding thread_at thread_after
-    cancel_keeps enabled = record { own = begun_fits t reported reason.Canceled refl fits.agrees fits.in_passes has.not_ended has.not_exiting; lawful = (fits.agrees.reason ∙ has_not_begun enabled, tt) }
+    cancel_keeps enabled = record { own = begun_fits t reported reason.Canceled refl fits.agrees fits.in_passes has.not_ended has.not_exiting; lawful = ap not_reported (fits.agrees.reason ∙ has_not_begun enabled) }
 
     -- in a condition wait it does so once it owns its mutex again
     pub leave_fits : (c m : ℕ) → IsSuspendedAt (next_of script frames) (status.Waiting c m) → t.state ≡ Enable → Fits script passes (record t { status = status.Reacquire c m cause.Canceled; frames = frames }) reported
@@ -99,7 +104,7 @@ module _ (script : Script) (passes : ℕ) where
 
     pub end_in_wait_keeps : (c m : ℕ) → has_begun_to_end t.reason ≡ false → Keeps script passes (record t { status = s; frames = frames }) reported (acts (action.OwnMutex m t.id ∷ action.BeginEnd reason.Canceled ∷ []) (what.Acquired m ∷ what.EndingInWait c m ∷ []))
     unfolding thread_at thread_after
-    end_in_wait_keeps c m alive = record { own = begun_fits t reported reason.Canceled refl fits.agrees fits.in_passes has.not_ended has.not_exiting; lawful = (fits.agrees.reason ∙ not_begun t.reason alive, (tt, tt)) }
+    end_in_wait_keeps c m alive = record { own = begun_fits t reported reason.Canceled refl fits.agrees fits.in_passes has.not_ended has.not_exiting; lawful = ap not_reported (fits.agrees.reason ∙ not_begun t.reason alive) }
 
   module _ (t : Thread) (frames : List Frame) (reported : ThreadSummary) (fits : Fits script passes (running t frames) reported) where
     -- a running thread begins to exit its process
@@ -119,13 +124,13 @@ module _ (script : Script) (passes : ℕ) where
         by_status = (refl, refl);
         in_passes = fits.in_passes;
       };
-      lawful = (tt, tt);
+      lawful = refl;
     }
 
     -- a running thread that has not begun to end begins to
     pub begin_keeps : (v : ℕ) → t.reason ≡ reason.None → Keeps script passes (running t frames) reported (acts (action.BeginEnd (reason.Exit v) ∷ []) (what.EndingExit v ∷ []))
     unfolding thread_at thread_after
-    begin_keeps v not_begun = record { own = begun_fits t reported (reason.Exit v) refl fits.agrees fits.in_passes fits.by_status.not_ended fits.by_status.not_exiting; lawful = (fits.agrees.reason ∙ not_begun, tt) }
+    begin_keeps v not_begun = record { own = begun_fits t reported (reason.Exit v) refl fits.agrees fits.in_passes fits.by_status.not_ended fits.by_status.not_exiting; lawful = ap not_reported (fits.agrees.reason ∙ not_begun) }
 
   -- ---- returns
 
@@ -199,7 +204,7 @@ module _ (script : Script) (passes : ℕ) where
         };
         in_passes = fits.in_passes;
       };
-      lawful = ((ap newest fits.agrees.handlers_agree, ap has_begun_to_end fits.agrees.reason ∙ fits.by_status.has_reason, ap length (fits.agrees.handlers_agree ∙ fits.by_status.are_left)), tt);
+      lawful = and_from _ _ (and_from _ _ (and_from _ _ (ap (is_newest f a) fits.agrees.handlers_agree ∙ same_pair f a) (ap has_begun_to_end fits.agrees.reason ∙ fits.by_status.has_reason)) (eq-eqb _ _ (ap length (fits.agrees.handlers_agree ∙ fits.by_status.are_left)))) refl;
     }
 
     module _ (fits : Fits script passes (ending []) reported) where
@@ -226,15 +231,8 @@ module _ (script : Script) (passes : ℕ) where
               };
               in_passes = takes_key passes t.pass t.specific.in_pass reported.passes reported.destroyed pass k;
             };
-            lawful = (
-              (
-                sym pass.current,
-                has_pass passes t.pass t.specific.in_pass reported.passes reported.destroyed pass (key_place k) in_pass,
-                fits.agrees.handlers_agree,
-                not_taken passes t.pass t.specific.in_pass reported.passes reported.destroyed pass k in_pass,
-              ),
-              tt,
-            );
+            lawful = and_from _ _ (and_from _ _ (and_from _ _ (and_from _ _ (eq-eqb _ _ (sym pass.current)) (lt-ltb _ _ (has_pass passes t.pass t.specific.in_pass reported.passes reported.destroyed pass (key_place k) in_pass)))
+                (ap is_empty fits.agrees.handlers_agree)) (ap not (not_taken passes t.pass t.specific.in_pass reported.passes reported.destroyed pass k in_pass))) refl;
           }
 
       -- the next pass begins
@@ -249,20 +247,20 @@ module _ (script : Script) (passes : ℕ) where
               by_status = fits.by_status;
               in_passes = begins_pass passes t.pass t.specific.in_pass reported.passes reported.destroyed pass more (with_pass t.specific).in_pass;
             };
-            lawful = ((begun, fits.agrees.handlers_agree, ap suc (sym pass.current), omega (arith, more)), tt);
+            lawful = and_from _ _ (and_from _ _ (and_from _ _ (and_from _ _ begun (ap is_empty fits.agrees.handlers_agree)) (eq-eqb _ _ (ap suc (sym pass.current)))) (le-leb _ _ (omega (arith, more)))) refl;
           }
 
       -- ---- the end
 
       -- the event of its end, after events that do not change what is reported of it
-      pub end_lawful : MayCome passes (what.EndedWith (end_value t.reason)) reported
-      end_lawful = (begun, fits.by_status.not_ended, fits.agrees.handlers_agree, ap end_value (sym fits.agrees.reason))
+      pub end_lawful : may_come passes (what.EndedWith (end_value t.reason)) reported ≡ true
+      end_lawful = and_from _ _ (and_from _ _ (and_from _ _ begun (ap is_none fits.by_status.not_ended)) (ap is_empty fits.agrees.handlers_agree)) (eq-eqb _ _ (ap end_value (sym fits.agrees.reason)))
 
       -- the event of due keys that are left
       pub leftover_lawful : (left : ℕ) → 0 < left → passes ≤ t.pass → AllMayCome passes (what.Leftover left ∷ []) reported
       leftover_lawful left low at_limit =
           let within : t.pass ≤ passes = fits.in_passes.within in
-          ((low, fits.in_passes.current ∙ le_antisymm within at_limit), tt)
+          and_from _ _ (and_from _ _ (lt-ltb 0 left low) (eq-eqb _ _ (fits.in_passes.current ∙ le_antisymm within at_limit))) refl
 
       -- the thread after its end, if it is not the last one of its process, and if it is
       pub ended_fits : (v : ℕ) → Fits script passes (record t { status = status.Ended v; frames = frames; handlers = []; ended = true }) (record reported { ended = Some v })

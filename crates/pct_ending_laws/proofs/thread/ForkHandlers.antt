@@ -1,5 +1,5 @@
 -- Fork handlers: a thread in fork calls one, and returns from it.
-use Rattle.std.proofs.Common.{◌≡◌, ℕ, ◌<◌, List, [], ◌∷◌, length, Some}
+use Rattle.std.proofs.Common.{◌≡◌, ℕ, ◌<◌, List, [], ◌∷◌, length, Some, refl}
 use Rattle.pct_model.specs.declared.event.What.{What}
 use Rattle.pct_model.specs.declared.frame.Frame.{Frame}
 use Rattle.pct_model.specs.declared.process.HandlerCall.{HandlerCall}
@@ -12,7 +12,7 @@ use Rattle.pct_model.specs.declared.transition.Action.TheVariants as action
 use Rattle.pct_model.specs.declared.transition.Transition.{Transition}
 use Rattle.pct_model.specs.Actions.{thread_at, thread_after}
 use Rattle.pct_model.specs.ForkCalls.{in_fork, while_called, handler_event}
-use Rattle.pct_model.specs.ThreadSummary.{ThreadSummary}
+use Rattle.pct_laws.specs.ThreadSummary.{ThreadSummary}
 use Rattle.pct_model.specs.Transitions.{acts}
 use Rattle.pct_model.specs.World.{Thread, body_of, statement_at, new_frame}
 use Rattle.pct_transition_cases.proofs.TransitionCases.{Returns}
@@ -33,7 +33,7 @@ module _ (script : Script) (passes : ℕ) (matches : PushesMatch script) (t : Th
       let by = fits.by_status in
       let called : Fits script passes (running t (new_frame call.func 0 kind.ForkFn ∷ frames)) reported = call_fits script passes matches call.func 0 kind.ForkFn t frames reported in_script (by.0.fit, by.1, by.2) (awake script passes t (in_fork at) frames reported fits by.0) in
       let o : What → Transition = λ w. acts (action.KeepFork (while_called at call.index) ∷ action.Call call.func 0 kind.ForkFn ∷ []) (w ∷ []) in
-      of_each_phase (λ (w : What). Keeps script passes (record t { status = in_fork at; frames = frames }) reported (o w)) call.func (record { own = called; lawful = (tt, tt) }) (record { own = called; lawful = (tt, tt) }) (record { own = called; lawful = (tt, tt) }) at.phase
+      of_each_phase (λ (w : What). Keeps script passes (record t { status = in_fork at; frames = frames }) reported (o w)) call.func (record { own = called; lawful = refl }) (record { own = called; lawful = refl }) (record { own = called; lawful = refl }) at.phase
 
   -- a handler returns
   pub fork_handler_left_keeps : (frame : Frame) (below : List Frame) (reported : ThreadSummary) → Fits script passes (running t (frame ∷ below)) reported → (globals : List ℕ) {s : Stmt} {v : ℕ} → statement_at script frame ≡ Some s → Returns (body_of script frame.func) globals frame s v
@@ -42,4 +42,4 @@ module _ (script : Script) (passes : ℕ) (matches : PushesMatch script) (t : Th
   fork_handler_left_keeps frame below reported fits globals at_statement returns is at =
       let fit = kind_fits script passes matches t frame below reported fits kind.ForkFn is in
       let left : Fits script passes (running t below) reported = leaves script passes t frame below reported fits (none_open script passes matches t frame below reported fits globals at_statement returns) fit.0 in
-      record { own = suspends script passes t status.Running below reported left left.by_status (in_fork at) (left.by_status, fit.1, fit.2); lawful = tt }
+      record { own = suspends script passes t status.Running below reported left left.by_status (in_fork at) (left.by_status, fit.1, fit.2); lawful = refl }

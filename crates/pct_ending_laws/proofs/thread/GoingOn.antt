@@ -14,10 +14,10 @@ use Rattle.pct_model.specs.declared.transition.Action.{Action}
 use Rattle.pct_model.specs.declared.transition.Action.TheVariants as action
 use Rattle.pct_model.specs.declared.transition.Transition.{Transition}
 use Rattle.pct_model.specs.Actions.{set_local, frames_written, thread_at, thread_after, for_each}
-use Rattle.pct_model.specs.Kept.{AreOpen, open_functions}
+use Rattle.pct_laws.specs.Kept.{AreOpen, open_functions}
 use Rattle.pct_model.specs.Keys.{key_place, with_value}
-use Rattle.pct_model.specs.OpenPushes.{open_pushes}
-use Rattle.pct_model.specs.ThreadSummary.{ThreadSummary}
+use Rattle.pct_laws.specs.OpenPushes.{open_pushes}
+use Rattle.pct_laws.specs.ThreadSummary.{ThreadSummary}
 use Rattle.pct_model.specs.Transitions.{goes_on}
 use Rattle.pct_model.specs.World.{Thread, body_of}
 use Rattle.pct_ending_laws.proofs.lift.ReportedBy.{after_all}

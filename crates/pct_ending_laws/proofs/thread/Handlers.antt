@@ -1,5 +1,5 @@
 -- Cleanup handlers that are pushed and popped, and calls of functions.
-use Rattle.std.proofs.Common.{◌≡◌, ℕ, suc, ◌+◌, ◌<◌, Bool, true, false, List, [], ◌∷◌, ◌++◌, length, map, Some, refl, sym, ap, ◌∙◌, subst, arith, length-append}
+use Rattle.std.proofs.Common.{◌≡◌, ℕ, suc, ◌+◌, ◌<◌, Bool, true, false, List, [], ◌∷◌, ◌++◌, length, map, Some, refl, sym, ap, ◌∙◌, subst, arith, length-append, not, ◌&&◌, nat_eq, nat_lt, eq-eqb}
 use Rattle.pct_model.specs.declared.event.What.TheVariants.{Pushed, Popped}
 use Rattle.pct_model.specs.declared.frame.Frame.{Frame}
 use Rattle.pct_model.specs.declared.script.Script.{Script}
@@ -9,15 +9,20 @@ use Rattle.pct_model.specs.declared.statement.Operand.{Operand}
 use Rattle.pct_model.specs.declared.statement.Stmt.TheVariants as statement
 use Rattle.pct_model.specs.declared.transition.Action.TheVariants as action
 use Rattle.pct_model.specs.Actions.{without_first, thread_at, thread_after}
-use Rattle.pct_model.specs.Kept.{AreOpen, open_functions}
-use Rattle.pct_model.specs.Once.{newest}
-use Rattle.pct_model.specs.OpenPushes.{open_pushes}
-use Rattle.pct_model.specs.ThreadSummary.{ThreadSummary, with_event}
+use Rattle.pct_laws.specs.Kept.{AreOpen, open_functions}
+use Rattle.pct_model.specs.StopTable.{has_begun_to_end}
+use Rattle.std.proofs.lemmas.Bool.{and_from, lt-ltb, or_right}
+use Rattle.pct_laws.specs.Once.{is_newest}
+use Rattle.pct_laws.specs.OpenPushes.{open_pushes}
+use Rattle.pct_laws.specs.ThreadSummary.{ThreadSummary, with_event}
 use Rattle.pct_model.specs.Transitions.{goes_on}
 use Rattle.pct_model.specs.World.{Thread, body_of, statement_at, new_frame}
 use Rattle.pct_ending_laws.proofs.StaticPushes.{PushesMatch}
 use Rattle.pct_ending_laws.proofs.thread.ThreadRule.{AllMayCome, FramesFit, Fits, Keeps}
 use Rattle.pct_ending_laws.proofs.thread.GoingOn.{running, at_pc_fits}
+
+pub same_pair : (f a : ℕ) → (nat_eq f f && nat_eq a a) ≡ true
+same_pair f a = and_from _ _ (eq-eqb f f refl) (eq-eqb a a refl)
 
 -- ---- lists of handlers
 
@@ -58,7 +63,7 @@ module _ (script : Script) (passes : ℕ) (matches : PushesMatch script) where
     unfolding thread_at thread_after
     call_keeps f x v at in_script fits =
         let next : Fits script passes (running t (record frame { pc = suc frame.pc } ∷ below)) reported = at_pc_fits script passes t frame below (suc frame.pc) (matches.next frame (statement.Do f x) at) (matches.next_within frame (statement.Do f x) at refl) reported fits in
-        record { own = call_fits f v kind.Call t (record frame { pc = suc frame.pc } ∷ below) reported in_script next.by_status.fit next; lawful = tt }
+        record { own = call_fits f v kind.Call t (record frame { pc = suc frame.pc } ∷ below) reported in_script next.by_status.fit next; lawful = refl }
 
     -- pthread_cleanup_push
     pub push_keeps : (f : ℕ) (x : Operand) (v : ℕ) → statement_at script frame ≡ Some (statement.Push f x) → f < length script.funcs → Fits script passes (running t (frame ∷ below)) reported → Keeps script passes (running t (frame ∷ below)) reported (goes_on (suc frame.pc) (action.PushHandler f v ∷ []) (Pushed f v ∷ []))
@@ -86,7 +91,7 @@ module _ (script : Script) (passes : ℕ) (matches : PushesMatch script) where
         };
         in_passes = fits.in_passes;
       };
-      lawful = (tt, tt);
+      lawful = refl;
     }
 
     -- ---- pthread_cleanup_pop
@@ -124,7 +129,7 @@ module _ (script : Script) (passes : ℕ) (matches : PushesMatch script) where
       pop_lawful : (run : Bool) → AllMayCome passes (Popped f a run ∷ []) reported
       pop_lawful run =
           let fewer : length reported.left < length ((f, a) ∷ handlers) = left_below (open_functions script (record frame { pc = suc frame.pc } ∷ below)) (f, a) handlers reported.left popped in
-          ((ap newest fits.agrees.handlers_agree, λ begun. subst (λ (hs : List (ℕ × ℕ)). length reported.left < length hs) (sym fits.agrees.handlers_agree) fewer), tt)
+          and_from _ _ (and_from _ _ (ap (is_newest f a) fits.agrees.handlers_agree ∙ same_pair f a) (or_right (not (has_begun_to_end reported.reason)) _ (ap (λ (hs : List (ℕ × ℕ)). nat_lt (length reported.left) (length hs)) fits.agrees.handlers_agree ∙ lt-ltb _ _ fewer))) refl
 
       -- the handler is removed, and called
       pub drop_keeps : Keeps script passes (running (record t { handlers = (f, a) ∷ handlers }) (frame ∷ below)) reported (goes_on (suc frame.pc) (action.PopHandler ∷ []) (Popped f a false ∷ []))

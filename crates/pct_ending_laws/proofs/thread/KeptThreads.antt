@@ -15,17 +15,19 @@ use Rattle.pct_model.specs.declared.state.Status.{Status}
 use Rattle.pct_model.specs.declared.state.Status.TheVariants as status
 use Rattle.pct_model.specs.Actions.{without_first}
 use Rattle.pct_model.specs.Keys.{KeyPlace}
-use Rattle.pct_model.specs.Kept.{KeysKept, AreOpen, open_functions, HasOneBottom, bottom_kind, is_bottom_kind, is_end_kind, is_exit_kind, has_no_frame, is_ending_status, is_exiting, is_in_fork_handler, is_at_fork, IsSuspendedAt, is_forking, has_left_wait, IsPlainFunction, ThreadKept}
+use Rattle.pct_model.specs.StatusKinds.{has_no_frame, is_forking, has_left_wait}
+use Rattle.pct_laws.specs.Kept.{KeysKept, AreOpen, open_functions, HasOneBottom, bottom_kind, is_bottom_kind, is_end_kind, is_exit_kind, is_ending_status, is_exiting, is_in_fork_handler, is_at_fork, IsSuspendedAt, IsPlainFunction, ThreadKept}
 use Rattle.pct_model.specs.LineParsing.{is_empty}
 use Rattle.pct_model.specs.NextStatement.{next_of}
 use Rattle.pct_model.specs.StopTable.{has_begun_to_end, is_fork_kind}
 use Rattle.pct_model.specs.ThreadSlots.{is_ended_status}
-use Rattle.pct_model.specs.ThreadSummary.{ThreadSummary}
+use Rattle.pct_laws.specs.ThreadSummary.{ThreadSummary}
 use Rattle.pct_model.specs.World.{Thread}
 use Rattle.pct_ending_laws.proofs.keys.KeptKeys.{AreEmpty}
 use Rattle.pct_ending_laws.proofs.keys.LeftKeys.{on_own_place}
 use Rattle.pct_ending_laws.proofs.thread.Passes.{is_in, not_taken}
-use Rattle.pct_ending_laws.proofs.thread.ThreadRule.{Below, FramesFit, IsHandler, IsPlaced, HasFrames, GoesToHandlers, HasEnded, ByStatus, ByAnyStatus, outside_exit, is_running, FitsAny}
+use Rattle.pct_ending_laws.proofs.thread.ThreadRule.{Below, FramesFit, IsHandler, IsPlaced, HasFrames, GoesToHandlers, HasEnded, ByStatus, ByAnyStatus, outside_exit, FitsAny}
+use Rattle.pct_laws.specs.CancelLaw.{is_running}
 
 -- ---- frames
 

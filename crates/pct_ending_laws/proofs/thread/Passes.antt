@@ -7,7 +7,7 @@ use Rattle.std.proofs.lemmas.List.Elements.{All-nil, All-cons, All-replicate, Al
 use Rattle.std.proofs.lemmas.List.Folds.{list_any_none}
 use Rattle.pct_model.specs.declared.limits.TheConstants.{MAX_KEYS}
 use Rattle.pct_model.specs.Keys.{key_place}
-use Rattle.pct_model.specs.Once.{is_pair}
+use Rattle.pct_laws.specs.Once.{is_pair}
 use Rattle.pct_ending_laws.proofs.keys.KeyPlaces.{default_set, default_stays}
 
 -- the place is in the pass

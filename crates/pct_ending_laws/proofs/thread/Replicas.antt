@@ -8,10 +8,11 @@ use Rattle.pct_model.specs.declared.state.Reason.TheVariants as reason
 use Rattle.pct_model.specs.declared.state.Status.{Status}
 use Rattle.pct_model.specs.declared.state.Status.TheVariants as status
 use Rattle.pct_model.specs.Actions.{in_child, replica_of}
-use Rattle.pct_model.specs.Kept.{AreOpen, open_functions, is_at_fork, is_forking}
+use Rattle.pct_model.specs.StatusKinds.{is_forking}
+use Rattle.pct_laws.specs.Kept.{AreOpen, open_functions, is_at_fork}
 use Rattle.pct_model.specs.NextStatement.{next_of}
 use Rattle.pct_model.specs.StopTable.{has_begun_to_end}
-use Rattle.pct_model.specs.ThreadSummary.{ThreadSummary, no_events}
+use Rattle.pct_laws.specs.ThreadSummary.{ThreadSummary, no_events}
 use Rattle.pct_model.specs.World.{Thread}
 use Rattle.pct_ending_laws.proofs.thread.Ends.{not_begun}
 use Rattle.pct_ending_laws.proofs.thread.Passes.{first_pass}

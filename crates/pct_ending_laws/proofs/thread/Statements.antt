@@ -22,9 +22,9 @@ use Rattle.pct_model.specs.declared.transition.Action.TheVariants as action
 use Rattle.pct_model.specs.Actions.{thread_at, thread_after}
 use Rattle.pct_model.specs.CancelCalls.{state_number, state_if}
 use Rattle.pct_model.specs.Jumps.{is_end}
-use Rattle.pct_model.specs.OpenPushes.{pushes_after, open_pushes}
+use Rattle.pct_laws.specs.OpenPushes.{pushes_after, open_pushes}
 use Rattle.pct_model.specs.StopTable.{has_begun_to_end, is_handler_kind, is_in_handler}
-use Rattle.pct_model.specs.ThreadSummary.{ThreadSummary, no_events}
+use Rattle.pct_laws.specs.ThreadSummary.{ThreadSummary, no_events}
 use Rattle.pct_model.specs.Transitions.{goes_on, acts}
 use Rattle.pct_model.specs.World.{Thread, body_of, statement_at, value_of, new_frame, new_thread}
 use Rattle.pct_transition_cases.proofs.TransitionCases.{Leads, past_nop, past_if, past_while, past_else, past_end, Returns, by_return, by_end}
@@ -111,7 +111,7 @@ module _ (script : Script) (passes : ℕ) (matches : PushesMatch script) where
         going_on_keeps script passes t frame below before reported (suc frame.pc) actions added (matches.next frame s at ∙ same) (matches.next_within frame s at inner) all unchanged added_lawful fits
 
     jump_keeps : (pc : ℕ) → open_pushes body pc ≡ open_pushes body frame.pc → pc < length body → Keeps script passes own reported (goes_on pc [] [])
-    jump_keeps pc same within = going_on_keeps script passes t frame below status.Running reported pc [] [] same within refl refl tt fits
+    jump_keeps pc same within = going_on_keeps script passes t frame below status.Running reported pc [] [] same within refl refl refl fits
 
     pub leads_keeps : (globals : List ℕ) {s : Stmt} {pc : ℕ} → statement_at script frame ≡ Some s → Leads body globals frame s pc → Keeps script passes own reported (goes_on pc [] [])
     leads_keeps globals {pc = pc} at leads = jump_keeps pc (leads_same frame globals at leads) (leads_within frame globals at leads)
@@ -128,13 +128,13 @@ module _ (script : Script) (passes : ℕ) (matches : PushesMatch script) where
 
     pub call_left_keeps : (globals : List ℕ) {s : Stmt} {v : ℕ} → statement_at script frame ≡ Some s → Returns body globals frame s v → (frame.kind ≡ kind.Call) ⊎ (frame.kind ≡ kind.PopHandler) → Keeps script passes own reported (acts (action.Leave status.Running ∷ []) [])
     unfolding thread_at thread_after
-    call_left_keeps globals at returns (inl is) = record { own = leaves script passes t frame below reported fits (none_open globals at returns) (kind_fits kind.Call is); lawful = tt }
-    call_left_keeps globals at returns (inr is) = record { own = leaves script passes t frame below reported fits (none_open globals at returns) (kind_fits kind.PopHandler is); lawful = tt }
+    call_left_keeps globals at returns (inl is) = record { own = leaves script passes t frame below reported fits (none_open globals at returns) (kind_fits kind.Call is); lawful = refl }
+    call_left_keeps globals at returns (inr is) = record { own = leaves script passes t frame below reported fits (none_open globals at returns) (kind_fits kind.PopHandler is); lawful = refl }
 
     pub handler_left_keeps : (globals : List ℕ) {s : Stmt} {v : ℕ} → statement_at script frame ≡ Some s → Returns body globals frame s v → (frame.kind ≡ kind.Handler) ⊎ (frame.kind ≡ kind.Destructor) → Keeps script passes own reported (acts (action.Leave status.Ending ∷ []) [])
     unfolding thread_at thread_after
-    handler_left_keeps globals at returns (inl is) = let fit = kind_fits kind.Handler is in record { own = leaves_handler script passes t frame below reported fits (none_open globals at returns) fit.0 fit.1; lawful = tt }
-    handler_left_keeps globals at returns (inr is) = let fit = kind_fits kind.Destructor is in record { own = leaves_handler script passes t frame below reported fits (none_open globals at returns) fit.0 fit.1; lawful = tt }
+    handler_left_keeps globals at returns (inl is) = let fit = kind_fits kind.Handler is in record { own = leaves_handler script passes t frame below reported fits (none_open globals at returns) fit.0 fit.1; lawful = refl }
+    handler_left_keeps globals at returns (inr is) = let fit = kind_fits kind.Destructor is in record { own = leaves_handler script passes t frame below reported fits (none_open globals at returns) fit.0 fit.1; lawful = refl }
 
     -- ---- pthread_setcancelstate
 
@@ -152,7 +152,7 @@ module _ (script : Script) (passes : ℕ) (matches : PushesMatch script) where
     state_keeps enable old at outside =
         let s : Stmt = statement.SetState enable old in
         let keeps =
-        going_on_keeps script passes (record t { state = state_if enable }) frame below status.Running reported (suc frame.pc) (action.Write old (state_number t.state) ∷ []) (what.StateSet enable ∷ []) (matches.next frame s at) (matches.next_within frame s at refl) refl refl (tt, tt)
+        going_on_keeps script passes (record t { state = state_if enable }) frame below status.Running reported (suc frame.pc) (action.Write old (state_number t.state) ∷ []) (what.StateSet enable ∷ []) (matches.next frame s at) (matches.next_within frame s at refl) refl refl refl
         (record {
           agrees = record { handlers_agree = fits.agrees.handlers_agree; reason = fits.agrees.reason; end = fits.agrees.end; functions = fits.agrees.functions; disabled = state_allowed enable outside; none_left = fits.agrees.none_left };
           placed = fits.placed;

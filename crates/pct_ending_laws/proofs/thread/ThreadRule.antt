@@ -18,12 +18,15 @@ use Rattle.pct_model.specs.declared.event.Event.{Event}
 use Rattle.pct_model.specs.declared.event.What.{What}
 use Rattle.pct_model.specs.declared.event.What.TheVariants as what
 use Rattle.pct_model.specs.Actions.{moved}
-use Rattle.pct_model.specs.Kept.{AreOpen, open_functions, is_join, is_call_of, is_at_fork, IsSuspendedAt, has_left_wait, IsPlainFunction}
+use Rattle.pct_model.specs.StatusKinds.{has_left_wait}
+use Rattle.pct_laws.specs.Kept.{AreOpen, open_functions, is_join, is_call_of, is_at_fork, IsSuspendedAt, IsPlainFunction}
 use Rattle.pct_model.specs.NextStatement.{next_of}
 use Rattle.pct_model.specs.StopTable.{has_begun_to_end}
-use Rattle.pct_model.specs.ThreadSummary.{ThreadSummary, no_events, with_event, summary_of}
+use Rattle.pct_laws.specs.ThreadSummary.{ThreadSummary, no_events, with_event, summary_of}
 use Rattle.pct_model.specs.World.{Thread, body_of}
-use Rattle.pct_model.specs.Once.{MayCome}
+use Rattle.pct_laws.specs.CancelLaw.{is_running}
+use Rattle.pct_laws.specs.Once.{may_come}
+use Rattle.pct_ending_laws.proofs.lift.EachAllowed.{all_may}
 use Rattle.pct_ending_laws.proofs.lift.ReportedBy.{after_all, reported_by, ThreadReading, of_thread, is_thread_reading}
 use Rattle.pct_ending_laws.proofs.thread.Passes.{PassesFit}
 
@@ -38,8 +41,7 @@ summary_reading tid = is_thread_reading summary tid (λ pid events. summary_of p
 
 -- each of some events of a thread, newest first, may come after those before it, with a limit on the passes over destructors
 abbrev pub AllMayCome : ℕ → List What → ThreadSummary → Type 0
-AllMayCome passes [] s = Unit {0}
-AllMayCome passes (w ∷ added) s = MayCome passes w (after_all summary added s) × AllMayCome passes added s
+AllMayCome passes added s = all_may summary (may_come passes) added s ≡ true
 
 -- these events are that a function registered with atexit is called
 abbrev pub calls_exit_function : List What → Bool
@@ -47,11 +49,6 @@ calls_exit_function (what.ExitRun f ∷ []) = true
 calls_exit_function _ = false
 
 -- ---- frames
-
--- the status is Running
-abbrev pub is_running : Status → Bool
-is_running status.Running = true
-is_running _ = false
 
 module _ (script : Script) where
   -- what is below a frame of a kind, in a thread with a reason to end; `below_fits` is that the frames below fit it. The thread of a fork

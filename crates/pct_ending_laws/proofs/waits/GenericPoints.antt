@@ -5,7 +5,7 @@ use Rattle.pct_model.specs.declared.frame.Frame.{Frame}
 use Rattle.pct_model.specs.declared.script.Script.{Script}
 use Rattle.pct_model.specs.declared.statement.Stmt.TheVariants as statement
 use Rattle.pct_model.specs.CancelCalls.{testcancel_point}
-use Rattle.pct_model.specs.CancelLaw.{has_own_return}
+use Rattle.pct_laws.specs.RequestsLaw.{has_own_return}
 use Rattle.pct_model.specs.CondCalls.{cond_wait_point}
 use Rattle.pct_model.specs.ForkCalls.{waitpid_point}
 use Rattle.pct_model.specs.LineKinds.{point_statement}

@@ -20,18 +20,20 @@ use Rattle.pct_model.specs.declared.transition.Transition.{Transition}
 use Rattle.pct_model.specs.Actions.{thread_at, thread_after, named_after, moved}
 use Rattle.pct_model.specs.CondCalls.{is_waiting_on, unblocked}
 use Rattle.pct_model.specs.ForkCalls.{in_fork, while_called}
-use Rattle.pct_model.specs.Kept.{WaitKept, is_leaving, has_left_wait}
+use Rattle.pct_model.specs.StatusKinds.{has_left_wait}
+use Rattle.pct_laws.specs.Kept.{WaitKept, is_leaving}
 use Rattle.pct_model.specs.NextStatement.{NextStatement, next_of, body_at}
 use Rattle.pct_model.specs.OtherThreads.{Others, others_of}
 use Rattle.pct_model.specs.ThreadSlots.{is_live_thread}
 use Rattle.pct_model.specs.Transitions.{acts}
 use Rattle.pct_model.specs.TransitionTable.{transition_by}
-use Rattle.pct_model.specs.WaitStages.{WaitStage, NoWait, AtCall, InWait, Leaving, LeavingSignal, stage_after, wait_stage, may_follow}
+use Rattle.pct_laws.specs.WaitStages.{WaitStage, NoWait, AtCall, InWait, Leaving, LeavingSignal, stage_after, wait_stage, may_follow}
 use Rattle.pct_model.specs.World.{Thread, SharedState, Process, World}
 use Rattle.pct_transition_cases.proofs.CaseOfTransition.{case_of}
 use Rattle.pct_transition_cases.proofs.PlacedStatements.{IsPlaced, is_placed, statement_placed}
 use Rattle.pct_transition_cases.proofs.TransitionCases.{TransitionCase, rests, point_begun, wait_ended, canceled_in_wait, canceled_after_wait, signal_handed_on, ended_in_wait, fork_handler_called}
 use Rattle.pct_ending_laws.proofs.lift.HandlerEvents.{of_each_phase}
+use Rattle.pct_ending_laws.proofs.lift.EachAllowed.{all_may}
 use Rattle.pct_ending_laws.proofs.lift.ReportedBy.{ThreadReading, after_all, reported_by, of_thread, is_thread_reading}
 use Rattle.pct_ending_laws.proofs.waits.GenericPoints.{is_other_point}
 
@@ -46,8 +48,7 @@ stage_reading tid = is_thread_reading stage tid (λ pid events. wait_stage pid t
 
 -- each of some events of a thread, newest first, may follow those before it
 abbrev pub all_follow : List What → WaitStage → Bool
-all_follow [] k = true
-all_follow (w ∷ added) k = may_follow (after_all stage added k) w && all_follow added k
+all_follow added k = all_may stage (λ w now. may_follow now w) added k
 
 -- a transition of a thread whose wait is at a stage
 pub record KeepsWait (t : Thread) (k : WaitStage) (o : Transition) : Type 0 where

@@ -1,30 +1,31 @@
 -- The laws that every run keeps.
-use Rattle.std.specs.Prelude.{List}
+use Rattle.std.specs.Prelude.{◌≡◌, true, List}
 use Rattle.pct_model.specs.declared.schedule.Config.{Config}
 use Rattle.pct_model.specs.declared.schedule.Entry.{Entry}
 use Rattle.pct_model.specs.declared.script.Script.{Script}
-use Rattle.pct_model.specs.AfterEnd.{AfterEnd}
-use Rattle.pct_model.specs.Calls.{Calls}
-use Rattle.pct_model.specs.CancelLaw.{CancelLaw}
-use Rattle.pct_model.specs.CondLaw.{CondLaw}
-use Rattle.pct_model.specs.Ends.{Ends}
-use Rattle.pct_model.specs.JoinLaw.{JoinLaw}
-use Rattle.pct_model.specs.Once.{Once}
-use Rattle.pct_model.specs.ProcessLaw.{ProcessLaw}
-use Rattle.pct_model.specs.RanAll.{RanAll}
+use Rattle.pct_laws.specs.AfterEnd as AfterEnd
+use Rattle.pct_laws.specs.Calls.{Calls}
+use Rattle.pct_laws.specs.CancelLaw.{CancelLaw}
+use Rattle.pct_laws.specs.Each.{each}
+use Rattle.pct_laws.specs.Once as Once
+use Rattle.pct_laws.specs.SlotLaw as SlotLaw
+use Rattle.pct_laws.specs.CondLaw as CondLaw
+use Rattle.pct_laws.specs.Ends.{Ends}
+use Rattle.pct_laws.specs.JoinLaw as JoinLaw
+use Rattle.pct_laws.specs.ProcessLaw as ProcessLaw
+use Rattle.pct_laws.specs.RanAll as RanAll
 use Rattle.pct_model.specs.Run.{Run}
-use Rattle.pct_model.specs.SlotLaw.{SlotLaw}
 
 -- the laws of the run of a schedule, and of its events, newest first
 pub record Laws (script : Script) (config : Config) (entries : List Entry) (r : Run) : Type 0 where
   -- no cleanup handler is removed twice, the newest is removed first, a thread ends once, with none left, and after its handlers no
   -- key has two events of its destructor in a pass
-  pub once : Once config.passes r.events
+  pub once : each (Once.allows config.passes) r.events ≡ true
   -- the handlers that ran in a thread that has ended are all those that were open as it began to end, the newest first
-  pub ran_all : RanAll r.events
+  pub ran_all : each RanAll.allows r.events ≡ true
   -- a thread that has ended, or exits its process, neither removes a handler nor calls a destructor nor ends again; after its end it
   -- only exits its process, as the last thread
-  pub after_end : AfterEnd r.events
+  pub after_end : each AfterEnd.allows r.events ≡ true
   -- each event which says that a function is called comes with its call; destructors get the value of a key, which is not NULL
   pub calls : Calls script config entries r.events
   -- the stages of an end follow each other, and keys with values are left only after the last pass
@@ -34,13 +35,13 @@ pub record Laws (script : Script) (config : Config) (entries : List Entry) (r : 
   pub cancels : CancelLaw script config entries r
   -- each join that returns gets the value of a thread that has ended, no thread is joined twice or while it is detached, and no
   -- request or detach names a thread outside the lifetime of its id
-  pub joins : JoinLaw r.events
+  pub joins : each JoinLaw.allows r.events ≡ true
   -- a mutex is acquired while no thread owns it, and released by its owner; a condition wait ends with its mutex owned again, also if a
   -- request ends it; and a signal is handed on only as a thread leaves its wait by a request
-  pub conds : CondLaw r.events
+  pub conds : each CondLaw.allows r.events ≡ true
   -- a new thread gets an id that no known thread of its process has had, and each known thread on its slot has ended and was joined or is
   -- detached
-  pub creations : SlotLaw config.slots r.events
+  pub creations : each (SlotLaw.allows config.slots) r.events ≡ true
   -- a process makes no event after its end and is made by one fork; exit begins at most once, and sets the status if its thread ends
   -- the process; and waitpid gives the status once
-  pub processes : ProcessLaw r.events
+  pub processes : each ProcessLaw.allows r.events ≡ true

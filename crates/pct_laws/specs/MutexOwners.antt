@@ -4,7 +4,7 @@ use Rattle.std.specs.Prelude.{ℕ, if◌then◌else◌, List, [], ◌∷◌, nat
 use Rattle.pct_model.specs.declared.event.Event.{Event}
 use Rattle.pct_model.specs.declared.event.What.{What}
 use Rattle.pct_model.specs.declared.event.What.TheVariants as what
-use Rattle.pct_model.specs.KnownThreads.{is_in, makes_process}
+use Rattle.pct_laws.specs.KnownThreads.{is_in, makes_process}
 
 -- the owner of mutex m, the id of a thread or 0 for none, after an event of thread tid of its process
 abbrev pub owner_after : ℕ → ℕ → What → ℕ → ℕ

@@ -1,7 +1,7 @@
 -- The threads that the events of a run report, and their lifetimes: the initial thread, those that pthread_create created, and the
 -- replicas that fork made; whether each is detached or joined (XSH 2.9.2, pthread_create, pthread_detach, pthread_join, fork). The
 -- events are listed newest first, as in the trace of a run.
-use Rattle.std.specs.Prelude.{ℕ, Bool, true, false, ◌&&◌, ◌||◌, if◌then◌else◌, List, [], ◌∷◌, Option, Some, None, nat_eq}
+use Rattle.std.specs.Prelude.{ℕ, Bool, true, false, ◌&&◌, ◌||◌, if◌then◌else◌, List, [], ◌∷◌, nat_eq}
 use Rattle.std.specs.List.{list_any}
 use Rattle.pct_model.specs.declared.event.Event.{Event}
 use Rattle.pct_model.specs.declared.event.What.{What}
@@ -66,27 +66,7 @@ joins_id tid _ = false
 abbrev pub is_joined : ℕ → ℕ → List Event → Bool
 is_joined pid tid events = list_any (λ e. is_in pid e && joins_id tid e.what) events
 
--- the event is that of the end of a thread with a value
-abbrev pub ends_with : ℕ → What → Bool
-ends_with v (what.EndedWith w) = nat_eq w v
-ends_with v _ = false
-
 -- the event is that of the end of a thread
 abbrev pub reports_end : What → Bool
 reports_end (what.EndedWith v) = true
 reports_end _ = false
-
--- thread tid of process pid has an event that passes a test
-abbrev pub has_own : (What → Bool) → ℕ → ℕ → List Event → Bool
-has_own test pid tid events = list_any (λ e. is_own pid tid e && test e.what) events
-
--- the lifetime of the id of thread tid of process pid is over: the thread has ended, and was joined or is detached (XSH 2.9.2)
-abbrev pub is_reclaimed : ℕ → ℕ → List Event → Bool
-is_reclaimed pid tid events = has_own reports_end pid tid events && (is_joined pid tid events || is_detached pid tid events)
-
--- ---- the newest event of a thread
-
--- the newest event of thread tid of process pid, if it has one
-abbrev pub newest_event : ℕ → ℕ → List Event → Option What
-newest_event pid tid [] = None
-newest_event pid tid (e ∷ earlier) = if is_own pid tid e then Some e.what else newest_event pid tid earlier

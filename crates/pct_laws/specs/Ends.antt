@@ -3,9 +3,9 @@
 -- the next one begins only if keys are due; a thread ends only if none is due or all passes were made, and then reports how many are due;
 -- and the last thread of a process exits it as it ends (XSH 2.9.5.3, pthread_exit, pthread_key_create). A step changes the
 -- value of a key of its own thread only at pthread_setspecific of this key, as its destructor is called, or as it is deleted.
-use Rattle.std.specs.Prelude.{◌≡◌, ◌≢◌, ℕ, suc, ◌<◌, ◌≤◌, Bool, true, false, List, [], ◌∷◌, length, filter, Option, Some, None, All, slice_get, nat_eq}
-use Rattle.std.specs.List.{range_with_len, list_any}
-use Rattle.std.specs.Option.{IsSomeAnd}
+use Rattle.std.specs.Prelude.{◌≡◌, ℕ, suc, Bool, true, false, not, ◌&&◌, ◌||◌, List, length, filter, slice_get, nat_eq, nat_lt, nat_le}
+use Rattle.std.specs.List.{range_with_len, list_any, list_all}
+use Rattle.std.specs.Option.{option_map_or}
 use Rattle.pct_model.specs.declared.event.Event.{Event}
 use Rattle.pct_model.specs.declared.event.What.{What}
 use Rattle.pct_model.specs.declared.event.What.TheVariants as what
@@ -13,14 +13,17 @@ use Rattle.pct_model.specs.declared.limits.TheConstants.{MAX_KEYS}
 use Rattle.pct_model.specs.declared.schedule.Config.{Config}
 use Rattle.pct_model.specs.declared.schedule.Entry.{Entry}
 use Rattle.pct_model.specs.declared.script.Script.{Script}
-use Rattle.pct_model.specs.declared.state.Status.TheVariants.{Ending}
+use Rattle.pct_model.specs.declared.state.Status.{Status}
+use Rattle.pct_model.specs.declared.state.Status.TheVariants as status
 use Rattle.pct_model.specs.declared.statement.Stmt.TheVariants as statement
-use Rattle.pct_model.specs.AfterEnd.{begins_exit_with_0}
+use Rattle.pct_laws.specs.AfterEnd.{begins_exit_with_0}
+use Rattle.pct_model.specs.LineParsing.{is_empty}
 use Rattle.pct_model.specs.Keys.{KeyPlace, key_place, is_due, value_at}
-use Rattle.pct_model.specs.KnownThreads.{reports_end}
+use Rattle.pct_laws.specs.FollowedEvents.{are_followed}
+use Rattle.pct_laws.specs.KnownThreads.{reports_end}
 use Rattle.pct_model.specs.NextStatement.{NextStatement, StatementIn, next_of}
-use Rattle.pct_model.specs.ThreadSteps.{ThreadStep, EachStep}
-use Rattle.pct_model.specs.World.{Thread, thread_with, value_of}
+use Rattle.pct_laws.specs.ThreadSteps.{ThreadStep, EachStep}
+use Rattle.pct_model.specs.World.{Thread, Process, value_of}
 
 -- ---- keys
 
@@ -28,9 +31,17 @@ use Rattle.pct_model.specs.World.{Thread, thread_with, value_of}
 abbrev pub count_due : List KeyPlace → Thread → ℕ
 count_due keys t = length (filter (is_due keys t.specific) (range_with_len 0 MAX_KEYS))
 
--- no such key is left in the pass of the thread
-abbrev pub NoneLeft : List KeyPlace → Thread → Type 0
-NoneLeft keys t = (place : ℕ) → slice_get t.specific.in_pass place ≡ Some true → is_due keys t.specific place ≡ false
+-- a place is in the pass of a thread
+abbrev pub is_in_pass : ℕ → Thread → Bool
+is_in_pass place t = option_map_or (λ in_pass. in_pass) (slice_get t.specific.in_pass place) false
+
+-- no key that is due is left in the pass of the thread
+abbrev pub none_left : List KeyPlace → Thread → Bool
+none_left keys t = not (list_any (λ place. is_in_pass place t && is_due keys t.specific place) (range_with_len 0 MAX_KEYS))
+
+-- each key that is due in a thread is in the pass of the thread after a step
+abbrev pub takes_due : List KeyPlace → Thread → Thread → Bool
+takes_due keys before after = list_all (λ place. not (is_due keys before.specific place) || is_in_pass place after) (range_with_len 0 MAX_KEYS)
 
 -- the event is that this many values are left
 abbrev pub reports_left : ℕ → What → Bool
@@ -39,51 +50,57 @@ reports_left n _ = false
 
 -- ---- the law of a step
 
--- the thread of a step is at the next stage of its end: no function that it called goes on
-pub record IsAtStage (s : ThreadStep) : Type 0 where
-  pub ending : s.before.status ≡ Ending
-  pub returned : s.before.frames ≡ []
+-- the status is Ending
+abbrev pub is_status_ending : Status → Bool
+is_status_ending status.Ending = true
+is_status_ending _ = false
 
--- the thread of a step has run its handlers
-pub record HasRunHandlers (s : ThreadStep) : Type 0 where
-  pub stage : IsAtStage s
-  pub none : s.before.handlers ≡ []
+-- the thread of a step is at the next stage of its end: no function that it called goes on
+abbrev pub is_at_stage : ThreadStep → Bool
+is_at_stage s = is_status_ending s.before.status && is_empty s.before.frames
+
+-- and it has run its handlers
+abbrev pub has_run_handlers : ThreadStep → Bool
+has_run_handlers s = is_at_stage s && is_empty s.before.handlers
+
+-- each thread of a process has ended, but for the one with an id and those that the process did not inherit
+abbrev pub others_have_ended : ℕ → Process → Bool
+others_have_ended id p = list_all (λ t. t.gone || t.ended || nat_eq t.id id) p.threads
+
+-- a pass with a number may begin in a step
+abbrev pub pass_may_begin : ℕ → ThreadStep → Bool
+pass_may_begin n s =
+    has_run_handlers s
+    -- the pass before is over, and keys are due
+    && none_left s.process.shared.keys s.before && nat_lt 0 (count_due s.process.shared.keys s.before) && nat_eq n (suc s.before.pass)
+    -- the keys that are due are left in it
+    && takes_due s.process.shared.keys s.before s.after
 
 module _ (passes : ℕ) where
-  -- a pass with a number begins in a step
-  pub record BeginsPass (n : ℕ) (s : ThreadStep) : Type 0 where
-    pub handlers : HasRunHandlers s
-    -- the pass before is over, and keys are due
-    pub over : NoneLeft s.process.shared.keys s.before
-    pub due : 0 < count_due s.process.shared.keys s.before
-    pub number : n ≡ suc s.before.pass
-    -- the keys that are due are left in it
-    pub taken : (place : ℕ) → is_due s.process.shared.keys s.before.specific place ≡ true → slice_get s.after.specific.in_pass place ≡ Some true
-
-  -- the thread ends in a step
-  pub record EndsThread (s : ThreadStep) : Type 0 where
-    pub handlers : HasRunHandlers s
-    -- its last pass is over; no key is due, or all passes were made
-    pub over : NoneLeft s.process.shared.keys s.before
-    pub passed : 0 < count_due s.process.shared.keys s.before → passes ≤ s.before.pass
-    -- if each other thread of its process has ended, it begins to exit the process with 0
-    pub last : ((tid : ℕ) (u : Thread) → thread_with tid s.process ≡ Some u → u.gone ≡ false → tid ≢ s.before.id → u.ended ≡ true) → list_any begins_exit_with_0 s.events ≡ true
-    -- the keys that are due are reported
-    pub reported : 0 < count_due s.process.shared.keys s.before → list_any (reports_left (count_due s.process.shared.keys s.before)) s.events ≡ true
+  -- the thread may end in a step
+  abbrev pub thread_may_end : ThreadStep → Bool
+  thread_may_end s =
+      has_run_handlers s
+      -- its last pass is over; no key is due, or all passes were made
+      && none_left s.process.shared.keys s.before && (nat_eq (count_due s.process.shared.keys s.before) 0 || nat_le passes s.before.pass)
+      -- if each other thread of its process has ended, it begins to exit the process with 0
+      && (not (others_have_ended s.before.id s.process) || list_any begins_exit_with_0 s.events)
+      -- the keys that are due are reported
+      && (nat_eq (count_due s.process.shared.keys s.before) 0 || list_any (reports_left (count_due s.process.shared.keys s.before)) s.events)
 
   -- what a step with an event begins with
-  abbrev pub MayBegin : What → ThreadStep → Type 0
-  MayBegin (what.HandlerRun f a) s = IsAtStage s
-  MayBegin (what.PassBegun n) s = BeginsPass n s
-  MayBegin (what.DtorRun pass key f v) s = HasRunHandlers s × (pass ≡ s.before.pass)
-  MayBegin (what.Leftover n) s = (n ≡ count_due s.process.shared.keys s.before) × (0 < n)
-  MayBegin (what.EndedWith v) s = EndsThread s
+  abbrev pub may_begin : What → ThreadStep → Bool
+  may_begin (what.HandlerRun f a) s = is_at_stage s
+  may_begin (what.PassBegun n) s = pass_may_begin n s
+  may_begin (what.DtorRun pass key f v) s = has_run_handlers s && nat_eq pass s.before.pass
+  may_begin (what.Leftover n) s = nat_eq n (count_due s.process.shared.keys s.before) && nat_lt 0 n
+  may_begin (what.EndedWith v) s = thread_may_end s
   -- the law asks nothing at the other events
-  MayBegin _ s = Unit {0}
+  may_begin _ s = true
 
   -- each event of a step may come in it
-  abbrev pub EachMayBegin : ThreadStep → Type 0
-  EachMayBegin s = All (λ w. MayBegin w s) s.events
+  abbrev pub each_may_begin : ThreadStep → Bool
+  each_may_begin s = list_all (λ w. may_begin w s) s.events
 
 -- ---- the law of values
 
@@ -121,19 +138,11 @@ abbrev pub is_leftover : What → Bool
 is_leftover (what.Leftover n) = true
 is_leftover _ = false
 
--- the second event is the end of the thread of the first one
-abbrev pub IsEndAfter : Event → Event → Type 0
-IsEndAfter left e = (e.pid ≡ left.pid) × (e.tid ≡ left.tid) × (reports_end e.what ≡ true)
-
--- each event that values are left is directly followed by the end of its thread, where this event, if there is one, follows the newest
-abbrev pub LeftoverEnds : Option Event → List Event → Type 0
-LeftoverEnds following [] = Unit {0}
-LeftoverEnds following (e ∷ earlier) = (is_leftover e.what ≡ true → IsSomeAnd following (IsEndAfter e)) × LeftoverEnds (Some e) earlier
-
 -- ---- the law
 
 -- the law of the stages of an end, of the run of a schedule and its events
 pub record Ends (script : Script) (config : Config) (entries : List Entry) (events : List Event) : Type 0 where
-  pub stages : EachStep script config entries (EachMayBegin config.passes)
+  pub stages : EachStep script config entries (λ s. each_may_begin config.passes s ≡ true)
   pub values : EachStep script config entries (KeepsValues script)
-  pub left : LeftoverEnds None events
+  -- each event that values are left is directly followed by the end of its thread
+  pub left : are_followed is_leftover reports_end events ≡ true

@@ -5,9 +5,9 @@ use Rattle.std.specs.List.{list_any}
 use Rattle.pct_model.specs.declared.event.Event.{Event}
 use Rattle.pct_model.specs.declared.event.What.{What}
 use Rattle.pct_model.specs.declared.event.What.TheVariants as what
-use Rattle.pct_model.specs.KnownThreads.{is_in, is_own, is_fork_of}
+use Rattle.pct_laws.specs.KnownThreads.{is_in, is_own, is_fork_of}
 use Rattle.pct_model.specs.StopTable.{has_begun_to_end}
-use Rattle.pct_model.specs.ThreadSummary.{summary_of}
+use Rattle.pct_laws.specs.ThreadSummary.{summary_of}
 
 -- ---- requests
 

@@ -4,7 +4,7 @@ use Rattle.std.specs.Prelude.{if◌then◌else◌, ℕ, Bool, false, not, ◌&&�
 use Rattle.pct_model.specs.declared.event.Event.{Event}
 use Rattle.pct_model.specs.declared.event.What.{What}
 use Rattle.pct_model.specs.declared.event.What.TheVariants as what
-use Rattle.pct_model.specs.KnownThreads.{is_in, makes_process}
+use Rattle.pct_laws.specs.KnownThreads.{is_in, makes_process}
 
 -- whether there is a key with a number after an event of the process, if there was one before it or not
 abbrev pub key_after : ℕ → What → Bool → Bool

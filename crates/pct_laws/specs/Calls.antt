@@ -4,7 +4,7 @@
 -- destructor is that of the pthread_key_create of its key, which was not deleted since; it is called with the thread's value of the key,
 -- which is not NULL, and is NULL then (XSH pthread_key_create, pthread_key_delete). Of the functions that were registered with atexit, an
 -- exit calls the newest that is left, and none is left as it ends the process (XSH atexit, exit).
-use Rattle.std.specs.Prelude.{◌≡◌, ◌≢◌, ◌⊎◌, ℕ, suc, ◌<◌, ◌%◌, Bool, true, false, not, List, [], ◌∷◌, length, Option, Some, None, All, slice_index, nat_eq}
+use Rattle.std.specs.Prelude.{◌≡◌, ◌≢◌, ◌⊎◌, ℕ, suc, ◌%◌, Bool, true, false, not, List, [], ◌∷◌, length, Option, Some, None, All, slice_index, nat_eq, ◌||◌, nat_le}
 use Rattle.std.specs.List.{list_any}
 use Rattle.pct_model.specs.declared.event.Event.{Event}
 use Rattle.pct_model.specs.declared.event.What.{What}
@@ -20,10 +20,11 @@ use Rattle.pct_model.specs.declared.statement.Dest.{Dest}
 use Rattle.pct_model.specs.declared.statement.Operand.{Operand}
 use Rattle.pct_model.specs.declared.statement.Stmt.TheVariants as statement
 use Rattle.pct_model.specs.Actions.{without_first}
-use Rattle.pct_model.specs.KeyEvents.{has_key}
+use Rattle.pct_laws.specs.Each.{each}
+use Rattle.pct_laws.specs.KeysLaw as KeysLaw
 use Rattle.pct_model.specs.Keys.{Key, key_place, key_at, value_at}
 use Rattle.pct_model.specs.NextStatement.{NextStatement, StatementIn, next_of}
-use Rattle.pct_model.specs.ThreadSteps.{ThreadStep, EachStep}
+use Rattle.pct_laws.specs.ThreadSteps.{ThreadStep, EachStep}
 use Rattle.pct_model.specs.World.{Thread, value_of}
 
 -- ---- frames
@@ -163,8 +164,8 @@ calls_function (StatementIn frame (statement.Do f v)) = true
 calls_function _ = false
 
 -- a frame is made by a statement that calls a function, or in a step with an event that says so
-abbrev pub SaysCalls : Script → ThreadStep → Type 0
-SaysCalls script s = length s.before.frames < length s.after.frames → calls_function (next_of script s.before.frames) ≡ false → list_any says_call s.events ≡ true
+abbrev pub says_calls : Script → ThreadStep → Bool
+says_calls script s = nat_le (length s.after.frames) (length s.before.frames) || calls_function (next_of script s.before.frames) || list_any says_call s.events
 
 -- ---- the functions of an exit
 
@@ -182,26 +183,12 @@ KeepsExits _ functions after = after ≡ functions
 abbrev pub KeepsExitFunctions : Script → ThreadStep → Type 0
 KeepsExitFunctions script s = list_any calls_exit_function s.events ≡ false → KeepsExits (next_of script s.before.frames) s.process.shared.exit_functions s.process_after.shared.exit_functions
 
--- ---- the law of the events
-
--- what the law asks of an event of process pid, by those before it
-abbrev pub MayDestroy : What → ℕ → List Event → Type 0
--- a destructor is called with a value that is not NULL, for a key that was made and not deleted
-MayDestroy (what.DtorRun pass key f v) pid earlier = (v ≢ 0) × (has_key pid key earlier ≡ true)
--- the law asks nothing of the other events
-MayDestroy _ pid earlier = Unit {0}
-
--- each event of a run may come after those before it
-abbrev pub KeysLaw : List Event → Type 0
-KeysLaw [] = Unit {0}
-KeysLaw (e ∷ earlier) = MayDestroy e.what e.pid earlier × KeysLaw earlier
-
 -- ---- the law
 
 -- the law of calls, of the run of a schedule and its events
 pub record Calls (script : Script) (config : Config) (entries : List Entry) (events : List Event) : Type 0 where
   pub called : EachStep script config entries (EachIsCalled script)
-  pub said : EachStep script config entries (SaysCalls script)
+  pub said : EachStep script config entries (λ s. says_calls script s ≡ true)
   pub exits : EachStep script config entries (KeepsExitFunctions script)
   pub made_keys : EachStep script config entries KeepsKeys
-  pub keys : KeysLaw events
+  pub keys : each KeysLaw.allows events ≡ true

@@ -1,13 +1,14 @@
 -- What the events of a run report of a thread: its cleanup handlers, the destructors that it called, and its end. A thread is given by
 -- the id of its process and its own. The events are listed newest first, as in the trace of a run.
-use Rattle.std.specs.Prelude.{ℕ, suc, Bool, true, false, if◌then◌else◌, List, [], ◌∷◌, Option, Some, None}
+use Rattle.std.specs.Prelude.{ℕ, suc, Bool, true, false, ◌&&◌, ◌||◌, if◌then◌else◌, List, [], ◌∷◌, Option, Some, None, is_some, nat_eq}
+use Rattle.std.specs.Option.{option_map_or}
 use Rattle.pct_model.specs.declared.event.Event.{Event}
 use Rattle.pct_model.specs.declared.event.What.{What}
 use Rattle.pct_model.specs.declared.event.What.TheVariants as what
 use Rattle.pct_model.specs.declared.state.Reason.{Reason}
 use Rattle.pct_model.specs.declared.state.Reason.TheVariants as reason
 use Rattle.pct_model.specs.Actions.{without_first}
-use Rattle.pct_model.specs.KnownThreads.{is_own, is_fork_of}
+use Rattle.pct_laws.specs.KnownThreads.{is_own, is_fork_of, is_joined, is_detached}
 
 -- what the events so far report of a thread
 pub record ThreadSummary : Type 0 where
@@ -55,3 +56,17 @@ summary_of pid tid (e ∷ earlier) =
     if is_own pid tid e then with_event e.what (summary_of pid tid earlier)
     else if is_fork_of pid tid e then record (summary_of pid tid earlier) { handlers = (summary_of e.pid tid earlier).handlers }
     else summary_of pid tid earlier
+
+-- ---- the end of a thread
+
+-- thread tid of process pid has ended
+abbrev pub thread_ended : ℕ → ℕ → List Event → Bool
+thread_ended pid tid events = is_some (summary_of pid tid events).ended
+
+-- it has ended with a value
+abbrev pub thread_ended_with : ℕ → ℕ → ℕ → List Event → Bool
+thread_ended_with v pid tid events = option_map_or (λ value. nat_eq value v) (summary_of pid tid events).ended false
+
+-- the lifetime of the id of thread tid of process pid is over: the thread has ended, and was joined or is detached (XSH 2.9.2)
+abbrev pub is_reclaimed : ℕ → ℕ → List Event → Bool
+is_reclaimed pid tid events = thread_ended pid tid events && (is_joined pid tid events || is_detached pid tid events)

@@ -5,7 +5,7 @@ use Rattle.pct_model.specs.declared.event.Event.{Event}
 use Rattle.pct_model.specs.declared.event.What.{What}
 use Rattle.pct_model.specs.declared.event.What.TheVariants as what
 use Rattle.pct_model.specs.CondCalls.{cond_wait_point}
-use Rattle.pct_model.specs.KnownThreads.{is_own}
+use Rattle.pct_laws.specs.KnownThreads.{is_own}
 
 -- how far the newest condition wait of a thread is
 pub data WaitStage : Type 0 where

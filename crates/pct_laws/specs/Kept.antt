@@ -1,5 +1,5 @@
 -- The invariant of reachable states: what each state that a run reaches keeps, beside the events that led to it.
-use Rattle.std.specs.Prelude.{◌≡◌, ◌≢◌, ℕ, suc, ◌+◌, ◌*◌, ◌<◌, ◌≤◌, nat_eq, Bool, true, false, not, ◌&&◌, ◌||◌, if◌then◌else◌, Option, Some, None, is_some}
+use Rattle.std.specs.Prelude.{◌≡◌, ◌≢◌, ℕ, suc, ◌+◌, ◌*◌, ◌<◌, ◌≤◌, nat_eq, Bool, true, false, not, ◌&&◌, ◌||◌, if◌then◌else◌, Option, Some, None, is_some, option_map}
 use Rattle.std.specs.Prelude.{List, [], ◌∷◌, ◌++◌, length, map, slice_get, slice_index, All}
 use Rattle.std.specs.List.{list_any}
 use Rattle.std.specs.Option.{IsSomeAnd, option_map_or}
@@ -19,28 +19,30 @@ use Rattle.pct_model.specs.declared.state.State.TheVariants.{Disable}
 use Rattle.pct_model.specs.declared.state.Status.{Status}
 use Rattle.pct_model.specs.declared.state.Status.TheVariants as status
 use Rattle.pct_model.specs.declared.statement.Stmt.TheVariants as statement
-use Rattle.pct_model.specs.Actions.{has_ended, without_first}
-use Rattle.pct_model.specs.AfterEnd.{begins_exit}
+use Rattle.pct_model.specs.Actions.{without_first}
+use Rattle.pct_laws.specs.ProcessEnds.{exit_value, end_status}
+use Rattle.pct_laws.specs.FollowedEvents.{are_followed}
 use Rattle.pct_model.specs.CancelCalls.{point_kind, is_required, state_if, mode_if}
-use Rattle.pct_model.specs.CancelEvents.{is_requested, is_enabled_last, is_asynchronous_last, has_not_begun}
+use Rattle.pct_laws.specs.CancelEvents.{is_requested, is_enabled_last, is_asynchronous_last, has_not_begun}
 use Rattle.pct_model.specs.CondCalls.{cond_wait_point}
 use Rattle.pct_model.specs.ForkCalls.{is_fork}
-use Rattle.pct_model.specs.KeyEvents.{has_key}
+use Rattle.pct_laws.specs.KeyEvents.{has_key}
 use Rattle.pct_model.specs.Keys.{Key, KeyPlace, key_at, key_with, value_at}
-use Rattle.pct_model.specs.KnownThreads.{is_known, is_detached, is_joined, newest_event}
+use Rattle.pct_laws.specs.KnownThreads.{is_known, is_detached, is_joined}
+use Rattle.pct_laws.specs.NewestEvents.{newest_event}
+use Rattle.pct_model.specs.StatusKinds.{is_forking, has_left_wait, has_no_frame}
 use Rattle.pct_model.specs.LineParsing.{is_empty}
-use Rattle.pct_model.specs.MutexOwners.{owner_of}
+use Rattle.pct_laws.specs.MutexOwners.{owner_of}
 use Rattle.pct_model.specs.NextStatement.{NextStatement, StatementIn, next_of}
-use Rattle.pct_model.specs.Once.{is_pair}
-use Rattle.pct_model.specs.OpenPushes.{open_pushes}
-use Rattle.pct_model.specs.ProcessLaw.{has_in, ends_process}
+use Rattle.pct_laws.specs.Once.{is_pair}
+use Rattle.pct_laws.specs.OpenPushes.{open_pushes}
 use Rattle.pct_model.specs.Static.{is_plain_body}
 use Rattle.pct_model.specs.StopTable.{has_begun_to_end, is_fork_kind}
 use Rattle.pct_model.specs.ThreadCalls.{join_point}
 use Rattle.pct_model.specs.ThreadNumbers.{NumbersThreads}
 use Rattle.pct_model.specs.ThreadSlots.{is_ended_status}
-use Rattle.pct_model.specs.ThreadSummary.{ThreadSummary, summary_of}
-use Rattle.pct_model.specs.WaitStages.{WaitStage, NoWait, InWait, Leaving, LeavingSignal, wait_stage}
+use Rattle.pct_laws.specs.ThreadSummary.{ThreadSummary, summary_of}
+use Rattle.pct_laws.specs.WaitStages.{WaitStage, NoWait, InWait, Leaving, LeavingSignal, wait_stage}
 use Rattle.pct_model.specs.World.{Thread, Process, World, made_process, thread_with, made_thread, body_of}
 
 -- ---- handlers
@@ -97,13 +99,6 @@ is_exit_kind _ = false
 
 -- ---- status
 
--- a thread with this status has no frame
-abbrev pub has_no_frame : Status → Bool
-has_no_frame status.Ending = true
-has_no_frame status.Exiting = true
-has_no_frame (status.Ended v) = true
-has_no_frame _ = false
-
 -- the status is Ending or Ended
 abbrev pub is_ending_status : Status → Bool
 is_ending_status status.Ending = true
@@ -155,16 +150,6 @@ IsSuspendedAt next (status.Forking phase index length pid) = is_at_fork next ≡
 IsSuspendedAt next (status.Waiting c m) = is_cond_wait_of c m next ≡ true
 IsSuspendedAt next (status.Reacquire c m why) = is_cond_wait_of c m next ≡ true
 IsSuspendedAt next _ = Unit {0}
-
--- a thread with this status is in fork
-abbrev pub is_forking : Status → Bool
-is_forking (status.Forking phase index length pid) = true
-is_forking _ = false
-
--- a thread with this status acted upon a request in a condition wait, and does not own its mutex yet
-abbrev pub has_left_wait : Status → Bool
-has_left_wait (status.Reacquire c m cause.Canceled) = true
-has_left_wait _ = false
 
 -- a thread with this status and these frames has begun to end and does not exit its process: it is Ending or Ended, or its bottom
 -- frame is that of a handler or of a destructor
@@ -363,22 +348,16 @@ abbrev pub is_release : What → Bool
 is_release (what.Released m) = true
 is_release _ = false
 
--- the second event is of the thread of the first one, and is that a mutex is released
-abbrev pub IsReleaseAfter : Event → Event → Type 0
-IsReleaseAfter call e = (e.pid ≡ call.pid) × (e.tid ≡ call.tid) × (is_release e.what ≡ true)
-
--- each call of pthread_cond_wait among some events is directly followed by a release of the same thread, where this event, if there is
--- one, follows the newest of them
-abbrev pub CallsRelease : Option Event → List Event → Type 0
-CallsRelease following [] = Unit {0}
-CallsRelease following (e ∷ earlier) = (is_wait_call e.what ≡ true → IsSomeAnd following (IsReleaseAfter e)) × CallsRelease (Some e) earlier
-
 -- ---- states
 
 -- a thread that has ended exits its process: the last thread of a process does so (XSH pthread_exit)
 pub record ExitsAfterItsEnd (t : Thread) (s : ThreadSummary) : Type 0 where
   pub ended : t.ended ≡ true
   pub exits : s.exiting ≡ true
+
+-- the status with which the process ended, if it has
+abbrev pub status_of_end : Process → Option ℕ
+status_of_end p = option_map (λ end. end.status) p.ended
 
 -- each thread of the process has ended
 abbrev pub HasOnlyEnded : Process → Type 0
@@ -394,9 +373,9 @@ pub record Kept (script : Script) (config : Config) (w : World) (events : List E
   pub keys : EachProcess w (λ pid p. KeysKept script p.shared.keys)
   -- there is a key with a number in a process exactly if the events report so
   pub reported_keys : EachProcess w (λ pid p. (key : ℕ) → is_some (key_with key p.shared.keys) ≡ has_key pid key events)
-  -- a process has ended, and exit has begun in it, exactly if the events report so
-  pub ended : EachProcess w (λ pid p. has_ended p ≡ has_in ends_process pid events)
-  pub exits : EachProcess w (λ pid p. is_some p.shared.exit_value ≡ has_in begins_exit pid events)
+  -- the status with which a process ended, if it has, and its exit value are those that the events report
+  pub ended : EachProcess w (λ pid p. status_of_end p ≡ end_status pid events)
+  pub exits : EachProcess w (λ pid p. p.shared.exit_value ≡ exit_value pid events)
   -- the functions that are registered with atexit are plain functions of the script
   pub exit_functions : EachProcess w (λ pid p. All (IsPlainFunction script) p.shared.exit_functions)
   -- the fork handlers that are registered are plain functions of the script
@@ -420,6 +399,6 @@ pub record Kept (script : Script) (config : Config) (w : World) (events : List E
   -- the condition wait of each thread is unfinished exactly if the thread is in it
   pub waits : EachThread w (λ pid tid t. WaitKept t.status (wait_stage pid tid events))
   -- each call of pthread_cond_wait is directly followed by a release of the same thread
-  pub calls_release : CallsRelease None events
+  pub calls_release : are_followed is_wait_call is_release events ≡ true
   -- if a thread exits its process after its own end, each thread of the process has ended (XSH pthread_exit)
   pub last : EachProcess w (λ pid p. EachThreadOf p (λ tid t. ExitsAfterItsEnd t (summary_of pid tid events) → HasOnlyEnded p))
