@@ -1,5 +1,5 @@
 //! Input and output of the host: byte sources and byte sinks that count their errors, in memory and over std's
-//! streams; reading and writing of whole texts; buffered output; and a hook for the turns of workers, which nothing calls yet.
+//! streams; reading and writing of whole texts; buffered output; and a hook for the turns of workers.
 #![tactic(auto)]
 
 mod buffered_sink;

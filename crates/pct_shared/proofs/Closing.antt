@@ -63,9 +63,9 @@ own_first number e entries false is = rw is refl
 some_left : (e : Entry) (entries : List Entry) → e ∷ entries ≡ [] → ⊥
 some_left e entries same = cc
 
-none_behind_by : (number : ℕ) (e : Entry) (entries : List Entry) (b : Bool) → nat_eq e.worker number ≡ b → own number (e ∷ entries) ≡ [] → own number entries ≡ []
-none_behind_by number e entries true is none = absurd (some_left e (own number entries) (sym (own_first number e entries true is) ∙ none))
-none_behind_by number e entries false is none = sym (own_first number e entries false is) ∙ none
+none_left_by : (number : ℕ) (e : Entry) (entries : List Entry) (b : Bool) → nat_eq e.worker number ≡ b → own number (e ∷ entries) ≡ [] → own number entries ≡ []
+none_left_by number e entries true is none = absurd (some_left e (own number entries) (sym (own_first number e entries true is) ∙ none))
+none_left_by number e entries false is none = sym (own_first number e entries false is) ∙ none
 
 -- the number of a worker
 abbrev IsNumber : ℕ → ℕ → Type 0
@@ -82,7 +82,7 @@ numbers_of workers [] none = All-nil (λ e. IsNumber workers e.worker)
 numbers_of workers (e ∷ entries) none =
     All-cons (λ x. IsNumber workers x.worker) e entries
     (number_by workers e entries none (ℕ_discrete e.worker 0) (dec_le e.worker workers))
-    (numbers_of workers entries (λ n which. none_behind_by n e entries (nat_eq e.worker n) refl (none n which)))
+    (numbers_of workers entries (λ n which. none_left_by n e entries (nat_eq e.worker n) refl (none n which)))
 
 -- ---- one pass is left
 

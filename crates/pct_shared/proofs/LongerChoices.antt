@@ -18,19 +18,19 @@ get_front [] ys k within = absurd (omega (arith, within))
 get_front (x ∷ xs) ys zero within = refl
 get_front (x ∷ xs) ys (suc k) within = get_front xs ys k (omega (arith, within))
 
-chosen_behind : (words : Lcg) (worker : ℕ) (script : Script) (config : Config) (entries rest : List Entry) (place turn : ℕ) → place < length entries → IsChosenAt words worker script config entries place turn → IsChosenAt words worker script config (entries ++ rest) place turn
-chosen_behind words worker script config entries rest place turn within chosen_at before is =
+chosen_with_more : (words : Lcg) (worker : ℕ) (script : Script) (config : Config) (entries rest : List Entry) (place turn : ℕ) → place < length entries → IsChosenAt words worker script config entries place turn → IsChosenAt words worker script config (entries ++ rest) place turn
+chosen_with_more words worker script config entries rest place turn within chosen_at before is =
     get_front entries rest place within
     ∙ chosen_at before (ap (run script config) (sym (take-append-le place entries rest (omega (arith, within)))) ∙ is)
 
 -- an entry that was chosen is so in each history that begins with its own
 pub chosen_in_longer : (words : Lcg) (worker : ℕ) (script : Script) (config : Config) (xs ys : List Entry) (place turn : ℕ) → IsPrefix xs ys → place < length xs → IsChosenAt words worker script config xs place turn → IsChosenAt words worker script config ys place turn
 chosen_in_longer words worker script config xs ys place turn front within chosen_at =
-    subst (λ (entries : List Entry). IsChosenAt words worker script config entries place turn) (sym front.all_is) (chosen_behind words worker script config xs front.rest place turn within chosen_at)
+    subst (λ (entries : List Entry). IsChosenAt words worker script config entries place turn) (sym front.all_is) (chosen_with_more words worker script config xs front.rest place turn within chosen_at)
 
--- the entries behind the first ones of a run have the number of the worker that chose them
-pub numbers_behind : (words : Lcg) (worker : ℕ) (script : Script) (config : Config) (begun rest : List Entry) (end : Run) → run script config (begun ++ rest) ≡ Some end → AreChosenBy words worker script config (length begun) (begun ++ rest) → All (λ e. e.worker ≡ worker) rest
-numbers_behind words worker script config begun rest end is choices k d within =
+-- the entries after the first ones of a run have the number of the worker that chose them
+pub numbers_after : (words : Lcg) (worker : ℕ) (script : Script) (config : Config) (begun rest : List Entry) (end : Run) → run script config (begun ++ rest) ≡ Some end → AreChosenBy words worker script config (length begun) (begun ++ rest) → All (λ e. e.worker ≡ worker) rest
+numbers_after words worker script config begun rest end is choices k d within =
     let entries = begun ++ rest in
     let place = length begun + k in
     let inside : place < length entries = omega (arith, within, length-append begun rest) in

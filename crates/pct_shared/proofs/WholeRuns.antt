@@ -1,4 +1,4 @@
--- The first entries of a run, and runs to their end: nothing stands behind a closed run, and two whole runs that go on alike are one.
+-- The first entries of a run, and runs to their end: nothing comes after a closed run, and two whole runs that go on alike are one.
 use Rattle.std.proofs.Common.{◌≡◌, inl, inr, ℕ, zero, suc, ◌<◌, ◌≤◌, List, [], ◌∷◌, ◌++◌, Option, Some, None, refl, sym, ap, ◌∙◌, arith, length, get_or, take, drop, take-suc, length-append, length-take-le, append-nil}
 use Rattle.std.specs.Prelude.{is_some, option_and_then, slice_get}
 use Rattle.std.proofs.Math.Seq.{take-append_seam, take-length}
@@ -39,10 +39,10 @@ first_run script config entries end k ran within =
 
 -- ---- closed runs
 
--- a run whose verdict is not `Open` has no entry behind it
-pub nothing_behind : (script : Script) (config : Config) (entries rest : List Entry) (after end : Run) → run script config entries ≡ Some after → ¬ (verdict_of script config after.world (length entries) ≡ verdict.Open) → run script config (entries ++ rest) ≡ Some end → rest ≡ []
-nothing_behind script config entries [] after end is closed ran = refl
-nothing_behind script config entries (e ∷ rest) after end is closed ran =
+-- a run whose verdict is not `Open` has no entry after it
+pub nothing_after : (script : Script) (config : Config) (entries rest : List Entry) (after end : Run) → run script config entries ≡ Some after → ¬ (verdict_of script config after.world (length entries) ≡ verdict.Open) → run script config (entries ++ rest) ≡ Some end → rest ≡ []
+nothing_after script config entries [] after end is closed ran = refl
+nothing_after script config entries (e ∷ rest) after end is closed ran =
     let n = length (entries ++ e ∷ []) in
     let split : (entries ++ e ∷ []) ++ rest ≡ entries ++ e ∷ rest = append_assoc entries (e ∷ []) rest in
     let first = first_run script config ((entries ++ e ∷ []) ++ rest) end n (ap (run script config) split ∙ ran) (omega (arith, length-append (entries ++ e ∷ []) rest)) in
@@ -75,13 +75,13 @@ module _ (script : Script) (config : Config) (one other : List Entry) (whole_one
       ∙ ap (λ (e : Entry). take k other ++ e ∷ []) (next_is_one k (omega (arith, in_one)) (omega (arith, in_other)) same)
       ∙ sym (take-suc other k any_entry (omega (arith, in_other)))
 
-  -- the longer schedule has nothing behind the shorter one
+  -- the longer schedule has nothing after the shorter one
   ends_with : length one ≤ length other → other ≡ one
   ends_with shorter =
       let n = length one in
       let first : one ≡ take n other = sym (take-length one) ∙ first_is_one n (omega arith) shorter in
       let split : one ++ drop n other ≡ other = ap (λ (xs : List Entry). xs ++ drop n other) first ∙ take-append-drop n other in
-      let none : drop n other ≡ [] = nothing_behind script config one (drop n other) whole_one.after whole_other.after whole_one.is_run whole_one.is_closed (ap (run script config) split ∙ whole_other.is_run) in
+      let none : drop n other ≡ [] = nothing_after script config one (drop n other) whole_one.after whole_other.after whole_one.is_run whole_one.is_closed (ap (run script config) split ∙ whole_other.is_run) in
       sym split ∙ ap (λ (xs : List Entry). one ++ xs) none ∙ append-nil one
 
 -- two whole runs of which each goes on after some entries as the other does after these entries are one

@@ -18,10 +18,10 @@ use Rattle.pct_shared.specs.Passes.{IsPassOf, SharedValue}
 use Rattle.pct_shared.specs.Schedules.{HasTurns, IsWholeRun, SeedSchedule, WorkersSchedule}
 use Rattle.pct_shared.specs.Streams.{AreChosenBy, IsChosenAt, IsContinuedBy, stream_of}
 use Rattle.pct_shared.specs.Views.{IsPrefix, opened, places}
-use Rattle.pct_shared.proofs.LongerChoices.{chosen_in_longer, numbers_behind}
+use Rattle.pct_shared.proofs.LongerChoices.{chosen_in_longer, numbers_after}
 use Rattle.pct_shared.proofs.OwnEntries.{prefix_trans}
 use Rattle.pct_shared.proofs.RisingNumbers.{counted_each, places-length, places_before, places_counted, rise_each, rise_wider}
-use Rattle.pct_shared.proofs.WholeRuns.{nothing_behind}
+use Rattle.pct_shared.proofs.WholeRuns.{nothing_after}
 
 -- ---- what the workers did
 
@@ -177,11 +177,11 @@ module _ (host : SharedValue) (seed turns : ℕ) (w : Worker) (history : List En
       (subst (λ (turn : ℕ). IsChosenAt (stream_of seed 1) 1 (opened host.opening).script (opened host.opening).config w.pass.view.known.seen pair.0 turn) (lone_take k (0, 0) within)
       (made_chosen host seed turns 1 w history none done closing k (0, 0) (omega (arith, within, lone_made)))))
 
-  -- if its last turn found the run closed, nothing stands behind the history
+  -- if its last turn found the run closed, nothing comes after the history
   lone_closed : (rest : List Entry) (end : Run) → run (opened host.opening).script (opened host.opening).config (history ++ rest) ≡ Some end → done.worked.over ≡ true → rest ≡ []
   lone_closed rest end is over =
       let closed : IsClosedAfter host.opening history = subst (λ (x : Opening × List Entry). IsClosedAfter x.0 x.1) (ap (λ (o : Opening). (o, w.pass.view.known.seen)) done.new.pass_of.opening ∙ ap (λ (entries : List Entry). (host.opening, entries)) seen_is) (done.worked.closed over) in
-      nothing_behind (opened host.opening).script (opened host.opening).config history rest closed.after end closed.is_run closed.closed is
+      nothing_after (opened host.opening).script (opened host.opening).config history rest closed.after end closed.is_run closed.closed is
 
   -- else it took all its turns, and made an entry at each
   lone_full : done.worked.over ≡ false → length history ≡ turns
@@ -201,7 +201,7 @@ module _ (host : SharedValue) (seed turns : ℕ) (w : Worker) (history : List En
         | inr going ↦ inl (lone_full going)
       ]
 
-  -- an entry past all turns stands behind the history, which then has all turns
+  -- an entry past all turns comes after the history, which then has all turns
   lone_past : (rest : List Entry) (k : ℕ) → (length history ≡ turns) ⊎ (rest ≡ []) → turns + k < length (history ++ rest) → length history ≡ turns
   lone_past rest k (inl full) within = full
   lone_past rest k (inr ended) within =
@@ -266,7 +266,7 @@ module _ (host : SharedValue) (seed turns : ℕ) (workers : List Worker) (engine
       → AreChosenBy (stream_of seed 0) 0 (opened host.opening).script (opened host.opening).config (length engine.history) (engine.history ++ rest)
       → WorkersSchedule (opened host.opening).script (record { config = budgets; seed = seed; workers = host.opening.workers; turns = turns }) (engine.history ++ rest)
   workers_schedule budgets config_is rest whole choices =
-      let others : All (λ e. e.worker ≡ 0) rest = numbers_behind (stream_of seed 0) 0 (opened host.opening).script (opened host.opening).config engine.history rest whole.after whole.is_run choices in
+      let others : All (λ e. e.worker ≡ 0) rest = numbers_after (stream_of seed 0) 0 (opened host.opening).script (opened host.opening).config engine.history rest whole.after whole.is_run choices in
       subst (λ (config : Config). WorkersSchedule (opened host.opening).script (record { config = config; seed = seed; workers = host.opening.workers; turns = turns }) (engine.history ++ rest)) config_is
       (record {
         whole = whole;
