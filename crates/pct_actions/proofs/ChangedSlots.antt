@@ -1,18 +1,13 @@
 -- The slots of a process after a change of one of them, and after a change of threads.
-use Rattle.std.proofs.Common.{◌≡◌, ◌≢◌, ℕ, zero, suc, ◌+◌, ◌*◌, ◌<◌, Bool, true, false, ◌||◌, cond, List, [], ◌∷◌, ◌++◌, map, filter, length, Option, Some, None, refl, sym, ap, ◌∙◌, subst, arith, ne_eqb}
-use Rattle.std.specs.Prelude.{All, nat_eq, slice_get, slice_set, option_map}
-use Rattle.std.specs.List.{list_any}
-use Rattle.std.specs.Option.{option_map_or}
+use Rattle.pct_names.proofs.Names.{◌*◌, ◌+◌, ◌++◌, ◌<◌, [], Action, All, All-cons, All-head, All-tail, ap, arith, Bool, cond, false, filter}
+use Rattle.pct_names.proofs.Names.{for_each, get_or_from_slice_get, holds_slot, length, length-map, List, list_any, map, map-id}
+use Rattle.pct_names.proofs.Names.{named_after, nat_eq, NewThread, None, none-some, Option, option_map, option_map_or, or_right, refl}
+use Rattle.pct_names.proofs.Names.{same_Some, set-get_or, set-set, shared_after, SharedState, slice_get, slice_get-get_or, slice_get-map}
+use Rattle.pct_names.proofs.Names.{slice_get_within, slice_set, slot_of, Some, subst, suc, sym, Thread, true, zero, ◌||◌, ℕ, ◌∙◌, ◌∷◌, ◌≡◌}
+use Rattle.pct_names.proofs.Names.{◌≢◌}
+use Rattle.std.proofs.Common.{ne_eqb}
 use Rattle.std.proofs.Math.Path.{fun_ext}
-use Rattle.std.proofs.lemmas.Bool.{or_right}
-use Rattle.std.proofs.lemmas.List.{length-map, length-set, get_or-set_same, map-id, set-set, set-get_or}
-use Rattle.std.proofs.lemmas.List.Elements.{All-head, All-tail, All-cons}
-use Rattle.std.proofs.lemmas.Option.{none-some, same_Some, slice_get_within, slice_get-get_or, slice_get-map, get_or_from_slice_get}
-use Rattle.pct_model.specs.declared.transition.Action.{Action}
-use Rattle.pct_model.specs.declared.transition.NewThread.{NewThread}
-use Rattle.pct_model.specs.World.{Thread, SharedState}
-use Rattle.pct_model.specs.ThreadSlots.{holds_slot, slot_of}
-use Rattle.pct_model.specs.Actions.{named_after, shared_after, for_each}
+use Rattle.std.proofs.lemmas.List.{length-set, get_or-set_same}
 use Rattle.pct_engine_laws.specs.Seen.{SeenSlot, on_slot}
 use Rattle.pct_engine_laws.specs.SeenSteps.{is_empty, new_ids_from}
 use Rattle.pct_engine_laws.proofs.ListFacts.{filter_changed, map-map}

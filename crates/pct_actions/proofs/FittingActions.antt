@@ -1,15 +1,10 @@
 -- A transition that fits a process: each of its parts fits the process as the parts before it left it.
-use Rattle.std.proofs.Common.{◌≡◌, ◌≢◌, ℕ, zero, suc, ◌<◌, Bool, true, false, ◌&&◌, cond, List, [], ◌∷◌, map, filter, length, Option, Some, None, refl, sym, ap, ◌∙◌, subst, ne_eqb, eq-eqb, inl, inr}
-use Rattle.std.specs.Prelude.{IfSome, nat_eq, slice_get, slice_set, find, option_and_then}
-use Rattle.std.proofs.lemmas.Bool.{and_from, cases_eq}
-use Rattle.std.proofs.lemmas.List.{length-map}
-use Rattle.std.proofs.lemmas.List.Elements.{All-head}
-use Rattle.pct_model.specs.declared.transition.Action.{Action}
+use Rattle.pct_names.proofs.Names.{◌&&◌, ◌<◌, [], Action, All-head, and_from, ap, Bool, cases_eq, cond, false, filter, find, for_each}
+use Rattle.pct_names.proofs.Names.{holds_slot, IfSome, inl, inr, is_ended_status, is_live_thread, length, length-map, List, map, moved}
+use Rattle.pct_names.proofs.Names.{named_after, nat_eq, None, Option, option_and_then, refl, shared_after, SharedState, slice_get}
+use Rattle.pct_names.proofs.Names.{slice_set, slot_of, Some, subst, suc, sym, Thread, Transition, true, zero, ℕ, ◌∙◌, ◌∷◌, ◌≡◌, ◌≢◌}
+use Rattle.std.proofs.Common.{ne_eqb, eq-eqb}
 use Rattle.pct_model.specs.declared.transition.Action.TheVariants as action
-use Rattle.pct_model.specs.declared.transition.Transition.{Transition}
-use Rattle.pct_model.specs.World.{Thread, SharedState}
-use Rattle.pct_model.specs.ThreadSlots.{is_ended_status, holds_slot, slot_of, is_live_thread}
-use Rattle.pct_model.specs.Actions.{named_after, shared_after, for_each, moved}
 use Rattle.pct_threads.specs.Slots.{Slot}
 use Rattle.pct_threads.specs.Tables.{slot_at}
 use Rattle.pct_keys.specs.Tables.{Table}

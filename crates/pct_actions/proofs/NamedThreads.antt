@@ -1,18 +1,11 @@
 -- The slots of a process after a change of the threads that an action names, and after a key was deleted.
-use Rattle.std.proofs.Common.{◌≡◌, ℕ, ◌<◌, Bool, true, false, not, ◌&&◌, ◌||◌, cond, List, [], ◌∷◌, map, filter, length, Option, Some, None, refl, sym, ap, ◌∙◌, subst, arith, mod-lt, ◌-◌, ◌≤◌, inl, inr}
-use Rattle.std.specs.Prelude.{All, IfSome, nat_eq, is_some, option_map, option_and_then}
-use Rattle.std.specs.Option.{option_map_or}
-use Rattle.std.proofs.lemmas.Bool.{and_from, cases_lt, false≢true}
-use Rattle.std.proofs.lemmas.List.{set-get_or, map-id}
-use Rattle.std.proofs.lemmas.List.Elements.{All-head}
-use Rattle.pct_model.specs.declared.state.Cause.TheVariants.{Signalled, Broadcast}
-use Rattle.pct_model.specs.declared.transition.Action.{Action}
+use Rattle.pct_names.proofs.Names.{◌&&◌, ◌-◌, ◌<◌, [], Action, All, All-head, and_from, ap, arith, Bool, Broadcast, cases_lt, cond, false}
+use Rattle.pct_names.proofs.Names.{false≢true, filter, holds_slot, IfSome, inl, inr, is_ended_status, is_live_thread, is_some}
+use Rattle.pct_names.proofs.Names.{is_waiting_on, KeyValues, length, List, map, map-id, named_after, nat_eq, None, not, Option}
+use Rattle.pct_names.proofs.Names.{option_and_then, option_map, option_map_or, refl, set-get_or, Signalled, slot_of, Some, subst, sym}
+use Rattle.pct_names.proofs.Names.{Thread, true, unblocked, without_value, ◌||◌, ℕ, ◌∙◌, ◌∷◌, ◌≡◌, ◌≤◌}
+use Rattle.std.proofs.Common.{mod-lt}
 use Rattle.pct_model.specs.declared.transition.Action.TheVariants as action
-use Rattle.pct_model.specs.CondCalls.{is_waiting_on, unblocked}
-use Rattle.pct_model.specs.Keys.{KeyValues, without_value}
-use Rattle.pct_model.specs.World.{Thread}
-use Rattle.pct_model.specs.ThreadSlots.{is_ended_status, holds_slot, slot_of, is_live_thread}
-use Rattle.pct_model.specs.Actions.{named_after}
 use Rattle.pct_threads.specs.Slots.{Held, Slot, unused, has_id, is_reclaimable, after_detach, after_change, with_change, freed}
 use Rattle.pct_threads.specs.Tables.{slot_at, held_at, is_reclaimable_at, on_slot}
 use Rattle.pct_threads.proofs.TableLemmas.{within-occupied, occupied-test}

@@ -1,15 +1,9 @@
 -- A new thread with an id that is offered: the slot of the id is free, and the id is that of the next thread on it.
-use Rattle.std.proofs.Common.{◌≡◌, ◌⊎◌, inl, inr, ℕ, suc, ◌+◌, ◌-◌, ◌*◌, ◌%◌, ◌<◌, Bool, true, false, not, cond, List, [], ◌∷◌, ◌++◌, map, length, Option, Some, None, refl, sym, ap, ◌∙◌, subst, arith, zero-add, eqb-true}
-use Rattle.std.specs.Prelude.{nat_eq, is_some, slice_get, slice_set}
-use Rattle.std.specs.List.{list_any}
-use Rattle.std.proofs.lemmas.Bool.{false≢true, or_cases}
-use Rattle.std.proofs.lemmas.Nat.{mod-mul-add}
-use Rattle.std.proofs.lemmas.Option.{none-some, same_Some, slice_get_within}
-use Rattle.pct_model.specs.declared.transition.NewThread.{NewThread}
-use Rattle.pct_model.specs.Actions.{thread_created}
-use Rattle.pct_model.specs.Keys.{KeyValues, no_values}
-use Rattle.pct_model.specs.ThreadSlots.{slot_of}
-use Rattle.pct_model.specs.World.{Thread}
+use Rattle.pct_names.proofs.Names.{◌%◌, ◌*◌, ◌+◌, ◌++◌, ◌-◌, ◌<◌, [], ap, arith, Bool, cond, false, false≢true, inl, inr, is_some}
+use Rattle.pct_names.proofs.Names.{KeyValues, length, List, list_any, map, mod-mul-add, nat_eq, NewThread, no_values, None, none-some, not}
+use Rattle.pct_names.proofs.Names.{Option, or_cases, refl, same_Some, slice_get, slice_get_within, slice_set, slot_of, Some, subst, suc}
+use Rattle.pct_names.proofs.Names.{sym, Thread, thread_created, true, ℕ, ◌∙◌, ◌∷◌, ◌≡◌, ◌⊎◌}
+use Rattle.std.proofs.Common.{zero-add, eqb-true}
 use Rattle.pct_threads.specs.Slots.{Held, Slot, new_held, created}
 use Rattle.pct_threads.specs.Tables.{slot_at, held_at, is_free_at, next_id_at, with_created}
 use Rattle.pct_threads.proofs.TableLemmas.{is_free_at-within}

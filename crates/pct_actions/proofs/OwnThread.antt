@@ -1,19 +1,11 @@
 -- The thread that makes a transition: what its tables have after an action, and what it has room for.
-use Rattle.std.proofs.Common.{◌≡◌, ℕ, suc, ◌-◌, ◌<◌, Bool, true, false, not, ◌&&◌, cond, List, [], ◌∷◌, map, filter, length, Option, Some, None, refl, sym, ap, ◌∙◌, subst, sub-one}
-use Rattle.std.specs.Prelude.{slice_get, slice_set, is_some, option_map, option_and_then}
-use Rattle.std.proofs.lemmas.Bool.{false≢true}
-use Rattle.std.proofs.lemmas.Option.{same_Some}
-use Rattle.std.proofs.lemmas.List.{set-get_or}
-use Rattle.pct_model.specs.declared.frame.Frame.{Frame}
-use Rattle.pct_model.specs.declared.statement.Dest.{Dest}
+use Rattle.pct_names.proofs.Names.{◌&&◌, ◌-◌, ◌<◌, [], Action, ap, at_pc, Bool, cond, Dest, false, false≢true, filter, for_each, Frame}
+use Rattle.pct_names.proofs.Names.{frames_written, holds_slot, if_number, is_ended_status, is_some, Key, key_at, key_place, key_with}
+use Rattle.pct_names.proofs.Names.{KeyPlace, KeyValues, length, List, map, moved, None, not, Option, option_and_then, option_map, refl}
+use Rattle.pct_names.proofs.Names.{same_Some, set-get_or, SharedState, slice_get, slice_set, Some, sub-one, subst, suc, sym, Thread}
+use Rattle.pct_names.proofs.Names.{thread_after, thread_at, Transition, true, without_first, ℕ, ◌∙◌, ◌∷◌, ◌≡◌}
 use Rattle.pct_model.specs.declared.statement.Dest.TheVariants as destination
-use Rattle.pct_model.specs.declared.transition.Action.{Action}
 use Rattle.pct_model.specs.declared.transition.Action.TheVariants as action
-use Rattle.pct_model.specs.declared.transition.Transition.{Transition}
-use Rattle.pct_model.specs.Actions.{at_pc, frames_written, without_first, thread_at, thread_after, for_each, moved}
-use Rattle.pct_model.specs.Keys.{Key, KeyPlace, KeyValues, key_place, key_at, if_number, key_with}
-use Rattle.pct_model.specs.ThreadSlots.{is_ended_status, holds_slot}
-use Rattle.pct_model.specs.World.{Thread, SharedState}
 use Rattle.pct_threads.specs.Slots.{Held, Slot, with_change, after_change}
 use Rattle.pct_threads.specs.Tables.{slot_at, held_at, is_occupied_at, on_slot}
 use Rattle.pct_threads.proofs.TableLemmas.{within-occupied}

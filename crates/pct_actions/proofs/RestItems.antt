@@ -1,9 +1,6 @@
 -- The items of a list from an index on.
-use Rattle.std.proofs.Common.{◌≡◌, ℕ, ◌+◌, List, [], ◌∷◌, drop, length, get_or, Some, None, sym, ap, ◌∙◌, inl, inr, arith}
-use Rattle.std.specs.Prelude.{slice_get}
-use Rattle.std.proofs.lemmas.Bool.{cases_lt}
-use Rattle.std.proofs.lemmas.List.{drop_more, drop_all}
-use Rattle.std.proofs.lemmas.Option.{none-some, slice_get-get_or, slice_get_within, get_or_from_slice_get}
+use Rattle.pct_names.proofs.Names.{◌+◌, [], ap, arith, cases_lt, drop, drop_all, drop_more, get_or, get_or_from_slice_get, inl, inr, length}
+use Rattle.pct_names.proofs.Names.{List, None, none-some, slice_get, slice_get-get_or, slice_get_within, Some, sym, ℕ, ◌∙◌, ◌∷◌, ◌≡◌}
 
 -- the item at an index, and those after it
 pub drop_item : {A : Type 0} (xs : List A) (i : ℕ) (x : A) → slice_get xs i ≡ Some x → drop i xs ≡ x ∷ drop (i + 1) xs

@@ -1,9 +1,9 @@
 -- A scan of the occupied slots of a table of threads, which changes the thread on each.
-use Rattle.std.proofs.Common.{◌≡◌, ℕ, ◌<◌, ◌≤◌, Bool, true, false, not, ◌&&◌, cond, List, [], ◌∷◌, map, length, Option, Some, None, refl, sym, ap, ◌∙◌, inl, inr, arith}
-use Rattle.std.specs.Prelude.{nat_eq, is_some, slice_get, option_map}
-use Rattle.std.proofs.lemmas.Bool.{cases_eq, eq-eqb, ne_eqb, false≢true}
-use Rattle.std.proofs.lemmas.List.{ext_get_or, get_or-map, get_or-set_same, get_or-set_other, length-map}
-use Rattle.std.proofs.lemmas.Option.{none-some}
+use Rattle.pct_names.proofs.Names.{◌&&◌, ◌<◌, [], ap, arith, Bool, cases_eq, cond, false, false≢true, inl, inr, is_some, length, length-map}
+use Rattle.pct_names.proofs.Names.{List, map, nat_eq, None, none-some, not, Option, option_map, refl, slice_get, Some, sym, true, ℕ, ◌∙◌}
+use Rattle.pct_names.proofs.Names.{◌∷◌, ◌≡◌, ◌≤◌}
+use Rattle.std.proofs.lemmas.Bool.{eq-eqb, ne_eqb}
+use Rattle.std.proofs.lemmas.List.{ext_get_or, get_or-map, get_or-set_same, get_or-set_other}
 use Rattle.pct_set.specs.Slots.{has_slot, without_slot}
 use Rattle.pct_set.proofs.SlotLemmas.{has_where}
 use Rattle.pct_set.proofs.SlotScans.{Scans, first_has, scan_there}

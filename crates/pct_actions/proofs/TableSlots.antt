@@ -1,11 +1,8 @@
 -- The slots of a process after a change of one slot in its tables.
-use Rattle.std.proofs.Common.{◌≡◌, ℕ, ◌<◌, Bool, true, false, cond, List, [], ◌∷◌, map, length, Option, Some, None, refl, sym, ap, ◌∙◌, subst, eqb-true}
-use Rattle.std.specs.Prelude.{nat_eq, find, option_and_then, slice_get, slice_set}
-use Rattle.std.specs.Option.{option_map_or}
-use Rattle.std.proofs.lemmas.List.{map-set, length-map, set-get_or}
-use Rattle.std.proofs.lemmas.Option.{none-some, same_Some, slice_get_within}
-use Rattle.pct_model.specs.Keys.{KeyValues}
-use Rattle.pct_model.specs.World.{Thread}
+use Rattle.pct_names.proofs.Names.{◌<◌, [], ap, Bool, cond, false, find, KeyValues, length, length-map, List, map, map-set, nat_eq, None}
+use Rattle.pct_names.proofs.Names.{none-some, Option, option_and_then, option_map_or, refl, same_Some, set-get_or, slice_get}
+use Rattle.pct_names.proofs.Names.{slice_get_within, slice_set, Some, subst, sym, Thread, true, ℕ, ◌∙◌, ◌∷◌, ◌≡◌}
+use Rattle.std.proofs.Common.{eqb-true}
 use Rattle.pct_threads.specs.Slots.{Held, Slot}
 use Rattle.pct_threads.specs.Tables.{slot_at, held_at, on_slot}
 use Rattle.pct_keys.specs.Tables.{Table, row_at, no_row}

@@ -1,7 +1,5 @@
 -- Changes of the thread on a slot: two, one after another, and one that keeps the thread.
-use Rattle.std.proofs.Common.{◌≡◌, ℕ, List, Option, Some, None, refl, sym, ap, ◌∙◌}
-use Rattle.std.specs.Prelude.{slice_set, option_map}
-use Rattle.std.proofs.lemmas.List.{set-get_or}
+use Rattle.pct_names.proofs.Names.{ap, List, None, Option, option_map, refl, set-get_or, slice_set, Some, sym, ℕ, ◌∙◌, ◌≡◌}
 use Rattle.pct_threads.specs.Slots.{Held, Slot, unused, with_change}
 use Rattle.pct_threads.specs.Tables.{slot_at, held_at, on_held}
 use Rattle.pct_threads.proofs.TableLemmas.{on_slot-then}

@@ -1,19 +1,11 @@
 -- The table of points: how many points of each kind there are, and that each point is found by its name.
-use Rattle.std.proofs.Common.{◌≡◌, ℕ, ◌<◌, Bool, true, false, not, ◌&&◌, List, [], length, take, drop, get_or, Option, Some, None, refl, sym, ap, ◌∙◌, position, nat_eq}
-use Rattle.std.specs.Prelude.{bytes_eq, codes, slice_get, count_by, option_map, option_and_then}
-use Rattle.std.specs.List.{list_all}
-use Rattle.std.specs.Option.{option_map_or}
-use Rattle.std.proofs.lemmas.Bool.{agree_below_at, eqb-true, true≢false}
-use Rattle.std.proofs.lemmas.Option.{same_Some, slice_get-get_or}
-use Rattle.std.proofs.lemmas.List.Quantifiers.{position-Some}
+use Rattle.pct_names.proofs.Names.{◌&&◌, ◌<◌, [], agree_below_at, ap, Bool, bytes_eq, codes, COND_WAIT_POINT, count_by, drop, false, get_or}
+use Rattle.pct_names.proofs.Names.{is_foreign, JOIN_POINT, length, List, list_all, nat_eq, None, not, NoWait, Option, option_and_then}
+use Rattle.pct_names.proofs.Names.{option_map, option_map_or, Optional, Point, point_at, point_name, point_of, PointKind, points, position}
+use Rattle.pct_names.proofs.Names.{position-Some, refl, Required, Row, same_Some, SEM_WAIT_POINT, slice_get, slice_get-get_or, Some, sym}
+use Rattle.pct_names.proofs.Names.{take, TESTCANCEL_POINT, true, WAITPID_POINT, ℕ, ◌∙◌, ◌≡◌}
+use Rattle.std.proofs.lemmas.Bool.{eqb-true, true≢false}
 use Rattle.pct_model.proofs.Bytes.{same_bytes}
-use Rattle.pct_model.specs.declared.point.Point.{Point}
-use Rattle.pct_model.specs.declared.point.PointKind.{PointKind}
-use Rattle.pct_model.specs.declared.point.PointKind.TheVariants.{Required, Optional}
-use Rattle.pct_model.specs.declared.point.PointWait.TheVariants.{NoWait}
-use Rattle.pct_model.specs.declared.point.TheConstants.{COND_WAIT_POINT, JOIN_POINT, TESTCANCEL_POINT, SEM_WAIT_POINT, WAITPID_POINT}
-use Rattle.pct_model.specs.LineKinds.{is_foreign}
-use Rattle.pct_model.specs.Points.{Row, points, point_at, point_of, point_name}
 
 -- ---- how many
 

@@ -1,19 +1,11 @@
 -- The table in the code is equal to the table in the definitions.
-use Rattle.std.proofs.Common.{◌≡◌, ℕ, ◌+◌, ◌≤◌, ◌<◌, Bool, not, List, [], ◌∷◌, length, map, get_or, cond, Option, Some, None, refl, sym, ap, ◌∙◌, arith, position, nat_lt, option_map}
-use Rattle.std.specs.Prelude.{bytes_eq, slice_get, option_and_then}
+use Rattle.pct_names.proofs.Names.{◌+◌, ◌<◌, [], ap, arith, Bool, bytes_eq, cond, flat_map-map, get_or, length, length-map, line_text, List}
+use Rattle.pct_names.proofs.Names.{map, nat_lt, None, not, NoWait, Option, option_and_then, option_map, option_map_or, Optional, point_at}
+use Rattle.pct_names.proofs.Names.{point_name, point_of, PointKind, points, points_text, PointWait, position, position-Some}
+use Rattle.pct_names.proofs.Names.{position_or_len, refl, Row, row_words, slice_get, slice_get-get_or, slice_get-map, slice_get_past, Some}
+use Rattle.pct_names.proofs.Names.{sym, ℕ, ◌∙◌, ◌∷◌, ◌≡◌, ◌≤◌}
 use Rattle.std.specs.Borrow.{Bor}
-use Rattle.std.specs.Option.{option_map_or}
-use Rattle.std.specs.List.{flat_map, position_or_len}
-use Rattle.std.proofs.lemmas.List.{length-map}
-use Rattle.std.proofs.lemmas.List.Folds.{flat_map-map}
-use Rattle.std.proofs.lemmas.List.Quantifiers.{position-Some}
-use Rattle.std.proofs.lemmas.Option.{slice_get-get_or, slice_get-map, slice_get_past}
-use Rattle.pct_model.specs.declared.point.PointKind.{PointKind}
-use Rattle.pct_model.specs.declared.point.PointKind.TheVariants.{Optional}
-use Rattle.pct_model.specs.declared.point.PointWait.{PointWait}
-use Rattle.pct_model.specs.declared.point.PointWait.TheVariants.{NoWait}
-use Rattle.pct_model.specs.Keywords.{line_text}
-use Rattle.pct_model.specs.Points.{Row, points, point_at, point_of, point_name, row_words, points_text}
+use Rattle.std.specs.List.{flat_map}
 use Rattle.pct_cancel.specs.Rows.{as_row}
 
 -- ---- positions in a list that was mapped

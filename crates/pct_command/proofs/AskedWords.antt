@@ -1,18 +1,10 @@
 -- What the words of the program ask for, and which part of an input is the script's.
-use Rattle.std.proofs.Common.{◌≡◌, ℕ, Bool, true, false, ◌||◌, if◌then◌else◌, cond, List, [], ◌∷◌, Option, Some, None, length, take, refl, sym, ap, ◌∙◌, le_refl}
-use Rattle.std.specs.Prelude.{bytes_eq, is_some, option_map}
-use Rattle.std.specs.Option.{option_map_or}
-use Rattle.std.proofs.lemmas.Option.{none-some}
-use Rattle.std.proofs.lemmas.List.{take_all}
-use Rattle.std.proofs.lemmas.Bool.{false≢true, true≢false, or_parts}
-use Rattle.pct_model.specs.declared.keyword.Keyword.{Keyword}
+use Rattle.pct_names.proofs.Names.{[], ap, asks_demo, Bool, bytes_eq, cond, demo_number, false, false≢true, if◌then◌else◌, is_accepted}
+use Rattle.pct_names.proofs.Names.{is_asked, is_some, Keyword, keyword_text, le_refl, length, List, needs_input, None, none-some, numeral}
+use Rattle.pct_names.proofs.Names.{Option, option_map, option_map_or, or_parts, refl, run_options, RunOptions, script_part, Some, sym, take}
+use Rattle.pct_names.proofs.Names.{take_all, true, ◌||◌, ℕ, ◌∙◌, ◌∷◌, ◌≡◌}
+use Rattle.std.proofs.lemmas.Bool.{true≢false}
 use Rattle.pct_model.specs.declared.keyword.Keyword.TheVariants as keyword
-use Rattle.pct_model.specs.declared.run_options.RunOptions.{RunOptions}
-use Rattle.pct_model.specs.Keywords.{keyword_text}
-use Rattle.pct_model.specs.LineParsing.{numeral}
-use Rattle.pct_model.specs.Demo.{demo_number}
-use Rattle.pct_model.specs.Outcome.{is_asked, is_accepted, asks_demo, needs_input, script_part}
-use Rattle.pct_model.specs.RunOptions.{run_options}
 use Rattle.pct_model.proofs.Bytes.{same_bytes}
 use Rattle.pct_options.proofs.Configs.{run_has_workers, run_is_within}
 use Rattle.pct_command.specs.declared.words.Job.{Job}

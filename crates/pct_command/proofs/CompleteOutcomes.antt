@@ -1,19 +1,10 @@
 -- The outcome of an input that is not refused, the answer to all that a source had left, and what a status promises.
-use Rattle.std.proofs.Common.{◌≡◌, inr, ℕ, ◌<◌, ◌≤◌, Bool, true, List, length, Option, Some, None, Ok, Err, refl, sym, ap, ◌∙◌, arith}
-use Rattle.std.specs.Prelude.{IfSome}
-use Rattle.std.specs.Io.KnownBytes.{Appends, Consumes}
+use Rattle.pct_names.proofs.Names.{◌<◌, ap, Appends, arith, Bool, code_of_verdict, Config, Consumes, Entry, Err, first_illegal, IfSome, inr}
+use Rattle.pct_names.proofs.Names.{is_accepted, length, List, None, none-some, Ok, Option, Outcome, refl, sched_of, Schedule, schedule_part}
+use Rattle.pct_names.proofs.Names.{ScheduleWhy, Script, Some, sym, true, Verdict, ℕ, ◌∙◌, ◌≡◌, ◌≤◌}
 use Rattle.std.proofs.lemmas.Bool.{true≢false}
 use Rattle.std.proofs.lemmas.List.{length-append}
-use Rattle.std.proofs.lemmas.Option.{none-some}
-use Rattle.pct_model.specs.declared.script.Script.{Script}
-use Rattle.pct_model.specs.declared.schedule.Config.{Config}
-use Rattle.pct_model.specs.declared.schedule.Entry.{Entry}
-use Rattle.pct_model.specs.declared.refusal.ScheduleWhy.{ScheduleWhy}
-use Rattle.pct_model.specs.declared.stop.Verdict.{Verdict}
 use Rattle.pct_model.specs.declared.stop.Verdict.TheVariants as verdict
-use Rattle.pct_model.specs.Schedule.{Schedule, sched_of}
-use Rattle.pct_model.specs.Run.{first_illegal}
-use Rattle.pct_model.specs.Outcome.{is_accepted, schedule_part, code_of_verdict, Outcome}
 use Rattle.pct_model.specs.Outcome as outcome
 use Rattle.pct_grammar.proofs.Scripts.{spells_one_script}
 use Rattle.pct_command.specs.declared.answers.Answer.{Answer}

@@ -1,14 +1,8 @@
 -- Texts that are not empty.
-use Rattle.std.proofs.Common.{zero, suc, ◌≡◌, ℕ, ◌<◌, List, [], ◌∷◌, Some, None, length, take, refl, sym, ◌∙◌, arith}
-use Rattle.std.proofs.lemmas.Option.{none-some}
+use Rattle.pct_names.proofs.Names.{◌<◌, [], arith, checks, first_fault, first_wrong, keyword_text, length, lines_of, List, name_twice}
+use Rattle.pct_names.proofs.Names.{nesting_in, no_main, None, none-some, not_plain, parsed_lines, refl, return_in_push, Some, spelled_lines}
+use Rattle.pct_names.proofs.Names.{spelling, split_sections, suc, sym, take, too_many, unknown_name, zero, ℕ, ◌∙◌, ◌∷◌, ◌≡◌}
 use Rattle.pct_model.specs.declared.refusal.ParseWhy.TheVariants as fault
-use Rattle.pct_model.specs.Keywords.{keyword_text}
-use Rattle.pct_model.specs.Lines.{lines_of}
-use Rattle.pct_model.specs.LineParsing.{spelled_lines}
-use Rattle.pct_model.specs.Spelling.{spelling}
-use Rattle.pct_model.specs.Sections.{parsed_lines, split_sections}
-use Rattle.pct_model.specs.Nesting.{nesting_in}
-use Rattle.pct_model.specs.Checks.{first_wrong, too_many, name_twice, unknown_name, return_in_push, not_plain, no_main, checks, first_fault}
 use Rattle.pct_script.specs.Fault.{NeedsMemory}
 
 -- an empty text has no line that spells something

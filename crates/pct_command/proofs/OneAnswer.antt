@@ -1,16 +1,8 @@
 -- Words that do not ask for more than one worker and an input have one answer at the most, since a seed has one schedule.
-use Rattle.std.proofs.Common.{◌≡◌, ℕ, ◌<◌, List, Option, Some, None, refl, sym, ap, ◌∙◌, subst, arith, length}
-use Rattle.std.proofs.lemmas.Option.{none-some, some_pair_parts}
-use Rattle.pct_model.specs.declared.run_options.RunOptions.{RunOptions}
-use Rattle.pct_model.specs.declared.script.Script.{Script}
-use Rattle.pct_model.specs.declared.schedule.Config.{Config}
-use Rattle.pct_model.specs.declared.schedule.Entry.{Entry}
-use Rattle.pct_model.specs.declared.stop.Verdict.{Verdict}
+use Rattle.pct_names.proofs.Names.{◌<◌, ap, arith, code_of_verdict, Config, Entry, length, List, None, none-some, Option, refl, report, Run}
+use Rattle.pct_names.proofs.Names.{run, RunOptions, Script, script_part, Some, some_pair_parts, Spells, subst, sym, Verdict, verdict_of, ℕ}
+use Rattle.pct_names.proofs.Names.{◌∙◌, ◌≡◌}
 use Rattle.pct_model.specs.declared.stop.Verdict.TheVariants as verdict
-use Rattle.pct_model.specs.Run.{Run, run, verdict_of}
-use Rattle.pct_model.specs.Report.{report}
-use Rattle.pct_model.specs.Spells.{Spells}
-use Rattle.pct_model.specs.Outcome.{script_part, code_of_verdict}
 use Rattle.pct_grammar.proofs.Scripts.{spells_one_script}
 use Rattle.pct_shared.specs.Schedules.{SeedSchedule}
 use Rattle.pct_shared.proofs.OneSchedule.{seed_schedule_is_one}

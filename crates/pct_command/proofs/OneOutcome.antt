@@ -1,27 +1,13 @@
 -- Words, an input and a schedule have one outcome at the most.
-use Rattle.std.proofs.Common.{◌≡◌, ℕ, suc, ◌≤◌, Bool, true, false, ◌&&◌, cond, List, [], ◌∷◌, length, Option, Some, None, Ok, Err, refl, sym, ap, ◌∙◌, subst}
-use Rattle.std.specs.Prelude.{nat_le, nat_lt, is_some, option_and_then, option_map}
-use Rattle.std.specs.Option.{option_map_or}
-use Rattle.std.proofs.lemmas.Bool.{le-ltb, lt-ltb}
-use Rattle.std.proofs.lemmas.Option.{none-some, same_Some, some_pair_parts}
-use Rattle.pct_model.specs.declared.script.Script.{Script}
-use Rattle.pct_model.specs.declared.schedule.Config.{Config}
-use Rattle.pct_model.specs.declared.schedule.Entry.{Entry}
+use Rattle.pct_names.proofs.Names.{◌&&◌, [], ap, asks_demo, Bool, canon, code_of_verdict, cond, Config, default_config, Demonstrates, Entry}
+use Rattle.pct_names.proofs.Names.{Err, false, Fault, first_fault, first_illegal, generated_text, illegal_in, is_asked, is_config, is_some}
+use Rattle.pct_names.proofs.Names.{IsCountedRun, le-ltb, length, line_text, List, nat_le, nat_lt, needs_input, None, none-some, Ok, opening}
+use Rattle.pct_names.proofs.Names.{Option, option_and_then, option_map, option_map_or, Outcome, points_text, refl, refused_entry}
+use Rattle.pct_names.proofs.Names.{refused_input, refused_schedule, refused_script, refused_words, report, Run, run, run_from, run_step}
+use Rattle.pct_names.proofs.Names.{same_Some, sched_of, Schedule, schedule_part, Script, script_part, Some, some_pair_parts, Spells, subst}
+use Rattle.pct_names.proofs.Names.{suc, summary_of, sym, true, verdict_of, ℕ, ◌∙◌, ◌∷◌, ◌≡◌, ◌≤◌}
+use Rattle.std.proofs.lemmas.Bool.{lt-ltb}
 use Rattle.pct_model.specs.declared.keyword.Keyword.TheVariants as keyword
-use Rattle.pct_model.specs.Keywords.{line_text}
-use Rattle.pct_model.specs.Points.{points_text}
-use Rattle.pct_model.specs.World.{opening}
-use Rattle.pct_model.specs.Schedule.{Schedule, sched_of}
-use Rattle.pct_model.specs.Run.{Run, run_step, run_from, illegal_in, first_illegal, is_config, run, verdict_of}
-use Rattle.pct_model.specs.Report.{report}
-use Rattle.pct_model.specs.Spelling.{Fault}
-use Rattle.pct_model.specs.Checks.{first_fault}
-use Rattle.pct_model.specs.Spells.{Spells}
-use Rattle.pct_model.specs.Canon.{canon}
-use Rattle.pct_model.specs.RunOptions.{default_config}
-use Rattle.pct_model.specs.GeneratedScript.{generated_text}
-use Rattle.pct_model.specs.Demo.{IsCountedRun, summary_of}
-use Rattle.pct_model.specs.Outcome.{is_asked, asks_demo, needs_input, script_part, schedule_part, refused_words, refused_input, refused_script, refused_schedule, refused_entry, code_of_verdict, Demonstrates, Outcome}
 use Rattle.pct_model.specs.Outcome as outcome
 use Rattle.pct_grammar.proofs.Scripts.{spelled_is_faultless, spells_one_script}
 use Rattle.pct_grammar.proofs.CanonSpells.{canon_spells}

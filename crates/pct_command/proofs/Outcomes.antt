@@ -1,29 +1,13 @@
 -- What is answered is an outcome.
-use Rattle.std.proofs.Common.{◌≡◌, ◌≢◌, ℕ, ◌<◌, ◌≤◌, true, false, List, [], ◌∷◌, length, Option, Some, Ok, Err, refl, sym, ap, ◌∙◌, subst, arith}
-use Rattle.std.specs.Prelude.{option_map}
-use Rattle.std.specs.Option.{option_map_or}
-use Rattle.pct_model.specs.declared.run_options.RunOptions.{RunOptions}
-use Rattle.pct_model.specs.declared.script.Script.{Script}
-use Rattle.pct_model.specs.declared.schedule.Config.{Config}
-use Rattle.pct_model.specs.declared.schedule.Entry.{Entry}
-use Rattle.pct_model.specs.declared.refusal.ParseWhy.{ParseWhy}
-use Rattle.pct_model.specs.declared.refusal.ScheduleWhy.{ScheduleWhy}
-use Rattle.pct_model.specs.declared.stop.Verdict.{Verdict}
+use Rattle.pct_names.proofs.Names.{◌<◌, [], ap, arith, canon, code_of_verdict, Config, default_config, demo_number, Entry, Err, false}
+use Rattle.pct_names.proofs.Names.{first_illegal, FirstFault, generated_text, is_accepted, is_asked, IsCountedRun, keyword_text, length}
+use Rattle.pct_names.proofs.Names.{line_text, List, needs_input, Ok, Option, option_map, option_map_or, Outcome, ParseWhy, points_text}
+use Rattle.pct_names.proofs.Names.{refl, refused_entry, refused_input, refused_schedule, refused_script, refused_words, report, report_of}
+use Rattle.pct_names.proofs.Names.{Run, run_options, RunOptions, sched_of, schedule_part, ScheduleWhy, Script, script_part, Some, Spells}
+use Rattle.pct_names.proofs.Names.{subst, summary_of, sym, true, Verdict, verdict_of, ℕ, ◌∙◌, ◌∷◌, ◌≡◌, ◌≢◌, ◌≤◌}
 use Rattle.pct_model.specs.declared.stop.Verdict.TheVariants as verdict
 use Rattle.pct_model.specs.declared.keyword.Keyword.TheVariants as keyword
-use Rattle.pct_model.specs.Keywords.{keyword_text, line_text}
-use Rattle.pct_model.specs.Points.{points_text}
-use Rattle.pct_model.specs.Checks.{FirstFault}
-use Rattle.pct_model.specs.Spells.{Spells}
-use Rattle.pct_model.specs.Canon.{canon}
-use Rattle.pct_model.specs.Schedule.{sched_of}
-use Rattle.pct_model.specs.Run.{Run, first_illegal, verdict_of}
-use Rattle.pct_model.specs.RunOptions.{run_options, default_config}
-use Rattle.pct_model.specs.GeneratedScript.{generated_text}
-use Rattle.pct_model.specs.Demo.{demo_number, IsCountedRun, summary_of}
 use Rattle.pct_demo.specs.CountedRuns.{IsCountedEngine}
-use Rattle.pct_model.specs.Report.{report_of, report}
-use Rattle.pct_model.specs.Outcome.{is_asked, is_accepted, needs_input, script_part, schedule_part, refused_words, refused_input, refused_script, refused_schedule, refused_entry, code_of_verdict, Outcome}
 use Rattle.pct_model.specs.Outcome as outcome
 use Rattle.pct_schedule_laws.proofs.ReadBack.{report_is_read_back}
 use Rattle.pct_grammar.proofs.Scripts.{spells_one_script}

@@ -1,11 +1,6 @@
 -- The script of a text, and that of an input.
-use Rattle.std.proofs.Common.{◌≡◌, ℕ, ◌-◌, ◌≤◌, List, length, take, drop, sym, ap, ◌∙◌, subst, le_refl}
-use Rattle.std.proofs.lemmas.Slice.{between_to_end}
-use Rattle.std.proofs.lemmas.Option.{none-some}
-use Rattle.pct_model.specs.declared.script.Script.{Script}
-use Rattle.pct_model.specs.declared.refusal.ParseWhy.{ParseWhy}
-use Rattle.pct_model.specs.Checks.{FirstFault}
-use Rattle.pct_model.specs.Spells.{Spells}
+use Rattle.pct_names.proofs.Names.{◌-◌, ap, between_to_end, drop, FirstFault, le_refl, length, List, none-some, ParseWhy, Script, Spells}
+use Rattle.pct_names.proofs.Names.{subst, sym, take, ℕ, ◌∙◌, ◌≡◌, ◌≤◌}
 use Rattle.pct_grammar.proofs.Scripts.{spelled_is_faultless}
 use Rattle.pct_command.specs.declared.words.Job.{Job}
 use Rattle.pct_command.specs.Words.{Asks, parts_of_job}

@@ -1,18 +1,10 @@
 -- A run whose entries are all chosen, by two numbers for each, has one schedule at the most.
-use Rattle.std.proofs.Common.{◌≡◌, inl, inr, ℕ, zero, suc, ◌<◌, ◌≤◌, List, [], ◌∷◌, ◌++◌, Option, Some, None, refl, sym, ap, ◌∙◌, arith, length, get_or, take, drop, take-suc, length-take-le}
-use Rattle.std.specs.Prelude.{is_some, option_and_then, slice_get}
-use Rattle.std.proofs.Math.Seq.{take-length}
-use Rattle.std.proofs.lemmas.Bool.{cases_order}
-use Rattle.std.proofs.lemmas.List.{take-append-drop}
-use Rattle.std.proofs.lemmas.Option.{none-some, same_Some, slice_get-get_or}
-use Rattle.pct_model.specs.declared.script.Script.{Script}
-use Rattle.pct_model.specs.declared.schedule.Alt.TheVariants.{Go}
-use Rattle.pct_model.specs.declared.schedule.Config.{Config}
-use Rattle.pct_model.specs.declared.schedule.Entry.{Entry}
+use Rattle.pct_names.proofs.Names.{◌++◌, ◌<◌, [], ap, arith, cases_order, chosen, Config, drop, Entry, get_or, Go, inl, inr, is_some}
+use Rattle.pct_names.proofs.Names.{length, List, None, none-some, opening, Option, option_and_then, refl, Run, run, run_from, run_step}
+use Rattle.pct_names.proofs.Names.{same_Some, Script, slice_get, slice_get-get_or, Some, suc, sym, take, take-append-drop, take-length}
+use Rattle.pct_names.proofs.Names.{take-suc, verdict_of, zero, ℕ, ◌∙◌, ◌∷◌, ◌≡◌, ◌≤◌}
+use Rattle.std.proofs.Common.{length-take-le}
 use Rattle.pct_model.specs.declared.stop.Verdict.TheVariants as verdict
-use Rattle.pct_model.specs.World.{opening}
-use Rattle.pct_model.specs.Chosen.{chosen}
-use Rattle.pct_model.specs.Run.{Run, run_step, run_from, run, verdict_of}
 use Rattle.pct_engine_laws.proofs.LongerRuns.{run_parts, run_within}
 use Rattle.pct_engine_laws.proofs.OpenRuns.{goes_on_while_open}
 

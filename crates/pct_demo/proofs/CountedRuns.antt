@@ -1,19 +1,11 @@
 -- Runs whose entries the number of the entries before them chooses, an entry after the other.
-use Rattle.std.proofs.Common.{◌≡◌, ◌⊎◌, inl, inr, ℕ, ◌+◌, ◌<◌, ◌≤◌, List, [], ◌∷◌, ◌++◌, Some, None, refl, sym, ap, ◌∙◌, subst, arith, length, take, length-append, leb-true}
-use Rattle.std.specs.Prelude.{◌&&◌, nat_le, slice_get}
-use Rattle.std.proofs.Math.Seq.{take-append_seam}
-use Rattle.std.proofs.lemmas.Bool.{and_parts}
-use Rattle.std.proofs.lemmas.List.{take-append-le}
-use Rattle.std.proofs.lemmas.Option.{same_Some}
-use Rattle.pct_model.specs.declared.script.Script.{Script}
-use Rattle.pct_model.specs.declared.schedule.Config.{Config}
-use Rattle.pct_model.specs.declared.schedule.Entry.{Entry}
-use Rattle.pct_model.specs.Chosen.{chosen}
-use Rattle.pct_model.specs.Run.{Run, run}
+use Rattle.pct_names.proofs.Names.{◌&&◌, ◌+◌, ◌++◌, ◌<◌, [], and_parts, ap, arith, chosen, Config, Entry, inl, inr, IsCountedRun, length}
+use Rattle.pct_names.proofs.Names.{List, nat_le, None, refl, Run, run, same_Some, Script, slice_get, Some, subst, sym, take, take-append-le}
+use Rattle.pct_names.proofs.Names.{take-append_seam, ℕ, ◌∙◌, ◌∷◌, ◌≡◌, ◌≤◌, ◌⊎◌}
+use Rattle.std.proofs.Common.{length-append, leb-true}
 use Rattle.pct_engine.specs.EngineStates.{EngineValue, IsChoice}
 use Rattle.pct_engine_laws.proofs.LongerRuns.{run_parts}
 use Rattle.pct_history.proofs.IllegalEntries.{has_value}
-use Rattle.pct_model.specs.Demo.{IsCountedRun}
 use Rattle.pct_demo.specs.CountedRuns.{IsCountedSoFar, IsCountedEngine}
 use Rattle.pct_engine.proofs.ChosenEntries.{is_open, chosen-legal, get-before, get-last, earlier_or_last}
 

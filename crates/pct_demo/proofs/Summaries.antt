@@ -1,15 +1,9 @@
 -- The text of a summary, line by line, and the total of a list of events.
-use Rattle.std.proofs.Common.{◌≡◌, ℕ, ◌+◌, ◌<◌, List, [], ◌∷◌, ◌++◌, ap, ◌∙◌, length, take, get_or, reverse, append-nil}
-use Rattle.std.specs.Prelude.{decimal}
-use Rattle.std.specs.Option.{option_map_or}
-use Rattle.std.proofs.lemmas.List.{reverse-append, take_more}
-use Rattle.pct_model.specs.declared.event.Event.{Event}
-use Rattle.pct_model.specs.declared.stop.Verdict.{Verdict}
+use Rattle.pct_names.proofs.Names.{◌+◌, ◌++◌, ◌<◌, [], ap, decimal, emitted, Event, get_or, keyword_text, length, line_text, List}
+use Rattle.pct_names.proofs.Names.{option_map_or, reverse, reverse-append, rounds_of, summary_lines, take, take_more, text_of, threads_of}
+use Rattle.pct_names.proofs.Names.{total_of, Verdict, verdict_line, ℕ, ◌∙◌, ◌∷◌, ◌≡◌}
+use Rattle.std.proofs.Common.{append-nil}
 use Rattle.pct_model.specs.declared.keyword.Keyword.TheVariants as keyword
-use Rattle.pct_model.specs.Keywords.{keyword_text, line_text, text_of}
-use Rattle.pct_model.specs.Report.{verdict_line}
-use Rattle.pct_model.specs.Demo.{summary_lines, emitted, total_of}
-use Rattle.pct_model.specs.GeneratedScript.{threads_of, rounds_of}
 
 -- the lines before the verdict, and a text after them
 abbrev pub numbers_then : ℕ → ℕ → ℕ → List ℕ → List ℕ

@@ -1,33 +1,17 @@
 -- After every run, the fork of each thread: in a fork handler a thread has the frame of a plain function on top, and the kept values of
 -- its fork; otherwise it has neither.
-use Rattle.std.proofs.Common.{◌≡◌, ℕ, suc, ◌<◌, ◌≤◌, Bool, true, false, not, ◌||◌, cond, List, [], ◌∷◌, length, is_some, Option, Some, None, ◌⊎◌, inl, inr, refl, sym, ap, ◌∙◌, subst, arith}
-use Rattle.std.specs.List.{list_all, list_any}
-use Rattle.std.proofs.lemmas.Bool.{false≢true, and_parts, or_parts, or_from, not-true, leb-true}
-use Rattle.std.proofs.lemmas.List.Elements.{All-from_recursion}
-use Rattle.pct_model.specs.declared.frame.Frame.{Frame}
-use Rattle.pct_model.specs.declared.limits.TheConstants.{MAX_FRAMES}
-use Rattle.pct_model.specs.declared.schedule.Config.{Config}
-use Rattle.pct_model.specs.declared.script.Script.{Script}
-use Rattle.pct_model.specs.declared.state.ForkAt.{ForkAt}
-use Rattle.pct_model.specs.declared.state.FrameKind.{FrameKind}
+use Rattle.pct_names.proofs.Names.{◌<◌, [], Action, All-from_recursion, and_parts, ap, arith, at_pc, body_at, Bool, cond, Config, Dest}
+use Rattle.pct_names.proofs.Names.{encode, false, false≢true, for_each, ForkAt, Frame, FrameKind, frames_written, inl, inr, is_fork_kind}
+use Rattle.pct_names.proofs.Names.{is_some, length, List, list_all, list_any, main_of, MAX_FRAMES, moved, names_of, new_frame, next_of}
+use Rattle.pct_names.proofs.Names.{NextStatement, None, not, not-true, Option, or_from, or_parts, Others, others_of, refl, Script}
+use Rattle.pct_names.proofs.Names.{set_local, SharedState, Some, Status, Stmt, subst, suc, sym, syntax_of, Thread, thread_after, thread_at}
+use Rattle.pct_names.proofs.Names.{Transition, true, value_of, without_first, ◌||◌, ℕ, ◌∙◌, ◌∷◌, ◌≡◌, ◌≤◌, ◌⊎◌}
+use Rattle.std.proofs.lemmas.Bool.{leb-true}
 use Rattle.pct_model.specs.declared.state.FrameKind.TheVariants as kind
-use Rattle.pct_model.specs.declared.state.Status.{Status}
 use Rattle.pct_model.specs.declared.state.Status.TheVariants as status
-use Rattle.pct_model.specs.declared.statement.Dest.{Dest}
 use Rattle.pct_model.specs.declared.statement.Dest.TheVariants as destination
-use Rattle.pct_model.specs.declared.statement.Stmt.{Stmt}
-use Rattle.pct_model.specs.declared.transition.Action.{Action}
 use Rattle.pct_model.specs.declared.transition.Action.TheVariants as action
-use Rattle.pct_model.specs.declared.transition.Transition.{Transition}
-use Rattle.pct_model.specs.Actions.{at_pc, set_local, frames_written, without_first, thread_at, thread_after, for_each, moved}
 use Rattle.pct_laws.specs.Kept.{is_in_fork_handler, IsPlainFunction, ForkKept, EachThread}
-use Rattle.pct_model.specs.LineKinds.{syntax_of}
-use Rattle.pct_model.specs.Names.{main_of, names_of}
-use Rattle.pct_model.specs.NextStatement.{NextStatement, next_of, body_at}
-use Rattle.pct_model.specs.OtherThreads.{Others, others_of}
-use Rattle.pct_model.specs.Statements.{encode}
-use Rattle.pct_model.specs.StopTable.{is_fork_kind}
-use Rattle.pct_model.specs.World.{Thread, SharedState, value_of, new_frame}
 use Rattle.pct_transition_cases.proofs.CaseOfTransition.{case_of}
 use Rattle.pct_transition_cases.proofs.PlacedStatements.{IsPlaced, is_placed}
 use Rattle.pct_transition_cases.proofs.TransitionCases.{TransitionCase, rests, stopped, jumped, emitted, variable_set, variable_added, function_called, main_returned, start_returned, call_left, handler_left, exit_function_left, canceled, mutex_locked, mutex_unlocked, fork_handler_called, fork_handler_left, handler_called}

@@ -1,19 +1,12 @@
 -- Every run keeps the laws of its events, and ends in a state that keeps the invariant.
-use Rattle.std.proofs.Common.{◌≡◌, ℕ, true, false, ◌&&◌, List, Some, option_and_then, sym, ap, ◌∙◌}
-use Rattle.std.proofs.lemmas.List.Elements.{All-from_recursion}
-use Rattle.std.proofs.lemmas.Option.{option_and_then_some}
-use Rattle.pct_model.specs.declared.script.Script.{Script}
-use Rattle.pct_model.specs.declared.schedule.Config.{Config}
-use Rattle.pct_model.specs.declared.schedule.Entry.{Entry}
+use Rattle.pct_names.proofs.Names.{◌&&◌, All-from_recursion, ap, Called, Config, Entry, false, join_point, List, made_process, made_thread}
+use Rattle.pct_names.proofs.Names.{option_and_then, option_and_then_some, Run, run, Script, Some, sym, Thread, thread_with, true, ℕ, ◌∙◌}
+use Rattle.pct_names.proofs.Names.{◌≡◌}
 use Rattle.pct_model.specs.declared.state.Status.TheVariants as status
-use Rattle.pct_model.specs.declared.event.What.TheVariants.{Called}
-use Rattle.pct_model.specs.ThreadCalls.{join_point}
 use Rattle.pct_laws.specs.Calls.{EachIsCalled, says_calls, KeepsExitFunctions, KeepsKeys}
 use Rattle.pct_laws.specs.CancelLaw.{acts_where_it_may, acts_at_calls}
 use Rattle.pct_laws.specs.Ends.{each_may_begin, KeepsValues}
 use Rattle.pct_laws.specs.Kept.{IsPlainFunction, IsSuspendedInJoin}
-use Rattle.pct_model.specs.Run.{Run, run}
-use Rattle.pct_model.specs.World.{Thread, made_process, made_thread, thread_with}
 use Rattle.pct_laws.specs.CondLaw.{owners_allow, waits_allow, hand_ons_allow}
 use Rattle.pct_ending_laws.proofs.lift.EachAllowed.{each_both}
 use Rattle.pct_ending_laws.specs.EndingLaws.{RunsKeepLaws, StatesAreKept}

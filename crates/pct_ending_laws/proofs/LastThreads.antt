@@ -1,19 +1,9 @@
 -- The last thread of a process that ends goes on to exit it: each thread of the process has ended then.
-use Rattle.std.proofs.Common.{◌≡◌, ℕ, Bool, true, false, not, ◌&&◌, ◌||◌, cond, List, find, nat_eq, Some, None, ◌⊎◌, inl, inr, refl, sym, ap, ◌∙◌, subst}
-use Rattle.std.specs.List.{position_or_len}
-use Rattle.std.proofs.lemmas.Bool.{false≢true}
-use Rattle.std.proofs.lemmas.Option.{none-some, cond_some}
-use Rattle.pct_model.specs.declared.schedule.Entry.{Entry}
-use Rattle.pct_model.specs.declared.schedule.Config.{Config}
-use Rattle.pct_model.specs.declared.script.Script.{Script}
-use Rattle.pct_model.specs.declared.transition.Transition.{Transition}
-use Rattle.pct_model.specs.Actions.{named_after, child_of, moved, thread_moved, changed}
-use Rattle.pct_model.specs.NextStatement.{next_of, body_at}
-use Rattle.pct_model.specs.OtherThreads.{Others, others_of}
-use Rattle.pct_model.specs.ThreadSlots.{is_ended_status, holds_slot, is_live_thread}
+use Rattle.pct_names.proofs.Names.{◌&&◌, ap, body_at, Bool, changed, child_of, cond, cond_some, Config, Entry, false, false≢true, find}
+use Rattle.pct_names.proofs.Names.{holds_slot, inl, inr, is_ended_status, is_live_thread, List, moved, named_after, nat_eq, next_of, None}
+use Rattle.pct_names.proofs.Names.{none-some, not, Others, others_of, position_or_len, Process, refl, Script, Some, subst, sym, Thread}
+use Rattle.pct_names.proofs.Names.{thread_moved, thread_with, Transition, transition_by, true, World, ◌||◌, ℕ, ◌∙◌, ◌≡◌, ◌⊎◌}
 use Rattle.pct_laws.specs.ThreadSummary.{ThreadSummary}
-use Rattle.pct_model.specs.TransitionTable.{transition_by}
-use Rattle.pct_model.specs.World.{Thread, Process, World, thread_with}
 use Rattle.pct_ending_laws.proofs.lift.KeyedLists.{found_at, item_passes}
 use Rattle.pct_ending_laws.proofs.lift.ChangedThreads.{all_keep, same_settled, named_keeps, other_threads}
 use Rattle.pct_ending_laws.proofs.lift.TakenSteps.{AfterEveryRun}

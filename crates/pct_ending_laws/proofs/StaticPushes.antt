@@ -1,27 +1,16 @@
 -- The pushes that are open at a place of a function are the same however the place is reached: at each jump of a well-formed
 -- script the pushes open at its target are those open at the jump.
-use Rattle.std.proofs.Common.{◌≡◌, ◌⊎◌, inl, inr, ℕ, zero, suc, ◌<◌, ◌≤◌, Bool, true, false, if◌then◌else◌, is_some, List, [], ◌∷◌, length, map, drop, nat_eq, slice_get, Option, Some, None, option_and_then, unwrap_or, refl, sym, ap, ◌∙◌, subst, arith}
-use Rattle.std.specs.List.{list_all}
-use Rattle.std.specs.Option.{option_map_or}
-use Rattle.std.proofs.lemmas.Bool.{true≢false, false≢true, and_parts}
-use Rattle.std.proofs.lemmas.List.{drop_all}
-use Rattle.std.proofs.lemmas.Option.{slice_get_within}
-use Rattle.std.proofs.Math.Nat.{eq-or-lt_of_le}
-use Rattle.pct_model.specs.declared.frame.Frame.{Frame}
+use Rattle.pct_names.proofs.Names.{◌<◌, [], after_block, after_end, after_test, and_parts, ap, are_nested, arith, body_of, Bool, close_of}
+use Rattle.pct_names.proofs.Names.{Contents, drop, drop_all, eq-or-lt_of_le, false, false≢true, Frame, Func, holds, if◌then◌else◌, inl, inr}
+use Rattle.pct_names.proofs.Names.{is_some, is_while, length, List, list_all, map, nat_eq, nests, None, open_of, Operand, Option}
+use Rattle.pct_names.proofs.Names.{option_and_then, option_map_or, refl, returns_outside_pushes, role_of, Script, slice_get}
+use Rattle.pct_names.proofs.Names.{slice_get_within, Some, statement_at, Stmt, subst, suc, sym, true, unwrap_or, zero, ℕ, ◌∙◌, ◌∷◌, ◌≡◌}
+use Rattle.pct_names.proofs.Names.{◌≤◌, ◌⊎◌}
+use Rattle.std.proofs.lemmas.Bool.{true≢false}
 use Rattle.pct_model.specs.declared.role.Block.TheVariants.{Function}
-use Rattle.pct_model.specs.declared.script.Func.{Func}
-use Rattle.pct_model.specs.declared.script.Script.{Script}
-use Rattle.pct_model.specs.declared.statement.Operand.{Operand}
-use Rattle.pct_model.specs.declared.statement.Stmt.{Stmt}
 use Rattle.pct_model.specs.declared.statement.Stmt.TheVariants as statement
-use Rattle.pct_model.specs.Contents.{Contents}
-use Rattle.pct_model.specs.Jumps.{is_while, is_end, holds, close_of, open_of}
-use Rattle.pct_model.specs.Nesting.{are_nested}
+use Rattle.pct_model.specs.Jumps.{is_end}
 use Rattle.pct_laws.specs.OpenPushes.{pushes_after, open_pushes}
-use Rattle.pct_model.specs.ScriptStatements.{after_block, after_test, after_end}
-use Rattle.pct_model.specs.Statements.{role_of}
-use Rattle.pct_model.specs.Static.{nests, returns_outside_pushes}
-use Rattle.pct_model.specs.World.{body_of, statement_at}
 use Rattle.pct_model.proofs.StaticFacts.{passes_all}
 use Rattle.pct_jumps.proofs.OpenBlocks.{close_within, close_of-open_of, is_opened}
 use Rattle.pct_ending_laws.proofs.pushes.AfterStatements.{open_pushes-next}

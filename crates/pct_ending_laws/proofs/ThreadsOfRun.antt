@@ -1,34 +1,18 @@
 -- What every run keeps of each thread: the rule of the thread, and so the sentences of Kept.antt.
-use Rattle.std.proofs.Common.{◌≡◌, ℕ, Bool, true, false, not, ◌&&◌, cond, List, reverse, Some, option_and_then, inl, inr, refl, sym, ap, ◌∙◌, subst}
-use Rattle.std.proofs.lemmas.Bool.{false≢true}
-use Rattle.pct_model.specs.declared.schedule.Alt.{Alt}
-use Rattle.pct_model.specs.declared.schedule.Config.{Config}
-use Rattle.pct_model.specs.declared.schedule.Entry.{Entry}
-use Rattle.pct_model.specs.declared.script.Script.{Script}
-use Rattle.pct_model.specs.declared.frame.Frame.{Frame}
-use Rattle.pct_model.specs.declared.state.Cause.{Cause}
+use Rattle.pct_names.proofs.Names.{◌&&◌, Action, Alt, ap, Bool, Cause, choices_of, cond, Config, Entry, false, false≢true, Frame}
+use Rattle.pct_names.proofs.Names.{has_left_wait, inl, inr, is_ended_status, is_forking, is_live_thread, is_waiting_on, key_place, List}
+use Rattle.pct_names.proofs.Names.{made_process, main_of, named_after, names_of, not, offers, option_and_then, Process, Reason, refl}
+use Rattle.pct_names.proofs.Names.{reverse, Run, run, Script, Some, Status, subst, sym, Thread, thread_with, transition_by, true, unblocked}
+use Rattle.pct_names.proofs.Names.{World, ℕ, ◌∙◌, ◌≡◌}
 use Rattle.pct_model.specs.declared.state.Cause.TheVariants as cause
 use Rattle.pct_model.specs.declared.state.FrameKind.TheVariants as kind
-use Rattle.pct_model.specs.declared.state.Reason.{Reason}
-use Rattle.pct_model.specs.declared.state.Status.{Status}
 use Rattle.pct_model.specs.declared.state.Status.TheVariants as status
-use Rattle.pct_model.specs.declared.transition.Action.{Action}
 use Rattle.pct_model.specs.declared.transition.Action.TheVariants as action
-use Rattle.pct_model.specs.Actions.{named_after}
-use Rattle.pct_model.specs.ChoiceTable.{choices_of, offers}
-use Rattle.pct_model.specs.CondCalls.{is_waiting_on, unblocked}
-use Rattle.pct_model.specs.StatusKinds.{is_forking, has_left_wait}
 use Rattle.pct_laws.specs.Kept.{is_exiting, ThreadKept, KeysKept}
-use Rattle.pct_model.specs.Keys.{key_place}
-use Rattle.pct_model.specs.Names.{main_of, names_of}
 use Rattle.pct_laws.specs.Each.{each}
 use Rattle.pct_laws.specs.Once.{may_come, allows}
 use Rattle.pct_ending_laws.proofs.lift.EachAllowed.{each_later}
-use Rattle.pct_model.specs.Run.{Run, run}
-use Rattle.pct_model.specs.ThreadSlots.{is_ended_status, is_live_thread}
 use Rattle.pct_laws.specs.ThreadSummary.{ThreadSummary, no_events, summary_of}
-use Rattle.pct_model.specs.TransitionTable.{transition_by}
-use Rattle.pct_model.specs.World.{Thread, Process, World, made_process, thread_with}
 use Rattle.pct_ending_laws.proofs.StaticPushes.{push_matches}
 use Rattle.pct_ending_laws.proofs.LastThreads.{last_exits}
 use Rattle.pct_ending_laws.proofs.lift.TakenSteps.{IsTaken, with_step, AfterEveryRun, every_run}

@@ -1,14 +1,9 @@
 -- The entry that two numbers choose for a worker, and a list with one entry more.
-use Rattle.std.proofs.Common.{◌≡◌, ◌⊎◌, inl, inr, ℕ, ◌+◌, ◌<◌, List, [], ◌∷◌, ◌++◌, Some, refl, sym, ap, ◌∙◌, arith, length, length-append}
-use Rattle.std.specs.Prelude.{slice_get}
-use Rattle.std.proofs.Math.Nat.{eq-or-lt_of_le}
-use Rattle.std.proofs.Math.Seq.{get_or-append_seam}
-use Rattle.std.proofs.lemmas.List.{get_or_append_left}
-use Rattle.std.proofs.lemmas.Option.{none-some, slice_get-get_or}
-use Rattle.pct_model.specs.declared.schedule.Entry.{Entry}
-use Rattle.pct_model.specs.declared.stop.Verdict.{Verdict}
+use Rattle.pct_names.proofs.Names.{◌+◌, ◌++◌, ◌<◌, [], ap, arith, Entry, eq-or-lt_of_le, get_or-append_seam, get_or_append_left, inl, inr}
+use Rattle.pct_names.proofs.Names.{length, List, none-some, refl, Run, slice_get, slice_get-get_or, Some, sym, Verdict, verdict_of, ℕ, ◌∙◌}
+use Rattle.pct_names.proofs.Names.{◌∷◌, ◌≡◌, ◌⊎◌}
+use Rattle.std.proofs.Common.{length-append}
 use Rattle.pct_model.specs.declared.stop.Verdict.TheVariants as verdict
-use Rattle.pct_model.specs.Run.{Run, verdict_of}
 use Rattle.pct_engine.specs.EngineStates.{EngineValue, IsRunWith, IsChoice}
 
 open_or_not : (v : Verdict) → (v ≡ verdict.Open) ⊎ (v ≡ verdict.Open → ⊥)

@@ -1,10 +1,7 @@
 -- The verdict and the choice of an engine are those of the run that it represents.
-use Rattle.std.proofs.Common.{◌≡◌, ℕ, ◌<◌, true, length, Option, Some, None, refl, sym, ap, ◌∙◌, subst, arith}
-use Rattle.std.specs.Prelude.{reverse, is_some, option_map, IfSome, IsSomeAnd}
-use Rattle.std.proofs.lemmas.Bool.{eqb-false, false≢true}
-use Rattle.pct_model.specs.declared.schedule.Entry.{Entry}
+use Rattle.pct_names.proofs.Names.{◌<◌, ap, arith, Entry, eqb-false, false≢true, IfSome, is_some, IsSomeAnd, length, None, Option}
+use Rattle.pct_names.proofs.Names.{option_map, refl, reverse, Run, run, Some, subst, sym, true, verdict_of, ℕ, ◌∙◌, ◌≡◌}
 use Rattle.pct_model.specs.declared.stop.Verdict.TheVariants as verdict
-use Rattle.pct_model.specs.Run.{Run, run, verdict_of}
 use Rattle.pct_engine_laws.specs.Seen.{Seen, seen}
 use Rattle.pct_engine_laws.specs.SeenSteps.{seen_chosen, seen_verdict}
 use Rattle.pct_engine_laws.proofs.ChosenSeen.{chosen_is_seen}

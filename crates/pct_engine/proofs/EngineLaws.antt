@@ -1,5 +1,5 @@
 -- Every run of an engine keeps the laws of how threads end.
-use Rattle.pct_model.specs.Run.{Run}
+use Rattle.pct_names.proofs.Names.{Run}
 use Rattle.pct_ending_laws.proofs.KeptStates.{every_run_keeps_laws, every_state_is_kept}
 use Rattle.pct_engine.specs.EngineStates.{EngineValue, IsRunOf, KeepsLaws}
 

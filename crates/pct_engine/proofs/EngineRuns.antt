@@ -1,15 +1,7 @@
 -- Runs with one entry more, and what an engine represents.
-use Rattle.std.proofs.Common.{◌≡◌, ◌<◌, Bool, true, false, cond, List, [], ◌∷◌, ◌++◌, length, map, reverse, Option, Some, None, refl, sym, ap, ◌∙◌, subst}
-use Rattle.std.specs.Prelude.{option_map}
-use Rattle.std.proofs.lemmas.List.{map-append, reverse-append}
-use Rattle.pct_model.specs.declared.script.Script.{Script}
-use Rattle.pct_model.specs.declared.schedule.Config.{Config}
-use Rattle.pct_model.specs.declared.schedule.Entry.{Entry}
-use Rattle.pct_model.specs.declared.event.Event.{Event}
-use Rattle.pct_model.specs.declared.transition.Transition.{Transition}
-use Rattle.pct_model.specs.World.{World, opening}
-use Rattle.pct_model.specs.Step.{step}
-use Rattle.pct_model.specs.Run.{Run, event_of, is_config, run}
+use Rattle.pct_names.proofs.Names.{◌++◌, ◌<◌, [], ap, Bool, cond, Config, Entry, Event, event_of, false, is_config, length, List, map}
+use Rattle.pct_names.proofs.Names.{map-append, None, opening, Option, option_map, refl, reverse, reverse-append, Run, run, Script, Some}
+use Rattle.pct_names.proofs.Names.{step, subst, sym, Transition, true, World, ◌∙◌, ◌∷◌, ◌≡◌}
 use Rattle.pct_engine_laws.specs.Seen.{Seen, seen, seen_after}
 use Rattle.pct_engine_laws.specs.SeenSteps.{seen_transition}
 use Rattle.pct_engine_laws.proofs.AfterSeen.{after_is_seen}

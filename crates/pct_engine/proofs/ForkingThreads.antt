@@ -1,20 +1,9 @@
 -- In each state that keeps the invariant, a thread that is in fork has room for the frame of a fork handler.
-use Rattle.std.proofs.Common.{◌≡◌, ℕ, suc, ◌<◌, ◌≤◌, true, List, [], ◌∷◌, length, Some, sym, ap, ◌∙◌, subst, inl, inr}
-use Rattle.std.specs.Prelude.{All, slice_get, if◌then◌else◌}
-use Rattle.std.proofs.lemmas.Bool.{cases_lt, false≢true}
-use Rattle.std.proofs.lemmas.List.{get_or_past}
-use Rattle.std.proofs.lemmas.List.Elements.{All-head}
-use Rattle.std.proofs.lemmas.Option.{none-some, same_Some, slice_get-get_or}
-use Rattle.pct_model.specs.declared.event.Event.{Event}
-use Rattle.pct_model.specs.declared.frame.Frame.{Frame}
-use Rattle.pct_model.specs.declared.limits.TheConstants.{MAX_FRAMES}
-use Rattle.pct_model.specs.declared.schedule.Config.{Config}
-use Rattle.pct_model.specs.declared.script.Script.{Script}
-use Rattle.pct_model.specs.declared.state.Status.{Status}
+use Rattle.pct_names.proofs.Names.{◌<◌, [], All, All-head, ap, cases_lt, Config, Event, false≢true, Frame, get_or_past, if◌then◌else◌, inl}
+use Rattle.pct_names.proofs.Names.{inr, is_forking, length, List, MAX_FRAMES, none-some, same_Some, Script, slice_get, slice_get-get_or}
+use Rattle.pct_names.proofs.Names.{Some, Status, subst, suc, sym, Thread, true, World, ℕ, ◌∙◌, ◌∷◌, ◌≡◌, ◌≤◌}
 use Rattle.pct_model.specs.declared.state.Status.TheVariants as status
-use Rattle.pct_model.specs.StatusKinds.{is_forking}
 use Rattle.pct_laws.specs.Kept.{Kept, is_in_fork_handler}
-use Rattle.pct_model.specs.World.{Thread, World}
 use Rattle.pct_engine_laws.specs.Seen.{SeenSlot, SeenProcess, seen}
 use Rattle.pct_engine_laws.proofs.SeenThreads.{IsMadeThread, IsSeenOf, seen_of}
 use Rattle.pct_process.specs.ProcessViews.{first_of, slot_on, thread_on_slot}

@@ -1,21 +1,12 @@
 -- While the verdict is `Open`, the scheduler chooses an entry.
-use Rattle.std.proofs.Common.{◌≡◌, ℕ, ◌%◌, ◌<◌, Bool, true, false, not, ◌||◌, cond, List, [], ◌∷◌, ◌++◌, map, length, get_or, Option, Some, None, refl, ap, ◌∙◌, arith, length-append}
-use Rattle.std.specs.Prelude.{All, filter, nat_eq, is_some, is_none, option_map, option_and_then}
-use Rattle.std.specs.List.{flat_map, list_any, list_all}
-use Rattle.std.proofs.lemmas.Bool.{and_parts, not-true, false≢true}
-use Rattle.std.proofs.lemmas.List.{length-map}
-use Rattle.std.proofs.lemmas.List.Elements.{All-nil, All-append, All-map, filter_passes}
-use Rattle.std.proofs.lemmas.Option.{slice_get-get_or}
-use Rattle.pct_model.specs.declared.script.Script.{Script}
-use Rattle.pct_model.specs.declared.schedule.Alt.{Alt}
-use Rattle.pct_model.specs.declared.schedule.Config.{Config}
-use Rattle.pct_model.specs.declared.schedule.Entry.{Entry}
-use Rattle.pct_model.specs.declared.stop.Why.{Why}
+use Rattle.pct_names.proofs.Names.{◌%◌, ◌++◌, ◌<◌, [], All, All-append, All-map, All-nil, Alt, and_parts, ap, arith, Bool, Candidate, cond}
+use Rattle.pct_names.proofs.Names.{Config, Entry, entry_for, false, false≢true, Family, filter, filter_passes, get_or, is_enabled, is_none}
+use Rattle.pct_names.proofs.Names.{is_some, item_at, length, length-map, List, list_all, list_any, map, nat_eq, None, not, not-true, Option}
+use Rattle.pct_names.proofs.Names.{option_and_then, option_map, refl, Script, slice_get-get_or, Some, Thread, true, Why, ◌||◌, ℕ, ◌∙◌, ◌∷◌}
+use Rattle.pct_names.proofs.Names.{◌≡◌}
+use Rattle.std.proofs.Common.{length-append}
+use Rattle.std.specs.List.{flat_map}
 use Rattle.pct_model.specs.declared.stop.Verdict.TheVariants as verdict
-use Rattle.pct_model.specs.World.{Thread}
-use Rattle.pct_model.specs.ChoiceTable.{is_enabled}
-use Rattle.pct_model.specs.Chosen.{Candidate, item_at, entry_for}
-use Rattle.pct_model.specs.OtherProcesses.{Family}
 use Rattle.pct_engine_laws.specs.Seen.{SeenProcess, Seen, threads_on, family_in}
 use Rattle.pct_engine_laws.specs.SeenSteps.{is_ready_in, ready_in, candidate_in, seen_candidates, seen_chosen, has_ready_in, seen_verdict, seen_verdict_by}
 

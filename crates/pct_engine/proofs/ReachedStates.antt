@@ -1,17 +1,9 @@
 -- What holds of each state that a run reaches.
-use Rattle.std.proofs.Common.{◌≡◌, ℕ, ◌+◌, ◌*◌, ◌^◌, ◌<◌, ◌≤◌, Bool, true, ◌&&◌, List, length, Option, Some, None, refl, sym, subst, arith}
-use Rattle.std.specs.Prelude.{All, nat_le, slice_get}
-use Rattle.std.specs.Option.{option_map_or}
-use Rattle.std.proofs.lemmas.Bool.{and_parts, leb-true}
-use Rattle.std.proofs.lemmas.List.Elements.{All-weaker}
-use Rattle.std.proofs.lemmas.Option.{slice_get_within, get_or_from_slice_get}
-use Rattle.std.proofs.Math.Nat.{mul-le-mul}
-use Rattle.pct_model.specs.declared.script.Script.{Script}
-use Rattle.pct_model.specs.declared.limits.TheConstants.{MAX_BUDGET, MIN_PASSES, MAX_PASSES, MAX_SLOTS}
-use Rattle.pct_model.specs.declared.schedule.Config.{Config}
-use Rattle.pct_model.specs.declared.schedule.Entry.{Entry}
-use Rattle.pct_model.specs.Keys.{KeyPlace}
-use Rattle.pct_model.specs.Run.{Run, is_config, run}
+use Rattle.pct_names.proofs.Names.{◌&&◌, ◌*◌, ◌+◌, ◌<◌, ◌^◌, All, All-weaker, and_parts, arith, Bool, Config, Entry, get_or_from_slice_get}
+use Rattle.pct_names.proofs.Names.{is_config, KeyPlace, length, List, MAX_BUDGET, MAX_PASSES, MAX_SLOTS, MIN_PASSES, mul-le-mul, nat_le}
+use Rattle.pct_names.proofs.Names.{None, Option, option_map_or, refl, Run, run, Script, slice_get, slice_get_within, Some, subst, sym, true}
+use Rattle.pct_names.proofs.Names.{ℕ, ◌≡◌, ◌≤◌}
+use Rattle.std.proofs.lemmas.Bool.{leb-true}
 use Rattle.pct_engine_laws.specs.Seen.{SeenProcess, Seen, seen}
 use Rattle.pct_engine_laws.specs.ThreadCounts.{MadeAtMost}
 use Rattle.pct_engine_laws.specs.KeyCounts.{KeysAtMost}

@@ -1,16 +1,13 @@
 -- What is kept of a state after a transition depends only on what was kept before it.
-use Rattle.std.proofs.Common.{◌≡◌, ℕ, ◌+◌, ◌<◌, Bool, true, false, not, ◌&&◌, cond, List, [], ◌∷◌, ◌++◌, length, map, filter, flat_map, Option, Some, None, is_some, nat_eq, refl, sym, ap, ◌∙◌, arith, append-nil, length-append, true≢false}
+use Rattle.pct_names.proofs.Names.{◌&&◌, ◌+◌, ◌++◌, ◌<◌, [], Action, after_transition, ap, arith, as_reaped, Bool, changed, child_by}
+use Rattle.pct_names.proofs.Names.{child_of, cond, false, filter, filter-append, flat_map, flat_map-map, for_each, inherited, is_last}
+use Rattle.pct_names.proofs.Names.{is_live_process, is_some, is_unreaped, length, length-map, List, map, map-append, nat_eq, None, not}
+use Rattle.pct_names.proofs.Names.{Option, orphaned, other_process_after, Process, process_after, process_made, process_moved, ProcessEnd}
+use Rattle.pct_names.proofs.Names.{refl, shared_after, SharedState, Some, stop_after, sym, threads_moved, Transition, true, was_reaped}
+use Rattle.pct_names.proofs.Names.{World, ℕ, ◌∙◌, ◌∷◌, ◌≡◌}
+use Rattle.std.proofs.Common.{append-nil, length-append, true≢false}
 use mathlib.Core.Bool.{and-false}
-use Rattle.std.proofs.lemmas.List.{map-append, length-map}
-use Rattle.std.proofs.lemmas.List.Elements.{filter-append}
-use Rattle.std.proofs.lemmas.List.Folds.{flat_map-map}
-use Rattle.pct_model.specs.declared.transition.Action.{Action}
 use Rattle.pct_model.specs.declared.transition.Action.TheVariants as action
-use Rattle.pct_model.specs.declared.transition.Transition.{Transition}
-use Rattle.pct_model.specs.World.{SharedState, ProcessEnd, Process, World, was_reaped}
-use Rattle.pct_model.specs.Actions.{threads_moved, shared_after, process_after, orphaned, as_reaped, other_process_after, inherited, child_of, child_by, stop_after, for_each, changed, is_live_process, process_moved, process_made, after_transition}
-use Rattle.pct_model.specs.OtherProcesses.{is_unreaped}
-use Rattle.pct_model.specs.OtherThreads.{is_last}
 use Rattle.pct_engine_laws.specs.Seen.{SeenSlot, SeenProcess, seen_slot, seen_process, seen, is_last_in, own_kept, other_kept, process_seen, own_process_seen, other_process_seen, is_live_seen, slot_inherited, child_seen, child_seen_by, children_seen, processes_kept, seen_after}
 use Rattle.pct_engine_laws.proofs.ListFacts.{flat_map_agree, flat_map-flat_map, map-flat_map, filter-flat_map, flat_map-cond, map-filter}
 use Rattle.pct_engine_laws.proofs.IndexedLists.{by_index}

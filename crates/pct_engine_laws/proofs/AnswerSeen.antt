@@ -1,16 +1,10 @@
 -- What a thread sees of the others depends only on what is kept of the state.
-use Rattle.std.proofs.Common.{◌≡◌, ℕ, zero, suc, ◌+◌, ◌<◌, Bool, true, false, not, ◌&&◌, ◌||◌, cond, List, [], ◌∷◌, ◌++◌, length, map, filter, flat_map, nat_eq, option_and_then, refl, sym, ap, ◌∙◌, eqb-true, eq-eqb}
-use Rattle.std.specs.List.{list_any, list_all, range_with_len}
-use Rattle.std.proofs.lemmas.List.Folds.{flat_map-map}
-use Rattle.pct_model.specs.declared.process.Relative.{Relative}
-use Rattle.pct_model.specs.declared.script.Script.{Script}
-use Rattle.pct_model.specs.declared.schedule.Config.{Config}
-use Rattle.pct_model.specs.World.{Thread, Process, World}
-use Rattle.pct_model.specs.ThreadSlots.{holds_slot, slot_of, is_on, is_free, next_id, free_ids, by_slot, is_live_thread, with_id}
-use Rattle.pct_model.specs.NextStatement.{next_of, body_at}
-use Rattle.pct_model.specs.OtherProcesses.{family_among, is_unreaped, family_of}
-use Rattle.pct_model.specs.OtherThreads.{Others, is_joining, is_joined_by_one, waiters_among, is_last, others_of}
-use Rattle.pct_model.specs.ChoiceTable.{choices_at, choices_of}
+use Rattle.pct_names.proofs.Names.{◌&&◌, ◌+◌, ◌++◌, ◌<◌, [], ap, body_at, Bool, by_slot, choices_at, choices_of, cond, Config, false}
+use Rattle.pct_names.proofs.Names.{family_among, family_of, filter, flat_map, flat_map-map, free_ids, holds_slot, is_free, is_joined_by_one}
+use Rattle.pct_names.proofs.Names.{is_joining, is_last, is_live_thread, is_on, is_unreaped, length, List, list_all, list_any, map, nat_eq}
+use Rattle.pct_names.proofs.Names.{next_id, next_of, not, option_and_then, Others, others_of, Process, range_with_len, refl, Relative}
+use Rattle.pct_names.proofs.Names.{Script, slot_of, suc, sym, Thread, true, waiters_among, with_id, World, zero, ◌||◌, ℕ, ◌∙◌, ◌∷◌, ◌≡◌}
+use Rattle.std.proofs.Common.{eqb-true, eq-eqb}
 use Rattle.pct_engine_laws.specs.Seen.{SeenSlot, seen_slot, seen_process, seen, threads_on, is_last_in, relative_in, family_in}
 use Rattle.pct_engine_laws.specs.SeenSteps.{thread_on, thread_with, is_joined_in, is_empty, new_id_on, new_ids_from, others_in, choices_in}
 use Rattle.pct_engine_laws.proofs.ListFacts.{find_agree, find-filter, any_agree, any-filter, any-flat_map, any_swap, any_and, all_none, map-map, map-filter}

@@ -1,14 +1,9 @@
 -- The choice of the scheduler depends only on what is kept of the state.
-use Rattle.std.proofs.Common.{◌≡◌, ℕ, ◌<◌, Bool, true, false, not, cond, List, [], map, filter, Option, Some, None, is_some, is_none, option_map, option_and_then, refl, sym, ap, ◌∙◌}
+use Rattle.pct_names.proofs.Names.{◌<◌, [], Alt, ap, Bool, by_slot, Candidate, candidate, candidates, choices_of, chosen, cond, Config}
+use Rattle.pct_names.proofs.Names.{entry_for, false, filter, flat_map-map, is_enabled, is_none, is_some, item_at, List, map, None, not}
+use Rattle.pct_names.proofs.Names.{Option, option_and_then, option_map, Process, ProcessEnd, ready_of, refl, Script, Some, sym, Thread}
+use Rattle.pct_names.proofs.Names.{true, was_reaped, World, ℕ, ◌∙◌, ◌≡◌}
 use Rattle.std.proofs.Math.Path.{fun_ext}
-use Rattle.std.proofs.lemmas.List.Folds.{flat_map-map}
-use Rattle.pct_model.specs.declared.script.Script.{Script}
-use Rattle.pct_model.specs.declared.schedule.Alt.{Alt}
-use Rattle.pct_model.specs.declared.schedule.Config.{Config}
-use Rattle.pct_model.specs.World.{Thread, ProcessEnd, Process, World, was_reaped}
-use Rattle.pct_model.specs.ThreadSlots.{by_slot}
-use Rattle.pct_model.specs.ChoiceTable.{choices_of, is_enabled}
-use Rattle.pct_model.specs.Chosen.{Candidate, ready_of, candidate, candidates, item_at, entry_for, chosen}
 use Rattle.pct_engine_laws.specs.Seen.{SeenProcess, Seen, seen_process, seen, threads_on, family_in}
 use Rattle.pct_engine_laws.specs.SeenSteps.{ready_in, candidate_in, seen_candidates, seen_chosen}
 use Rattle.pct_engine_laws.proofs.ListFacts.{flat_map_agree, flat_map-filter}

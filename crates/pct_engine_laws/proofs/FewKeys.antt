@@ -1,13 +1,6 @@
 -- On each place, a run makes at most one key for each entry.
-use Rattle.std.proofs.Common.{◌≡◌, ◌≤◌, ◌+◌, not, List, length, filter, Some, arith}
-use Rattle.std.specs.Prelude.{All}
-use Rattle.std.proofs.lemmas.List.Elements.{All-map, All-weaker, All-filter}
-use Rattle.pct_model.specs.declared.script.Script.{Script}
-use Rattle.pct_model.specs.declared.schedule.Config.{Config}
-use Rattle.pct_model.specs.declared.schedule.Entry.{Entry}
-use Rattle.pct_model.specs.Keys.{KeyPlace}
-use Rattle.pct_model.specs.World.{Process, was_reaped}
-use Rattle.pct_model.specs.Run.{Run, run}
+use Rattle.pct_names.proofs.Names.{◌+◌, All, All-filter, All-map, All-weaker, arith, Config, Entry, filter, KeyPlace, length, List, not}
+use Rattle.pct_names.proofs.Names.{Process, Run, run, Script, Some, was_reaped, ◌≡◌, ◌≤◌}
 use Rattle.pct_engine_laws.specs.Seen.{SeenProcess, seen_process, seen}
 use Rattle.pct_engine_laws.specs.KeyCounts.{KeysAtMost}
 use Rattle.pct_engine_laws.proofs.KeyNumbers.{HasFewOn}

@@ -1,9 +1,5 @@
 -- A run makes at most one process for each entry, beside the first one.
-use Rattle.std.proofs.Common.{◌≡◌, ◌≤◌, ◌+◌, List, length, Some}
-use Rattle.pct_model.specs.declared.script.Script.{Script}
-use Rattle.pct_model.specs.declared.schedule.Config.{Config}
-use Rattle.pct_model.specs.declared.schedule.Entry.{Entry}
-use Rattle.pct_model.specs.Run.{Run, run}
+use Rattle.pct_names.proofs.Names.{◌+◌, Config, Entry, length, List, Run, run, Script, Some, ◌≡◌, ◌≤◌}
 use Rattle.pct_engine_laws.specs.Seen.{seen}
 use Rattle.pct_engine_laws.proofs.RunNumbers.{run_within}
 

@@ -1,15 +1,7 @@
 -- A run makes at most one thread for each entry, beside the initial one.
-use Rattle.std.proofs.Common.{◌≡◌, ℕ, ◌+◌, ◌≤◌, not, List, [], ◌∷◌, length, map, filter, Some, arith}
-use Rattle.std.specs.Prelude.{All}
-use Rattle.std.specs.List.{range_with_len}
-use Rattle.std.proofs.lemmas.List.Elements.{All-nil, All-cons, All-map, All-weaker, All-filter}
-use Rattle.std.proofs.lemmas.List.Sums.{count_by-le-length}
-use Rattle.pct_model.specs.declared.script.Script.{Script}
-use Rattle.pct_model.specs.declared.schedule.Config.{Config}
-use Rattle.pct_model.specs.declared.schedule.Entry.{Entry}
-use Rattle.pct_model.specs.World.{Thread, Process, was_reaped}
-use Rattle.pct_model.specs.ThreadSlots.{is_on}
-use Rattle.pct_model.specs.Run.{Run, run}
+use Rattle.pct_names.proofs.Names.{◌+◌, [], All, All-cons, All-filter, All-map, All-nil, All-weaker, arith, Config, count_by-le-length}
+use Rattle.pct_names.proofs.Names.{Entry, filter, is_on, length, List, map, not, Process, range_with_len, Run, run, Script, Some, Thread}
+use Rattle.pct_names.proofs.Names.{was_reaped, ℕ, ◌∷◌, ◌≡◌, ◌≤◌}
 use Rattle.pct_engine_laws.specs.Seen.{SeenSlot, SeenProcess, seen_slot, seen_process, seen}
 use Rattle.pct_engine_laws.specs.ThreadCounts.{MadeAtMost}
 use Rattle.pct_engine_laws.proofs.RunNumbers.{HasFewIn, run_within}

@@ -1,10 +1,9 @@
 -- Lists that a function of the index makes, with one item at each index below a number.
-use Rattle.std.proofs.Common.{◌≡◌, ℕ, zero, suc, ◌+◌, ◌<◌, true, ◌⊎◌, inl, inr, List, ◌∷◌, length, get_or, replicate, map, Some, nat_eq, slice_get, slice_set, refl, sym, ap, ◌∙◌, zero-add, get_or-set_same, get_or-set_other, length-set, ext_get_or, eq-eqb}
-use Rattle.std.specs.List.{range_with_len, list_any}
-use Rattle.std.proofs.lemmas.Bool.{cases_eq}
-use Rattle.std.proofs.lemmas.List.Folds.{list_any_at}
-use Rattle.std.proofs.lemmas.List.FromFn.{length-range_with_len, get_or-range_with_len, length-map-range_with_len, get_or-map-range_with_len}
-use Rattle.std.proofs.lemmas.Option.{slice_get-get_or}
+use Rattle.pct_names.proofs.Names.{◌+◌, ◌<◌, ap, cases_eq, get_or, get_or-map-range_with_len, get_or-range_with_len, inl, inr, length}
+use Rattle.pct_names.proofs.Names.{length-map-range_with_len, length-range_with_len, List, list_any, list_any_at, map, nat_eq}
+use Rattle.pct_names.proofs.Names.{range_with_len, refl, replicate, slice_get, slice_get-get_or, slice_set, Some, suc, sym, true, zero, ℕ}
+use Rattle.pct_names.proofs.Names.{◌∙◌, ◌∷◌, ◌≡◌, ◌⊎◌}
+use Rattle.std.proofs.Common.{zero-add, get_or-set_same, get_or-set_other, length-set, ext_get_or, eq-eqb}
 
 -- the list of a function of the index
 abbrev pub by_index : {X : Type 0} → (ℕ → X) → ℕ → List X

@@ -1,18 +1,13 @@
 -- The numbers of keys, limited by the number of transitions.
-use Rattle.std.proofs.Common.{◌≡◌, ℕ, ◌+◌, ◌*◌, ◌<◌, ◌≤◌, false, List, [], ◌∷◌, get_or, Option, Some, None, slice_get, slice_set, refl, sym, ◌∙◌, subst, arith, zero-add}
-use Rattle.std.specs.Prelude.{All, is_none, option_and_then}
-use Rattle.std.specs.List.{list_any, range_with_len}
-use Rattle.std.specs.Option.{option_map_or}
-use Rattle.std.proofs.lemmas.Bool.{or_parts, true≢false}
-use Rattle.std.proofs.lemmas.List.Elements.{All-get_or, All-map, All-weaker, All-filter, All-set, All-replicate}
-use Rattle.std.proofs.lemmas.List.FromFn.{length-range_with_len, get_or-range_with_len}
-use Rattle.std.proofs.lemmas.Option.{slice_get_within, get_or_from_slice_get}
-use Rattle.pct_model.specs.declared.limits.TheConstants.{MAX_KEYS}
-use Rattle.pct_model.specs.declared.transition.Action.{Action}
+use Rattle.pct_names.proofs.Names.{◌*◌, ◌+◌, ◌<◌, [], Action, All, All-filter, All-get_or, All-map, All-replicate, All-set, All-weaker}
+use Rattle.pct_names.proofs.Names.{arith, false, for_each, free_places, get_or, get_or-range_with_len, get_or_from_slice_get, is_none, Key}
+use Rattle.pct_names.proofs.Names.{key_at, key_place, KeyPlace, KeyValues, left_keys, left_places, length-range_with_len, List, list_any}
+use Rattle.pct_names.proofs.Names.{MAX_KEYS, new_keys, next_key, no_keys, None, number_at, on_place, Option, option_and_then, option_map_or}
+use Rattle.pct_names.proofs.Names.{or_parts, range_with_len, refl, shared_after, SharedState, slice_get, slice_get_within, slice_set, Some}
+use Rattle.pct_names.proofs.Names.{subst, sym, ℕ, ◌∙◌, ◌∷◌, ◌≡◌, ◌≤◌}
+use Rattle.std.proofs.Common.{zero-add}
+use Rattle.std.proofs.lemmas.Bool.{true≢false}
 use Rattle.pct_model.specs.declared.transition.Action.TheVariants as action
-use Rattle.pct_model.specs.Keys.{Key, KeyPlace, no_keys, KeyValues, key_place, key_at, next_key, number_at, free_places, new_keys, on_place, left_places, left_keys}
-use Rattle.pct_model.specs.World.{SharedState}
-use Rattle.pct_model.specs.Actions.{shared_after, for_each}
 use Rattle.pct_engine_laws.proofs.WhatTransitionsMake.{makes_key, Makes, FirstMakes}
 
 -- fewer than n keys were ever made on a place, and the number of the key on it is limited by n

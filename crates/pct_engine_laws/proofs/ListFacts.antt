@@ -1,12 +1,11 @@
 -- Lists that are filtered, mapped, joined and searched.
-use Rattle.std.proofs.Common.{◌≡◌, ℕ, ◌+◌, Bool, true, false, not, ◌&&◌, ◌||◌, cond, List, [], ◌∷◌, ◌++◌, Option, Some, None, map, filter, find, flat_map, count_by, option_map, option_and_then, ◌⊎◌, inl, inr, refl, sym, ap, ◌∙◌, subst, append-nil}
-use Rattle.std.specs.List.{list_any, list_all, All}
-use Rattle.std.proofs.lemmas.Bool.{and_left, and_right, or_left, or_right, false≢true}
-use Rattle.std.proofs.lemmas.List.{map-append}
-use Rattle.std.proofs.lemmas.List.Elements.{All-nil, All-append, All-head, All-tail, filter-append}
-use Rattle.std.proofs.lemmas.Option.{none-some, same_Some}
+use Rattle.pct_names.proofs.Names.{◌&&◌, ◌+◌, ◌++◌, [], All-append, All-head, All-nil, All-tail, and_left, and_right, ap, Bool, cond}
+use Rattle.pct_names.proofs.Names.{count_by, false, false≢true, filter, filter-append, find, flat_map, fold-map, inl, inr, List, list_all}
+use Rattle.pct_names.proofs.Names.{list_any, list_any-append, map, map-append, None, none-some, not, Option, option_and_then, option_map}
+use Rattle.pct_names.proofs.Names.{or_left, or_right, refl, same_Some, Some, subst, sym, true, ◌||◌, ℕ, ◌∙◌, ◌∷◌, ◌≡◌, ◌⊎◌}
+use Rattle.std.proofs.Common.{append-nil}
+use Rattle.std.specs.List.{All}
 use Rattle.std.proofs.Math.Path.{fun_ext}
-use Rattle.std.proofs.lemmas.List.Folds.{fold-map, list_any-append}
 use Rattle.std.proofs.lemmas.List.Concat.{flat_map-append}
 
 -- ---- tests that agree

@@ -1,14 +1,10 @@
 -- Runs with one more entry.
-use Rattle.std.proofs.Common.{◌≡◌, ◌<◌, ◌≤◌, Bool, true, false, ◌&&◌, cond, List, [], ◌∷◌, ◌++◌, length, map, reverse, Option, Some, None, refl, sym, ap, ◌∙◌, arith, le-leb, length-append}
-use Rattle.std.specs.Prelude.{nat_le, is_some, option_map, option_and_then}
-use Rattle.std.proofs.lemmas.Bool.{and_from, and_parts, and_right, leb-true, lt-leb}
-use Rattle.std.proofs.lemmas.Option.{none-some, same_Some}
-use Rattle.pct_model.specs.declared.script.Script.{Script}
-use Rattle.pct_model.specs.declared.schedule.Config.{Config}
-use Rattle.pct_model.specs.declared.schedule.Entry.{Entry}
-use Rattle.pct_model.specs.World.{opening}
-use Rattle.pct_model.specs.Step.{Successor, step}
-use Rattle.pct_model.specs.Run.{Run, event_of, run_step, run_from, is_config, run}
+use Rattle.pct_names.proofs.Names.{◌&&◌, ◌++◌, ◌<◌, [], and_from, and_parts, and_right, ap, arith, Bool, cond, Config, Entry, event_of}
+use Rattle.pct_names.proofs.Names.{false, is_config, is_some, length, List, lt-leb, map, nat_le, None, none-some, opening, Option}
+use Rattle.pct_names.proofs.Names.{option_and_then, option_map, refl, reverse, Run, run, run_from, run_step, same_Some, Script, Some, step}
+use Rattle.pct_names.proofs.Names.{Successor, sym, true, ◌∙◌, ◌∷◌, ◌≡◌, ◌≤◌}
+use Rattle.std.proofs.Common.{le-leb, length-append}
+use Rattle.std.proofs.lemmas.Bool.{leb-true}
 use Rattle.pct_model.proofs.Runs.{run_from-more}
 
 -- the run of no entry

@@ -1,22 +1,12 @@
 -- A run goes on by an entry exactly if its verdict is `Open` and the entry is legal: a legal entry needs a run that was not
 -- stopped, and a process that has not ended with a thread that is ready.
-use Rattle.std.proofs.Common.{◌≡◌, ◌↔◌, ℕ, ◌<◌, Bool, true, false, not, cond, List, [], ◌∷◌, ◌++◌, length, Option, Some, None, refl, sym, ap, ◌∙◌, inl, inr, arith}
-use Rattle.std.specs.Prelude.{nat_eq, is_some, is_none}
-use Rattle.std.specs.List.{list_any, list_all}
-use Rattle.std.proofs.lemmas.Bool.{cases_Bool, and_parts, and_from, not-true, eqb-true, eqb-false, false≢true}
-use Rattle.pct_model.specs.declared.script.Script.{Script}
-use Rattle.pct_model.specs.declared.schedule.Alt.{Alt}
-use Rattle.pct_model.specs.declared.schedule.Config.{Config}
-use Rattle.pct_model.specs.declared.schedule.Entry.{Entry}
-use Rattle.pct_model.specs.declared.stop.Why.{Why}
-use Rattle.pct_model.specs.declared.stop.Verdict.{Verdict}
-use Rattle.pct_model.specs.declared.stop.Verdict.TheVariants.{Complete, Deadlock, Budget, Open}
-use Rattle.pct_model.specs.World.{Process, World}
-use Rattle.pct_model.specs.ThreadSlots.{holds_slot, is_live_thread}
-use Rattle.pct_model.specs.ChoiceTable.{choices_of, offers, is_enabled}
-use Rattle.pct_model.specs.Actions.{has_ended, is_live_process}
-use Rattle.pct_model.specs.Step.{Legal, Successor, IsLegalStep, step}
-use Rattle.pct_model.specs.Run.{Run, run, is_ready, has_ready, verdict_by, verdict_of}
+use Rattle.pct_names.proofs.Names.{◌++◌, ◌<◌, [], Alt, and_from, and_parts, ap, arith, Bool, Budget, cases_Bool, choices_of, Complete, cond}
+use Rattle.pct_names.proofs.Names.{Config, Deadlock, Entry, eqb-false, false, false≢true, has_ended, has_ready, holds_slot, inl, inr}
+use Rattle.pct_names.proofs.Names.{is_enabled, is_live_process, is_live_thread, is_none, is_ready, is_some, IsLegalStep, Legal, length}
+use Rattle.pct_names.proofs.Names.{List, list_all, list_any, nat_eq, None, not, not-true, offers, Open, Option, Process, refl, Run, run}
+use Rattle.pct_names.proofs.Names.{Script, Some, step, Successor, sym, true, Verdict, verdict_by, verdict_of, Why, World, ℕ, ◌↔◌, ◌∙◌, ◌∷◌}
+use Rattle.pct_names.proofs.Names.{◌≡◌}
+use Rattle.std.proofs.lemmas.Bool.{eqb-true}
 use Rattle.pct_model.proofs.LegalSteps.{step_legal, some_step_legal, legal_steps}
 use Rattle.pct_engine_laws.specs.RunLaws.{IsLegalWhileOpen}
 use Rattle.pct_engine_laws.proofs.ListFacts.{any_found, all_fails}

@@ -1,11 +1,9 @@
 -- What is kept of the initial state.
-use Rattle.std.proofs.Common.{◌≡◌, ℕ, ◌<◌, Bool, true, false, ◌&&◌, cond, List, [], ◌∷◌, replicate, filter, count_by, None, slice_set, refl, sym, ap, ◌∙◌, eq-eqb, ne_eqb}
-use native.Mathlib.Nat.{zero-mod}
-use Rattle.pct_model.specs.declared.script.Script.{Script}
+use Rattle.pct_names.proofs.Names.{◌&&◌, ◌<◌, [], ap, Bool, cond, count_by, false, filter, holds_slot, is_on, List, main_of, names_of}
+use Rattle.pct_names.proofs.Names.{new_frame, new_shared, new_thread, None, opening, refl, replicate, Script, slice_set, slot_of, sym}
+use Rattle.pct_names.proofs.Names.{Thread, true, zero-mod, ℕ, ◌∙◌, ◌∷◌, ◌≡◌}
+use Rattle.std.proofs.Common.{eq-eqb, ne_eqb}
 use Rattle.pct_model.specs.declared.state.FrameKind.TheVariants as kind
-use Rattle.pct_model.specs.Names.{names_of, main_of}
-use Rattle.pct_model.specs.World.{Thread, new_frame, new_thread, new_shared, opening}
-use Rattle.pct_model.specs.ThreadSlots.{holds_slot, slot_of, is_on}
 use Rattle.pct_engine_laws.specs.Seen.{SeenSlot, Seen, seen_slot, seen}
 use Rattle.pct_engine_laws.proofs.IndexedLists.{by_index, changed_by_index, constant_range}
 

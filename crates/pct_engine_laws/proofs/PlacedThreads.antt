@@ -1,10 +1,8 @@
 -- The threads that are kept on a slot belong there.
-use Rattle.std.proofs.Common.{◌≡◌, ℕ, ◌<◌, true, not, ◌&&◌, List, length, filter, Option, Some, None, All, slice_get, option_map, sym, ◌∙◌, subst, eqb-true}
-use Rattle.std.proofs.lemmas.Bool.{and_parts}
-use Rattle.std.proofs.lemmas.List.Elements.{filter_passes, All-weaker}
-use Rattle.std.proofs.lemmas.Option.{slice_get_within, slice_get-map, same_Some, none-some}
-use Rattle.pct_model.specs.World.{Thread, Process, World, was_reaped}
-use Rattle.pct_model.specs.ThreadSlots.{holds_slot, slot_of, is_on}
+use Rattle.pct_names.proofs.Names.{◌&&◌, ◌<◌, All, All-weaker, and_parts, filter, filter_passes, holds_slot, is_on, length, List, None}
+use Rattle.pct_names.proofs.Names.{none-some, not, Option, option_map, Process, same_Some, slice_get, slice_get-map, slice_get_within}
+use Rattle.pct_names.proofs.Names.{slot_of, Some, subst, sym, Thread, true, was_reaped, World, ℕ, ◌∙◌, ◌≡◌}
+use Rattle.std.proofs.Common.{eqb-true}
 use Rattle.pct_engine_laws.specs.Seen.{SeenSlot, SeenProcess, seen_slot, seen_process, seen}
 use Rattle.pct_engine_laws.proofs.IndexedLists.{length-by_index, item_by_index}
 

@@ -1,17 +1,10 @@
 -- The processes of a state are numbered in the order in which they were made, and a transition makes at most one.
-use Rattle.std.proofs.Common.{◌≡◌, ℕ, suc, ◌+◌, ◌<◌, Bool, true, false, not, cond, List, [], ◌∷◌, ◌++◌, length, map, flat_map, Some, None, nat_eq, refl, sym, ap, ◌∙◌, subst, arith, append-nil, ne_eqb, eqb-true}
-use Rattle.std.specs.Prelude.{All, nat_lt}
-use Rattle.std.proofs.lemmas.Bool.{and_left, and_parts}
-use Rattle.std.proofs.lemmas.List.Elements.{All-head, All-tail}
-use Rattle.std.proofs.lemmas.Option.{none-some, same_Some}
-use Rattle.pct_model.specs.declared.limits.TheConstants.{MAX_PROCESSES}
-use Rattle.pct_model.specs.declared.process.Relative.{Relative}
-use Rattle.pct_model.specs.declared.transition.Action.{Action}
+use Rattle.pct_names.proofs.Names.{◌+◌, ◌++◌, ◌<◌, [], Action, All, All-head, All-tail, and_left, and_parts, ap, arith, Bool, changed}
+use Rattle.pct_names.proofs.Names.{child_by, child_of, cond, false, flat_map, has_ended, is_live_process, length, List, map, MAX_PROCESSES}
+use Rattle.pct_names.proofs.Names.{nat_eq, nat_lt, None, none-some, not, pid_after, Process, process_made, refl, Relative, same_Some, Some}
+use Rattle.pct_names.proofs.Names.{subst, suc, sym, Transition, true, ℕ, ◌∙◌, ◌∷◌, ◌≡◌}
+use Rattle.std.proofs.Common.{append-nil, ne_eqb, eqb-true}
 use Rattle.pct_model.specs.declared.transition.Action.TheVariants as action
-use Rattle.pct_model.specs.declared.transition.Transition.{Transition}
-use Rattle.pct_model.specs.Actions.{child_of, child_by, changed, has_ended, is_live_process, process_made}
-use Rattle.pct_model.specs.OtherProcesses.{pid_after}
-use Rattle.pct_model.specs.World.{Process}
 use Rattle.pct_engine_laws.proofs.ListFacts.{flat_map_agree, map-flat_map}
 use Rattle.pct_engine_laws.proofs.WhatTransitionsMake.{pid_made, AtMostOne}
 

@@ -1,37 +1,22 @@
 -- The numbers of a run that is limited in its entries: of its processes, threads and keys, and those in its entries.
-use Rattle.std.proofs.Common.{◌≡◌, ℕ, suc, ◌+◌, ◌*◌, ◌<◌, ◌≤◌, Bool, true, false, not, ◌&&◌, cond, List, [], ◌∷◌, length, map, filter, flat_map, count_by, get_or, Option, Some, None, inl, inr, refl, sym, ap, ◌∙◌, subst, arith, length-append, zero-add, eqb-true}
-use Rattle.std.specs.Prelude.{All, nat_eq, nat_le, find, option_map, option_and_then}
-use Rattle.std.specs.List.{list_any, range_with_len}
-use Rattle.std.proofs.lemmas.Bool.{false≢true, and_parts, or_cases, leb-true}
-use Rattle.std.proofs.lemmas.List.{length-map}
-use Rattle.std.proofs.lemmas.List.Elements.{All-nil, All-cons, All-head, All-tail, All-append, All-map, All-weaker, All-filter, All-from_get_or}
-use Rattle.std.proofs.lemmas.List.FromFn.{length-range_with_len, get_or-range_with_len}
-use Rattle.std.proofs.lemmas.List.Sums.{count_by-le-length}
-use Rattle.std.proofs.lemmas.Option.{none-some, same_Some}
-use Rattle.std.proofs.Math.Nat.{mul-le-mul}
-use Rattle.pct_model.specs.declared.limits.TheConstants.{MAX_BUDGET, MIN_PASSES, MAX_PASSES, MAX_SLOTS}
-use Rattle.pct_model.specs.declared.script.Script.{Script}
-use Rattle.pct_model.specs.declared.schedule.Alt.{Alt}
+use Rattle.pct_names.proofs.Names.{◌&&◌, ◌*◌, ◌+◌, ◌<◌, [], Action, after_transition, All, All-append, All-cons, All-filter}
+use Rattle.pct_names.proofs.Names.{All-from_get_or, All-head, All-map, All-nil, All-tail, All-weaker, Alt, and_parts, ap, arith, as_reaped}
+use Rattle.pct_names.proofs.Names.{body_at, Bool, by_slot, changed, child_of, choices_of, cond, Config, count_by, count_by-le-length, Entry}
+use Rattle.pct_names.proofs.Names.{false, false≢true, family_among, filter, find, first_process, flat_map, for_each, free_ids, get_or}
+use Rattle.pct_names.proofs.Names.{get_or-range_with_len, has_ended, holds_slot, inherited, inl, inr, is_free, is_live_process}
+use Rattle.pct_names.proofs.Names.{is_live_thread, is_on, is_unreaped, KeyPlace, left_keys, length, length-map, length-range_with_len, List}
+use Rattle.pct_names.proofs.Names.{list_any, map, MAX_BUDGET, MAX_PASSES, MAX_SLOTS, MIN_PASSES, mul-le-mul, nat_eq, nat_le, new_keys}
+use Rattle.pct_names.proofs.Names.{NewThread, next_id, next_of, NextStatement, None, none-some, not, offers, opening, Option}
+use Rattle.pct_names.proofs.Names.{option_and_then, option_map, or_cases, orphaned, other_process_after, Others, others_of, Process}
+use Rattle.pct_names.proofs.Names.{process_after, process_made, process_moved, ProcessEnd, range_with_len, refl, relative_of, Run, run}
+use Rattle.pct_names.proofs.Names.{run_from, run_step, same_Some, Script, shared_after, SharedState, Some, Status, step, subst, suc}
+use Rattle.pct_names.proofs.Names.{Successor, sym, Thread, thread_created, thread_moved, threads_moved, Transition, transition_by, true}
+use Rattle.pct_names.proofs.Names.{Waiter, waiter_by, waiters_among, World, ℕ, ◌∙◌, ◌∷◌, ◌≡◌, ◌≤◌}
+use Rattle.std.proofs.Common.{length-append, zero-add, eqb-true}
+use Rattle.std.proofs.lemmas.Bool.{leb-true}
 use Rattle.pct_model.specs.declared.schedule.Alt.TheVariants as alt
-use Rattle.pct_model.specs.declared.schedule.Config.{Config}
-use Rattle.pct_model.specs.declared.schedule.Entry.{Entry}
-use Rattle.pct_model.specs.declared.state.Status.{Status}
 use Rattle.pct_model.specs.declared.state.Status.TheVariants as status
-use Rattle.pct_model.specs.declared.transition.Action.{Action}
 use Rattle.pct_model.specs.declared.transition.Action.TheVariants as action
-use Rattle.pct_model.specs.declared.transition.NewThread.{NewThread}
-use Rattle.pct_model.specs.declared.transition.Transition.{Transition}
-use Rattle.pct_model.specs.Keys.{KeyPlace, new_keys, left_keys}
-use Rattle.pct_model.specs.World.{Thread, SharedState, ProcessEnd, Process, World, first_process, opening}
-use Rattle.pct_model.specs.Actions.{shared_after, process_after, has_ended, orphaned, as_reaped, other_process_after, inherited, child_of, for_each, thread_moved, thread_created, threads_moved, changed, is_live_process, process_moved, process_made, after_transition}
-use Rattle.pct_model.specs.ChoiceTable.{choices_of, offers}
-use Rattle.pct_model.specs.NextStatement.{NextStatement, next_of, body_at}
-use Rattle.pct_model.specs.OtherProcesses.{family_among, is_unreaped, relative_of}
-use Rattle.pct_model.specs.OtherThreads.{Waiter, Others, waiter_by, waiters_among, others_of}
-use Rattle.pct_model.specs.ThreadSlots.{holds_slot, is_on, is_free, next_id, free_ids, by_slot, is_live_thread}
-use Rattle.pct_model.specs.TransitionTable.{transition_by}
-use Rattle.pct_model.specs.Step.{Successor, step}
-use Rattle.pct_model.specs.Run.{Run, run_step, run_from, run}
 use Rattle.pct_model.proofs.LegalSteps.{step_legal}
 use Rattle.pct_engine_laws.specs.RunNumbers.{IsChoiceWithin, IsEntryWithin}
 use Rattle.pct_engine_laws.proofs.ListFacts.{any-map, All-flat_map}

@@ -1,14 +1,12 @@
 -- What is kept of a process is of one that was made, and each thread that is kept on its slots was made and is not gone.
-use Rattle.std.proofs.Common.{◌≡◌, ℕ, zero, suc, ◌+◌, ◌*◌, ◌<◌, Bool, true, false, not, ◌&&◌, cond, List, [], ◌∷◌, filter, find, get_or, Some, All, slice_get, nat_eq, option_and_then, refl, sym, ap, ◌∙◌, subst, arith, eqb-true, eq-eqb, ne_eqb}
+use Rattle.pct_names.proofs.Names.{◌&&◌, ◌*◌, ◌+◌, ◌<◌, [], All, All-filter, All-get_or, All-map, All-weaker, and_parts, ap, arith, Bool}
+use Rattle.pct_names.proofs.Names.{cond, Event, false, filter, filter_passes, find, get_or, get_or_from_slice_get, HasProcessNumbers}
+use Rattle.pct_names.proofs.Names.{HasThreadNumbers, holds_slot, is_on, List, made_process, made_thread, mul-lt-mul_of_pos_left, nat_eq}
+use Rattle.pct_names.proofs.Names.{none-some, not, not-true, NumbersThreads, option_and_then, Process, refl, same_Some, slice_get}
+use Rattle.pct_names.proofs.Names.{slice_get-get_or, slice_get_within, slot_of, Some, subst, suc, sym, Thread, thread_with, true}
+use Rattle.pct_names.proofs.Names.{was_reaped, was_reclaimed, World, zero, ℕ, ◌∙◌, ◌∷◌, ◌≡◌}
+use Rattle.std.proofs.Common.{eqb-true, eq-eqb, ne_eqb}
 use mathlib.Core.Bool.{and-false}
-use native.Mathlib.Nat.{mul-lt-mul_of_pos_left}
-use Rattle.std.proofs.lemmas.Bool.{and_parts, not-true}
-use Rattle.std.proofs.lemmas.List.Elements.{filter_passes, All-weaker, All-filter, All-map, All-get_or}
-use Rattle.std.proofs.lemmas.Option.{slice_get_within, slice_get-get_or, get_or_from_slice_get, same_Some, none-some}
-use Rattle.pct_model.specs.declared.event.Event.{Event}
-use Rattle.pct_model.specs.ThreadNumbers.{HasProcessNumbers, HasThreadNumbers, NumbersThreads}
-use Rattle.pct_model.specs.ThreadSlots.{is_on, holds_slot, slot_of, was_reclaimed}
-use Rattle.pct_model.specs.World.{Thread, Process, World, made_process, thread_with, made_thread, was_reaped}
 use Rattle.pct_engine_laws.specs.Seen.{SeenSlot, SeenProcess, seen_slot, seen_process, seen}
 use Rattle.pct_engine_laws.proofs.ListFacts.{find_agree, find-filter, filter_both}
 use Rattle.pct_engine_laws.proofs.PlacedThreads.{slots_are_all, slot_is_seen}

@@ -1,13 +1,7 @@
 -- The step of an entry, by what is kept of the state.
-use Rattle.std.proofs.Common.{◌≡◌, ◌<◌, Bool, ◌&&◌, cond, Option, None, is_none, nat_le, option_map, ap}
-use Rattle.pct_model.specs.declared.script.Script.{Script}
-use Rattle.pct_model.specs.declared.schedule.Config.{Config}
-use Rattle.pct_model.specs.declared.schedule.Entry.{Entry}
-use Rattle.pct_model.specs.declared.limits.TheConstants.{MAX_WORKER}
-use Rattle.pct_model.specs.declared.transition.Transition.{Transition}
-use Rattle.pct_model.specs.World.{World}
+use Rattle.pct_names.proofs.Names.{◌&&◌, ◌<◌, ap, Bool, cond, Config, Entry, is_none, MAX_WORKER, nat_le, None, Option, option_map, Script}
+use Rattle.pct_names.proofs.Names.{step, Transition, World, ◌≡◌}
 pub use Rattle.pct_model.specs.Step.{successor_of}
-use Rattle.pct_model.specs.Step.{step}
 use Rattle.pct_engine_laws.specs.Seen.{seen}
 use Rattle.pct_engine_laws.specs.SeenSteps.{seen_transition}
 use Rattle.pct_engine_laws.proofs.TransitionSeen.{transition_is_seen}

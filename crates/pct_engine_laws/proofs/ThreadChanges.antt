@@ -1,24 +1,13 @@
 -- The slots of a process after a transition of one of its threads.
-use Rattle.std.proofs.Common.{◌≡◌, ℕ, ◌+◌, ◌-◌, ◌<◌, Bool, true, false, not, ◌&&◌, ◌||◌, cond, List, [], ◌∷◌, ◌++◌, map, filter, count_by, Option, Some, None, nat_eq, slice_set, refl, sym, ap, ◌∙◌, mod-lt, ne_eqb, eq-eqb, append-nil, arith}
-use Rattle.std.specs.List.{range_with_len}
-use Rattle.std.specs.Option.{option_map_or}
+use Rattle.pct_names.proofs.Names.{◌&&◌, ◌+◌, ◌++◌, ◌-◌, ◌<◌, [], Action, and_right, ap, arith, Bool, Broadcast, Cause, cond, count_by}
+use Rattle.pct_names.proofs.Names.{Ended, false, false≢true, filter, filter-append, fold_push, for_each, holds_slot, in_child, inherited}
+use Rattle.pct_names.proofs.Names.{is_ended_status, is_live_thread, is_on, is_waiting_on, List, map, moved, named_after, nat_eq, new_frame}
+use Rattle.pct_names.proofs.Names.{new_thread, NewThread, None, not, Option, option_map_or, range_with_len, refl, replica_of, Signalled}
+use Rattle.pct_names.proofs.Names.{slice_set, slot_of, Some, Start, Status, sym, Thread, thread_after, thread_at, thread_created}
+use Rattle.pct_names.proofs.Names.{thread_moved, threads_moved, Transition, true, unblocked, Waiting, ◌||◌, ℕ, ◌∙◌, ◌∷◌, ◌≡◌}
+use Rattle.std.proofs.Common.{mod-lt, ne_eqb, eq-eqb, append-nil}
 use Rattle.std.proofs.Math.Path.{fun_ext}
-use Rattle.std.proofs.lemmas.Bool.{and_right, false≢true}
-use Rattle.std.proofs.lemmas.List.Elements.{filter-append}
-use Rattle.std.proofs.lemmas.List.Sums.{fold_push}
-use Rattle.pct_model.specs.declared.transition.Action.{Action}
 use Rattle.pct_model.specs.declared.transition.Action.TheVariants as action
-use Rattle.pct_model.specs.declared.transition.NewThread.{NewThread}
-use Rattle.pct_model.specs.declared.transition.Transition.{Transition}
-use Rattle.pct_model.specs.declared.state.Cause.{Cause}
-use Rattle.pct_model.specs.declared.state.Cause.TheVariants.{Broadcast, Signalled}
-use Rattle.pct_model.specs.declared.state.FrameKind.TheVariants.{Start}
-use Rattle.pct_model.specs.declared.state.Status.{Status}
-use Rattle.pct_model.specs.declared.state.Status.TheVariants.{Waiting, Ended}
-use Rattle.pct_model.specs.CondCalls.{is_waiting_on, unblocked}
-use Rattle.pct_model.specs.World.{Thread, new_frame, new_thread}
-use Rattle.pct_model.specs.ThreadSlots.{is_ended_status, holds_slot, slot_of, is_on, is_live_thread}
-use Rattle.pct_model.specs.Actions.{thread_at, thread_after, named_after, for_each, moved, thread_moved, thread_created, threads_moved, in_child, replica_of, inherited}
 use Rattle.pct_engine_laws.specs.Seen.{SeenSlot, seen_slot, slot_with, on_slot, with_created, slots_moved, slot_inherited}
 use Rattle.pct_engine_laws.proofs.ListFacts.{count_agree, count-map, filter_changed, map-map}
 use Rattle.pct_engine_laws.proofs.IndexedLists.{by_index, item_by_index, changed_by_index}

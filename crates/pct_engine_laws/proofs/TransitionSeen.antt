@@ -1,20 +1,10 @@
 -- The transition of an entry depends only on what is kept of the state.
-use Rattle.std.proofs.Common.{◌≡◌, ℕ, ◌<◌, Bool, true, false, not, ◌&&◌, List, map, filter, find, Option, Some, None, is_some, nat_eq, option_map, option_and_then, refl, sym, ap, ◌∙◌}
+use Rattle.pct_names.proofs.Names.{◌&&◌, ◌<◌, acts_or, ap, body_at, Bool, choices_at, Config, Entry, false, filter, find, if_offered}
+use Rattle.pct_names.proofs.Names.{if◌then◌else◌, is_live_process, is_some, List, map, nat_eq, next_of, None, not, offers, Option}
+use Rattle.pct_names.proofs.Names.{option_and_then, option_map, Others, Process, ProcessEnd, refl, Script, Some, sym, Thread, Transition}
+use Rattle.pct_names.proofs.Names.{transition_at, transition_of, true, was_reaped, with_id, World, ℕ, ◌∙◌, ◌≡◌}
 use mathlib.Core.Bool.{and-false}
-use Rattle.std.specs.Prelude.{if◌then◌else◌}
 use Rattle.std.proofs.Math.Path.{fun_ext}
-use Rattle.pct_model.specs.declared.script.Script.{Script}
-use Rattle.pct_model.specs.declared.schedule.Config.{Config}
-use Rattle.pct_model.specs.declared.schedule.Entry.{Entry}
-use Rattle.pct_model.specs.declared.transition.Transition.{Transition}
-use Rattle.pct_model.specs.World.{Thread, ProcessEnd, Process, World, was_reaped}
-use Rattle.pct_model.specs.ThreadSlots.{with_id}
-use Rattle.pct_model.specs.NextStatement.{next_of, body_at}
-use Rattle.pct_model.specs.OtherThreads.{Others}
-use Rattle.pct_model.specs.ChoiceTable.{choices_at, offers}
-use Rattle.pct_model.specs.TransitionTable.{transition_at, acts_or}
-use Rattle.pct_model.specs.Actions.{is_live_process}
-use Rattle.pct_model.specs.Step.{if_offered, transition_of}
 use Rattle.pct_engine_laws.specs.Seen.{SeenProcess, seen_process, seen, family_in, is_live_seen}
 use Rattle.pct_engine_laws.specs.SeenSteps.{thread_with, if_offered_in, seen_transition}
 use Rattle.pct_engine_laws.proofs.ListFacts.{find_agree, find-map, find-filter, then-map}

@@ -1,19 +1,9 @@
 -- The verdict depends only on what is kept of the state.
-use Rattle.std.proofs.Common.{◌≡◌, ℕ, ◌<◌, Bool, not, ◌&&◌, ◌||◌, cond, List, map, filter, Option, Some, None, is_some, nat_eq, option_map, refl, sym, ap, ◌∙◌}
-use mathlib.Core.Bool.{and-false, or-true}
-use Rattle.std.specs.List.{list_any, list_all}
-use Rattle.std.proofs.lemmas.List.Folds.{list_all-map}
-use Rattle.pct_model.specs.declared.script.Script.{Script}
-use Rattle.pct_model.specs.declared.schedule.Alt.{Alt}
-use Rattle.pct_model.specs.declared.schedule.Config.{Config}
-use Rattle.pct_model.specs.declared.stop.Why.{Why}
-use Rattle.pct_model.specs.declared.stop.Verdict.{Verdict}
-use Rattle.pct_model.specs.declared.stop.Verdict.TheVariants.{Complete, Deadlock, Budget, Open}
-use Rattle.pct_model.specs.World.{Thread, ProcessEnd, Process, World, was_reaped}
-use Rattle.pct_model.specs.ThreadSlots.{holds_slot}
-use Rattle.pct_model.specs.ChoiceTable.{is_enabled}
-use Rattle.pct_model.specs.Actions.{has_ended}
-use Rattle.pct_model.specs.Run.{is_ready, has_ready, verdict_by, verdict_of}
+use Rattle.pct_names.proofs.Names.{◌&&◌, ◌<◌, Alt, ap, Bool, Budget, Complete, cond, Config, Deadlock, filter, has_ended, has_ready}
+use Rattle.pct_names.proofs.Names.{holds_slot, is_enabled, is_ready, is_some, List, list_all, list_all-map, list_any, map, nat_eq, None}
+use Rattle.pct_names.proofs.Names.{not, Open, Option, option_map, or-true, Process, ProcessEnd, refl, Script, Some, sym, Thread, Verdict}
+use Rattle.pct_names.proofs.Names.{verdict_by, verdict_of, was_reaped, Why, World, ◌||◌, ℕ, ◌∙◌, ◌≡◌}
+use mathlib.Core.Bool.{and-false}
 use Rattle.pct_engine_laws.specs.Seen.{SeenProcess, seen_process, seen, threads_on, family_in}
 use Rattle.pct_engine_laws.specs.SeenSteps.{is_ready_in, has_ready_in, seen_verdict_by, seen_verdict}
 use Rattle.pct_engine_laws.proofs.ListFacts.{any_agree, all_agree, any-filter, all-filter, any-map}

@@ -1,21 +1,9 @@
 -- What a transition makes: a thread and a key with the number of the choice, and a process with the id of a new one, if there are any.
-use Rattle.std.proofs.Common.{◌≡◌, ℕ, Bool, true, false, List, [], ◌∷◌, flat_map, Option, Some, None, refl}
-use Rattle.std.specs.Prelude.{nat_eq}
-use Rattle.std.specs.List.{list_any}
+use Rattle.pct_names.proofs.Names.{[], Action, acts_or, Alt, Bool, choices_at, false, flat_map, List, list_any, nat_eq, new_keys, NewThread}
+use Rattle.pct_names.proofs.Names.{NextStatement, None, offers, Option, Others, refl, SharedState, Some, Status, Stmt, Thread, Transition}
+use Rattle.pct_names.proofs.Names.{transition_at, true, ℕ, ◌∷◌, ◌≡◌}
 use Rattle.std.proofs.lemmas.Bool.{true≢false}
-use Rattle.pct_model.specs.declared.schedule.Alt.{Alt}
-use Rattle.pct_model.specs.declared.state.Status.{Status}
-use Rattle.pct_model.specs.declared.statement.Stmt.{Stmt}
-use Rattle.pct_model.specs.declared.transition.Action.{Action}
 use Rattle.pct_model.specs.declared.transition.Action.TheVariants as action
-use Rattle.pct_model.specs.declared.transition.NewThread.{NewThread}
-use Rattle.pct_model.specs.declared.transition.Transition.{Transition}
-use Rattle.pct_model.specs.ChoiceTable.{choices_at, offers}
-use Rattle.pct_model.specs.Keys.{new_keys}
-use Rattle.pct_model.specs.NextStatement.{NextStatement}
-use Rattle.pct_model.specs.OtherThreads.{Others}
-use Rattle.pct_model.specs.TransitionTable.{transition_at, acts_or}
-use Rattle.pct_model.specs.World.{Thread, SharedState}
 use Rattle.pct_transition_cases.proofs.TransitionCases.{TransitionCase, thread_made, key_made, process_forked}
 use Rattle.pct_transition_cases.proofs.CaseOfTransition.{case_of}
 

@@ -1,30 +1,17 @@
 -- The lines of a canonical text parse back, each by itself.
-use Rattle.std.proofs.Common.{◌≡◌, ℕ, suc, ◌-◌, ◌≤◌, Bool, true, false, not, List, [], ◌∷◌, Option, Some, length, map, refl, sym, ap, ◌∙◌, arith, le-leb, decimal, option_map}
-use Rattle.std.specs.Prelude.{replicate}
-use Rattle.std.specs.List.{list_all}
-use Rattle.std.proofs.lemmas.Bool.{and_parts, and_from}
-use Rattle.pct_model.specs.declared.line_kind.LineKind.{LineKind}
+use Rattle.pct_names.proofs.Names.{◌-◌, ◌>>=◌, [], and_from, and_parts, ap, Argument, argument_kinds_of, argument_texts, ArgumentKind}
+use Rattle.pct_names.proofs.Names.{arguments_of, arith, begins_comment, Bool, Contents, decimal, declaration_line, declaration_syntax}
+use Rattle.pct_names.proofs.Names.{encode, encoded, false, has_first_word, has_line, has_word, have_words, is_declaration, is_empty}
+use Rattle.pct_names.proofs.Names.{is_name, is_statement, length, line_kind_of, line_kind_of_statement, line_kinds, LineKind, List}
+use Rattle.pct_names.proofs.Names.{list_all, map, names_of_kind, not, Option, option_map, parsed_as, parsed_words, ParsedLine, refl}
+use Rattle.pct_names.proofs.Names.{replicate, resolve_all, role_of, Some, statement_words, Stmt, suc, sym, SymbolKind, syntax_of, Token}
+use Rattle.pct_names.proofs.Names.{token_at, tokens_at, true, ℕ, ◌∙◌, ◌∷◌, ◌≡◌, ◌≤◌}
+use Rattle.std.proofs.Common.{le-leb}
 use Rattle.pct_model.specs.declared.line_kind.LineKind.TheVariants as line_kind
-use Rattle.pct_model.specs.declared.line_kind.SymbolKind.{SymbolKind}
 use Rattle.pct_model.specs.declared.line_kind.SymbolKind.TheVariants as kind
-use Rattle.pct_model.specs.declared.line_kind.ArgumentKind.{ArgumentKind}
 use Rattle.pct_model.specs.declared.line_kind.ArgumentKind.TheVariants as argument_kind
-use Rattle.pct_model.specs.declared.parsed_line.Argument.{Argument}
-use Rattle.pct_model.specs.declared.parsed_line.ParsedLine.{ParsedLine}
-use Rattle.pct_model.specs.declared.parsed_line.Token.{Token}
 use Rattle.pct_model.specs.declared.parsed_line.Token.TheVariants as token
-use Rattle.pct_model.specs.declared.statement.Stmt.{Stmt}
 use Rattle.pct_model.specs.declared.statement.Stmt.TheVariants as statement
-use Rattle.pct_model.specs.Names.{is_name}
-use Rattle.pct_model.specs.Lines.{◌>>=◌}
-use Rattle.pct_model.specs.LineKinds.{syntax_of, declaration_syntax, line_kinds, line_kind_of}
-use Rattle.pct_model.specs.Statements.{encode, line_kind_of_statement, arguments_of, argument_kinds_of, role_of}
-use Rattle.pct_model.specs.LineParsing.{is_empty, begins_comment, token_at, tokens_at, parsed_as, parsed_words}
-use Rattle.pct_model.specs.Contents.{Contents, names_of_kind, resolve_all}
-use Rattle.pct_model.specs.Sections.{is_declaration, is_statement}
-use Rattle.pct_model.specs.Spells.{encoded}
-use Rattle.pct_model.specs.Static.{has_first_word, has_word, have_words, has_line}
-use Rattle.pct_model.specs.Canon.{argument_texts, statement_words, declaration_line}
 use Rattle.pct_grammar.proofs.SharedWords.{is_word, NameLists}
 use Rattle.pct_grammar.proofs.CanonLines.{is_line}
 use Rattle.pct_grammar.proofs.TokensResolve.{name_is_word, decimal_is_numeral, decimal_is_word, words_print, replaced_lengths}

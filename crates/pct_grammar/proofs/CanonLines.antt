@@ -1,18 +1,12 @@
 -- The lines and words of a text that is built from words.
-use Rattle.std.proofs.Common.{◌≡◌, ℕ, ◌+◌, ◌≤◌, Bool, true, false, not, ◌&&◌, cond, List, [], ◌∷◌, Option, Some, None, map, filter, option_map, refl, ap, ◌∙◌, append_assoc, arith, nat_le, leb-true, ne_eqb}
-use Rattle.std.specs.Prelude.{filter_map, is_some}
-use Rattle.std.specs.List.{All, cons_option, list_all, enumerate_from, join_with_byte, slice_split}
-use Rattle.std.proofs.lemmas.Bool.{and_parts, and_from, or_right}
-use Rattle.std.proofs.lemmas.List.Concat.{flat_map-cons}
-use Rattle.std.proofs.lemmas.List.Elements.{All-weaker}
-use Rattle.std.proofs.lemmas.List.Sums.{AllPass-from_list_all}
-use Rattle.std.proofs.lemmas.List.Folds.{list_all-append}
-use Rattle.std.proofs.lemmas.List.Splits.{slice_split_none, slice_split_at}
-use Rattle.pct_model.specs.declared.parsed_line.ParsedLine.{ParsedLine}
-use Rattle.pct_model.specs.Keywords.{line_text, text_of}
-use Rattle.pct_model.specs.Lines.{split_once, lines_of}
-use Rattle.pct_model.specs.LineParsing.{Numbered, is_blank, is_empty, is_allowed, words_in, spell_something, spelled_lines, parsed_words, parsed}
-use Rattle.pct_model.specs.Sections.{parsed_numbered, parsed_lines}
+use Rattle.pct_names.proofs.Names.{◌&&◌, ◌+◌, [], All-weaker, AllPass-from_list_all, and_from, and_parts, ap, arith, Bool, cond}
+use Rattle.pct_names.proofs.Names.{cons_option, enumerate_from, false, filter, filter_map, flat_map-cons, is_allowed, is_blank, is_empty}
+use Rattle.pct_names.proofs.Names.{is_some, join_with_byte, line_text, lines_of, List, list_all, list_all-append, map, nat_le, None, not}
+use Rattle.pct_names.proofs.Names.{Numbered, Option, option_map, or_right, parsed, parsed_lines, parsed_numbered, parsed_words, ParsedLine}
+use Rattle.pct_names.proofs.Names.{refl, slice_split, slice_split_at, slice_split_none, Some, spell_something, spelled_lines, split_once}
+use Rattle.pct_names.proofs.Names.{text_of, true, words_in, ℕ, ◌∙◌, ◌∷◌, ◌≡◌, ◌≤◌}
+use Rattle.std.proofs.Common.{append_assoc, leb-true, ne_eqb}
+use Rattle.std.specs.List.{All}
 use Rattle.pct_text.proofs.SplitOnce.{lacks_other, lacks-append, lacks-cons}
 use Rattle.pct_text.proofs.Lines.{lines_of-nil, lines_of-line}
 use Rattle.pct_grammar.proofs.SharedWords.{is_printable, is_word}

@@ -1,18 +1,10 @@
 -- The sections of a text of declarations, where the statements of a function follow its `fn` line.
-use Rattle.std.proofs.Common.{◌≡◌, ℕ, ◌+◌, Bool, true, false, not, ◌||◌, cond, List, [], ◌∷◌, ◌++◌, Option, Some, map, filter, refl, sym, ap, ◌∙◌, subst}
-use Rattle.std.specs.List.{AllZip, list_all, enumerate_from}
-use Rattle.std.proofs.lemmas.Bool.{and_parts, and_from}
-use Rattle.pct_model.specs.declared.line_kind.SymbolKind.{SymbolKind}
+use Rattle.pct_names.proofs.Names.{◌+◌, ◌++◌, [], AllZip, and_from, and_parts, ap, Bool, cond, Contents, declares, declares_by, declaring}
+use Rattle.pct_names.proofs.Names.{encode, encoded, EncodedStmt, enumerate_from, false, filter, Func, is_declaration, is_empty, is_function}
+use Rattle.pct_names.proofs.Names.{is_same, is_statement, Line, List, list_all, map, not, Option, ParsedLine, prepend_line, refl, role_in}
+use Rattle.pct_names.proofs.Names.{Section, Sections, Some, SpellsBody, split_sections, subst, sym, SymbolKind, syntax_of, Token, true}
+use Rattle.pct_names.proofs.Names.{◌||◌, ℕ, ◌∙◌, ◌∷◌, ◌≡◌}
 use Rattle.pct_model.specs.declared.line_kind.SymbolKind.TheVariants as kind
-use Rattle.pct_model.specs.declared.parsed_line.ParsedLine.{ParsedLine}
-use Rattle.pct_model.specs.declared.parsed_line.Token.{Token}
-use Rattle.pct_model.specs.declared.script.Func.{Func}
-use Rattle.pct_model.specs.Statements.{EncodedStmt, encode}
-use Rattle.pct_model.specs.LineKinds.{syntax_of}
-use Rattle.pct_model.specs.LineParsing.{is_empty}
-use Rattle.pct_model.specs.Contents.{Contents}
-use Rattle.pct_model.specs.Sections.{Line, Section, Sections, role_in, is_same, declares_by, declares, is_declaration, is_statement, declaring, prepend_line, split_sections, is_function}
-use Rattle.pct_model.specs.Spells.{encoded, SpellsBody}
 use Rattle.pct_grammar.proofs.CanonLineParsing.{declared_line}
 use Rattle.pct_grammar.proofs.SharedWords.{role_of_kind}
 use Rattle.pct_grammar.proofs.FunctionHeaders.{no_kind}

@@ -1,28 +1,15 @@
 -- The canonical text of a script spells it.
-use Rattle.std.proofs.Common.{◌≡◌, ℕ, Bool, true, false, not, ◌&&◌, ◌||◌, cond, List, [], ◌∷◌, ◌++◌, Option, Some, map, refl, sym, ap, ◌∙◌, append_assoc, subst, nat_le, leb-true, decimal, flat_map}
-use Rattle.std.specs.List.{list_all, enumerate_from}
-use Rattle.std.proofs.lemmas.Bool.{and_parts, and_from}
-use Rattle.std.proofs.lemmas.List.{map-append, append-nil}
-use Rattle.std.proofs.lemmas.List.Concat.{flat_map-cons}
-use Rattle.std.proofs.lemmas.List.Folds.{list_all-append}
-use Rattle.pct_model.specs.declared.line_kind.SymbolKind.{SymbolKind}
+use Rattle.pct_names.proofs.Names.{◌&&◌, ◌++◌, [], and_from, and_parts, ap, AreContents, Bool, canon, cond, Contents, contents_of, decimal}
+use Rattle.pct_names.proofs.Names.{declaration_line, declarations, encode, encoded, EncodedStmt, enumerate_from, false, flat_map}
+use Rattle.pct_names.proofs.Names.{flat_map-cons, Func, function_lines, has_line, has_lines, has_text, is_empty, is_function, is_name}
+use Rattle.pct_names.proofs.Names.{is_same, is_statement, Line, List, list_all, list_all-append, map, map-append, names_of, names_of_kind}
+use Rattle.pct_names.proofs.Names.{nat_le, not, Option, parsed_words, ParsedLine, refl, Script, script_lines, Section, sections_of, SemDecl}
+use Rattle.pct_names.proofs.Names.{Some, Spells, SpellsContents, split_sections, statement_words, Stmt, subst, sym, SymbolKind, text_of}
+use Rattle.pct_names.proofs.Names.{Token, true, ◌||◌, ℕ, ◌∙◌, ◌∷◌, ◌≡◌}
+use Rattle.std.proofs.Common.{append_assoc, leb-true}
+use Rattle.std.proofs.lemmas.List.{append-nil}
 use Rattle.pct_model.specs.declared.line_kind.SymbolKind.TheVariants as kind
-use Rattle.pct_model.specs.declared.parsed_line.ParsedLine.{ParsedLine}
-use Rattle.pct_model.specs.declared.parsed_line.Token.{Token}
 use Rattle.pct_model.specs.declared.parsed_line.Token.TheVariants as token
-use Rattle.pct_model.specs.declared.script.Func.{Func}
-use Rattle.pct_model.specs.declared.script.Script.{Script}
-use Rattle.pct_model.specs.declared.script.SemDecl.{SemDecl}
-use Rattle.pct_model.specs.declared.statement.Stmt.{Stmt}
-use Rattle.pct_model.specs.Keywords.{text_of}
-use Rattle.pct_model.specs.Names.{is_name, names_of}
-use Rattle.pct_model.specs.Statements.{EncodedStmt, encode}
-use Rattle.pct_model.specs.LineParsing.{is_empty, parsed_words}
-use Rattle.pct_model.specs.Contents.{Contents, names_of_kind}
-use Rattle.pct_model.specs.Sections.{Line, Section, is_same, is_statement, split_sections, sections_of, is_function}
-use Rattle.pct_model.specs.Spells.{declarations, encoded, AreContents, SpellsContents, contents_of, Spells}
-use Rattle.pct_model.specs.Static.{has_line, has_lines, has_text}
-use Rattle.pct_model.specs.Canon.{statement_words, declaration_line, function_lines, script_lines, canon}
 use Rattle.pct_model.proofs.StaticFacts.{passes_all}
 use Rattle.pct_grammar.proofs.SharedWords.{NameLists}
 use Rattle.pct_grammar.proofs.CanonLines.{is_line, LineParses, parsed_lines_again, each_parses_again}

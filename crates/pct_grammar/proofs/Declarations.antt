@@ -1,19 +1,10 @@
 -- The tokens of the declarations of each kind, and the names that a script declares.
-use Rattle.std.proofs.Common.{◌≡◌, ℕ, Bool, true, false, ◌&&◌, ◌++◌, cond, List, [], ◌∷◌, map, take, drop, filter_map, flat_map, refl, sym, ap, ◌∙◌, nat_le}
-use Rattle.std.specs.List.{list_all, cons_option}
-use Rattle.std.proofs.lemmas.Bool.{and_from}
-use Rattle.std.proofs.lemmas.List.Concat.{flat_map_single}
-use Rattle.std.proofs.lemmas.List.Folds.{flat_map-map, list_all-append}
-use Rattle.pct_model.specs.declared.line_kind.SymbolKind.{SymbolKind}
+use Rattle.pct_names.proofs.Names.{◌&&◌, ◌++◌, [], and_from, ap, Bool, cond, cons_option, Contents, declarations, declared_by, declares}
+use Rattle.pct_names.proofs.Names.{declaring, drop, false, filter_map, flat_map, flat_map-map, flat_map_single, Func, is_name, Line, List}
+use Rattle.pct_names.proofs.Names.{list_all, list_all-append, map, names_declared, names_in, names_of_kind, nat_le, refl, SemDecl, sym}
+use Rattle.pct_names.proofs.Names.{SymbolKind, take, Token, true, ℕ, ◌∙◌, ◌∷◌, ◌≡◌}
 use Rattle.pct_model.specs.declared.line_kind.SymbolKind.TheVariants as kind
-use Rattle.pct_model.specs.declared.parsed_line.Token.{Token}
 use Rattle.pct_model.specs.declared.parsed_line.Token.TheVariants as token
-use Rattle.pct_model.specs.declared.script.Func.{Func}
-use Rattle.pct_model.specs.declared.script.SemDecl.{SemDecl}
-use Rattle.pct_model.specs.Names.{is_name}
-use Rattle.pct_model.specs.Contents.{Contents, names_of_kind}
-use Rattle.pct_model.specs.Sections.{Line, names_in, declared_by, declares, declaring, names_declared}
-use Rattle.pct_model.specs.Spells.{declarations}
 use Rattle.pct_grammar.specs.Resolving.{first_name, sem_in, sems_in}
 use Rattle.pct_grammar.proofs.SharedWords.{IsParsed, EachParsed}
 use Rattle.pct_grammar.proofs.ParsedFromWords.{DeclaresName, DeclaresSem, DeclaresFunction, Declares, line_declares}

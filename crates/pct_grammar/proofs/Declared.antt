@@ -1,20 +1,10 @@
 -- The function `main` and the locals of functions: in the lines, and in the script that they spell.
-use Rattle.std.proofs.Common.{◌≡◌, ℕ, Bool, true, false, not, cond, ◌&&◌, List, [], ◌∷◌, Some, None, map, drop, refl, sym, ap, ap₂, ◌∙◌, bytes_eq, is_none}
-use Rattle.std.specs.List.{list_all, list_any}
-use Rattle.std.proofs.lemmas.List.Folds.{list_all-map}
+use Rattle.pct_names.proofs.Names.{◌&&◌, [], ap, ap₂, AreContents, Bool, bytes_eq, cond, Contents, declarations, declares, declaring, drop}
+use Rattle.pct_names.proofs.Names.{false, Fault, Func, has_main, is_none, keyword_text, Line, List, list_all, list_all-map, list_any}
+use Rattle.pct_names.proofs.Names.{locals_of, map, names_declared, names_in, no_main, NoMain, None, not, ParsedLine, refl, Some, sym, Token}
+use Rattle.pct_names.proofs.Names.{true, ℕ, ◌∙◌, ◌∷◌, ◌≡◌}
 use Rattle.pct_model.specs.declared.line_kind.SymbolKind.TheVariants as kind
-use Rattle.pct_model.specs.declared.refusal.ParseWhy.TheVariants.{NoMain}
-use Rattle.pct_model.specs.declared.parsed_line.ParsedLine.{ParsedLine}
-use Rattle.pct_model.specs.declared.parsed_line.Token.{Token}
-use Rattle.pct_model.specs.declared.script.Func.{Func}
 use Rattle.pct_model.specs.declared.keyword.Keyword.TheVariants as keyword
-use Rattle.pct_model.specs.Keywords.{keyword_text}
-use Rattle.pct_model.specs.Contents.{Contents}
-use Rattle.pct_model.specs.Sections.{Line, declares, names_in, locals_of, declaring, names_declared}
-use Rattle.pct_model.specs.Spelling.{Fault}
-use Rattle.pct_model.specs.Spells.{declarations, AreContents}
-use Rattle.pct_model.specs.Checks.{no_main}
-use Rattle.pct_model.specs.Static.{has_main}
 use Rattle.pct_grammar.proofs.Declarations.{all_names_in, names_from}
 use Rattle.pct_grammar.proofs.EncodedFunctions.{words_of_function}
 

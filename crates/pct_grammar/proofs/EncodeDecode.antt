@@ -1,36 +1,22 @@
 -- Encoding and decoding of statements are inverse: a line's kind is found by its first word, an encoded statement decodes to
 -- the statement, and the statement decoded from arguments encodes to them.
-use Rattle.std.proofs.Common.{◌≡◌, ℕ, ◌<◌, ◌≤◌, ◌-◌, Bool, true, false, not, ◌&&◌, ◌||◌, cond, List, [], ◌∷◌, ◌++◌, length, get_or, replicate, min, Option, Some, None, refl, sym, ap, ap₂, ◌∙◌, arith, suc, zero, position, nat_eq, option_map, true≢false}
-use Rattle.std.specs.Prelude.{is_none, find, bytes_eq, slice_get}
-use Rattle.std.specs.List.{list_all}
-use Rattle.std.specs.Option.{option_or, option_map_or}
-use Rattle.std.proofs.lemmas.Bool.{and_parts, agree_below_at, eqb-true, not-true}
-use Rattle.std.proofs.lemmas.Bool.Decides.{nat_tests}
-use Rattle.std.proofs.lemmas.Option.{same_Some, slice_get-get_or, option_and_then_some, cond_some}
-use Rattle.std.proofs.lemmas.List.Quantifiers.{position-Some}
-use Rattle.pct_model.specs.declared.line_kind.LineKind.{LineKind}
+use Rattle.pct_names.proofs.Names.{◌&&◌, ◌++◌, ◌-◌, ◌<◌, [], agree_below_at, and_parts, ap, ap₂, Argument, ArgumentKind, arith}
+use Rattle.pct_names.proofs.Names.{begins_comment, Bool, bytes_eq, cond, cond_some, Contents, declaration_syntax, Dest, dest}
+use Rattle.pct_names.proofs.Names.{detached_or_not, encode, false, find, get_or, has_first_word, has_word, have_words, is_declaration}
+use Rattle.pct_names.proofs.Names.{is_generic, is_no_point, is_none, length, line_kind_of, line_kinds, LineKind, List, list_all, min}
+use Rattle.pct_names.proofs.Names.{nat_eq, nat_tests, None, not, not-true, NoWait, Operand, Option, option_and_then_some, option_map}
+use Rattle.pct_names.proofs.Names.{option_map_or, option_or, Optional, optional, Point, point_at, point_name, point_of, point_statement}
+use Rattle.pct_names.proofs.Names.{points, position, position-Some, refl, replicate, Row, same_Some, slice_get, slice_get-get_or, Some}
+use Rattle.pct_names.proofs.Names.{Stmt, suc, sym, syntax_of, true, value, zero, ◌||◌, ℕ, ◌∙◌, ◌∷◌, ◌≡◌, ◌≤◌}
+use Rattle.std.proofs.Common.{true≢false}
+use Rattle.std.proofs.lemmas.Bool.{eqb-true}
 use Rattle.pct_model.specs.declared.line_kind.LineKind.TheVariants as line_kind
 use Rattle.pct_model.specs.declared.line_kind.SymbolKind.TheVariants as kind
-use Rattle.pct_model.specs.declared.line_kind.ArgumentKind.{ArgumentKind}
 use Rattle.pct_model.specs.declared.line_kind.ArgumentKind.TheVariants as argument_kind
-use Rattle.pct_model.specs.declared.point.Point.{Point}
-use Rattle.pct_model.specs.declared.point.PointKind.TheVariants.{Optional}
-use Rattle.pct_model.specs.declared.point.PointWait.TheVariants.{NoWait}
-use Rattle.pct_model.specs.declared.parsed_line.Argument.{Argument}
 use Rattle.pct_model.specs.declared.parsed_line.Argument.TheVariants as argument
-use Rattle.pct_model.specs.declared.statement.Dest.{Dest}
 use Rattle.pct_model.specs.declared.statement.Dest.TheVariants as destination
-use Rattle.pct_model.specs.declared.statement.Operand.{Operand}
 use Rattle.pct_model.specs.declared.statement.Operand.TheVariants as operand
-use Rattle.pct_model.specs.declared.statement.Stmt.{Stmt}
 use Rattle.pct_model.specs.declared.statement.Stmt.TheVariants as statement
-use Rattle.pct_model.specs.Points.{Row, points, point_at, point_of, point_name}
-use Rattle.pct_model.specs.LineKinds.{syntax_of, declaration_syntax, is_generic, is_no_point, line_kinds, point_statement, line_kind_of}
-use Rattle.pct_model.specs.Statements.{value, dest, optional, detached_or_not, encode}
-use Rattle.pct_model.specs.LineParsing.{begins_comment}
-use Rattle.pct_model.specs.Contents.{Contents}
-use Rattle.pct_model.specs.Sections.{is_declaration}
-use Rattle.pct_model.specs.Static.{has_word, have_words, has_first_word}
 use Rattle.pct_model.proofs.Bytes.{same_bytes}
 use Rattle.pct_grammar.specs.Resolving.{value_in, dest_in, item_in, optional_in, flag_in, at, decode}
 use Rattle.pct_grammar.proofs.OptionFacts.{none_is}

@@ -1,19 +1,10 @@
 -- What the lines of functions spell: a function's name, its locals, and its statements.
-use Rattle.std.proofs.Common.{◌≡◌, ℕ, Bool, true, false, cond, List, [], ◌∷◌, map, drop, filter, Some, length, refl, sym, ap, ◌∙◌}
-use Rattle.std.specs.List.{AllZip, list_all}
-use Rattle.std.proofs.lemmas.Bool.{not-true}
-use Rattle.std.proofs.lemmas.Simd.{map-map}
+use Rattle.pct_names.proofs.Names.{[], AllZip, ap, AreContents, Argument, argument_kinds_in, Bool, cond, Contents, declarations, declaring}
+use Rattle.pct_names.proofs.Names.{drop, false, filter, Func, functions_in, have_words, is_declaration, is_function, is_statement, length}
+use Rattle.pct_names.proofs.Names.{Line, List, list_all, locals_of, map, map-map, names_in, names_of_kind, not-true, ParsedLine, refl}
+use Rattle.pct_names.proofs.Names.{resolve_all, role_in, Section, Sections, sections_of, Some, SpellsBody, split_sections, sym, syntax_of}
+use Rattle.pct_names.proofs.Names.{Token, tokens_at, true, ℕ, ◌∙◌, ◌∷◌, ◌≡◌}
 use Rattle.pct_model.specs.declared.line_kind.SymbolKind.TheVariants as kind
-use Rattle.pct_model.specs.declared.parsed_line.Argument.{Argument}
-use Rattle.pct_model.specs.declared.parsed_line.ParsedLine.{ParsedLine}
-use Rattle.pct_model.specs.declared.parsed_line.Token.{Token}
-use Rattle.pct_model.specs.declared.script.Func.{Func}
-use Rattle.pct_model.specs.LineKinds.{syntax_of}
-use Rattle.pct_model.specs.LineParsing.{tokens_at}
-use Rattle.pct_model.specs.Contents.{Contents, names_of_kind, resolve_all}
-use Rattle.pct_model.specs.Sections.{Line, Section, Sections, role_in, argument_kinds_in, names_in, locals_of, is_declaration, is_statement, split_sections, sections_of, is_function, declaring, functions_in}
-use Rattle.pct_model.specs.Spells.{declarations, SpellsBody, AreContents}
-use Rattle.pct_model.specs.Static.{have_words}
 use Rattle.pct_grammar.proofs.SharedWords.{IsParsed, EachParsed}
 use Rattle.pct_grammar.proofs.Declarations.{function_words, all_names_in}
 use Rattle.pct_grammar.proofs.FunctionHeaders.{function_headers}

@@ -1,14 +1,8 @@
 -- A check finds no fault if and only if no line fails it.
-use Rattle.std.proofs.Common.{◌≡◌, ℕ, Bool, true, false, not, ◌&&◌, cond, List, [], ◌∷◌, Option, Some, refl, ap, ◌∙◌, map}
-use Rattle.std.specs.Prelude.{is_none, find}
-use Rattle.std.specs.List.{list_all}
+use Rattle.pct_names.proofs.Names.{◌&&◌, [], ap, Bool, cond, false, Fault, fault_at_line, find, first_in, first_of, first_that, first_wrong}
+use Rattle.pct_names.proofs.Names.{functions_in, is_none, Line, List, list_all, map, none_wrong, not, Numbered, Option, ParsedLine}
+use Rattle.pct_names.proofs.Names.{ParseWhy, refl, Section, Some, true, ℕ, ◌∙◌, ◌∷◌, ◌≡◌}
 use Rattle.pct_grammar.proofs.OptionFacts.{mapped_none, or_none}
-use Rattle.pct_model.specs.declared.refusal.ParseWhy.{ParseWhy}
-use Rattle.pct_model.specs.declared.parsed_line.ParsedLine.{ParsedLine}
-use Rattle.pct_model.specs.LineParsing.{Numbered}
-use Rattle.pct_model.specs.Spelling.{Fault, first_of}
-use Rattle.pct_model.specs.Sections.{Line, Section, functions_in}
-use Rattle.pct_model.specs.Checks.{first_wrong, none_wrong, fault_at_line, first_that, first_in}
 
 -- ---- tests
 

@@ -1,11 +1,9 @@
 -- The headers of a text's sections are its declarations.
-use Rattle.std.proofs.Common.{◌≡◌, Bool, true, false, not, cond, List, [], ◌∷◌, refl, sym, ap, ◌∙◌, filter, map}
-use Rattle.pct_model.specs.declared.line_kind.SymbolKind.{SymbolKind}
+use Rattle.pct_names.proofs.Names.{[], ap, Bool, cond, declares, declares_by, declaring, false, filter, functions_in, headers}
+use Rattle.pct_names.proofs.Names.{is_declaration, is_function, is_statement, Line, List, map, not, refl, Role, role_in, Section, Sections}
+use Rattle.pct_names.proofs.Names.{sections_of, split_sections, sym, SymbolKind, true, ◌∙◌, ◌∷◌, ◌≡◌}
 use Rattle.pct_model.specs.declared.line_kind.SymbolKind.TheVariants as kind
-use Rattle.pct_model.specs.declared.role.Role.{Role}
 use Rattle.pct_model.specs.declared.role.Role.TheVariants as role
-use Rattle.pct_model.specs.Sections.{Line, Section, Sections, role_in, declares_by, declares, is_declaration, is_statement, declaring, is_function, split_sections, sections_of, functions_in}
-use Rattle.pct_model.specs.Checks.{headers}
 
 -- the headers of sections
 abbrev pub outlines_of : List Section → List Line

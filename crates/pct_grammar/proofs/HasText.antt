@@ -1,21 +1,10 @@
 -- A script that lines spell has a text.
-use Rattle.std.proofs.Common.{◌≡◌, ℕ, Bool, true, not, ◌&&◌, List, [], ◌∷◌, map, Some, length, refl, sym, ap, ◌∙◌}
-use Rattle.std.specs.List.{AllZip, list_all}
-use Rattle.std.proofs.lemmas.Bool.{and_from}
-use Rattle.pct_model.specs.declared.line_kind.SymbolKind.{SymbolKind}
+use Rattle.pct_names.proofs.Names.{◌&&◌, [], AllZip, and_from, ap, AreContents, argument_kinds_in, Bool, Contents, encode, encoded}
+use Rattle.pct_names.proofs.Names.{EncodedStmt, Func, functions_in, has_first_word, has_line, has_lines, has_text, have_words, is_empty}
+use Rattle.pct_names.proofs.Names.{is_name, is_statement, length, Line, List, list_all, map, names_in, names_of_kind, not, ParsedLine, refl}
+use Rattle.pct_names.proofs.Names.{resolve_all, Section, Some, Stmt, sym, SymbolKind, syntax_of, true, ℕ, ◌∙◌, ◌∷◌, ◌≡◌}
 use Rattle.pct_model.specs.declared.line_kind.SymbolKind.TheVariants as kind
-use Rattle.pct_model.specs.declared.parsed_line.ParsedLine.{ParsedLine}
 use Rattle.pct_model.specs.declared.parsed_line.Token.TheVariants as token
-use Rattle.pct_model.specs.declared.script.Func.{Func}
-use Rattle.pct_model.specs.declared.statement.Stmt.{Stmt}
-use Rattle.pct_model.specs.Names.{is_name}
-use Rattle.pct_model.specs.LineKinds.{syntax_of}
-use Rattle.pct_model.specs.Statements.{EncodedStmt, encode}
-use Rattle.pct_model.specs.LineParsing.{is_empty}
-use Rattle.pct_model.specs.Contents.{Contents, names_of_kind, resolve_all}
-use Rattle.pct_model.specs.Sections.{Line, Section, argument_kinds_in, names_in, is_statement, functions_in}
-use Rattle.pct_model.specs.Spells.{encoded, AreContents}
-use Rattle.pct_model.specs.Static.{has_first_word, have_words, has_line, has_lines, has_text}
 use Rattle.pct_grammar.proofs.SharedWords.{IsParsed, EachParsed}
 use Rattle.pct_grammar.proofs.OptionSteps.{map_some}
 use Rattle.pct_grammar.proofs.EncodeDecode.{has_first}

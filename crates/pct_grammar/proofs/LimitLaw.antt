@@ -1,27 +1,16 @@
 -- The check of limits on lines, and the limits of the script that they spell.
-use Rattle.std.proofs.Common.{◌≡◌, ℕ, ◌+◌, ◌<◌, ◌≤◌, Bool, true, false, not, ◌&&◌, ◌||◌, cond, List, [], ◌∷◌, ◌++◌, Some, length, refl, sym, ap, ◌∙◌, arith, filter, map, nat_le, nat_lt, leb-true, le-leb}
-use Rattle.std.specs.Prelude.{is_none, sum_by, count_by}
-use Rattle.std.specs.List.{AllZip, list_all}
-use Rattle.std.proofs.lemmas.Bool.{and_parts, lt-leb, leb-false, ltb-true, ltb-false}
-use Rattle.std.proofs.lemmas.List.{length-map, length-append}
-use Rattle.std.proofs.lemmas.List.Elements.{filter-append}
-use Rattle.std.proofs.lemmas.List.Sums.{sum_by-cons}
-use Rattle.pct_model.specs.declared.line_kind.SymbolKind.{SymbolKind}
+use Rattle.pct_names.proofs.Names.{◌&&◌, ◌+◌, ◌++◌, ◌<◌, [], AllZip, and_parts, ap, AreContents, arith, Bool, cond, Contents, count_by}
+use Rattle.pct_names.proofs.Names.{declarations, declares, declaring, encode, encoded, exceeds, exceeds_limit, false, filter, filter-append}
+use Rattle.pct_names.proofs.Names.{first_wrong, Func, functions_in, has_many_locals, is_declaration, is_empty, is_function, is_none}
+use Rattle.pct_names.proofs.Names.{is_statement, is_within, keeps_limits, length, length-map, Line, List, list_all, locals_of, lt-leb, map}
+use Rattle.pct_names.proofs.Names.{most, names_of_kind, nat_le, nat_lt, none_wrong, not, ParsedLine, refl, role_in, Section, sections_of}
+use Rattle.pct_names.proofs.Names.{SemDecl, Some, SpellsBody, split_sections, statement_lines, Stmt, sum_by, sum_by-cons, sym, SymbolKind}
+use Rattle.pct_names.proofs.Names.{Token, too_many, TooMany, true, ◌||◌, ℕ, ◌∙◌, ◌∷◌, ◌≡◌, ◌≤◌}
+use Rattle.std.proofs.Common.{leb-true, le-leb}
+use Rattle.std.proofs.lemmas.Bool.{leb-false, ltb-true, ltb-false}
+use Rattle.std.proofs.lemmas.List.{length-append}
 use Rattle.pct_model.specs.declared.line_kind.SymbolKind.TheVariants as kind
-use Rattle.pct_model.specs.declared.refusal.ParseWhy.TheVariants.{TooMany}
-use Rattle.pct_model.specs.declared.parsed_line.ParsedLine.{ParsedLine}
-use Rattle.pct_model.specs.declared.parsed_line.Token.{Token}
 use Rattle.pct_model.specs.declared.parsed_line.Token.TheVariants as token
-use Rattle.pct_model.specs.declared.script.Func.{Func}
-use Rattle.pct_model.specs.declared.script.SemDecl.{SemDecl}
-use Rattle.pct_model.specs.declared.statement.Stmt.{Stmt}
-use Rattle.pct_model.specs.LineParsing.{is_empty}
-use Rattle.pct_model.specs.Statements.{encode}
-use Rattle.pct_model.specs.Contents.{Contents, names_of_kind}
-use Rattle.pct_model.specs.Sections.{Line, Section, role_in, declares, is_declaration, is_statement, locals_of, declaring, is_function, split_sections, sections_of, functions_in}
-use Rattle.pct_model.specs.Checks.{first_wrong, none_wrong, most, exceeds, has_many_locals, exceeds_limit, too_many}
-use Rattle.pct_model.specs.Static.{is_within, statement_lines, keeps_limits}
-use Rattle.pct_model.specs.Spells.{declarations, encoded, SpellsBody, AreContents}
 use Rattle.pct_grammar.proofs.SectionSplits.{lines_of_sections, all_statements, is_section, are_sections}
 use Rattle.pct_grammar.proofs.FirstFaults.{swap, line_none, first_wrong_none}
 use Rattle.pct_grammar.proofs.Declared.{locals_pass}

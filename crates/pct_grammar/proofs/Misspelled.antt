@@ -1,21 +1,11 @@
 -- A line that spells something is misspelled, or it parses.
-use Rattle.std.proofs.Common.{◌≡◌, ℕ, Bool, true, false, ◌&&◌, cond, List, [], ◌∷◌, Option, Some, None, length, refl, sym, ap, ◌∙◌, arith, nat_eq, eqb-true, option_map}
-use Rattle.std.specs.Prelude.{is_some, is_none}
-use Rattle.std.specs.List.{list_all, enumerate_from}
-use Rattle.std.specs.Option.{option_map_or}
-use Rattle.std.proofs.lemmas.Bool.{and_parts, eqb-false}
-use Rattle.std.proofs.lemmas.List.Elements.{filter_passes}
-use Rattle.std.proofs.lemmas.List.Sums.{list_all-from_AllPass}
-use Rattle.pct_model.specs.declared.line_kind.LineKind.{LineKind}
-use Rattle.pct_model.specs.declared.line_kind.ArgumentKind.{ArgumentKind}
-use Rattle.pct_model.specs.declared.refusal.ParseWhy.{ParseWhy}
-use Rattle.pct_model.specs.declared.refusal.ParseWhy.TheVariants.{NotAscii, UnknownWord, WordCount}
-use Rattle.pct_model.specs.declared.parsed_line.ParsedLine.{ParsedLine}
-use Rattle.pct_model.specs.declared.parsed_line.Token.{Token}
-use Rattle.pct_model.specs.Lines.{◌>>=◌, lines_of}
-use Rattle.pct_model.specs.LineKinds.{syntax_of, line_kind_of}
-use Rattle.pct_model.specs.LineParsing.{Numbered, words_in, spell_something, spelled_lines, token_at, tokens_at, is_allowed, parsed_as, parsed_words, parsed}
-use Rattle.pct_model.specs.Spelling.{Fault, why_not, faulty_word, fault_at, fault_of_words, misspelled, spelling}
+use Rattle.pct_names.proofs.Names.{◌&&◌, ◌>>=◌, [], and_parts, ap, ArgumentKind, arith, Bool, cond, enumerate_from, eqb-false, false, Fault}
+use Rattle.pct_names.proofs.Names.{fault_at, fault_of_words, faulty_word, filter_passes, is_allowed, is_none, is_some, length, line_kind_of}
+use Rattle.pct_names.proofs.Names.{LineKind, lines_of, List, list_all, list_all-from_AllPass, misspelled, nat_eq, None, NotAscii, Numbered}
+use Rattle.pct_names.proofs.Names.{Option, option_map, option_map_or, parsed, parsed_as, parsed_words, ParsedLine, ParseWhy, refl, Some}
+use Rattle.pct_names.proofs.Names.{spell_something, spelled_lines, spelling, sym, syntax_of, Token, token_at, tokens_at, true, UnknownWord}
+use Rattle.pct_names.proofs.Names.{why_not, WordCount, words_in, ℕ, ◌∙◌, ◌∷◌, ◌≡◌}
+use Rattle.std.proofs.Common.{eqb-true}
 use Rattle.pct_grammar.proofs.TokensResolve.{words_at_lengths}
 use Rattle.pct_grammar.proofs.FirstFaults.{first_of_none}
 use Rattle.pct_grammar.proofs.OptionFacts.{mapped_some, mapped_none, none_is}

@@ -1,19 +1,12 @@
 -- The check of names finds no fault if and only if each name is declared once.
-use Rattle.std.proofs.Common.{◌≡◌, ℕ, ◌+◌, ◌≤◌, Bool, true, false, not, ◌&&◌, ◌||◌, cond, List, [], ◌∷◌, ◌++◌, map, flat_map, take, refl, sym, ap, ap₂, ◌∙◌, arith, is_none, bytes_eq}
-use Rattle.std.specs.List.{list_all, list_any}
-use Rattle.std.proofs.lemmas.Bool.{and_parts, and_from, or_parts, not-true, not_from_false}
-use Rattle.pct_model.specs.declared.line_kind.SymbolKind.{SymbolKind}
+use Rattle.pct_names.proofs.Names.{◌&&◌, ◌+◌, ◌++◌, [], all_different, all_names, and_from, and_parts, ap, ap₂, AreContents, arith, Bool}
+use Rattle.pct_names.proofs.Names.{bytes_eq, cond, Contents, declared_by, declares, declares_again, declares_by, declaring, false}
+use Rattle.pct_names.proofs.Names.{first_wrong, flat_map, has_each_name_once, headers, is_declaration, is_none, Line, List, list_all}
+use Rattle.pct_names.proofs.Names.{list_any, locals_of, map, name_twice, names_declared, names_in, names_of, names_of_kind, NameTwice}
+use Rattle.pct_names.proofs.Names.{none_wrong, not, not-true, not_from_false, or_parts, ParsedLine, refl, Role, role_in, Section}
+use Rattle.pct_names.proofs.Names.{sections_of, sym, SymbolKind, take, true, ◌||◌, ℕ, ◌∙◌, ◌∷◌, ◌≡◌, ◌≤◌}
 use Rattle.pct_model.specs.declared.line_kind.SymbolKind.TheVariants as kind
-use Rattle.pct_model.specs.declared.role.Role.{Role}
 use Rattle.pct_model.specs.declared.role.Role.TheVariants as role
-use Rattle.pct_model.specs.declared.refusal.ParseWhy.TheVariants.{NameTwice}
-use Rattle.pct_model.specs.declared.parsed_line.ParsedLine.{ParsedLine}
-use Rattle.pct_model.specs.Names.{all_different, names_of}
-use Rattle.pct_model.specs.Contents.{Contents, names_of_kind}
-use Rattle.pct_model.specs.Sections.{Line, Section, sections_of, role_in, declares_by, declares, is_declaration, names_in, declared_by, locals_of, declaring, names_declared}
-use Rattle.pct_model.specs.Spells.{AreContents}
-use Rattle.pct_model.specs.Checks.{first_wrong, none_wrong, declares_again, headers, name_twice}
-use Rattle.pct_model.specs.Static.{all_names, has_each_name_once}
 use Rattle.pct_model.proofs.Bytes.{same_bytes, bytes_eq-refl}
 use Rattle.pct_grammar.proofs.FirstFaults.{not_not, line_none, first_wrong_none}
 use Rattle.pct_grammar.proofs.SectionSplits.{all_statements, is_section, are_sections}

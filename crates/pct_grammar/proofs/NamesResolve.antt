@@ -1,20 +1,11 @@
 -- All names of lines are declared if and only if the lines resolve to a script.
-use Rattle.std.proofs.Common.{◌≡◌, ℕ, Bool, true, false, not, ◌&&◌, cond, List, [], ◌∷◌, map, find, Option, Some, is_some, is_none, refl, sym, ap, ◌∙◌, subst, option_map}
-use Rattle.std.specs.List.{AllZip}
+use Rattle.pct_names.proofs.Names.{◌&&◌, [], AllZip, and_from, ap, are_in_functions, AreContents, Argument, argument_kinds_in, Bool, cond}
+use Rattle.pct_names.proofs.Names.{Contents, declarations, declaring, encode, encoded, EncodedStmt, false, find, first_of, Func}
+use Rattle.pct_names.proofs.Names.{functions_in, is_none, is_some, is_statement, Line, List, locals_of, map, names_declared, names_of_kind}
+use Rattle.pct_names.proofs.Names.{not, Option, option_map, ParsedLine, refl, resolve_all, Section, Some, SpellsBody, Stmt, subst, sym}
+use Rattle.pct_names.proofs.Names.{SymbolKind, true, unknown_in, unknown_name, uses_unknown, ℕ, ◌∙◌, ◌∷◌, ◌≡◌}
 use Rattle.std.proofs.Math.Path.{fun_ext}
-use Rattle.std.proofs.lemmas.Bool.{and_from}
-use Rattle.pct_model.specs.declared.line_kind.SymbolKind.{SymbolKind}
 use Rattle.pct_model.specs.declared.line_kind.SymbolKind.TheVariants as kind
-use Rattle.pct_model.specs.declared.parsed_line.Argument.{Argument}
-use Rattle.pct_model.specs.declared.parsed_line.ParsedLine.{ParsedLine}
-use Rattle.pct_model.specs.declared.script.Func.{Func}
-use Rattle.pct_model.specs.declared.statement.Stmt.{Stmt}
-use Rattle.pct_model.specs.Statements.{EncodedStmt, encode}
-use Rattle.pct_model.specs.Spelling.{first_of}
-use Rattle.pct_model.specs.Contents.{Contents, names_of_kind, resolve_all}
-use Rattle.pct_model.specs.Sections.{Line, Section, argument_kinds_in, is_statement, locals_of, declaring, names_declared, functions_in, are_in_functions}
-use Rattle.pct_model.specs.Checks.{uses_unknown, unknown_in, unknown_name}
-use Rattle.pct_model.specs.Spells.{declarations, encoded, SpellsBody, AreContents}
 use Rattle.pct_grammar.specs.Resolving.{decode, resolve_statement, resolve_body, first_name, resolve_function, resolve_functions, sems_in, resolve_contents}
 use Rattle.pct_grammar.proofs.SharedWords.{IsParsed, EachParsed}
 use Rattle.pct_grammar.proofs.OptionFacts.{mapped_some, mapped_none, or_none, and_some, some_not_none, BothFrom, both_from}

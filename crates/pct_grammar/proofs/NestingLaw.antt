@@ -1,27 +1,13 @@
 -- Whether the lines of a text nest: line by line, and function by function.
-use Rattle.std.proofs.Common.{◌≡◌, ℕ, Bool, true, false, not, ◌&&◌, ◌||◌, cond, List, [], ◌∷◌, ◌++◌, Option, Result, Ok, Err, refl, sym, ap, ◌∙◌, filter, map}
-use Rattle.std.specs.Prelude.{is_none}
-use Rattle.std.specs.List.{list_all}
-use Rattle.std.proofs.lemmas.Bool.{and_parts}
-use Rattle.std.proofs.lemmas.List.{map-append}
-use Rattle.std.proofs.lemmas.List.Folds.{list_all-map}
-use Rattle.pct_model.specs.declared.role.Block.{Block}
+use Rattle.pct_names.proofs.Names.{◌&&◌, ◌++◌, [], and_parts, ap, are_in_functions, are_nested, AreContents, Block, Blocks, Bool, Change}
+use Rattle.pct_names.proofs.Names.{change_at, cond, Contents, declares_by, Err, false, Fault, faulty_or, filter, functions_in, inside}
+use Rattle.pct_names.proofs.Names.{is_declaration, is_empty, is_function, is_none, kinds_of, Line, List, list_all, list_all-map, map}
+use Rattle.pct_names.proofs.Names.{map-append, nesting, nesting_in, nests, nests_or, not, Numbered, Ok, open_after, open_after_line}
+use Rattle.pct_names.proofs.Names.{opened_by, Option, outside, ParseWhy, refl, Result, Role, role_in, roles, Section, sections_of}
+use Rattle.pct_names.proofs.Names.{SpellsBody, split_sections, Stays, sym, SymbolKind, true, ◌||◌, ℕ, ◌∙◌, ◌∷◌, ◌≡◌}
 use Rattle.pct_model.specs.declared.role.Block.TheVariants as block
-use Rattle.pct_model.specs.declared.role.Change.{Change}
-use Rattle.pct_model.specs.declared.role.Change.TheVariants.{Stays}
-use Rattle.pct_model.specs.declared.role.Role.{Role}
 use Rattle.pct_model.specs.declared.role.Role.TheVariants as role
-use Rattle.pct_model.specs.declared.line_kind.SymbolKind.{SymbolKind}
 use Rattle.pct_model.specs.declared.line_kind.SymbolKind.TheVariants as kind
-use Rattle.pct_model.specs.declared.refusal.ParseWhy.{ParseWhy}
-use Rattle.pct_model.specs.LineParsing.{Numbered, is_empty}
-use Rattle.pct_model.specs.Spelling.{Fault}
-use Rattle.pct_model.specs.Contents.{Contents}
-use Rattle.pct_model.specs.Sections.{Line, Section, role_in, declares_by, is_declaration, is_function, split_sections, sections_of, functions_in, are_in_functions}
-use Rattle.pct_model.specs.Nesting.{opened_by, outside, inside, Blocks, change_at, kinds_of, open_after_line, faulty_or, nesting_in, nesting, open_after, nests_or, are_nested}
-use Rattle.pct_model.specs.Checks.{roles}
-use Rattle.pct_model.specs.Static.{nests}
-use Rattle.pct_model.specs.Spells.{SpellsBody, AreContents}
 use Rattle.pct_grammar.proofs.SectionSplits.{lines_of_sections, all_statements, is_section, are_sections}
 use Rattle.pct_grammar.proofs.FirstFaults.{swap}
 use Rattle.pct_grammar.proofs.Roles.{without_numbers, roles_same, all_from_zip}

@@ -1,18 +1,11 @@
 -- Lines spell the contents of at most one script.
-use Rattle.std.proofs.Common.{◌≡◌, ℕ, List, [], ◌∷◌, map, Option, Some, None, refl, sym, ap, ◌∙◌, option_map}
-use Rattle.std.specs.List.{AllZip}
+use Rattle.pct_names.proofs.Names.{[], AllZip, ap, AreContents, argument_kinds_in, Contents, encode, EncodedStmt, Func, functions_in, Line}
+use Rattle.pct_names.proofs.Names.{List, map, names_in, names_of_kind, None, Option, option_map, refl, resolve_all, Section, SemDecl, Some}
+use Rattle.pct_names.proofs.Names.{Stmt, sym, SymbolKind, ℕ, ◌∙◌, ◌∷◌, ◌≡◌}
 use Rattle.std.proofs.Math.Path.{fun_ext}
-use Rattle.pct_model.specs.declared.line_kind.SymbolKind.{SymbolKind}
 use Rattle.pct_model.specs.declared.line_kind.SymbolKind.TheVariants as kind
 use Rattle.pct_model.specs.declared.parsed_line.Token.TheVariants as token
-use Rattle.pct_model.specs.declared.script.Func.{Func}
-use Rattle.pct_model.specs.declared.script.SemDecl.{SemDecl}
-use Rattle.pct_model.specs.declared.statement.Stmt.{Stmt}
 use Rattle.pct_model.specs.declared.statement.Stmt.TheVariants as statement
-use Rattle.pct_model.specs.Statements.{EncodedStmt, encode}
-use Rattle.pct_model.specs.Contents.{Contents, names_of_kind, resolve_all}
-use Rattle.pct_model.specs.Sections.{Line, Section, argument_kinds_in, names_in, functions_in}
-use Rattle.pct_model.specs.Spells.{AreContents}
 use Rattle.pct_grammar.specs.Resolving.{decode}
 use Rattle.pct_grammar.proofs.EncodeDecode.{encoded_back}
 use Rattle.pct_grammar.proofs.Declarations.{function_words, all_names_in, names_from, sems_from}

@@ -1,7 +1,6 @@
 -- Facts on options, and on lists that are built from options.
-use Rattle.std.proofs.Common.{◌≡◌, true, not, ◌&&◌, List, ◌∷◌, Option, Some, None, is_some, is_none, refl, option_map}
-use Rattle.std.specs.Option.{option_or}
-use Rattle.pct_model.specs.Lines.{◌>>=◌}
+use Rattle.pct_names.proofs.Names.{◌&&◌, ◌>>=◌, is_none, is_some, List, None, not, Option, option_map, option_or, refl, Some, true, ◌∷◌}
+use Rattle.pct_names.proofs.Names.{◌≡◌}
 
 -- if a mapped option is Some, so is the option
 pub mapped_some : {A B : Type 0} (f : A → B) (o : Option A) → is_some (option_map f o) ≡ is_some o

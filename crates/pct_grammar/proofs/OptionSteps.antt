@@ -1,8 +1,5 @@
 -- A sequence of options that is Some.
-use Rattle.std.proofs.Common.{◌≡◌, Bool, true, false, cond, Option, Some, None, refl, option_map}
-use Rattle.std.specs.Option.{option_map_or}
-use Rattle.std.proofs.lemmas.Option.{same_Some}
-use Rattle.pct_model.specs.Lines.{◌>>=◌}
+use Rattle.pct_names.proofs.Names.{◌>>=◌, Bool, cond, false, None, Option, option_map, option_map_or, refl, same_Some, Some, true, ◌≡◌}
 
 pub bind_some : {A B : Type 0} (o : Option A) (f : A → Option B) (y : B) → (o >>= f) ≡ Some y → (x : A) × (o ≡ Some x) × (f x ≡ Some y)
 bind_some None f y e = absurd cc

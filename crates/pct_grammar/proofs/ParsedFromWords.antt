@@ -1,21 +1,14 @@
 -- Parsed lines come from words, and the tokens of a parsed declaration.
-use Rattle.std.proofs.Common.{◌≡◌, ℕ, zero, suc, ◌-◌, Bool, true, false, cond, List, [], ◌∷◌, map, replicate, filter_map, Option, Some, None, length, refl, sym, ap, ◌∙◌, subst, nat_le, option_map}
-use Rattle.std.specs.List.{list_all, cons_option}
-use Rattle.std.proofs.lemmas.Bool.{and_from}
-use Rattle.std.proofs.lemmas.Option.{cond_some}
-use Rattle.pct_model.specs.declared.line_kind.LineKind.{LineKind}
+use Rattle.pct_names.proofs.Names.{◌-◌, [], and_from, ap, ArgumentKind, Bool, cond, cond_some, cons_option, declaration_syntax, declares}
+use Rattle.pct_names.proofs.Names.{declares_by, false, filter_map, fn_argument_kinds, is_allowed, is_name, is_same, length, Line}
+use Rattle.pct_names.proofs.Names.{line_kind_of, LineKind, List, list_all, map, nat_le, None, Numbered, numeral, Option, option_map, parsed}
+use Rattle.pct_names.proofs.Names.{parsed_as, parsed_lines, parsed_numbered, parsed_words, ParsedLine, refl, replicate, Some, spelled_lines}
+use Rattle.pct_names.proofs.Names.{subst, suc, sym, SymbolKind, syntax_of, Token, token_at, tokens_at, true, words_in, zero, ℕ, ◌∙◌, ◌∷◌}
+use Rattle.pct_names.proofs.Names.{◌≡◌}
 use Rattle.pct_model.specs.declared.line_kind.LineKind.TheVariants as line_kind
-use Rattle.pct_model.specs.declared.line_kind.SymbolKind.{SymbolKind}
 use Rattle.pct_model.specs.declared.line_kind.SymbolKind.TheVariants as kind
-use Rattle.pct_model.specs.declared.line_kind.ArgumentKind.{ArgumentKind}
 use Rattle.pct_model.specs.declared.line_kind.ArgumentKind.TheVariants as argument_kind
-use Rattle.pct_model.specs.declared.parsed_line.ParsedLine.{ParsedLine}
-use Rattle.pct_model.specs.declared.parsed_line.Token.{Token}
 use Rattle.pct_model.specs.declared.parsed_line.Token.TheVariants as token
-use Rattle.pct_model.specs.Names.{is_name}
-use Rattle.pct_model.specs.LineKinds.{declaration_syntax, syntax_of, line_kind_of, fn_argument_kinds}
-use Rattle.pct_model.specs.LineParsing.{Numbered, is_allowed, words_in, spelled_lines, numeral, token_at, tokens_at, parsed_as, parsed_words, parsed}
-use Rattle.pct_model.specs.Sections.{Line, parsed_numbered, parsed_lines, is_same, declares_by, declares}
 use Rattle.pct_grammar.proofs.SharedWords.{IsParsed, EachParsed, role_of_kind}
 use Rattle.pct_grammar.proofs.OptionFacts.{BothFrom, both_from}
 use Rattle.pct_grammar.proofs.OptionSteps.{bind_some, map_some}

@@ -1,29 +1,16 @@
 -- The check of plain functions finds no fault if and only if the arguments that have to be plain functions are.
-use Rattle.std.proofs.Common.{◌≡◌, ℕ, Bool, true, false, not, ◌&&◌, ◌||◌, cond, List, [], ◌∷◌, Option, Some, None, length, map, refl, sym, ap, ap₂, ◌∙◌, is_none, option_map, slice_get, unwrap_or}
-use Rattle.std.specs.List.{AllZip, list_all}
-use Rattle.std.specs.Option.{option_map_or}
-use Rattle.std.proofs.lemmas.List.Folds.{list_all-append}
-use Rattle.std.proofs.lemmas.Option.{same_Some, slice_get-map}
-use Rattle.pct_model.specs.declared.line_kind.LineKind.{LineKind}
+use Rattle.pct_names.proofs.Names.{◌&&◌, [], AllZip, ap, ap₂, AreContents, Argument, argument_kinds_in, argument_kinds_of, ArgumentKind}
+use Rattle.pct_names.proofs.Names.{arguments_of, asks_plain, Bool, cond, Contents, encode, encoded, false, first_that, Func, functions_in}
+use Rattle.pct_names.proofs.Names.{index_among, is_none, is_plain, is_plain_at, is_plain_body, is_plain_function, is_plain_section, length}
+use Rattle.pct_names.proofs.Names.{Line, line_kind_of_statement, LineKind, List, list_all, list_all-append, map, names_declared, names_in}
+use Rattle.pct_names.proofs.Names.{names_of_kind, names_other, names_plain, names_plain_functions, None, not, not_plain, NotPlain, Option}
+use Rattle.pct_names.proofs.Names.{option_map, option_map_or, ParsedLine, plain_names, refl, resolve, resolve_all, resolve_name, role_in}
+use Rattle.pct_names.proofs.Names.{role_of, same_Some, Section, slice_get, slice_get-map, Some, SpellsBody, Stmt, sym, syntax_of, Token}
+use Rattle.pct_names.proofs.Names.{true, unwrap_or, ◌||◌, ℕ, ◌∙◌, ◌∷◌, ◌≡◌}
 use Rattle.pct_model.specs.declared.line_kind.SymbolKind.TheVariants as kind
-use Rattle.pct_model.specs.declared.line_kind.ArgumentKind.{ArgumentKind}
 use Rattle.pct_model.specs.declared.line_kind.ArgumentKind.TheVariants as argument_kind
-use Rattle.pct_model.specs.declared.refusal.ParseWhy.TheVariants.{NotPlain}
-use Rattle.pct_model.specs.declared.parsed_line.Argument.{Argument}
 use Rattle.pct_model.specs.declared.parsed_line.Argument.TheVariants as argument
-use Rattle.pct_model.specs.declared.parsed_line.ParsedLine.{ParsedLine}
-use Rattle.pct_model.specs.declared.parsed_line.Token.{Token}
 use Rattle.pct_model.specs.declared.parsed_line.Token.TheVariants as token
-use Rattle.pct_model.specs.declared.script.Func.{Func}
-use Rattle.pct_model.specs.declared.statement.Stmt.{Stmt}
-use Rattle.pct_model.specs.Names.{index_among}
-use Rattle.pct_model.specs.LineKinds.{syntax_of}
-use Rattle.pct_model.specs.Statements.{encode, line_kind_of_statement, arguments_of, argument_kinds_of, role_of}
-use Rattle.pct_model.specs.Contents.{Contents, names_of_kind, resolve_name, resolve, resolve_all}
-use Rattle.pct_model.specs.Sections.{Line, Section, role_in, argument_kinds_in, names_in, names_declared, functions_in}
-use Rattle.pct_model.specs.Spells.{encoded, SpellsBody, AreContents}
-use Rattle.pct_model.specs.Checks.{first_that, asks_plain, plain_names, is_plain, is_plain_section, is_plain_function, names_other, not_plain}
-use Rattle.pct_model.specs.Static.{is_plain_body, is_plain_at, names_plain, names_plain_functions}
 use Rattle.pct_grammar.proofs.OptionSteps.{bind_some, map_some}
 use Rattle.pct_grammar.proofs.FirstFaults.{not_not, first_that_none, first_in_none}
 use Rattle.pct_grammar.proofs.Roles.{zip_from_maps, maps_from_zip, all_from_zip}

@@ -1,15 +1,7 @@
 -- A return between a push and its pop: in the lines, and in the functions that they spell.
-use Rattle.std.proofs.Common.{◌≡◌, List, [], ap, ◌∙◌}
-use Rattle.std.specs.Prelude.{is_none}
-use Rattle.std.specs.List.{list_all}
-use Rattle.pct_model.specs.declared.refusal.ParseWhy.TheVariants.{ReturnInPush}
-use Rattle.pct_model.specs.declared.role.Role.{Role}
-use Rattle.pct_model.specs.declared.script.Func.{Func}
-use Rattle.pct_model.specs.Contents.{Contents}
-use Rattle.pct_model.specs.Sections.{Line, Section, functions_in}
-use Rattle.pct_model.specs.Checks.{first_wrong, none_wrong, roles, is_in_push, return_in_push}
-use Rattle.pct_model.specs.Static.{returns_outside_pushes}
-use Rattle.pct_model.specs.Spells.{SpellsBody, AreContents}
+use Rattle.pct_names.proofs.Names.{[], ap, AreContents, Contents, first_wrong, Func, functions_in, is_in_push, is_none, Line, List}
+use Rattle.pct_names.proofs.Names.{list_all, none_wrong, return_in_push, ReturnInPush, returns_outside_pushes, Role, roles, Section}
+use Rattle.pct_names.proofs.Names.{SpellsBody, ◌∙◌, ◌≡◌}
 use Rattle.pct_grammar.proofs.FirstFaults.{first_wrong_none, first_in_none}
 use Rattle.pct_grammar.proofs.Roles.{without_numbers, roles_same, all_from_zip}
 

@@ -1,20 +1,8 @@
 -- The roles of a function's lines are the roles of its statements.
-use Rattle.std.proofs.Common.{◌≡◌, ℕ, Bool, List, [], ◌∷◌, Some, refl, sym, ap, ap₂, ◌∙◌, map}
-use Rattle.std.specs.List.{AllZip, list_all}
-use Rattle.std.proofs.lemmas.List.Folds.{list_all-map}
+use Rattle.pct_names.proofs.Names.{[], AllZip, ap, ap₂, argument_kinds_in, Bool, Contents, encode, encoded, EncodedStmt, Func, Line}
+use Rattle.pct_names.proofs.Names.{LineKind, List, list_all, list_all-map, map, names_of_kind, Numbered, ParsedLine, refl, resolve_all}
+use Rattle.pct_names.proofs.Names.{Role, role_in, role_of, roles, Section, Some, SpellsBody, Stmt, sym, syntax_of, ℕ, ◌∙◌, ◌∷◌, ◌≡◌}
 use Rattle.pct_grammar.proofs.OptionSteps.{map_some}
-use Rattle.pct_model.specs.declared.line_kind.LineKind.{LineKind}
-use Rattle.pct_model.specs.declared.role.Role.{Role}
-use Rattle.pct_model.specs.declared.parsed_line.ParsedLine.{ParsedLine}
-use Rattle.pct_model.specs.declared.script.Func.{Func}
-use Rattle.pct_model.specs.declared.statement.Stmt.{Stmt}
-use Rattle.pct_model.specs.LineKinds.{syntax_of}
-use Rattle.pct_model.specs.Statements.{EncodedStmt, encode, role_of}
-use Rattle.pct_model.specs.Contents.{Contents, names_of_kind, resolve_all}
-use Rattle.pct_model.specs.LineParsing.{Numbered}
-use Rattle.pct_model.specs.Sections.{Line, Section, role_in, argument_kinds_in}
-use Rattle.pct_model.specs.Checks.{roles}
-use Rattle.pct_model.specs.Spells.{encoded, SpellsBody}
 
 -- ---- two lists, index by index
 

@@ -1,19 +1,9 @@
 -- A text has no fault if and only if it spells a static script, and it spells at most one script.
-use Rattle.std.proofs.Common.{◌≡◌, ℕ, true, List, Option, Some, None, refl, sym, ap, ◌∙◌, subst}
-use Rattle.std.specs.Prelude.{is_none, is_some}
-use Rattle.std.specs.List.{list_all}
-use Rattle.std.specs.Option.{option_or}
-use Rattle.std.proofs.lemmas.Bool.{and_parts, and_from}
-use Rattle.std.proofs.Math.Bool.{Bool-set}
-use Rattle.pct_model.specs.declared.script.Script.{Script}
-use Rattle.pct_model.specs.LineParsing.{spelled_lines, parsed}
-use Rattle.pct_model.specs.Spelling.{Fault, spelling}
-use Rattle.pct_model.specs.Contents.{Contents}
-use Rattle.pct_model.specs.Sections.{Line, functions_in, parsed_lines, are_in_functions}
-use Rattle.pct_model.specs.Nesting.{nesting}
-use Rattle.pct_model.specs.Checks.{roles, too_many, name_twice, unknown_name, return_in_push, not_plain, no_main, checks, first_fault}
-use Rattle.pct_model.specs.Static.{is_static}
-use Rattle.pct_model.specs.Spells.{AreContents, SpellsContents, contents_of, Spells}
+use Rattle.pct_names.proofs.Names.{and_from, and_parts, ap, are_in_functions, AreContents, Bool-set, checks, Contents, contents_of, Fault}
+use Rattle.pct_names.proofs.Names.{first_fault, functions_in, is_none, is_some, is_static, Line, List, list_all, name_twice, nesting}
+use Rattle.pct_names.proofs.Names.{no_main, None, not_plain, Option, option_or, parsed, parsed_lines, refl, return_in_push, roles, Script}
+use Rattle.pct_names.proofs.Names.{Some, spelled_lines, spelling, Spells, SpellsContents, subst, sym, too_many, true, unknown_name, ℕ, ◌∙◌}
+use Rattle.pct_names.proofs.Names.{◌≡◌}
 use Rattle.pct_model.proofs.StaticFacts.{PassesAll, passes_all, static_from}
 use Rattle.pct_grammar.specs.Resolving.{resolve_contents}
 use Rattle.pct_grammar.proofs.SharedWords.{EachParsed}

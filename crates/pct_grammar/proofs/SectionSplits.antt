@@ -1,8 +1,6 @@
 -- The lines of a text are the statements before its first section, and then its sections in order.
-use Rattle.std.proofs.Common.{◌≡◌, Bool, true, false, ◌&&◌, cond, List, [], ◌∷◌, ◌++◌, refl, ap}
-use Rattle.std.specs.List.{list_all}
-use Rattle.std.proofs.lemmas.Bool.{and_from, not-false}
-use Rattle.pct_model.specs.Sections.{Line, Section, Sections, role_in, is_declaration, is_statement, split_sections}
+use Rattle.pct_names.proofs.Names.{◌&&◌, ◌++◌, [], and_from, ap, Bool, cond, false, is_declaration, is_statement, Line, List, list_all}
+use Rattle.pct_names.proofs.Names.{not-false, refl, role_in, Section, Sections, split_sections, true, ◌∷◌, ◌≡◌}
 
 -- the lines of sections
 unfoldable pub lines_of_sections : List Section → List Line

@@ -1,15 +1,9 @@
 -- Definitions that the lemmas of this crate share.
-use Rattle.std.proofs.Common.{◌≡◌, ℕ, Bool, true, not, ◌&&◌, List, [], ◌∷◌, Some, length, nat_le, refl}
-use Rattle.std.specs.List.{list_all}
-use Rattle.pct_model.specs.declared.line_kind.SymbolKind.{SymbolKind}
+use Rattle.pct_names.proofs.Names.{◌&&◌, [], Bool, Contents, declaration_syntax, is_empty, is_name, length, Line, line_kind_of, List}
+use Rattle.pct_names.proofs.Names.{list_all, names_of_kind, nat_le, not, ParsedLine, refl, Some, SymbolKind, syntax_of, tokens_at, true, ℕ}
+use Rattle.pct_names.proofs.Names.{◌∷◌, ◌≡◌}
 use Rattle.pct_model.specs.declared.line_kind.SymbolKind.TheVariants as kind
 use Rattle.pct_model.specs.declared.role.Role.TheVariants as role
-use Rattle.pct_model.specs.declared.parsed_line.ParsedLine.{ParsedLine}
-use Rattle.pct_model.specs.Names.{is_name}
-use Rattle.pct_model.specs.LineKinds.{declaration_syntax, syntax_of, line_kind_of}
-use Rattle.pct_model.specs.LineParsing.{is_empty, tokens_at}
-use Rattle.pct_model.specs.Contents.{Contents, names_of_kind}
-use Rattle.pct_model.specs.Sections.{Line}
 
 -- a line that was parsed from words
 pub record IsParsed (line : ParsedLine) : Type 0 where

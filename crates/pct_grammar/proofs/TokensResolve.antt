@@ -1,34 +1,21 @@
 -- Resolving tokens and printing arguments are inverse: the arguments of resolved tokens have words, and the words of arguments
 -- resolve to them.
-use Rattle.std.proofs.Common.{◌≡◌, ℕ, zero, suc, ◌-◌, ◌<◌, ◌≤◌, Bool, true, false, not, ◌&&◌, ◌||◌, cond, List, [], ◌∷◌, length, get_or, replicate, min, Option, Some, None, refl, sym, ap, ◌∙◌, arith, nat_eq, nat_le, le-leb, leb-true, option_map, true≢false}
-use Rattle.std.specs.Prelude.{is_some, bytes_eq, codes, decimal}
-use Rattle.std.specs.List.{list_all}
-use Rattle.std.specs.Option.{option_or, option_map_or}
-use Rattle.std.specs.Str.Parse.{digits_value}
-use Rattle.std.proofs.lemmas.Bool.{and_parts, and_from, or_right, false_from_ne_true, true_from_ne_false, not-true}
-use Rattle.std.proofs.lemmas.Bool.Decides.{nat_tests}
-use Rattle.std.proofs.lemmas.Fmt.{decimal_is_IsNumeral, decimal_nonempty, length-decimal-le}
-use Rattle.std.proofs.lemmas.List.Folds.{list_all_at}
-use Rattle.std.proofs.lemmas.List.Quantifiers.{position-Some}
-use Rattle.std.proofs.lemmas.Option.{same_Some, unwrap_or-slice_get, cond_some}
-use Rattle.pct_model.specs.declared.line_kind.LineKind.{LineKind}
+use Rattle.pct_names.proofs.Names.{◌&&◌, ◌-◌, ◌<◌, ◌>>=◌, [], and_from, and_parts, ap, Argument, argument_text, argument_texts}
+use Rattle.pct_names.proofs.Names.{ArgumentKind, arith, Bool, bytes_eq, codes, cond, cond_some, Contents, decimal, decimal_is_IsNumeral}
+use Rattle.pct_names.proofs.Names.{decimal_nonempty, digits_value, false, false_from_ne_true, get_or, has_word, have_words, index_among}
+use Rattle.pct_names.proofs.Names.{is_declaration, is_digit, is_empty, is_found, is_item, is_name, is_name_byte, is_nothing, is_numeral}
+use Rattle.pct_names.proofs.Names.{is_seen, is_some, is_variable, item, length, length-decimal-le, LineKind, List, list_all, list_all_at}
+use Rattle.pct_names.proofs.Names.{min, name, name_at, names_of_kind, nat_eq, nat_le, nat_tests, None, not, not-true, numeral, Option}
+use Rattle.pct_names.proofs.Names.{option_map, option_map_or, option_or, or_right, position-Some, refl, replicate, resolve, resolve_all}
+use Rattle.pct_names.proofs.Names.{resolve_name, same_Some, Some, suc, sym, symbol_kind_at, SymbolKind, syntax_of, Token, token_at}
+use Rattle.pct_names.proofs.Names.{tokens_at, true, true_from_ne_false, unwrap_or-slice_get, variable, zero, ◌||◌, ℕ, ◌∙◌, ◌∷◌, ◌≡◌, ◌≤◌}
+use Rattle.std.proofs.Common.{le-leb, leb-true, true≢false}
 use Rattle.pct_model.specs.declared.line_kind.LineKind.TheVariants as line_kind
-use Rattle.pct_model.specs.declared.line_kind.SymbolKind.{SymbolKind}
 use Rattle.pct_model.specs.declared.line_kind.SymbolKind.TheVariants as kind
-use Rattle.pct_model.specs.declared.line_kind.ArgumentKind.{ArgumentKind}
 use Rattle.pct_model.specs.declared.line_kind.ArgumentKind.TheVariants as argument_kind
-use Rattle.pct_model.specs.declared.parsed_line.Argument.{Argument}
 use Rattle.pct_model.specs.declared.parsed_line.Argument.TheVariants as argument
-use Rattle.pct_model.specs.declared.parsed_line.Token.{Token}
 use Rattle.pct_model.specs.declared.parsed_line.Token.TheVariants as token
-use Rattle.pct_model.specs.Names.{is_digit, is_name_byte, is_name, name_at, index_among}
-use Rattle.pct_model.specs.Lines.{◌>>=◌}
-use Rattle.pct_model.specs.LineKinds.{syntax_of}
-use Rattle.pct_model.specs.LineParsing.{is_empty, is_numeral, numeral, name, token_at, tokens_at}
-use Rattle.pct_model.specs.Contents.{Contents, names_of_kind, variable, item, resolve_name, resolve, resolve_all}
-use Rattle.pct_model.specs.Sections.{is_declaration}
-use Rattle.pct_model.specs.Static.{is_found, is_seen, is_variable, is_value, is_item, is_nothing, has_word, have_words}
-use Rattle.pct_model.specs.Canon.{symbol_kind_at, argument_text, argument_texts}
+use Rattle.pct_model.specs.Static.{is_value}
 use Rattle.pct_model.proofs.Bytes.{same_bytes}
 use Rattle.pct_text.proofs.Numbers.{digits_of_decimal}
 use Rattle.pct_grammar.proofs.SharedWords.{NameLists, is_printable, is_word, role_of_kind}

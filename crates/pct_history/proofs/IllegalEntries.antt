@@ -1,14 +1,10 @@
 -- The first entry of a schedule that is not legal.
-use Rattle.std.proofs.Common.{◌≡◌, ℕ, suc, ◌+◌, ◌<◌, ◌≤◌, true, List, [], ◌∷◌, ◌++◌, Option, Some, None, refl, sym, ap, ◌∙◌, subst, arith, length, get_or, take, drop, append_assoc}
-use Rattle.std.specs.Prelude.{is_some, option_map, option_and_then}
-use Rattle.std.specs.Option.{option_map_or}
-use Rattle.std.proofs.lemmas.List.{length-take-le, take-append-drop, take_all, take_more}
-use Rattle.std.proofs.lemmas.Option.{none-some, same_Some}
-use Rattle.pct_model.specs.declared.script.Script.{Script}
-use Rattle.pct_model.specs.declared.schedule.Config.{Config}
-use Rattle.pct_model.specs.declared.schedule.Entry.{Entry}
-use Rattle.pct_model.specs.World.{opening}
-use Rattle.pct_model.specs.Run.{Run, run_step, run_from, illegal_in, first_illegal, run}
+use Rattle.pct_names.proofs.Names.{◌+◌, ◌++◌, ◌<◌, [], ap, arith, Config, drop, Entry, first_illegal, get_or, illegal_in, is_some, length}
+use Rattle.pct_names.proofs.Names.{List, None, none-some, opening, Option, option_and_then, option_map, option_map_or, refl, Run, run}
+use Rattle.pct_names.proofs.Names.{run_from, run_step, same_Some, Script, Some, subst, suc, sym, take, take-append-drop, take_all}
+use Rattle.pct_names.proofs.Names.{take_more, true, ℕ, ◌∙◌, ◌∷◌, ◌≡◌, ◌≤◌}
+use Rattle.std.proofs.Common.{append_assoc}
+use Rattle.std.proofs.lemmas.List.{length-take-le}
 use Rattle.pct_engine.specs.EngineStates.{EngineValue, IsRunWith}
 use Rattle.pct_engine_laws.proofs.LongerRuns.{run_parts, run_more}
 use Rattle.pct_history.specs.Replays.{Follows}

@@ -1,20 +1,9 @@
 -- The outcome of an input that is not refused, and the answer to all that a source had left.
-use Rattle.std.proofs.Common.{◌≡◌, inr, ℕ, ◌<◌, true, List, length, Option, Some, None, Ok, Err, refl, sym, ap, ◌∙◌, subst, arith}
-use Rattle.std.specs.Prelude.{IfOk}
-use Rattle.std.specs.Io.KnownBytes.{Appends}
+use Rattle.pct_names.proofs.Names.{◌<◌, ap, Appends, arith, code_of_verdict, Config, Entry, Err, first_illegal, IfOk, IfOk-at_ok, inr}
+use Rattle.pct_names.proofs.Names.{length, List, None, Ok, Option, refl, Run, same_Some, Schedule, ScheduleWhy, Script, Some, Spells, subst}
+use Rattle.pct_names.proofs.Names.{sym, true, Verdict, verdict_of, ℕ, ◌∙◌, ◌≡◌}
 use Rattle.std.proofs.lemmas.Bool.{true≢false}
-use Rattle.std.proofs.lemmas.Option.{same_Some}
-use Rattle.std.proofs.lemmas.Result.{IfOk-at_ok}
-use Rattle.pct_model.specs.declared.script.Script.{Script}
-use Rattle.pct_model.specs.declared.schedule.Config.{Config}
-use Rattle.pct_model.specs.declared.schedule.Entry.{Entry}
-use Rattle.pct_model.specs.declared.refusal.ScheduleWhy.{ScheduleWhy}
-use Rattle.pct_model.specs.declared.stop.Verdict.{Verdict}
 use Rattle.pct_model.specs.declared.stop.Verdict.TheVariants as verdict
-use Rattle.pct_model.specs.Schedule.{Schedule}
-use Rattle.pct_model.specs.Spells.{Spells}
-use Rattle.pct_model.specs.Run.{Run, first_illegal, verdict_of}
-use Rattle.pct_model.specs.Outcome.{code_of_verdict}
 use Rattle.pct_grammar.proofs.Scripts.{spells_one_script}
 use Rattle.pct_schedule.specs.Prefix.{prefix_of}
 use Rattle.pct_history.specs.Replays.{followed}

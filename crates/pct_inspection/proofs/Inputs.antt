@@ -1,10 +1,6 @@
 -- The script and the prefix of an input.
-use Rattle.std.proofs.Common.{◌≡◌, ℕ, ◌-◌, ◌≤◌, true, List, length, take, drop, ap, ◌∙◌, subst, le_refl}
-use Rattle.std.specs.Prelude.{is_some}
-use Rattle.std.proofs.lemmas.Slice.{between_to_end}
-use Rattle.pct_model.specs.declared.script.Script.{Script}
-use Rattle.pct_model.specs.Spells.{Spells}
-use Rattle.pct_model.specs.Schedule.{replay_parts}
+use Rattle.pct_names.proofs.Names.{◌-◌, ap, between_to_end, drop, is_some, le_refl, length, List, replay_parts, Script, Spells, subst, take}
+use Rattle.pct_names.proofs.Names.{true, ℕ, ◌∙◌, ◌≡◌, ◌≤◌}
 use Rattle.pct_inspection.specs.declared.words.Inspection.{Inspection}
 use Rattle.pct_inspection.specs.Words.{is_inspection}
 use Rattle.pct_inspection.specs.Inspection.{script_in, prefix_in}

@@ -1,14 +1,7 @@
 -- What is answered is an outcome.
-use Rattle.std.proofs.Common.{◌≡◌, ℕ, ◌<◌, ◌≤◌, false, List, length, Option, Some, None, Ok, Err, refl, sym, ap, ◌∙◌, subst}
-use Rattle.pct_model.specs.declared.refusal.ParseWhy.{ParseWhy}
-use Rattle.pct_model.specs.declared.refusal.ScheduleWhy.{ScheduleWhy}
-use Rattle.pct_model.specs.declared.script.Script.{Script}
-use Rattle.pct_model.specs.declared.schedule.Config.{Config}
-use Rattle.pct_model.specs.declared.schedule.Entry.{Entry}
-use Rattle.pct_model.specs.Keywords.{line_text}
-use Rattle.pct_model.specs.Checks.{FirstFault}
-use Rattle.pct_model.specs.Run.{Run, first_illegal, verdict_of}
-use Rattle.pct_model.specs.Outcome.{code_of_verdict, refused_words, refused_input, refused_script, refused_schedule}
+use Rattle.pct_names.proofs.Names.{◌<◌, ap, code_of_verdict, Config, Entry, Err, false, first_illegal, FirstFault, length, line_text, List}
+use Rattle.pct_names.proofs.Names.{None, Ok, Option, ParseWhy, refl, refused_input, refused_schedule, refused_script, refused_words, Run}
+use Rattle.pct_names.proofs.Names.{ScheduleWhy, Script, Some, subst, sym, verdict_of, ℕ, ◌∙◌, ◌≡◌, ◌≤◌}
 use Rattle.pct_schedule.specs.Prefix.{prefix_of}
 use Rattle.pct_engine.specs.EngineStates.{EngineValue, IsRunOf}
 use Rattle.pct_engine.proofs.EngineLaws.{keeps_laws}

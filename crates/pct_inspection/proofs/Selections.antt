@@ -1,7 +1,6 @@
 -- The threads of a selection, and its words, one after the other.
-use Rattle.std.proofs.Common.{◌≡◌, ℕ, suc, zero, ◌+◌, ◌<◌, ◌≤◌, List, ◌∷◌, length, map, drop, get_or, Option, Some, None, false, ◌&&◌, refl, sym, ap, ◌∙◌, arith}
-use Rattle.std.proofs.lemmas.List.{drop_all, drop_more}
-use Rattle.pct_model.specs.Lines.{◌>>=◌, split_once}
+use Rattle.pct_names.proofs.Names.{◌&&◌, ◌+◌, ◌<◌, ◌>>=◌, ap, arith, drop, drop_all, drop_more, false, get_or, length, List, map, None}
+use Rattle.pct_names.proofs.Names.{Option, refl, Some, split_once, suc, sym, zero, ℕ, ◌∙◌, ◌∷◌, ◌≡◌, ◌≤◌}
 use Rattle.pct_inspection.specs.Selections.{BegunValue, all_selected, are_threads, begun_after, is_thread, selection_asked, selection_of, with_part, with_word}
 
 -- ---- threads

@@ -1,11 +1,6 @@
 -- Views are outcomes.
-use Rattle.std.proofs.Common.{◌≡◌, ℕ, true, List, ◌++◌, Option, Some, None, Result, Ok, Err, IfOk, refl, sym, ap, ◌∙◌, subst}
-use Rattle.pct_model.specs.declared.schedule.Config.{Config}
-use Rattle.pct_model.specs.declared.schedule.Entry.{Entry}
-use Rattle.pct_model.specs.declared.script.Script.{Script}
-use Rattle.pct_model.specs.declared.stop.Verdict.{Verdict}
-use Rattle.pct_model.specs.Outcome.{code_of_verdict}
-use Rattle.pct_model.specs.Run.{Run, run}
+use Rattle.pct_names.proofs.Names.{◌++◌, ap, code_of_verdict, Config, Entry, Err, IfOk, List, None, Ok, Option, refl, Result, Run, run}
+use Rattle.pct_names.proofs.Names.{Script, Some, subst, sym, true, Verdict, ℕ, ◌∙◌, ◌≡◌}
 use Rattle.pct_schedule.specs.Prefix.{prefix_of}
 use Rattle.pct_script.specs.StatementLines.{statement_lines}
 use Rattle.pct_script.proofs.StatementSpellings.{lines_spell}

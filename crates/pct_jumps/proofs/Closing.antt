@@ -1,16 +1,13 @@
 -- Where the blocks of a body close, found by counting.
-use Rattle.std.proofs.Common.{◌⊎◌, ◌≢◌, inl, inr, map, slice_index_or, ◌≡◌, ℕ, zero, suc, ◌+◌, ◌-◌, ◌<◌, ◌≤◌, Bool, true, false, cond, ◌&&◌, ◌||◌, List, length, take, drop, get_or, find, nat_eq, Option, Some, None, refl, sym, ap, ◌∙◌, arith, [], ◌∷◌, ◌++◌}
-use Rattle.std.specs.Prelude.{slice_range}
-use Rattle.std.specs.List.{range_with_len, count_by}
-use Rattle.std.specs.Option.{option_map_or, option_eq}
+use Rattle.pct_names.proofs.Names.{◌&&◌, ◌+◌, ◌++◌, ◌-◌, ◌<◌, [], ap, arith, Bool, close_of, closes, closes_else, cond, count_by_more_no}
+use Rattle.pct_names.proofs.Names.{count_by_more_yes, drop, eqb_tells, false, find, get_or, get_or-drop, get_or-map-range_with_len, holds}
+use Rattle.pct_names.proofs.Names.{inl, inr, is_else, is_if, is_while, length, length-drop, length-map-range_with_len, List, map}
+use Rattle.pct_names.proofs.Names.{map-range_with_len_more, nat_eq, None, open_of, Option, option_eq, option_map_or, range_with_len, refl}
+use Rattle.pct_names.proofs.Names.{slice_get-get_or, slice_index_or, slice_range, Some, Stmt, suc, sym, take, true, zero, ◌||◌, ℕ, ◌∙◌, ◌∷◌}
+use Rattle.pct_names.proofs.Names.{◌≡◌, ◌≢◌, ◌≤◌, ◌⊎◌}
+use Rattle.std.specs.List.{count_by}
 use Rattle.std.proofs.lemmas.Bool.{eq-eqb, ne_eqb}
-use Rattle.std.proofs.lemmas.Bool.Decides.{eqb_tells}
-use Rattle.std.proofs.lemmas.List.FromFn.{length-map-range_with_len, get_or-map-range_with_len, map-range_with_len_more}
-use Rattle.std.proofs.lemmas.List.{length-drop, get_or-drop}
-use Rattle.std.proofs.lemmas.List.Sums.{count_by_more_no, count_by_more_yes}
-use Rattle.std.proofs.lemmas.Option.{slice_get-get_or}
-use Rattle.pct_model.specs.declared.statement.Stmt.{Stmt}
-use Rattle.pct_model.specs.Jumps.{is_if, is_while, is_else, is_end, holds, closes, closes_else, close_of, open_of}
+use Rattle.pct_model.specs.Jumps.{is_end}
 
 -- ---- the first index that passes a test
 

@@ -1,22 +1,13 @@
 -- The jump table of a script agrees with the definitions on its bodies.
-use Rattle.std.proofs.Common.{◌⊎◌, inl, inr, nat_eq, find, ◌≡◌, ℕ, zero, suc, ◌+◌, ◌<◌, ◌≤◌, true, false, cond, List, [], ◌∷◌, length, map, get_or, Option, Some, None, sym, ap, ◌∙◌, arith}
-use Rattle.std.specs.Prelude.{is_some, slice_get, option_map, option_and_then, nat_le, Bool, IfSome, ◌↔◌}
-use Rattle.std.specs.List.{range_with_len, list_all}
-use Rattle.std.specs.Option.{option_flatten, option_map_or}
-use Rattle.std.proofs.lemmas.Bool.{and_parts, leb-true, true≢false}
-use Rattle.std.proofs.Math.Nat.{eq-or-lt_of_le}
-use Rattle.std.proofs.lemmas.List.Sums.{get_or-le-sum_by}
-use Rattle.std.proofs.lemmas.Option.{slice_get-map, slice_get_past}
+use Rattle.pct_names.proofs.Names.{◌+◌, ◌<◌, [], and_parts, ap, are_nested, arith, body_of, Bool, close_of, closing as closing_in, cond}
+use Rattle.pct_names.proofs.Names.{Contents, eq-or-lt_of_le, false, find, Func, get_or, get_or-le-sum_by, holds, IfSome, inl, inr, is_some}
+use Rattle.pct_names.proofs.Names.{is_static, keeps_limits, length, List, list_all, map, nat_eq, nat_le, nests, None, open_of, Option}
+use Rattle.pct_names.proofs.Names.{option_and_then, option_flatten, option_map, option_map_or, range_with_len, role_of, Script, slice_get}
+use Rattle.pct_names.proofs.Names.{slice_get-map, slice_get_past, Some, statement_lines, Stmt, suc, sym, true, zero, ℕ, ◌↔◌, ◌∙◌, ◌∷◌, ◌≡◌}
+use Rattle.pct_names.proofs.Names.{◌≤◌, ◌⊎◌}
+use Rattle.std.proofs.lemmas.Bool.{leb-true, true≢false}
 use Rattle.pct_model.specs.declared.role.Block.TheVariants as block
-use Rattle.pct_model.specs.declared.script.Func.{Func}
-use Rattle.pct_model.specs.declared.script.Script.{Script}
-use Rattle.pct_model.specs.declared.statement.Stmt.{Stmt}
-use Rattle.pct_model.specs.Contents.{Contents}
-use Rattle.pct_model.specs.Static.{nests, statement_lines, keeps_limits, is_static}
-use Rattle.pct_model.specs.Jumps.{is_end, holds, closing as closing_in, close_of, open_of}
-use Rattle.pct_model.specs.Nesting.{are_nested}
-use Rattle.pct_model.specs.Statements.{role_of}
-use Rattle.pct_model.specs.World.{body_of}
+use Rattle.pct_model.specs.Jumps.{is_end}
 use Rattle.pct_model.proofs.StaticFacts.{passes_all}
 use Rattle.pct_jumps.specs.declared.jump_table.Blocks.{Blocks}
 use Rattle.pct_jumps.specs.JumpTable.{blocks_of, jumps_of, opens_block, IsOpening, closing, opening}

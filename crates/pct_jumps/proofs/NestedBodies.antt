@@ -1,24 +1,16 @@
 -- In a body whose blocks nest, each block that a statement opens is closed by an `end`.
-use Rattle.std.proofs.Common.{◌≡◌, ◌⊎◌, inl, inr, ℕ, zero, suc, ◌+◌, ◌-◌, ◌<◌, ◌≤◌, Bool, true, false, cond, ◌||◌, List, [], ◌∷◌, length, map, take, drop, get_or, find, Option, Some, None, refl, sym, ap, ◌∙◌, arith}
-use Rattle.std.specs.Prelude.{is_some, slice_get, slice_range}
-use Rattle.std.specs.List.{range_with_len, count_by}
-use Rattle.std.specs.Option.{option_map_or}
-use Rattle.std.proofs.lemmas.Bool.{false≢true, true≢false, and_from, or_left, eq-eqb, cases_lt}
-use Rattle.std.proofs.Math.Nat.{eq-or-lt_of_le}
-use Rattle.std.proofs.lemmas.List.{drop_more, length-drop}
-use Rattle.std.proofs.lemmas.Option.{slice_get_within, get_or_from_slice_get, slice_get_cases}
-use Rattle.std.proofs.lemmas.List.Sums.{sum_by-cons}
-use Rattle.pct_model.specs.declared.role.Block.{Block}
+use Rattle.pct_names.proofs.Names.{◌+◌, ◌-◌, ◌<◌, [], and_from, ap, are_nested, arith, Block, Bool, cases_lt, Change, change_at, close_of}
+use Rattle.pct_names.proofs.Names.{closes, closes_else, closing, cond, drop, drop_more, encode, ends, eq-or-lt_of_le, false, false≢true}
+use Rattle.pct_names.proofs.Names.{find, first_later, get_or, get_or_from_slice_get, holds, inl, inr, inside, is_if, is_some, is_while}
+use Rattle.pct_names.proofs.Names.{length, length-drop, List, map, nests_or, None, open_after, Option, option_map_or, or_left, outside}
+use Rattle.pct_names.proofs.Names.{range_with_len, refl, Role, role_of, slice_get, slice_get_cases, slice_get_within, slice_range, Some}
+use Rattle.pct_names.proofs.Names.{Stmt, suc, sum_by-cons, sym, syntax_of, take, true, zero, ◌||◌, ℕ, ◌∙◌, ◌∷◌, ◌≡◌, ◌≤◌, ◌⊎◌}
+use Rattle.std.specs.List.{count_by}
+use Rattle.std.proofs.lemmas.Bool.{true≢false, eq-eqb}
 use Rattle.pct_model.specs.declared.role.Block.TheVariants as block
-use Rattle.pct_model.specs.declared.role.Change.{Change}
-use Rattle.pct_model.specs.declared.role.Role.{Role}
 use Rattle.pct_model.specs.declared.role.Role.TheVariants as role
-use Rattle.pct_model.specs.declared.statement.Stmt.{Stmt}
 use Rattle.pct_model.specs.declared.statement.Stmt.TheVariants as statement
-use Rattle.pct_model.specs.LineKinds.{syntax_of}
-use Rattle.pct_model.specs.Statements.{encode, role_of}
-use Rattle.pct_model.specs.Nesting.{outside, inside, change_at, open_after, nests_or, are_nested}
-use Rattle.pct_model.specs.Jumps.{is_if, is_while, is_end, holds, begins, ends, closes, closes_else, first_later, closing, close_of}
+use Rattle.pct_model.specs.Jumps.{is_end, begins}
 use Rattle.pct_jumps.specs.JumpTable.{opens_block}
 
 -- ---- depth of nesting

@@ -1,22 +1,17 @@
 -- In a body whose blocks nest, each `end` before the last closes the block of an `if`, an `else` or a `while`.
-use Rattle.std.proofs.Common.{◌≡◌, ◌⊎◌, ◌≢◌, inl, inr, ℕ, zero, suc, ◌+◌, ◌-◌, ◌<◌, ◌≤◌, Bool, true, false, cond, ◌&&◌, List, [], ◌∷◌, length, map, take, drop, get_or, find, nat_eq, eqb-true, Option, Some, None, refl, sym, ap, ◌∙◌, arith}
-use Rattle.std.specs.Prelude.{is_some, slice_get, slice_range}
-use Rattle.std.specs.List.{range_with_len, count_by}
-use Rattle.std.specs.Option.{option_map_or}
-use Rattle.std.proofs.lemmas.Bool.{false≢true, true≢false, and_parts, and_right, or_from, eq-eqb, ne_eqb}
-use Rattle.std.proofs.Math.Nat.{eq-or-lt_of_le}
-use Rattle.std.proofs.lemmas.List.{drop_more, length-drop}
-use Rattle.std.proofs.lemmas.Option.{slice_get_within, get_or_from_slice_get, slice_get_cases, same_Some}
-use Rattle.pct_model.specs.declared.role.Block.{Block}
+use Rattle.pct_names.proofs.Names.{◌&&◌, ◌+◌, ◌-◌, ◌<◌, [], and_parts, and_right, ap, are_nested, arith, Block, Bool, change_at, close_of}
+use Rattle.pct_names.proofs.Names.{closes, closes_else, closing, cond, drop, drop_more, encode, ends, eq-or-lt_of_le, false, false≢true}
+use Rattle.pct_names.proofs.Names.{find, first_later, get_or, get_or_from_slice_get, holds, inl, inr, inside, is_else, is_if, is_some}
+use Rattle.pct_names.proofs.Names.{length, length-drop, List, map, nat_eq, None, open_after, open_of, Option, option_map_or, or_from}
+use Rattle.pct_names.proofs.Names.{range_with_len, refl, Role, role_of, same_Some, slice_get, slice_get_cases, slice_get_within}
+use Rattle.pct_names.proofs.Names.{slice_range, Some, Stmt, suc, sym, syntax_of, take, true, zero, ℕ, ◌∙◌, ◌∷◌, ◌≡◌, ◌≢◌, ◌≤◌, ◌⊎◌}
+use Rattle.std.proofs.Common.{eqb-true}
+use Rattle.std.specs.List.{count_by}
+use Rattle.std.proofs.lemmas.Bool.{true≢false, eq-eqb, ne_eqb}
 use Rattle.pct_model.specs.declared.role.Block.TheVariants as block
-use Rattle.pct_model.specs.declared.role.Role.{Role}
 use Rattle.pct_model.specs.declared.role.Role.TheVariants as role
-use Rattle.pct_model.specs.declared.statement.Stmt.{Stmt}
 use Rattle.pct_model.specs.declared.statement.Stmt.TheVariants as statement
-use Rattle.pct_model.specs.LineKinds.{syntax_of}
-use Rattle.pct_model.specs.Statements.{encode, role_of}
-use Rattle.pct_model.specs.Nesting.{inside, change_at, open_after, are_nested}
-use Rattle.pct_model.specs.Jumps.{is_if, is_else, is_end, holds, begins, ends, closes, closes_else, first_later, closing, close_of, open_of}
+use Rattle.pct_model.specs.Jumps.{is_end, begins}
 use Rattle.pct_jumps.specs.JumpTable.{opens_block}
 use Rattle.pct_jumps.proofs.Closing.{tally}
 use Rattle.pct_jumps.proofs.NestedBodies.{begins_block, begun_by, ended_by, begun_is, ended_is, is_based, based_outside, is_inner, inner_is, open_left, FoundBy, found_by, closes_within, test_of, from, passes, closing_by}

@@ -1,10 +1,7 @@
 -- The data of a thread without values: none of its places is due, or left in a pass.
-use Rattle.std.proofs.Common.{◌≡◌, refl, ap, ◌∙◌, ℕ, zero, suc, ◌+◌, Bool, true, false, not, ◌&&◌, cond, List, [], ◌∷◌, map, nat_eq, slice_get}
-use Rattle.std.specs.Prelude.{filter, is_some, replicate, slice_set}
-use Rattle.std.specs.Option.{option_map_or}
-use Rattle.std.specs.List.{range_with_len}
-use Rattle.pct_model.specs.declared.limits.TheConstants.{MAX_KEYS}
-use Rattle.pct_model.specs.Keys.{KeyPlace, KeyValues, no_values, key_at, without_value, is_due, due_places, with_pass, is_left, left_places}
+use Rattle.pct_names.proofs.Names.{◌&&◌, ◌+◌, [], ap, Bool, cond, due_places, false, filter, is_due, is_left, is_some, key_at, KeyPlace}
+use Rattle.pct_names.proofs.Names.{KeyValues, left_places, List, map, MAX_KEYS, nat_eq, no_values, not, option_map_or, range_with_len, refl}
+use Rattle.pct_names.proofs.Names.{replicate, slice_get, slice_set, suc, true, with_pass, without_value, zero, ℕ, ◌∙◌, ◌∷◌, ◌≡◌}
 use Rattle.pct_keys.proofs.SoundTables.{IsClear-no_values}
 
 -- ---- lists

@@ -1,10 +1,7 @@
 -- The places that pass a test, found by a scan.
-use Rattle.std.proofs.Common.{◌≡◌, refl, sym, ap, ◌∙◌, ℕ, suc, ◌+◌, ◌-◌, ◌<◌, ◌≤◌, Bool, true, false, not, cond, List, [], ◌∷◌, length, Option, Some, None, slice_get, arith}
-use Rattle.std.specs.Prelude.{filter, is_none}
-use Rattle.std.specs.Int.{from_bool}
-use Rattle.std.specs.List.{range_with_len}
-use Rattle.pct_model.specs.declared.limits.TheConstants.{MAX_KEYS}
-use Rattle.pct_model.specs.Keys.{KeyPlace, KeyValues, key_at, free_places, is_due, due_places, is_left, left_places}
+use Rattle.pct_names.proofs.Names.{◌+◌, ◌-◌, ◌<◌, [], ap, arith, Bool, cond, due_places, false, filter, free_places, from_bool, is_due}
+use Rattle.pct_names.proofs.Names.{is_left, is_none, key_at, KeyPlace, KeyValues, left_places, length, List, MAX_KEYS, None, not, Option}
+use Rattle.pct_names.proofs.Names.{range_with_len, refl, slice_get, Some, suc, sym, true, ℕ, ◌∙◌, ◌∷◌, ◌≡◌, ◌≤◌}
 
 -- the places from a place on that pass the test
 unfoldable pub places_from : (ℕ → Bool) → ℕ → List ℕ

@@ -1,12 +1,11 @@
 -- What holds of every table is kept by its calls.
-use Rattle.std.proofs.Common.{◌≡◌, ◌≢◌, refl, sym, ap, ◌∙◌, subst, ℕ, zero, suc, ◌+◌, ◌*◌, ◌<◌, Bool, true, false, not, cond, ◌⊎◌, List, [], ◌∷◌, length, map, get_or, Option, Some, None, is_some, slice_get, nat_eq, inl, inr, arith, length-set}
-use Rattle.std.specs.Prelude.{replicate, slice_set}
-use Rattle.std.specs.Option.{option_map_or}
-use Rattle.std.proofs.lemmas.Bool.{cases_eq, cases_lt}
-use Rattle.std.proofs.lemmas.List.{get_or_past, get_or-set_same, get_or-set_other, get_or-replicate, get_or-map, set_past, length-map, length-replicate}
-use Rattle.std.proofs.lemmas.Option.{same_Some, none-some, slice_get_read}
-use Rattle.pct_model.specs.declared.limits.TheConstants.{MAX_KEYS}
-use Rattle.pct_model.specs.Keys.{Key, KeyPlace, no_keys, KeyValues, no_values, key_at, next_key, on_place, with_key, without_value, with_pass}
+use Rattle.pct_names.proofs.Names.{◌*◌, ◌+◌, ◌<◌, [], ap, arith, Bool, cases_eq, cases_lt, cond, false, get_or, get_or-replicate}
+use Rattle.pct_names.proofs.Names.{get_or_past, inl, inr, is_some, Key, key_at, KeyPlace, KeyValues, length, length-map, length-replicate}
+use Rattle.pct_names.proofs.Names.{List, map, MAX_KEYS, nat_eq, next_key, no_keys, no_values, None, none-some, not, on_place, Option}
+use Rattle.pct_names.proofs.Names.{option_map_or, refl, replicate, same_Some, set_past, slice_get, slice_get_read, slice_set, Some, subst}
+use Rattle.pct_names.proofs.Names.{suc, sym, true, with_key, with_pass, without_value, zero, ℕ, ◌∙◌, ◌∷◌, ◌≡◌, ◌≢◌, ◌⊎◌}
+use Rattle.std.proofs.Common.{length-set}
+use Rattle.std.proofs.lemmas.List.{get_or-set_same, get_or-set_other, get_or-map}
 use Rattle.pct_keys.specs.Tables.{Table, no_row, row_at, IsClear, IsSound, with_made, with_deleted}
 
 -- ---- lists

@@ -1,9 +1,7 @@
 -- The list of processes after a transition, by the one change that its actions make.
-use Rattle.std.proofs.Common.{◌≡◌, ℕ, ◌+◌, Bool, true, false, cond, List, [], ◌∷◌, ◌++◌, length, map, flat_map, Option, Some, None, refl, sym, ap, ◌∙◌, append-nil, add-zero}
-use Rattle.std.specs.Option.{option_map_or}
-use Rattle.std.proofs.lemmas.List.Folds.{flat_map-map}
-use Rattle.pct_model.specs.declared.transition.Transition.{Transition}
-use Rattle.pct_model.specs.Actions.{for_each}
+use Rattle.pct_names.proofs.Names.{◌+◌, ◌++◌, [], ap, Bool, cond, false, flat_map, flat_map-map, for_each, length, List, map, None, Option}
+use Rattle.pct_names.proofs.Names.{option_map_or, refl, Some, sym, Transition, true, ℕ, ◌∙◌, ◌∷◌, ◌≡◌}
+use Rattle.std.proofs.Common.{append-nil, add-zero}
 use Rattle.pct_engine_laws.specs.Seen.{SeenProcess, own_kept, other_kept, own_process_seen, other_process_seen, is_live_seen, child_seen_by, children_seen, process_seen, processes_kept}
 use Rattle.pct_engine_laws.proofs.ListFacts.{flat_map_agree}
 use Rattle.pct_machine.specs.declared.changes.Change.{Change}

@@ -1,6 +1,6 @@
 -- The places of the processes after a change of the list that makes no process.
-use Rattle.std.proofs.Common.{◌≡◌, ℕ, ◌<◌, ◌≤◌, Bool, true, false, cond, List, [], ◌∷◌, ◌++◌, length, take, map, flat_map, Some, is_some, nat_eq, ◌&&◌, refl, sym, ◌∙◌, subst, arith}
-use Rattle.pct_model.specs.declared.process.Relative.{Relative}
+use Rattle.pct_names.proofs.Names.{◌&&◌, ◌++◌, ◌<◌, [], arith, Bool, cond, false, flat_map, is_some, length, List, map, nat_eq, refl}
+use Rattle.pct_names.proofs.Names.{Relative, Some, subst, sym, take, true, ℕ, ◌∙◌, ◌∷◌, ◌≡◌, ◌≤◌}
 use Rattle.pct_engine_laws.specs.Seen.{SeenProcess, own_kept, other_kept, is_live_seen, relative_in}
 use Rattle.pct_machine.specs.declared.changes.Change.{Change}
 use Rattle.pct_machine.specs.declared.changes.Change.TheVariants as change

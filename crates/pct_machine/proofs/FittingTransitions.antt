@@ -1,21 +1,8 @@
 -- Each transition that a thread of a process takes fits the process.
-use Rattle.std.proofs.Common.{◌≡◌, ℕ, true, false, List, length, Option, Some, None, refl, sym, ap, ◌∙◌, subst}
-use Rattle.std.specs.Prelude.{IfSome, is_some, is_none, nat_eq}
-use Rattle.std.specs.List.{list_any}
-use Rattle.std.proofs.lemmas.Bool.{false≢true, true≢false, and_parts, ltb-true}
-use Rattle.std.proofs.lemmas.Option.{same_Some}
-use Rattle.pct_model.specs.declared.script.Script.{Script}
-use Rattle.pct_model.specs.declared.schedule.Alt.{Alt}
-use Rattle.pct_model.specs.declared.state.Status.{Status}
-use Rattle.pct_model.specs.declared.statement.Stmt.{Stmt}
-use Rattle.pct_model.specs.declared.transition.Transition.{Transition}
-use Rattle.pct_model.specs.ChoiceTable.{offers}
-use Rattle.pct_model.specs.Keys.{Key}
-use Rattle.pct_model.specs.NextStatement.{NextStatement, next_of, body_at}
-use Rattle.pct_model.specs.OtherProcesses.{Family}
-use Rattle.pct_model.specs.OtherThreads.{Others}
-use Rattle.pct_model.specs.ThreadSlots.{is_ended_status}
-use Rattle.pct_model.specs.World.{Thread}
+use Rattle.pct_names.proofs.Names.{Alt, and_parts, ap, body_at, false, false≢true, Family, IfSome, is_ended_status, is_none, is_some, Key}
+use Rattle.pct_names.proofs.Names.{length, List, list_any, nat_eq, next_of, NextStatement, None, offers, Option, Others, refl, same_Some}
+use Rattle.pct_names.proofs.Names.{Script, Some, Status, Stmt, subst, sym, Thread, Transition, true, ℕ, ◌∙◌, ◌≡◌}
+use Rattle.std.proofs.lemmas.Bool.{true≢false, ltb-true}
 use Rattle.pct_engine_laws.specs.Fitting.{AllFit}
 use Rattle.pct_engine_laws.specs.SeenSteps.{thread_with, new_ids_from, others_in, choices_in, transition_in}
 use Rattle.pct_transition_cases.proofs.CaseOfTransition.{case_of}

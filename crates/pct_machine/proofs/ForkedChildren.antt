@@ -1,28 +1,14 @@
 -- The change of the list of processes that a transition makes can be made: a child has the next id, there is room for it, and the thread
 -- that forks holds its slot.
-use Rattle.std.proofs.Common.{◌≡◌, ℕ, suc, ◌<◌, Bool, true, false, not, ◌&&◌, ◌||◌, cond, List, [], ◌∷◌, map, length, Option, Some, None, refl, sym, ap, ◌∙◌, subst}
-use Rattle.std.specs.Prelude.{IfSome, nat_eq, nat_lt, slice_get, find, position, option_map, option_and_then}
-use Rattle.std.proofs.lemmas.Bool.{and_parts, ltb-true}
-use Rattle.std.proofs.lemmas.List.{length-map}
-use Rattle.std.proofs.lemmas.Option.{slice_get-map, option_and_then_some, cond_some}
+use Rattle.pct_names.proofs.Names.{◌&&◌, ◌<◌, [], acts, and_parts, ap, body_at, Bool, cond, cond_some, Config, Entry, false, Family}
+use Rattle.pct_names.proofs.Names.{family_among, find, for_each, holds_slot, IfSome, is_ended_status, is_live_thread, length, length-map}
+use Rattle.pct_names.proofs.Names.{List, map, moved, named_after, nat_eq, nat_lt, next_of, NextStatement, None, not, offers, Option}
+use Rattle.pct_names.proofs.Names.{option_and_then, option_and_then_some, option_map, Others, Parent, pid_after, position, refl, Relative}
+use Rattle.pct_names.proofs.Names.{Script, SharedState, slice_get, slice_get-map, slot_of, Some, Status, Stmt, subst, suc, sym, Thread}
+use Rattle.pct_names.proofs.Names.{thread_after, thread_at, thread_moved, Transition, true, ◌||◌, ℕ, ◌∙◌, ◌∷◌, ◌≡◌}
+use Rattle.std.proofs.lemmas.Bool.{ltb-true}
 use Rattle.pct_model.specs.declared.event.What.TheVariants as what
-use Rattle.pct_model.specs.declared.process.Relative.{Relative}
-use Rattle.pct_model.specs.declared.schedule.Config.{Config}
-use Rattle.pct_model.specs.declared.schedule.Entry.{Entry}
-use Rattle.pct_model.specs.declared.script.Script.{Script}
-use Rattle.pct_model.specs.declared.state.Phase.TheVariants.{Parent}
-use Rattle.pct_model.specs.declared.state.Status.{Status}
-use Rattle.pct_model.specs.declared.statement.Stmt.{Stmt}
 use Rattle.pct_model.specs.declared.transition.Action.TheVariants as action
-use Rattle.pct_model.specs.declared.transition.Transition.{Transition}
-use Rattle.pct_model.specs.Actions.{thread_at, thread_after, named_after, for_each, moved, thread_moved}
-use Rattle.pct_model.specs.ChoiceTable.{offers}
-use Rattle.pct_model.specs.NextStatement.{NextStatement, next_of, body_at}
-use Rattle.pct_model.specs.OtherProcesses.{Family, pid_after, family_among}
-use Rattle.pct_model.specs.OtherThreads.{Others}
-use Rattle.pct_model.specs.ThreadSlots.{is_ended_status, holds_slot, slot_of, is_live_thread}
-use Rattle.pct_model.specs.Transitions.{acts}
-use Rattle.pct_model.specs.World.{Thread, SharedState}
 use Rattle.pct_transition_cases.proofs.CaseOfTransition.{case_of}
 use Rattle.pct_transition_cases.proofs.TransitionCases.{TransitionCase, process_forked}
 use Rattle.pct_engine_laws.specs.Seen.{SeenSlot, SeenProcess, relative_in, slot_after, slots_moved, process_seen, is_live_seen}

@@ -1,10 +1,9 @@
 -- The places of the processes after a fork: the child is on the first free one.
-use Rattle.std.proofs.Common.{◌≡◌, ℕ, zero, suc, ◌+◌, ◌<◌, ◌≤◌, Bool, true, cond, List, [], ◌∷◌, ◌++◌, length, take, drop, map, slice_set, get_or, Some, refl, sym, ap, ◌∙◌, append-nil, subst, arith}
-use Rattle.std.specs.Prelude.{slice_get, position}
-use Rattle.std.proofs.lemmas.List.{length-take-le, get_or-take, drop_all, take_all}
-use Rattle.std.proofs.Math.Seq.{take-append-add}
-use Rattle.std.proofs.lemmas.Option.{none-some, same_Some, slice_get-get_or}
-use Rattle.pct_model.specs.declared.process.Relative.{Relative}
+use Rattle.pct_names.proofs.Names.{◌+◌, ◌++◌, ◌<◌, [], ap, arith, Bool, cond, drop, drop_all, get_or, get_or-take, length, List, map}
+use Rattle.pct_names.proofs.Names.{none-some, position, refl, Relative, same_Some, slice_get, slice_get-get_or, slice_set, Some, subst, suc}
+use Rattle.pct_names.proofs.Names.{sym, take, take-append-add, take_all, true, zero, ℕ, ◌∙◌, ◌∷◌, ◌≡◌, ◌≤◌}
+use Rattle.std.proofs.Common.{append-nil}
+use Rattle.std.proofs.lemmas.List.{length-take-le}
 use Rattle.pct_engine_laws.specs.Seen.{SeenProcess, is_live_seen, child_seen, relative_in}
 use Rattle.pct_machine.specs.Places.{ProcessList, RiseWithin, AreSound}
 use Rattle.pct_machine.specs.ProcessSteps.{HasThread}

@@ -1,12 +1,8 @@
 -- The slots of threads, in a process where the threads on each slot hold it.
-use Rattle.std.proofs.Common.{◌≡◌, ℕ, Bool, true, false, List, [], ◌∷◌, length, Option, Some, None, refl, sym, ap, ◌∙◌, cond, inl, inr}
-use Rattle.std.specs.Prelude.{All, nat_eq, slice_get, is_some, find, option_map, option_and_then}
-use Rattle.std.proofs.lemmas.Bool.{cases_lt, eq-eqb, eqb-true, false≢true}
-use Rattle.std.proofs.lemmas.List.{get_or_past}
-use Rattle.std.proofs.lemmas.List.Elements.{All-head}
-use Rattle.std.proofs.lemmas.Option.{none-some, same_Some, slice_get-get_or, option_and_then_some}
-use Rattle.pct_model.specs.ThreadSlots.{slot_of}
-use Rattle.pct_model.specs.World.{Thread}
+use Rattle.pct_names.proofs.Names.{[], All, All-head, ap, Bool, cases_lt, cond, false, false≢true, find, get_or_past, inl, inr, is_some}
+use Rattle.pct_names.proofs.Names.{length, List, nat_eq, None, none-some, Option, option_and_then, option_and_then_some, option_map, refl}
+use Rattle.pct_names.proofs.Names.{same_Some, slice_get, slice_get-get_or, slot_of, Some, sym, Thread, true, ℕ, ◌∙◌, ◌∷◌, ◌≡◌}
+use Rattle.std.proofs.lemmas.Bool.{eq-eqb, eqb-true}
 use Rattle.pct_engine_laws.specs.Seen.{SeenSlot}
 use Rattle.pct_engine_laws.specs.SeenSteps.{thread_on, thread_with}
 use Rattle.pct_process.specs.ProcessViews.{first_of, slot_on, thread_on_slot, HoldsThread, HoldsOneSlot}

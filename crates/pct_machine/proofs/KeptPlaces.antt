@@ -1,9 +1,10 @@
 -- The places that are kept, of those from the first on: they become the first ones, in their order.
-use Rattle.std.proofs.Common.{◌≡◌, ℕ, ◌+◌, ◌<◌, ◌≤◌, List, [], ◌∷◌, ◌++◌, length, take, drop, flat_map, slice_set, get_or, sym, ap, ◌∙◌, append-nil, subst, arith}
-use Rattle.std.specs.List.{swap}
-use Rattle.std.proofs.lemmas.List.{take_more, take_more_set, take-set-le, drop_more, drop-set-lt, get_or-set_same, length-set}
-use Rattle.std.proofs.lemmas.List.Edits.{swap_is}
-use Rattle.std.proofs.lemmas.Grind.{flat_map-append, drop_more_same}
+use Rattle.pct_names.proofs.Names.{◌+◌, ◌++◌, ◌<◌, [], ap, arith, drop, drop-set-lt, drop_more, drop_more_same, flat_map, get_or, length}
+use Rattle.pct_names.proofs.Names.{List, slice_set, subst, swap, swap_is, sym, take, take-set-le, take_more, take_more_set, ℕ, ◌∙◌, ◌∷◌}
+use Rattle.pct_names.proofs.Names.{◌≡◌, ◌≤◌}
+use Rattle.std.proofs.Common.{append-nil}
+use Rattle.std.proofs.lemmas.List.{get_or-set_same, length-set}
+use Rattle.std.proofs.lemmas.Grind.{flat_map-append}
 use Rattle.pct_engine_laws.specs.Seen.{SeenProcess}
 
 -- those before an index were gone through

@@ -1,18 +1,9 @@
 -- The entry of a thread by a choice that it has is legal.
-use Rattle.std.proofs.Common.{◌≡◌, ℕ, ◌%◌, zero, suc, true, false, not, cond, List, [], ◌∷◌, length, Some, None, refl, sym, ap, ◌∙◌}
-use Rattle.std.specs.Prelude.{nat_eq, slice_get, is_some, option_and_then}
-use Rattle.std.specs.List.{list_any}
-use Rattle.std.proofs.lemmas.Bool.{eq-eqb, and_from, or_left, or_right}
-use Rattle.std.proofs.lemmas.Option.{none-some, same_Some}
-use Rattle.pct_model.specs.declared.script.Script.{Script}
-use Rattle.pct_model.specs.declared.schedule.Alt.{Alt}
+use Rattle.pct_names.proofs.Names.{◌%◌, [], Alt, and_from, ap, cond, Config, Entry, false, Family, is_some, item_at, length, List, list_any}
+use Rattle.pct_names.proofs.Names.{nat_eq, None, none-some, not, offers, option_and_then, or_left, or_right, refl, same_choice, same_Some}
+use Rattle.pct_names.proofs.Names.{Script, slice_get, Some, suc, sym, Thread, true, zero, ℕ, ◌∙◌, ◌∷◌, ◌≡◌}
+use Rattle.std.proofs.lemmas.Bool.{eq-eqb}
 use Rattle.pct_model.specs.declared.schedule.Alt.TheVariants as alt
-use Rattle.pct_model.specs.declared.schedule.Config.{Config}
-use Rattle.pct_model.specs.declared.schedule.Entry.{Entry}
-use Rattle.pct_model.specs.ChoiceTable.{same_choice, offers}
-use Rattle.pct_model.specs.Chosen.{item_at}
-use Rattle.pct_model.specs.OtherProcesses.{Family}
-use Rattle.pct_model.specs.World.{Thread}
 use Rattle.pct_engine_laws.specs.Seen.{SeenProcess, is_live_seen}
 use Rattle.pct_engine_laws.specs.SeenSteps.{thread_with, choices_in, transition_in, if_offered_in}
 use Rattle.pct_process.specs.ProcessViews.{thread_on_slot}

@@ -1,18 +1,11 @@
 -- The entries that a machine accepts are those that are legal.
-use Rattle.std.proofs.Common.{◌≡◌, ℕ, ◌<◌, ◌≤◌, not, is_some, take, arith, Bool, true, false, ◌||◌, nat_eq, [], ◌∷◌, ◌&&◌, cond, List, length, Some, None, get_or, refl, sym, ap, ◌∙◌, subst}
-use Rattle.std.specs.Prelude.{nat_le, nat_lt, is_none, option_and_then, find, slice_get, position, Option}
-use Rattle.std.specs.List.{position_or_len, list_any}
+use Rattle.pct_names.proofs.Names.{◌&&◌, ◌<◌, [], and_from, and_parts, ap, arith, Bool, cond, cond-true, Config, Entry, false, false≢true}
+use Rattle.pct_names.proofs.Names.{Family, find, find_at, get_or, get_or-take, get_or_from_slice_get, is_none, is_some, length, length-take}
+use Rattle.pct_names.proofs.Names.{List, list_any, nat_eq, nat_le, nat_lt, None, none-some, not, Option, option_and_then, position}
+use Rattle.pct_names.proofs.Names.{position-Some, position_or_len, refl, same_Some, Script, slice_get, slice_get-get_or, slice_get_past}
+use Rattle.pct_names.proofs.Names.{Some, subst, sym, take, Transition, true, ◌||◌, ℕ, ◌∙◌, ◌∷◌, ◌≡◌, ◌≤◌}
 use Rattle.std.proofs.Math.Bool.{or-false}
-use Rattle.std.proofs.lemmas.Bool.{cond-true, and_from, and_parts, eqb-true, ne_eqb, false≢true, ltb-false, le-leb}
-use Rattle.std.proofs.lemmas.List.{length-take, get_or-take}
-use Rattle.std.proofs.lemmas.Option.{none-some, same_Some, slice_get-get_or, slice_get_past, get_or_from_slice_get}
-use Rattle.std.proofs.lemmas.List.Folds.{find_at}
-use Rattle.std.proofs.lemmas.List.Quantifiers.{position-Some}
-use Rattle.pct_model.specs.declared.script.Script.{Script}
-use Rattle.pct_model.specs.declared.schedule.Config.{Config}
-use Rattle.pct_model.specs.declared.schedule.Entry.{Entry}
-use Rattle.pct_model.specs.declared.transition.Transition.{Transition}
-use Rattle.pct_model.specs.OtherProcesses.{Family}
+use Rattle.std.proofs.lemmas.Bool.{eqb-true, ne_eqb, ltb-false, le-leb}
 use Rattle.pct_engine_laws.specs.Seen.{SeenProcess, Seen, is_live_seen, family_in}
 use Rattle.pct_engine_laws.specs.SeenSteps.{seen_transition}
 use Rattle.pct_machine.specs.ProcessSteps.{taken_in}

@@ -1,11 +1,10 @@
 -- What a number chooses of candidates and of others before them, of one process after the other.
-use Rattle.std.proofs.Common.{◌≡◌, ℕ, zero, suc, ◌+◌, ◌-◌, ◌<◌, ◌≤◌, ◌%◌, Bool, true, false, cond, List, [], ◌∷◌, ◌++◌, length, Option, None, refl, sym, ap, ◌∙◌, arith}
-use Rattle.std.specs.Prelude.{nat_lt, slice_get, option_and_then}
+use Rattle.pct_names.proofs.Names.{◌%◌, ◌+◌, ◌++◌, ◌-◌, ◌<◌, [], ap, arith, Bool, Candidate, cond, Entry, entry_for, false, le-ltb, length}
+use Rattle.pct_names.proofs.Names.{List, nat_lt, None, Option, option_and_then, refl, slice_get, suc, sym, true, zero, ℕ, ◌∙◌, ◌∷◌, ◌≡◌}
+use Rattle.pct_names.proofs.Names.{◌≤◌}
 use Rattle.std.proofs.Math.Nat.{mod-lt, add-zero}
-use Rattle.std.proofs.lemmas.Bool.{lt-ltb, le-ltb, ltb-true, ltb-false}
+use Rattle.std.proofs.lemmas.Bool.{lt-ltb, ltb-true, ltb-false}
 use Rattle.std.proofs.lemmas.List.{length-append}
-use Rattle.pct_model.specs.declared.schedule.Entry.{Entry}
-use Rattle.pct_model.specs.Chosen.{Candidate, entry_for}
 use Rattle.pct_machine.specs.declared.scheduler.Draw.{Draw}
 use Rattle.pct_machine.specs.declared.scheduler.Pick.{Pick}
 use Rattle.pct_machine.specs.declared.scheduler.Pick.TheVariants.{Here, Before}

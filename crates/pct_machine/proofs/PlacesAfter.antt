@@ -1,11 +1,8 @@
 -- The places of the processes after a step of a thread.
-use Rattle.std.proofs.Common.{◌≡◌, ℕ, zero, suc, ◌<◌, ◌≤◌, Bool, true, false, cond, List, [], ◌∷◌, take, map, slice_set, Some, refl, sym, ap, ◌∙◌, subst, arith}
-use Rattle.std.specs.Prelude.{slice_get}
-use Rattle.std.proofs.lemmas.List.{length-set, set-get_or}
-use Rattle.std.proofs.Math.Seq.{take-set-lt}
-use Rattle.std.proofs.lemmas.Option.{none-some, same_Some}
-use Rattle.pct_model.specs.declared.process.Relative.{Relative}
-use Rattle.pct_model.specs.declared.transition.Transition.{Transition}
+use Rattle.pct_names.proofs.Names.{◌<◌, [], ap, arith, Bool, cond, false, List, map, none-some, refl, Relative, same_Some, set-get_or}
+use Rattle.pct_names.proofs.Names.{slice_get, slice_set, Some, subst, suc, sym, take, take-set-lt, Transition, true, zero, ℕ, ◌∙◌, ◌∷◌, ◌≡◌}
+use Rattle.pct_names.proofs.Names.{◌≤◌}
+use Rattle.std.proofs.lemmas.List.{length-set}
 use Rattle.pct_engine_laws.specs.Seen.{SeenProcess, process_seen, is_live_seen, relative_in}
 use Rattle.pct_machine.specs.Places.{ProcessList, RiseWithin, AreSound}
 use Rattle.pct_machine.specs.ListChanges.{process_moved, list_moved}

@@ -1,23 +1,14 @@
 -- The threads of several processes that are ready: the verdict, and the choice of the scheduler.
-use Rattle.std.proofs.Common.{◌≡◌, ℕ, suc, ◌+◌, ◌-◌, ◌%◌, ◌≤◌, Bool, true, false, not, ◌||◌, cond, List, [], ◌∷◌, ◌++◌, map, flat_map, length, Option, Some, None, refl, sym, ap, ◌∙◌, arith}
-use Rattle.std.specs.Prelude.{nat_eq, slice_get, is_some, option_map, option_and_then, IfSome}
-use Rattle.std.specs.List.{list_all, list_any}
+use Rattle.pct_names.proofs.Names.{◌%◌, ◌+◌, ◌++◌, ◌-◌, [], Alt, ap, arith, Bool, Candidate, cond, Config, Entry, entry_for, false, Family}
+use Rattle.pct_names.proofs.Names.{flat_map, IfSome, is_some, item_at, length, length-map, List, list_all, list_any, map, nat_eq, None}
+use Rattle.pct_names.proofs.Names.{none-some, not, Option, option_and_then, option_map, refl, same_Some, Script, slice_get, slice_get-map}
+use Rattle.pct_names.proofs.Names.{Some, suc, sym, true, Verdict, Why, ◌||◌, ℕ, ◌∙◌, ◌∷◌, ◌≡◌, ◌≤◌}
 use Rattle.std.proofs.Math.Nat.{zero-add}
-use Rattle.std.proofs.lemmas.List.{length-map}
-use Rattle.std.proofs.lemmas.Option.{slice_get-map, none-some, same_Some}
-use Rattle.pct_model.specs.declared.script.Script.{Script}
-use Rattle.pct_model.specs.declared.schedule.Config.{Config}
-use Rattle.pct_model.specs.declared.schedule.Entry.{Entry}
-use Rattle.pct_model.specs.declared.stop.Why.{Why}
-use Rattle.pct_model.specs.declared.stop.Verdict.{Verdict}
 use Rattle.pct_model.specs.declared.stop.Verdict.TheVariants as verdict
-use Rattle.pct_model.specs.Chosen.{Candidate, item_at, entry_for}
-use Rattle.pct_model.specs.OtherProcesses.{Family}
 use Rattle.pct_engine_laws.specs.Seen.{SeenProcess, Seen, family_in}
 use Rattle.pct_engine_laws.specs.SeenSteps.{ready_in, candidate_in, has_ready_in, seen_candidates, seen_chosen, seen_verdict, seen_verdict_by}
 use Rattle.pct_engine_laws.proofs.ListFacts.{then-map}
 use Rattle.pct_process.specs.ProcessViews.{thread_on_slot}
-use Rattle.pct_model.specs.declared.schedule.Alt.{Alt}
 use Rattle.pct_machine.specs.declared.scheduler.Draw.{Draw}
 use Rattle.pct_machine.specs.declared.scheduler.Pick.{Pick}
 use Rattle.pct_machine.specs.declared.scheduler.Pick.TheVariants.{Here, Before}

@@ -1,12 +1,10 @@
 -- The threads that are ready, slot by slot.
-use Rattle.std.proofs.Common.{◌≡◌, ℕ, zero, suc, ◌+◌, ◌<◌, ◌≤◌, Bool, true, false, ◌||◌, not, ◌&&◌, cond, List, [], ◌∷◌, ◌++◌, map, drop, length, Option, Some, None, refl, sym, ap, ◌∙◌, inl, inr, arith}
-use Rattle.std.specs.Prelude.{All, filter, nat_lt, slice_get, is_some, option_map, option_and_then, IfSome}
-use Rattle.std.specs.List.{range_with_len, list_any}
-use Rattle.std.specs.Option.{option_map_or, option_to_list}
-use Rattle.std.proofs.lemmas.Bool.{cases_lt, lt-ltb, false≢true}
-use Rattle.std.proofs.lemmas.List.{length-map, drop_more, drop_all, get_or_past}
-use Rattle.std.proofs.lemmas.Option.{slice_get-map, none-some, same_Some}
-use Rattle.pct_model.specs.World.{Thread}
+use Rattle.pct_names.proofs.Names.{◌&&◌, ◌+◌, ◌++◌, ◌<◌, [], All, ap, arith, Bool, cases_lt, cond, drop, drop_all, drop_more, false}
+use Rattle.pct_names.proofs.Names.{false≢true, filter, get_or_past, IfSome, inl, inr, is_some, length, length-map, List, list_any, map}
+use Rattle.pct_names.proofs.Names.{nat_lt, None, none-some, not, Option, option_and_then, option_map, option_map_or, range_with_len, refl}
+use Rattle.pct_names.proofs.Names.{same_Some, slice_get, slice_get-map, Some, suc, sym, Thread, true, zero, ◌||◌, ℕ, ◌∙◌, ◌∷◌, ◌≡◌, ◌≤◌}
+use Rattle.std.specs.Option.{option_to_list}
+use Rattle.std.proofs.lemmas.Bool.{lt-ltb}
 use Rattle.pct_set.specs.Slots.{slots_where}
 use Rattle.pct_engine_laws.specs.Seen.{SeenSlot, threads_on}
 use Rattle.pct_process.specs.ProcessViews.{first_of, thread_on_slot}

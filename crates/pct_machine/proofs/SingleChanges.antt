@@ -1,15 +1,11 @@
 -- A transition of which at most one action changes the list of processes: what its actions leave of a process, and which child they make,
 -- by this change.
-use Rattle.std.proofs.Common.{◌≡◌, ℕ, Bool, true, false, not, cond, List, [], ◌∷◌, ◌++◌, flat_map, Option, Some, None, refl, sym, ap, ◌∙◌}
-use Rattle.std.specs.Prelude.{if◌then◌else◌}
-use Rattle.std.specs.List.{list_any}
-use Rattle.std.specs.Option.{option_map_or}
-use Rattle.std.proofs.lemmas.Bool.{true≢false, false≢true, or_parts, not-true}
+use Rattle.pct_names.proofs.Names.{◌++◌, [], Action, ap, Bool, cond, false, false≢true, flat_map, for_each, if◌then◌else◌, List, list_any}
+use Rattle.pct_names.proofs.Names.{None, not, not-true, Option, option_map_or, or_parts, refl, Some, sym, true, ℕ, ◌∙◌, ◌∷◌, ◌≡◌}
+use Rattle.std.proofs.lemmas.Bool.{true≢false}
 use Rattle.std.proofs.lemmas.List.{append-nil}
 use Rattle.std.proofs.Math.Path.{fun_ext}
-use Rattle.pct_model.specs.declared.transition.Action.{Action}
 use Rattle.pct_model.specs.declared.transition.Action.TheVariants as action
-use Rattle.pct_model.specs.Actions.{for_each}
 use Rattle.pct_engine_laws.specs.Seen.{SeenProcess, own_kept, other_kept, child_seen_by}
 use Rattle.pct_machine.specs.declared.changes.Change.{Change}
 use Rattle.pct_machine.specs.declared.changes.Change.TheVariants as change

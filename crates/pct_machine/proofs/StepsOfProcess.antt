@@ -1,13 +1,6 @@
 -- A transition that an entry takes fits the process.
-use Rattle.std.proofs.Common.{◌≡◌, ℕ, true, length, Option, Some, None, refl, sym, ◌∙◌, subst}
-use Rattle.std.specs.Prelude.{is_some}
-use Rattle.std.proofs.lemmas.Bool.{false≢true}
-use Rattle.pct_model.specs.declared.script.Script.{Script}
-use Rattle.pct_model.specs.declared.schedule.Config.{Config}
-use Rattle.pct_model.specs.declared.schedule.Entry.{Entry}
-use Rattle.pct_model.specs.declared.transition.Transition.{Transition}
-use Rattle.pct_model.specs.OtherProcesses.{Family}
-use Rattle.pct_model.specs.World.{Thread}
+use Rattle.pct_names.proofs.Names.{Config, Entry, false≢true, Family, is_some, length, None, Option, refl, Script, Some, subst, sym, Thread}
+use Rattle.pct_names.proofs.Names.{Transition, true, ℕ, ◌∙◌, ◌≡◌}
 use Rattle.pct_engine_laws.specs.Fitting.{AllFit}
 use Rattle.pct_engine_laws.specs.SeenSteps.{thread_with, transition_in}
 use Rattle.pct_process.specs.ProcessViews.{thread_on_slot, HoldsThread, ProcessData}

@@ -1,19 +1,14 @@
 -- The configuration of a run that words ask for is within the limits, and so are its workers and their turns.
-use Rattle.std.proofs.Common.{◌≡◌, ℕ, ◌≤◌, Bool, true, false, ◌&&◌, cond, List, [], ◌∷◌, Option, Some, None, refl, sym, subst, arith, nat_le, leb-true, le-leb}
-use Rattle.std.specs.Prelude.{IfSome, bytes_eq, option_and_then}
-use Rattle.std.specs.List.{list_all, list_any}
-use Rattle.std.specs.Str.Parse.{digits_value}
-use Rattle.std.proofs.lemmas.Bool.{and_parts}
-use Rattle.std.proofs.lemmas.Option.{none-some, same_Some, cond_some}
+use Rattle.pct_names.proofs.Names.{◌&&◌, ◌>>=◌, [], all_options, and_parts, arith, Bool, bytes_eq, cond, cond_some, DEFAULT_BUDGET}
+use Rattle.pct_names.proofs.Names.{DEFAULT_PASSES, DEFAULT_SEED, DEFAULT_SLOTS, DEFAULT_WORKERS, digits_value, false, given_after}
+use Rattle.pct_names.proofs.Names.{GivenOption, greatest_value, HasWorkers, IfSome, is_config, is_named, keyword_text, least_value, List}
+use Rattle.pct_names.proofs.Names.{list_all, list_any, nat_le, None, none-some, number_by, number_given, numbers_given, Option}
+use Rattle.pct_names.proofs.Names.{option_and_then, options_of, refl, run_options, RunOption, RunOptions, same_Some, Some, subst, sym, true}
+use Rattle.pct_names.proofs.Names.{values_given, ℕ, ◌∷◌, ◌≡◌, ◌≤◌}
+use Rattle.std.proofs.Common.{leb-true, le-leb}
 use Rattle.pct_model.specs.declared.keyword.Keyword.TheVariants as keyword
-use Rattle.pct_model.specs.declared.limits.TheConstants.{DEFAULT_BUDGET, DEFAULT_PASSES, DEFAULT_SLOTS, DEFAULT_SEED, DEFAULT_WORKERS}
-use Rattle.pct_model.specs.declared.run_options.RunOption.{RunOption}
 use Rattle.pct_model.specs.declared.run_options.RunOption.TheVariants as option
-use Rattle.pct_model.specs.declared.run_options.RunOptions.{RunOptions}
-use Rattle.pct_model.specs.Keywords.{keyword_text}
-use Rattle.pct_model.specs.Run.{is_config}
-use Rattle.pct_model.specs.Lines.{◌>>=◌}
-use Rattle.pct_model.specs.RunOptions.{GivenOption, HasWorkers, all_options, given_after, greatest_value, is_named, is_value, least_value, number_by, number_given, numbers_given, options_of, run_options, values_given}
+use Rattle.pct_model.specs.RunOptions.{is_value}
 
 -- a value comes only from the branch that has one
 of_true : {A : Type 0} (b : Bool) (o : Option A) (x : A) → cond b o None ≡ Some x → o ≡ Some x

@@ -1,11 +1,9 @@
 -- The first option of some words, and the options of the words after it.
-use Rattle.std.proofs.Common.{◌≡◌, ℕ, suc, ◌<◌, List, [], ◌∷◌, length, take, drop, Option, Some, None, refl, sym, ap, subst, arith, add-one, position, option_map, Bor}
-use Rattle.std.specs.Prelude.{MatchOption, nat_eq}
-use Rattle.std.specs.List.{position_or_len, before_first, after_first}
-use Rattle.std.specs.Option.{option_map_or}
-use Rattle.std.proofs.lemmas.Bool.{le-ltb, lt-ltb}
-use Rattle.std.proofs.lemmas.Option.{none-some, same_Some}
-use Rattle.pct_model.specs.RunOptions.{GivenOption, given_after}
+use Rattle.pct_names.proofs.Names.{◌<◌, [], add-one, after_first, ap, arith, before_first, drop, given_after, GivenOption, le-ltb, length}
+use Rattle.pct_names.proofs.Names.{List, MatchOption, nat_eq, None, none-some, Option, option_map, option_map_or, position, position_or_len}
+use Rattle.pct_names.proofs.Names.{refl, same_Some, Some, subst, suc, sym, take, ℕ, ◌∷◌, ◌≡◌}
+use Rattle.std.proofs.Common.{Bor}
+use Rattle.std.proofs.lemmas.Bool.{lt-ltb}
 use Rattle.pct_options.specs.FirstOption.{split_name, option_in, first_option}
 
 -- the index of the first `=`, or the length of the word

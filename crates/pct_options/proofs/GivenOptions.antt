@@ -1,15 +1,11 @@
 -- What options were given, and what further options give, is what all of them give.
-use Rattle.std.proofs.Common.{◌≡◌, ℕ, ◌<◌, Bool, true, false, ◌||◌, cond, List, [], ◌∷◌, length, Option, Some, None, refl, sym, ap, ◌∙◌, option_map}
-use Rattle.std.specs.Prelude.{find, is_some, option_and_then, unwrap_or}
-use Rattle.std.specs.List.{list_all, list_any}
-use Rattle.std.specs.Str.Parse.{digits_value}
-use Rattle.std.proofs.lemmas.Option.{none-some, same_Some}
-use Rattle.pct_model.specs.declared.limits.TheConstants.{DEFAULT_BUDGET, DEFAULT_PASSES, DEFAULT_SLOTS, DEFAULT_SEED, DEFAULT_WORKERS}
-use Rattle.pct_model.specs.declared.run_options.RunOption.{RunOption}
+use Rattle.pct_names.proofs.Names.{◌<◌, ◌>>=◌, [], all_options, ap, Bool, cond, DEFAULT_BUDGET, DEFAULT_PASSES, DEFAULT_SEED, DEFAULT_SLOTS}
+use Rattle.pct_names.proofs.Names.{DEFAULT_WORKERS, digits_value, false, find, given_after, GivenOption, is_named, is_some, length, List}
+use Rattle.pct_names.proofs.Names.{list_all, list_any, None, none-some, number_by, Option, option_and_then, option_map, option_name}
+use Rattle.pct_names.proofs.Names.{options_of, refl, RunOption, RunOptions, same_Some, Some, sym, true, unwrap_or, values_given, ◌||◌, ℕ}
+use Rattle.pct_names.proofs.Names.{◌∙◌, ◌∷◌, ◌≡◌}
 use Rattle.pct_model.specs.declared.run_options.RunOption.TheVariants as option
-use Rattle.pct_model.specs.declared.run_options.RunOptions.{RunOptions}
-use Rattle.pct_model.specs.Lines.{◌>>=◌}
-use Rattle.pct_model.specs.RunOptions.{GivenOption, all_options, given_after, is_named, is_value, number_by, option_name, options_of, values_given}
+use Rattle.pct_model.specs.RunOptions.{is_value}
 use Rattle.pct_model.proofs.Bytes.{same_bytes}
 use Rattle.pct_options.specs.declared.given_values.GivenValues.{GivenValues}
 use Rattle.pct_options.specs.FirstOption.{first_option}

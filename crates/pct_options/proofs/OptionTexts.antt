@@ -1,16 +1,11 @@
 -- The value of an option is that of its text.
-use Rattle.std.proofs.Common.{◌≡◌, ℕ, ◌^◌, ◌<◌, ◌≤◌, Bool, true, false, not, ◌&&◌, cond, List, [], ◌∷◌, length, Option, Some, None, Result, Ok, Err, nat_le, refl, arith, rules, leb-true, le-leb}
-use Rattle.std.specs.Prelude.{option_and_then}
-use Rattle.std.specs.List.{list_all}
-use Rattle.std.specs.Result.{OkIff, result_ok}
-use Rattle.std.specs.Str.Parse.{ParsesUnsigned, digits_value}
-use Rattle.std.proofs.lemmas.Bool.{false≢true}
-use Rattle.std.proofs.lemmas.Str.Parse.{IsNumeralModel, numerals_by_value, parse_digits}
-use Rattle.pct_model.specs.declared.run_options.RunOption.{RunOption}
+use Rattle.pct_names.proofs.Names.{◌&&◌, ◌<◌, [], ◌^◌, arith, Bool, cond, digits_value, Err, false, false≢true, greatest_value, is_digit}
+use Rattle.pct_names.proofs.Names.{is_empty, IsNumeralModel, least_value, length, List, list_all, nat_le, None, not, numerals_by_value, Ok}
+use Rattle.pct_names.proofs.Names.{OkIff, Option, option_and_then, parse_digits, ParsesUnsigned, refl, Result, result_ok, rules, RunOption}
+use Rattle.pct_names.proofs.Names.{Some, true, ℕ, ◌∷◌, ◌≡◌, ◌≤◌}
+use Rattle.std.proofs.Common.{leb-true, le-leb}
 use Rattle.pct_model.specs.declared.run_options.RunOption.TheVariants as option
-use Rattle.pct_model.specs.LineParsing.{is_empty}
-use Rattle.pct_model.specs.Names.{is_digit}
-use Rattle.pct_model.specs.RunOptions.{is_value, least_value, greatest_value}
+use Rattle.pct_model.specs.RunOptions.{is_value}
 use Rattle.pct_options.specs.OptionTexts.{written_number, number_of, in_range, value_of}
 
 -- texts of digits are the numerals

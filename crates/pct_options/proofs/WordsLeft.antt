@@ -1,8 +1,7 @@
 -- The words that are left.
-use Rattle.std.proofs.Common.{◌≡◌, ◌==◌, ℕ, ◌<◌, true, false, List, [], ◌∷◌, length, map, Some, sym, arith, eqb-true}
-use Rattle.std.proofs.lemmas.Bool.{false≢true}
-use Rattle.std.proofs.lemmas.List.{length-map}
-use Rattle.pct_model.specs.RunOptions.{GivenOption}
+use Rattle.pct_names.proofs.Names.{◌<◌, ◌==◌, [], arith, false, false≢true, GivenOption, length, length-map, List, map, Some, sym, true, ℕ}
+use Rattle.pct_names.proofs.Names.{◌∷◌, ◌≡◌}
+use Rattle.std.proofs.Common.{eqb-true}
 use Rattle.pct_options.specs.declared.given_values.GivenValues.{GivenValues}
 use Rattle.pct_options.specs.FirstOption.{first_option}
 use Rattle.pct_options.specs.GivenValues.{numbers_with}

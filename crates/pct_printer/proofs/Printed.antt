@@ -1,23 +1,13 @@
 -- The bytes of a script's lines, in the order in which they are written.
-use Rattle.std.proofs.Common.{◌≡◌, ◌⊎◌, inl, inr, ℕ, suc, ◌+◌, ◌<◌, ◌≤◌, List, [], ◌∷◌, ◌++◌, Option, Some, None, length, get_or, drop, map, flat_map, refl, sym, ap, ◌∙◌, append_assoc, decimal, arith}
-use Rattle.std.specs.Prelude.{slice_get}
-use Rattle.std.specs.List.{join_with_byte}
-use Rattle.std.specs.Option.{option_map_or}
-use Rattle.std.proofs.Math.Seq.{drop-cons}
-use Rattle.std.proofs.lemmas.List.{append-nil, drop_all}
-use Rattle.std.proofs.lemmas.List.Concat.{flat_map-cons}
-use Rattle.std.proofs.lemmas.List.Folds.{flat_map-map}
+use Rattle.pct_names.proofs.Names.{◌+◌, ◌++◌, ◌<◌, [], ap, Argument, argument_text, argument_texts, ArgumentKind, arith, Contents, decimal}
+use Rattle.pct_names.proofs.Names.{declaration_line, drop, drop-cons, drop_all, flat_map, flat_map-cons, flat_map-map, Func, function_lines}
+use Rattle.pct_names.proofs.Names.{get_or, get_or_from_slice_get, inl, inr, join_with_byte, length, line_text, List, map, None, Option}
+use Rattle.pct_names.proofs.Names.{option_map_or, point_name, points, refl, Row, script_lines, SemDecl, slice_get, slice_get_cases}
+use Rattle.pct_names.proofs.Names.{slice_get_past, slice_get_within, Some, statement_words, suc, sym, text_of, ℕ, ◌∙◌, ◌∷◌, ◌≡◌, ◌≤◌, ◌⊎◌}
+use Rattle.std.proofs.Common.{append_assoc}
+use Rattle.std.proofs.lemmas.List.{append-nil}
 use Rattle.std.proofs.lemmas.Grind.{flat_map-append}
-use Rattle.std.proofs.lemmas.Option.{slice_get_within, get_or_from_slice_get, slice_get_past, slice_get_cases}
 use Rattle.pct_model.specs.declared.line_kind.SymbolKind.TheVariants as kind
-use Rattle.pct_model.specs.declared.line_kind.ArgumentKind.{ArgumentKind}
-use Rattle.pct_model.specs.declared.parsed_line.Argument.{Argument}
-use Rattle.pct_model.specs.declared.script.Func.{Func}
-use Rattle.pct_model.specs.declared.script.SemDecl.{SemDecl}
-use Rattle.pct_model.specs.Keywords.{line_text, text_of}
-use Rattle.pct_model.specs.Points.{Row, points, point_name}
-use Rattle.pct_model.specs.Contents.{Contents}
-use Rattle.pct_model.specs.Canon.{argument_text, argument_texts, statement_words, declaration_line, function_lines, script_lines}
 use Rattle.pct_printer.specs.Printing.{spaced, declarations_text, arguments_text, body_text, functions_text}
 
 -- words separated by spaces are the first word, and the others, each after a space

@@ -1,5 +1,5 @@
 -- Writes of concatenated texts.
-use Rattle.std.proofs.Common.{◌≡◌, ℕ, ◌+◌, ◌<◌, List, Option, Result, Ok, Err, length, get_or, drop, ap, subst}
+use Rattle.pct_names.proofs.Names.{◌+◌, ◌<◌, ap, drop, Err, get_or, length, List, Ok, Option, Result, subst, ℕ, ◌≡◌}
 use Rattle.std.specs.List.{flat_map}
 use Rattle.pct_io.specs.declared.failed.Failed.{Failed}
 use Rattle.pct_io.specs.Inners.{Inner}

@@ -1,16 +1,9 @@
 -- The first process before the first step is that of the initial state.
-use Rattle.std.proofs.Common.{◌≡◌, ℕ, zero, suc, ◌+◌, ◌*◌, ◌<◌, ◌≤◌, false, List, [], ◌∷◌, map, length, replicate, Option, Some, None, refl, sym, ap, ◌∙◌, arith}
-use native.Mathlib.Nat.{zero-mod}
-use Rattle.std.specs.Prelude.{slice_set}
-use Rattle.std.proofs.lemmas.List.{map-set, get_or-replicate, length-map, length-replicate}
-use Rattle.pct_model.specs.declared.limits.TheConstants.{MAX_DECLARED}
+use Rattle.pct_names.proofs.Names.{◌*◌, ◌+◌, ◌<◌, [], ap, arith, false, ForkHandlers, get_or-replicate, length, length-map}
+use Rattle.pct_names.proofs.Names.{length-replicate, List, Main, main_of, map, map-set, MAX_DECLARED, names_of, no_keys, no_values, None}
+use Rattle.pct_names.proofs.Names.{Option, refl, replicate, Script, SemDecl, slice_set, Some, suc, sym, zero, zero-mod, ℕ, ◌∙◌, ◌∷◌, ◌≡◌}
+use Rattle.pct_names.proofs.Names.{◌≤◌}
 use Rattle.pct_model.specs.declared.line_kind.SymbolKind.TheVariants as kind
-use Rattle.pct_model.specs.declared.process.ForkHandlers.{ForkHandlers}
-use Rattle.pct_model.specs.declared.script.Script.{Script}
-use Rattle.pct_model.specs.declared.script.SemDecl.{SemDecl}
-use Rattle.pct_model.specs.declared.state.FrameKind.TheVariants.{Main}
-use Rattle.pct_model.specs.Names.{names_of, main_of}
-use Rattle.pct_model.specs.Keys.{no_keys, no_values}
 use Rattle.pct_model.proofs.StaticFacts.{limits_kept}
 use Rattle.pct_threads.specs.Slots.{Held, Slot, unused, created, with_change, with_call_alone}
 use Rattle.pct_threads.specs.Tables.{next_id_at, on_held, with_created}

@@ -1,12 +1,10 @@
 -- The data of a child process, from the tables of its parent.
-use Rattle.std.proofs.Common.{◌≡◌, ℕ, ◌<◌, Bool, true, cond, List, [], ◌∷◌, map, length, Option, Some, None, refl, sym, ap, ◌∙◌, inl, inr, arith, length-set}
-use Rattle.std.specs.Prelude.{option_map, replicate}
-use Rattle.std.proofs.lemmas.Bool.{cases_eq, eq-eqb, ne_eqb}
-use Rattle.std.proofs.lemmas.List.{same_lists, get_or-map, get_or-set_same, get_or-set_other, length-map, length-replicate}
-use Rattle.std.proofs.lemmas.Option.{get_or_from_slice_get, none-some, same_Some}
-use Rattle.pct_model.specs.Actions.{replica_of}
-use Rattle.pct_model.specs.Keys.{KeyValues, no_values}
-use Rattle.pct_model.specs.World.{Thread}
+use Rattle.pct_names.proofs.Names.{◌<◌, [], ap, arith, Bool, cases_eq, cond, get_or_from_slice_get, inl, inr, KeyValues, length, length-map}
+use Rattle.pct_names.proofs.Names.{length-replicate, List, map, no_values, None, none-some, Option, option_map, refl, replica_of, replicate}
+use Rattle.pct_names.proofs.Names.{same_lists, same_Some, Some, sym, Thread, true, ℕ, ◌∙◌, ◌∷◌, ◌≡◌}
+use Rattle.std.proofs.Common.{length-set}
+use Rattle.std.proofs.lemmas.Bool.{eq-eqb, ne_eqb}
+use Rattle.std.proofs.lemmas.List.{get_or-map, get_or-set_same, get_or-set_other}
 use Rattle.pct_threads.specs.declared.record.Thread.{Thread as Record}
 use Rattle.pct_threads.specs.Slots.{Held, Slot, unused, is_occupied, freed, with_record, with_change}
 use Rattle.pct_threads.specs.Tables.{slot_at, held_at, is_occupied_at, thread_at, on_held, replica_of as threads_copied}

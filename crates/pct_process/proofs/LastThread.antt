@@ -1,10 +1,6 @@
 -- Whether each thread but one has ended, read from the tables of a process.
-use Rattle.std.proofs.Common.{◌≡◌, ℕ, Bool, true, false, ◌&&◌, ◌||◌, List, [], ◌∷◌, map, length, Option, Some, None, refl, sym, ◌∙◌, arith}
-use Rattle.std.specs.Prelude.{nat_eq}
-use Rattle.std.specs.List.{list_all}
-use Rattle.std.proofs.lemmas.List.Folds.{list_all-append}
-use Rattle.pct_model.specs.Keys.{KeyValues}
-use Rattle.pct_model.specs.World.{Thread}
+use Rattle.pct_names.proofs.Names.{◌&&◌, [], arith, Bool, false, KeyValues, length, List, list_all, list_all-append, map, nat_eq, None}
+use Rattle.pct_names.proofs.Names.{Option, refl, Some, sym, Thread, true, ◌||◌, ℕ, ◌∙◌, ◌∷◌, ◌≡◌}
 use Rattle.pct_threads.specs.Slots.{Held, Slot}
 use Rattle.pct_engine_laws.specs.Seen.{threads_on, is_last_in}
 use Rattle.pct_process.specs.ThreadViews.{threads_of, with_specific, has_no_other}

@@ -1,8 +1,6 @@
 -- The slots of a process with the rows of their thread-specific data.
-use Rattle.std.proofs.Common.{◌≡◌, ℕ, zero, suc, ◌<◌, List, [], ◌∷◌, length, get_or, slice_set, Some, refl, ap, ◌∙◌, arith}
-use Rattle.std.specs.Prelude.{slice_get}
-use Rattle.std.proofs.lemmas.Option.{slice_get-get_or}
-use Rattle.pct_model.specs.Keys.{KeyValues}
+use Rattle.pct_names.proofs.Names.{◌<◌, [], ap, arith, get_or, KeyValues, length, List, refl, slice_get, slice_get-get_or, slice_set, Some}
+use Rattle.pct_names.proofs.Names.{suc, zero, ℕ, ◌∙◌, ◌∷◌, ◌≡◌}
 use Rattle.pct_engine_laws.specs.Seen.{SeenSlot}
 use Rattle.pct_process.specs.ProcessViews.{with_row, with_rows}
 

@@ -1,13 +1,9 @@
 -- The slots of a process, read from its tables.
-use Rattle.std.proofs.Common.{◌≡◌, ℕ, ◌<◌, Bool, true, false, cond, List, [], map, length, Option, Some, None, refl, sym, ap, ◌∙◌, subst, inl, inr, ◌≤◌, arith}
-use Rattle.std.specs.Prelude.{All, nat_eq, is_some, slice_get, option_map, option_and_then, find}
-use Rattle.std.specs.Option.{option_map_or}
-use Rattle.std.proofs.lemmas.Bool.{cases_lt, false≢true}
-use Rattle.std.proofs.lemmas.List.{get_or-map, get_or_past, length-map}
-use Rattle.std.proofs.lemmas.Option.{get_or_from_slice_get, none-some, same_Some}
-use Rattle.pct_model.specs.ThreadSlots.{slot_of}
-use Rattle.pct_model.specs.World.{Thread}
-use Rattle.pct_model.specs.Keys.{KeyValues}
+use Rattle.pct_names.proofs.Names.{◌<◌, [], All, ap, arith, Bool, cases_lt, cond, false, false≢true, find, get_or_from_slice_get}
+use Rattle.pct_names.proofs.Names.{get_or_past, inl, inr, is_some, KeyValues, length, length-map, List, map, nat_eq, None, none-some}
+use Rattle.pct_names.proofs.Names.{Option, option_and_then, option_map, option_map_or, refl, same_Some, slice_get, slot_of, Some, subst}
+use Rattle.pct_names.proofs.Names.{sym, Thread, true, ℕ, ◌∙◌, ◌≡◌, ◌≤◌}
+use Rattle.std.proofs.lemmas.List.{get_or-map}
 use Rattle.pct_set.specs.Slots.{slots_where}
 use Rattle.pct_set.proofs.SlotLemmas.{slots_agree}
 use Rattle.pct_threads.specs.declared.record.Place.{Place}

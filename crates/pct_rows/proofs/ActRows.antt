@@ -1,38 +1,22 @@
 -- The law of cancellation, of a step and of a state: made steps in which a thread acts upon a request, and made states of suspended threads.
 -- Some keep the law, and each that does not has the name of the sentence that it breaks.
-use Rattle.std.proofs.Common.{◌≡◌, ℕ, Bool, true, false, cond, List, [], ◌∷◌, map, replicate, nat_eq, Some, None, refl, sym, ap, ◌∙◌, subst}
-use Rattle.std.specs.Prelude.{IsTrue, codes}
-use Rattle.std.specs.List.{list_any}
-use Rattle.std.specs.Option.{option_map_or}
-use Rattle.std.proofs.lemmas.Bool.{false≢true, eqb-true, eq-eqb}
-use Rattle.std.proofs.lemmas.Option.{none-some}
-use Rattle.pct_model.specs.declared.event.Event.{Event}
-use Rattle.pct_model.specs.declared.event.What.{What}
+use Rattle.pct_names.proofs.Names.{[], ap, Asynchronous, Bool, calls_cancellation_point, choices_of, codes, cond, default_config, Disable}
+use Rattle.pct_names.proofs.Names.{Enable, Event, false, false≢true, first_process, Func, is_at_cancellation_point, is_static, IsTrue, List}
+use Rattle.pct_names.proofs.Names.{list_any, map, nat_eq, new_frame, new_thread, None, none-some, NoStatement, option_map_or, Prepare}
+use Rattle.pct_names.proofs.Names.{Process, refl, replicate, Script, Some, State, StatementIn, Status, Stmt, subst, sym, Thread}
+use Rattle.pct_names.proofs.Names.{thread_with, true, What, World, ℕ, ◌∙◌, ◌∷◌, ◌≡◌}
+use Rattle.std.proofs.lemmas.Bool.{eqb-true, eq-eqb}
 use Rattle.pct_model.specs.declared.event.What.TheVariants as what
-use Rattle.pct_model.specs.declared.script.Func.{Func}
-use Rattle.pct_model.specs.declared.script.Script.{Script}
 use Rattle.pct_model.specs.declared.state.Cause.TheVariants as cause
 use Rattle.pct_model.specs.declared.state.FrameKind.TheVariants as kind
-use Rattle.pct_model.specs.declared.state.Mode.TheVariants.{Asynchronous}
-use Rattle.pct_model.specs.declared.state.Phase.TheVariants.{Prepare}
-use Rattle.pct_model.specs.declared.state.State.{State}
-use Rattle.pct_model.specs.declared.state.State.TheVariants.{Enable, Disable}
-use Rattle.pct_model.specs.declared.state.Status.{Status}
 use Rattle.pct_model.specs.declared.state.Status.TheVariants as status
 use Rattle.pct_model.specs.declared.statement.Dest.TheVariants as destination
 use Rattle.pct_model.specs.declared.statement.Operand.TheVariants as operand
-use Rattle.pct_model.specs.declared.statement.Stmt.{Stmt}
 use Rattle.pct_model.specs.declared.statement.Stmt.TheVariants as statement
 use Rattle.pct_model.specs.declared.stop.Why.TheVariants as why
 use Rattle.pct_laws.specs.CancelEvents.{has_to_act}
-use Rattle.pct_model.specs.StatusKinds.{calls_cancellation_point, is_at_cancellation_point}
 use Rattle.pct_laws.specs.CancelLaw.{acts_where_it_may, acts_at_calls, is_suspended, is_to_act, Awakened}
-use Rattle.pct_model.specs.ChoiceTable.{choices_of}
-use Rattle.pct_model.specs.NextStatement.{NoStatement, StatementIn}
-use Rattle.pct_model.specs.RunOptions.{default_config}
-use Rattle.pct_model.specs.Static.{is_static}
 use Rattle.pct_laws.specs.ThreadSteps.{ThreadStep}
-use Rattle.pct_model.specs.World.{Thread, Process, World, thread_with, new_frame, new_thread, first_process}
 use Rattle.pct_rows.proofs.OnLiterals.{checks_on_literals, runs_on_literals}
 
 -- ---- a script

@@ -1,38 +1,23 @@
 -- The law of calls. Lists of events that keep its law of keys, and lists that do not, each with the name of the sentence that it breaks; they
 -- are listed newest first. And made steps that keep the law of a step, and made steps that do not. In these each step that does not differs
 -- from one that does in one thing.
-use Rattle.std.proofs.Common.{◌≡◌, ℕ, zero, suc, ◌+◌, ◌%◌, Bool, true, false, not, List, [], ◌∷◌, length, slice_index, nat_eq, Option, Some, None, is_some, refl, sym, ap, ◌∙◌, inl, inr, arith}
-use Rattle.std.specs.Prelude.{IsTrue, codes}
-use Rattle.std.specs.List.{AllByRecursion}
-use Rattle.std.specs.Option.{option_map_or}
-use Rattle.std.proofs.lemmas.Bool.{false≢true}
-use Rattle.std.proofs.lemmas.List.Elements.{All-from_recursion}
+use Rattle.pct_names.proofs.Names.{◌%◌, ◌+◌, [], All-from_recursion, AllByRecursion, ap, arith, Bool, codes, Event, false, false≢true}
+use Rattle.pct_names.proofs.Names.{first_process, Frame, FrameKind, Func, inl, inr, is_some, is_static, IsTrue, Key, KeyPlace, length, List}
+use Rattle.pct_names.proofs.Names.{nat_eq, new_frame, new_shared, new_thread, NextStatement, None, not, Option, option_map_or, Prepare}
+use Rattle.pct_names.proofs.Names.{Process, refl, Script, slice_index, Some, StatementIn, Status, Stmt, suc, sym, Thread, true, value_of}
+use Rattle.pct_names.proofs.Names.{What, without_first, zero, ℕ, ◌∙◌, ◌∷◌, ◌≡◌}
 use Rattle.pct_model.specs.declared.event.Caller.TheVariants as caller
-use Rattle.pct_model.specs.declared.event.Event.{Event}
-use Rattle.pct_model.specs.declared.event.What.{What}
 use Rattle.pct_model.specs.declared.event.What.TheVariants as what
-use Rattle.pct_model.specs.declared.frame.Frame.{Frame}
-use Rattle.pct_model.specs.declared.script.Func.{Func}
-use Rattle.pct_model.specs.declared.script.Script.{Script}
-use Rattle.pct_model.specs.declared.state.FrameKind.{FrameKind}
 use Rattle.pct_model.specs.declared.state.FrameKind.TheVariants as kind
-use Rattle.pct_model.specs.declared.state.Phase.TheVariants.{Prepare}
-use Rattle.pct_model.specs.declared.state.Status.{Status}
 use Rattle.pct_model.specs.declared.state.Status.TheVariants as status
 use Rattle.pct_model.specs.declared.statement.Dest.TheVariants as destination
 use Rattle.pct_model.specs.declared.statement.Operand.TheVariants as operand
-use Rattle.pct_model.specs.declared.statement.Stmt.{Stmt}
 use Rattle.pct_model.specs.declared.statement.Stmt.TheVariants as statement
-use Rattle.pct_model.specs.Actions.{without_first}
 use Rattle.pct_laws.specs.Calls.{IsCall, RunsAbove, by_exit, by_call, IsCalled, EachIsCalled, says_calls, KeepsExitFunctions, KeepsKeys}
 use Rattle.pct_laws.specs.Each.{each}
 use Rattle.pct_laws.specs.KeysLaw.{allows}
 use Rattle.pct_rows.proofs.Refusals.{refuses}
-use Rattle.pct_model.specs.Keys.{Key, KeyPlace}
-use Rattle.pct_model.specs.NextStatement.{NextStatement, StatementIn}
-use Rattle.pct_model.specs.Static.{is_static}
 use Rattle.pct_laws.specs.ThreadSteps.{ThreadStep}
-use Rattle.pct_model.specs.World.{Thread, Process, value_of, new_frame, new_thread, new_shared, first_process}
 use Rattle.pct_rows.proofs.OnLiterals.{checks_on_literals, runs_on_literals}
 
 -- ---- the law of keys

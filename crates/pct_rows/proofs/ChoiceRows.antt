@@ -1,24 +1,14 @@
 -- The order of the scheduler's candidates, how two numbers choose among them, and the choices of a thread that creates a thread or a key.
-use Rattle.std.proofs.Common.{◌≡◌, ℕ, true, false, List, [], ◌∷◌, ◌++◌, map, replicate, Some, None, refl}
-use Rattle.pct_model.specs.declared.frame.Frame.{Frame}
-use Rattle.pct_model.specs.declared.schedule.Alt.{Alt}
+use Rattle.pct_names.proofs.Names.{◌++◌, [], Alt, by_slot, Candidate, candidates, chosen, Config, Entry, false, first_process, Frame}
+use Rattle.pct_names.proofs.Names.{KeyPlace, List, map, new_frame, new_shared, new_thread, None, Others, others_of, Process, refl}
+use Rattle.pct_names.proofs.Names.{replicate, running_choices, SharedState, slot_of, Some, Status, Stmt, Thread, true, World, ℕ, ◌∷◌, ◌≡◌}
 use Rattle.pct_model.specs.declared.schedule.Alt.TheVariants as alt
-use Rattle.pct_model.specs.declared.schedule.Config.{Config}
-use Rattle.pct_model.specs.declared.schedule.Entry.{Entry}
 use Rattle.pct_model.specs.declared.state.FrameKind.TheVariants as kind
-use Rattle.pct_model.specs.declared.state.Status.{Status}
 use Rattle.pct_model.specs.declared.state.Status.TheVariants as status
 use Rattle.pct_model.specs.declared.statement.Dest.TheVariants as destination
 use Rattle.pct_model.specs.declared.statement.Operand.TheVariants as operand
-use Rattle.pct_model.specs.declared.statement.Stmt.{Stmt}
 use Rattle.pct_model.specs.declared.statement.Stmt.TheVariants as statement
 use Rattle.pct_model.specs.declared.stop.Why.TheVariants as why
-use Rattle.pct_model.specs.Keys.{KeyPlace}
-use Rattle.pct_model.specs.World.{Thread, SharedState, Process, World, first_process, new_frame, new_thread, new_shared}
-use Rattle.pct_model.specs.ThreadSlots.{slot_of, by_slot}
-use Rattle.pct_model.specs.OtherThreads.{Others, others_of}
-use Rattle.pct_model.specs.ChoiceTable.{running_choices}
-use Rattle.pct_model.specs.Chosen.{Candidate, candidates, chosen}
 use Rattle.pct_rows.proofs.OnLiterals.{runs_on_literals}
 use Rattle.pct_rows.proofs.ExampleScripts.{smallest}
 

@@ -1,11 +1,8 @@
 -- Lists of events that keep the law of mutexes and condition waits, and lists that do not, each with the name of the sentence that it
 -- breaks. They are listed newest first. Where nothing else is said, threads are those of process 1, and the wait is that of thread 2 on
 -- condition variable 1 with mutex 0; 5 is another condition variable or mutex.
-use Rattle.std.proofs.Common.{◌≡◌, ℕ, Bool, true, List, [], ◌∷◌, map, refl}
-use Rattle.pct_model.specs.declared.event.Event.{Event}
-use Rattle.pct_model.specs.declared.event.What.{What}
+use Rattle.pct_names.proofs.Names.{[], Bool, cond_wait_point, Event, List, map, refl, true, What, ℕ, ◌∷◌, ◌≡◌}
 use Rattle.pct_model.specs.declared.event.What.TheVariants as what
-use Rattle.pct_model.specs.CondCalls.{cond_wait_point}
 use Rattle.pct_laws.specs.Each.{each}
 use Rattle.pct_rows.proofs.Refusals.{refuses}
 use Rattle.pct_laws.specs.CondLaw.{allows}

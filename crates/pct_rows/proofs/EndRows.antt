@@ -1,9 +1,7 @@
 -- The laws of the end of a thread. Lists of events that keep the law of handlers that ran, the law of what follows the end of a thread and the
 -- law of the event that values are left, and lists that do not, each with the name of the sentence that it breaks; they are listed newest
 -- first. Where nothing else is said, the events are those of thread 1 of process 1.
-use Rattle.std.proofs.Common.{◌≡◌, true, false, ◌&&◌, List, [], ◌∷◌, map, replicate, refl, ap}
-use Rattle.pct_model.specs.declared.event.Event.{Event}
-use Rattle.pct_model.specs.declared.event.What.{What}
+use Rattle.pct_names.proofs.Names.{◌&&◌, [], ap, Event, false, List, map, refl, replicate, true, What, ◌∷◌, ◌≡◌}
 use Rattle.pct_model.specs.declared.event.What.TheVariants as what
 use Rattle.pct_model.specs.declared.stop.Why.TheVariants as why
 use Rattle.pct_laws.specs.AfterEnd.{begins_exit_with_0, is_of_exit}

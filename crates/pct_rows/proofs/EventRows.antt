@@ -1,21 +1,10 @@
 -- The texts of the events and the stops of processes, in a script with two functions.
-use Rattle.std.proofs.Common.{◌≡◌, ℕ, List, [], ◌∷◌, refl}
-use Rattle.std.specs.Prelude.{IsTrue, codes, flat_map}
-use Rattle.std.specs.Fmt.{digits}
-use Rattle.pct_model.specs.declared.script.Script.{Script}
+use Rattle.pct_names.proofs.Names.{[], codes, Contents, digits, event_line, event_words, flat_map, is_static, IsTrue, keyword_text}
+use Rattle.pct_names.proofs.Names.{line_text, List, name_at, refl, Script, stop_words, syntax_of, thread_text, What, ℕ, ◌∷◌, ◌≡◌}
 use Rattle.pct_model.specs.declared.statement.Stmt.TheVariants as statement
 use Rattle.pct_model.specs.declared.event.Caller.TheVariants as caller
-use Rattle.pct_model.specs.declared.event.What.{What}
 use Rattle.pct_model.specs.declared.event.What.TheVariants as what
 use Rattle.pct_model.specs.declared.stop.Why.TheVariants as why
-use Rattle.pct_model.specs.Keywords.{keyword_text, line_text}
-use Rattle.pct_model.specs.Names.{name_at}
-use Rattle.pct_model.specs.LineKinds.{syntax_of}
-use Rattle.pct_model.specs.Contents.{Contents}
-use Rattle.pct_model.specs.Static.{is_static}
-use Rattle.pct_model.specs.StopTexts.{stop_words}
-use Rattle.pct_model.specs.EventTexts.{event_words}
-use Rattle.pct_model.specs.Report.{thread_text, event_line}
 use Rattle.pct_rows.proofs.OnLiterals.{checks_on_literals}
 
 abbrev contents : Contents

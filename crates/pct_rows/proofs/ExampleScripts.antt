@@ -1,18 +1,10 @@
 -- The scripts of the two worked examples, and the reports of their runs.
-use Rattle.std.proofs.Common.{◌≡◌, ℕ, Bool, List, [], ◌∷◌, ◌++◌, replicate, Some, refl}
-use Rattle.std.specs.Prelude.{IsTrue, codes}
-use Rattle.std.specs.Fmt.{digits}
-use Rattle.pct_model.specs.declared.script.Func.{Func}
-use Rattle.pct_model.specs.declared.script.Script.{Script}
+use Rattle.pct_names.proofs.Names.{◌++◌, [], alt_words, Bool, codes, default_config, digits, end_line, entry_line, event_line, event_words}
+use Rattle.pct_names.proofs.Names.{Func, header_line, is_static, IsTrue, List, name_at, refl, replicate, report, report_lines}
+use Rattle.pct_names.proofs.Names.{schedule_lines, Script, Some, Stmt, stop_words, thread_text, title_line, verdict_line, verdict_words, ℕ}
+use Rattle.pct_names.proofs.Names.{◌∷◌, ◌≡◌}
 use Rattle.pct_model.specs.declared.statement.Operand.TheVariants as operand
-use Rattle.pct_model.specs.declared.statement.Stmt.{Stmt}
 use Rattle.pct_model.specs.declared.statement.Stmt.TheVariants as statement
-use Rattle.pct_model.specs.Names.{name_at}
-use Rattle.pct_model.specs.Static.{is_static}
-use Rattle.pct_model.specs.StopTexts.{stop_words}
-use Rattle.pct_model.specs.EventTexts.{event_words}
-use Rattle.pct_model.specs.Report.{thread_text, event_line, alt_words, entry_line, header_line, end_line, schedule_lines, verdict_words, verdict_line, title_line, report_lines, report}
-use Rattle.pct_model.specs.RunOptions.{default_config}
 use Rattle.pct_rows.specs.Examples.{smallest_report, cleanup_report, first_goes}
 use Rattle.pct_rows.proofs.OnLiterals.{checks_on_literals, runs_on_literals}
 

@@ -1,38 +1,21 @@
 -- Fork handlers: the order of their calls, and what a thread keeps in one. And the children of processes with several threads: which are
 -- such, and what they may execute (XSH pthread_atfork, fork).
-use Rattle.std.proofs.Common.{◌≡◌, ℕ, Bool, true, false, List, [], ◌∷◌, map, replicate, Option, Some, None, refl}
-use Rattle.std.specs.Prelude.{filter, codes}
-use Rattle.std.specs.List.{range_with_len}
+use Rattle.pct_names.proofs.Names.{[], acts, Alt, Asynchronous, Bool, child_of, codes, false, filter, ForkAt, ForkHandlers, FrameKind}
+use Rattle.pct_names.proofs.Names.{goes_on, goes_on_forking, HandlerCall, is_safe_point, List, map, new_frame, new_shared, next_handler}
+use Rattle.pct_names.proofs.Names.{no_change, None, NoStatement, Option, Parent, Phase, point_name, Prepare, range_with_len, refl}
+use Rattle.pct_names.proofs.Names.{registers_fork, replicate, returns_by, running_choices, SharedState, Some, Stmt, stop_at, Thread}
+use Rattle.pct_names.proofs.Names.{Transition, true, Why, ℕ, ◌∷◌, ◌≡◌}
 use Rattle.pct_model.specs.declared.event.Caller.TheVariants as caller
 use Rattle.pct_model.specs.declared.event.What.TheVariants as what
-use Rattle.pct_model.specs.declared.process.ForkHandlers.{ForkHandlers}
-use Rattle.pct_model.specs.declared.process.HandlerCall.{HandlerCall}
-use Rattle.pct_model.specs.declared.schedule.Alt.{Alt}
 use Rattle.pct_model.specs.declared.schedule.Alt.TheVariants as alt
-use Rattle.pct_model.specs.declared.state.ForkAt.{ForkAt}
-use Rattle.pct_model.specs.declared.state.FrameKind.{FrameKind}
 use Rattle.pct_model.specs.declared.state.FrameKind.TheVariants as kind
-use Rattle.pct_model.specs.declared.state.Mode.TheVariants.{Asynchronous}
-use Rattle.pct_model.specs.declared.state.Phase.{Phase}
-use Rattle.pct_model.specs.declared.state.Phase.TheVariants.{Prepare, Parent, Child}
+use Rattle.pct_model.specs.declared.state.Phase.TheVariants.{Child}
 use Rattle.pct_model.specs.declared.state.Status.TheVariants as status
 use Rattle.pct_model.specs.declared.statement.Dest.TheVariants as destination
 use Rattle.pct_model.specs.declared.statement.Operand.TheVariants as operand
-use Rattle.pct_model.specs.declared.statement.Stmt.{Stmt}
 use Rattle.pct_model.specs.declared.statement.Stmt.TheVariants as statement
-use Rattle.pct_model.specs.declared.stop.Why.{Why}
 use Rattle.pct_model.specs.declared.stop.Why.TheVariants as why
 use Rattle.pct_model.specs.declared.transition.Action.TheVariants as action
-use Rattle.pct_model.specs.declared.transition.Transition.{Transition}
-use Rattle.pct_model.specs.Actions.{child_of}
-use Rattle.pct_model.specs.ChoiceTable.{running_choices}
-use Rattle.pct_model.specs.ForkCalls.{next_handler, registers_fork, goes_on_forking}
-use Rattle.pct_model.specs.NextStatement.{NoStatement}
-use Rattle.pct_model.specs.Points.{point_name}
-use Rattle.pct_model.specs.ProcessExit.{returns_by}
-use Rattle.pct_model.specs.StopTable.{is_safe_point, stop_at}
-use Rattle.pct_model.specs.Transitions.{goes_on, acts, no_change}
-use Rattle.pct_model.specs.World.{Thread, SharedState, new_frame, new_shared}
 use Rattle.pct_rows.proofs.OnLiterals.{runs_on_literals}
 use Rattle.pct_rows.proofs.ExampleScripts.{smallest}
 use Rattle.pct_rows.proofs.ChoiceRows.{ready, in_status, process, nobody}

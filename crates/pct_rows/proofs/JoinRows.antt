@@ -1,13 +1,10 @@
 -- Lists of events that keep the law of joins, and lists that do not, each with the name of the sentence that it breaks. They are listed
 -- newest first. Where nothing else is said, threads are those of process 1.
-use Rattle.std.proofs.Common.{◌≡◌, ℕ, Bool, true, false, List, [], ◌∷◌, refl}
-use Rattle.pct_model.specs.declared.event.Event.{Event}
-use Rattle.pct_model.specs.declared.event.What.{What}
+use Rattle.pct_names.proofs.Names.{[], Bool, Event, false, join_point, List, refl, true, What, ℕ, ◌∷◌, ◌≡◌}
 use Rattle.pct_model.specs.declared.event.What.TheVariants as what
 use Rattle.pct_laws.specs.Each.{each}
 use Rattle.pct_laws.specs.JoinLaw.{allows}
 use Rattle.pct_rows.proofs.Refusals.{refuses}
-use Rattle.pct_model.specs.ThreadCalls.{join_point}
 
 -- the events keep the law
 abbrev keeps : List Event → Bool

@@ -1,38 +1,20 @@
 -- What a row names on its `unfolding` line to compute with the definitions of the specification.
-use Rattle.std.specs.Prelude.{⊤}
-use Rattle.pct_model.specs.Keywords.{keyword_text}
-use Rattle.pct_model.specs.Names.{is_name, all_different, name_at, main_of}
-use Rattle.pct_model.specs.Points.{points, point_of, point_name}
-use Rattle.pct_model.specs.LineKinds.{declaration_syntax, syntax_of, point_statement}
-use Rattle.pct_model.specs.Statements.{encode}
-use Rattle.pct_model.specs.Nesting.{outside, inside, change_at, open_after, are_nested}
-use Rattle.pct_model.specs.Checks.{none_wrong}
-use Rattle.pct_model.specs.Static.{has_word, have_words, has_first_word, has_line, has_lines, has_text, keeps_limits, has_each_name_once, names_plain, is_static}
-use Rattle.pct_model.specs.Jumps.{close_of, open_of}
-use Rattle.pct_model.specs.Keys.{key_with, free_places, due_places, left_places}
-use Rattle.pct_model.specs.World.{statement_at, value_of, opening}
-use Rattle.pct_model.specs.ThreadSlots.{free_ids}
-use Rattle.pct_model.specs.OtherProcesses.{family_among}
-use Rattle.pct_model.specs.OtherThreads.{others_of}
-use Rattle.pct_model.specs.ScriptStatements.{jumps, emits, sets, variable_value, adds, calls}
-use Rattle.pct_model.specs.CleanupHandlers.{pushes, pops}
-use Rattle.pct_model.specs.CancelCalls.{requests, sets_state, sets_mode, tests_cancel, point_kind, called_kind, calls_point, may_return, passes_point, acts_on_request}
-use Rattle.pct_model.specs.KeyCalls.{creates_key, fails_to_create_key, deletes_key, sets_specific, gets_specific}
-use Rattle.pct_model.specs.MutexCalls.{locks, unlocks}
-use Rattle.pct_model.specs.CondCalls.{begins_wait, reacquires, leaves_wait, hands_on, signals_by, broadcasts}
-use Rattle.pct_model.specs.SemCalls.{begins_sem_wait, takes, posts}
-use Rattle.pct_model.specs.ForkCalls.{next_handler, calls_handler, registers_fork, begins_fork, forks_by, returns_in_parent, returns_in_child, leaves_handler, finds_no_child, reaps}
-use Rattle.pct_model.specs.ThreadCalls.{creates, fails_to_create, begins_join, ends_join, detaches, gets_self}
-use Rattle.pct_model.specs.ThreadEnds.{ends_by_exit, ends_thread, calls_destructor, goes_on_ending}
-use Rattle.pct_model.specs.ProcessExit.{exits, returns_by, ends_now, goes_on_exiting, registers_if}
-use Rattle.pct_model.specs.StopTable.{stops_of, stop_at}
-use Rattle.pct_model.specs.ChoiceTable.{running_rows, running_choices, ending_choices, choices_at}
-use Rattle.pct_model.specs.TransitionTable.{runs, transition_at}
-use Rattle.pct_model.specs.Actions.{thread_at, thread_after, named_after, shared_after, process_after, other_process_after, inherited, child_of, child_by, stop_after, after_transition}
-use Rattle.pct_model.specs.Step.{step}
-use Rattle.pct_model.specs.Run.{run_step, run_from, illegal_in, run, verdict_of}
-use Rattle.pct_model.specs.Chosen.{candidates, chosen}
-use Rattle.pct_model.specs.RunOptions.{given_after, options_of, run_options}
+use Rattle.pct_names.proofs.Names.{acts_on_request, adds, after_transition, all_different, are_nested, begins_fork, begins_join}
+use Rattle.pct_names.proofs.Names.{begins_sem_wait, begins_wait, broadcasts, called_kind, calls, calls_destructor, calls_handler}
+use Rattle.pct_names.proofs.Names.{calls_point, candidates, change_at, child_by, child_of, choices_at, chosen, close_of, creates}
+use Rattle.pct_names.proofs.Names.{creates_key, declaration_syntax, deletes_key, detaches, due_places, emits, encode, ending_choices}
+use Rattle.pct_names.proofs.Names.{ends_by_exit, ends_join, ends_now, ends_thread, exits, fails_to_create, fails_to_create_key}
+use Rattle.pct_names.proofs.Names.{family_among, finds_no_child, forks_by, free_ids, free_places, gets_self, gets_specific, given_after}
+use Rattle.pct_names.proofs.Names.{goes_on_ending, goes_on_exiting, hands_on, has_each_name_once, has_first_word, has_line, has_lines}
+use Rattle.pct_names.proofs.Names.{has_text, has_word, have_words, illegal_in, inherited, inside, is_name, is_static, jumps, keeps_limits}
+use Rattle.pct_names.proofs.Names.{key_with, keyword_text, leaves_handler, leaves_wait, left_places, locks, main_of, may_return, name_at}
+use Rattle.pct_names.proofs.Names.{named_after, names_plain, next_handler, none_wrong, open_after, open_of, opening, options_of}
+use Rattle.pct_names.proofs.Names.{other_process_after, others_of, outside, passes_point, point_kind, point_name, point_of, point_statement}
+use Rattle.pct_names.proofs.Names.{points, pops, posts, process_after, pushes, reacquires, reaps, registers_fork, registers_if, requests}
+use Rattle.pct_names.proofs.Names.{returns_by, returns_in_child, returns_in_parent, run, run_from, run_options, run_step, running_choices}
+use Rattle.pct_names.proofs.Names.{running_rows, runs, sets, sets_mode, sets_specific, sets_state, shared_after, signals_by, statement_at}
+use Rattle.pct_names.proofs.Names.{step, stop_after, stop_at, stops_of, syntax_of, takes, tests_cancel, thread_after, thread_at}
+use Rattle.pct_names.proofs.Names.{transition_at, unlocks, value_of, variable_value, verdict_of, ⊤}
 
 -- to check a script
 unfoldable pub checks_on_literals : ⊤

@@ -1,8 +1,6 @@
 -- Lists of events that keep the law of cleanup handlers and destructors with a limit of four passes, and lists that do not, each with
 -- the name of the sentence that it breaks. They are listed newest first.
-use Rattle.std.proofs.Common.{◌≡◌, Bool, true, false, List, [], ◌∷◌, refl}
-use Rattle.pct_model.specs.declared.event.Event.{Event}
-use Rattle.pct_model.specs.declared.event.What.{What}
+use Rattle.pct_names.proofs.Names.{[], Bool, Event, false, List, refl, true, What, ◌∷◌, ◌≡◌}
 use Rattle.pct_model.specs.declared.event.What.TheVariants as what
 use Rattle.pct_laws.specs.Each.{each}
 use Rattle.pct_rows.proofs.Refusals.{refuses}

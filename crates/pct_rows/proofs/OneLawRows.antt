@@ -2,18 +2,11 @@
 -- from the others. But for one: the law of handlers that ran follows from two others, and the list that it refuses here is also refused by
 -- one of them. No such list breaks the sentence that a thread that has ended joins none: the law of what follows an end refuses it, too. The
 -- lists are newest first.
-use Rattle.std.proofs.Common.{◌≡◌, Bool, true, false, List, [], ◌∷◌, ◌++◌, map, replicate, refl}
+use Rattle.pct_names.proofs.Names.{◌++◌, [], Bool, cond_wait_point, Event, false, join_point, List, map, point_kind, points, refl}
+use Rattle.pct_names.proofs.Names.{replicate, sem_wait_point, testcancel_point, true, waitpid_point, What, ◌∷◌, ◌≡◌}
 use Rattle.pct_model.specs.declared.event.Caller.TheVariants as caller
-use Rattle.pct_model.specs.declared.event.Event.{Event}
-use Rattle.pct_model.specs.declared.event.What.{What}
 use Rattle.pct_model.specs.declared.event.What.TheVariants as what
 use Rattle.pct_model.specs.declared.stop.Why.TheVariants as why
-use Rattle.pct_model.specs.CancelCalls.{point_kind, testcancel_point}
-use Rattle.pct_model.specs.CondCalls.{cond_wait_point}
-use Rattle.pct_model.specs.ForkCalls.{waitpid_point}
-use Rattle.pct_model.specs.Points.{points}
-use Rattle.pct_model.specs.SemCalls.{sem_wait_point}
-use Rattle.pct_model.specs.ThreadCalls.{join_point}
 use Rattle.pct_laws.specs.AfterEnd as AfterEnd
 use Rattle.pct_laws.specs.CondLaw as CondLaw
 use Rattle.pct_laws.specs.Each.{each}

@@ -1,8 +1,6 @@
 -- The arguments of `run`: words that give options, and words that are refused. The first word of each row is left out where it is `run`.
-use Rattle.std.proofs.Common.{◌≡◌, ℕ, Bool, true, List, [], ◌∷◌, ◌++◌, map, replicate, Option, Some, is_none, refl}
-use Rattle.std.specs.Prelude.{codes}
-use Rattle.pct_model.specs.declared.run_options.RunOptions.{RunOptions}
-use Rattle.pct_model.specs.RunOptions.{run_options}
+use Rattle.pct_names.proofs.Names.{◌++◌, [], Bool, codes, is_none, List, map, Option, refl, replicate, run_options, RunOptions, Some, true}
+use Rattle.pct_names.proofs.Names.{ℕ, ◌∷◌, ◌≡◌}
 use Rattle.pct_rows.proofs.OnLiterals.{options_on_literals}
 
 -- the numbers that these words ask for, after `run`

@@ -1,28 +1,13 @@
 -- The outcomes of two example scripts: the lines of each text, the script that it spells, and its run.
-use Rattle.std.proofs.Common.{◌≡◌, ℕ, true, List, [], ◌∷◌, Option, Some, None, map, replicate, refl, sym, subst, arith}
-use Rattle.std.specs.Prelude.{codes, is_some, unwrap_or}
-use Rattle.std.specs.List.{list_all}
-use Rattle.pct_model.specs.declared.line_kind.LineKind.{LineKind}
+use Rattle.pct_names.proofs.Names.{[], AreContents, arith, code_of_verdict, codes, contents_of, declaration_syntax, declarations, declaring}
+use Rattle.pct_names.proofs.Names.{default_config, encode, is_name, is_some, Line, line_kind_of, line_kinds, LineKind, lines_of, List}
+use Rattle.pct_names.proofs.Names.{list_all, map, None, numeral, opening, Option, parsed, parsed_lines, parsed_words, point_name, point_of}
+use Rattle.pct_names.proofs.Names.{point_statement, points, refl, replicate, resolve, resolve_all, resolve_name, Run, run, RunOptions, Runs}
+use Rattle.pct_names.proofs.Names.{Script, Some, spelled_lines, SpellsContents, split_sections, subst, sym, SymbolKind, syntax_of, Token}
+use Rattle.pct_names.proofs.Names.{token_at, tokens_at, true, unwrap_or, verdict_of, words_in, ℕ, ◌∷◌, ◌≡◌}
 use Rattle.pct_model.specs.declared.line_kind.LineKind.TheVariants as line_kind
-use Rattle.pct_model.specs.declared.line_kind.SymbolKind.{SymbolKind}
 use Rattle.pct_model.specs.declared.line_kind.SymbolKind.TheVariants as kind
-use Rattle.pct_model.specs.declared.parsed_line.Token.{Token}
 use Rattle.pct_model.specs.declared.parsed_line.Token.TheVariants as token
-use Rattle.pct_model.specs.declared.run_options.RunOptions.{RunOptions}
-use Rattle.pct_model.specs.declared.script.Script.{Script}
-use Rattle.pct_model.specs.Names.{is_name}
-use Rattle.pct_model.specs.Lines.{lines_of}
-use Rattle.pct_model.specs.Points.{points, point_of, point_name}
-use Rattle.pct_model.specs.LineKinds.{declaration_syntax, syntax_of, line_kinds, point_statement, line_kind_of}
-use Rattle.pct_model.specs.LineParsing.{words_in, spelled_lines, numeral, token_at, tokens_at, parsed_words, parsed}
-use Rattle.pct_model.specs.Statements.{encode}
-use Rattle.pct_model.specs.Contents.{resolve_name, resolve, resolve_all}
-use Rattle.pct_model.specs.Sections.{parsed_lines, split_sections, Line, declaring}
-use Rattle.pct_model.specs.Spells.{declarations, contents_of, AreContents, SpellsContents}
-use Rattle.pct_model.specs.World.{opening}
-use Rattle.pct_model.specs.Run.{Run, run, verdict_of}
-use Rattle.pct_model.specs.RunOptions.{default_config}
-use Rattle.pct_model.specs.Outcome.{code_of_verdict, Runs}
 use Rattle.pct_rows.specs.Examples.{smallest_text, smallest_report, cleanup_text, cleanup_report, first_goes}
 use Rattle.pct_rows.proofs.OnLiterals.{runs_on_literals, options_on_literals}
 use Rattle.pct_rows.proofs.ExampleScripts.{smallest, smallest_reported, cleanup, cleanup_reported}

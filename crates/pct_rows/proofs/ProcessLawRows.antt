@@ -1,8 +1,6 @@
 -- Lists of events that keep the law of processes, and lists that do not, each with the name of the sentence that it breaks. They are listed
 -- newest first. Where nothing else is said, the events are those of thread 1 of process 1.
-use Rattle.std.proofs.Common.{◌≡◌, ℕ, Bool, true, false, List, [], ◌∷◌, refl}
-use Rattle.pct_model.specs.declared.event.Event.{Event}
-use Rattle.pct_model.specs.declared.event.What.{What}
+use Rattle.pct_names.proofs.Names.{[], Bool, Event, false, List, refl, true, What, ℕ, ◌∷◌, ◌≡◌}
 use Rattle.pct_model.specs.declared.event.What.TheVariants as what
 use Rattle.pct_model.specs.declared.stop.Why.TheVariants as why
 use Rattle.pct_laws.specs.Each.{each}

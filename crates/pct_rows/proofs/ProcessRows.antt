@@ -1,27 +1,19 @@
 -- Processes that are made, that end and that are reaped, and threads that exit, some of them in states that no run of a script reaches (XSH
 -- exit, atexit, fork, waitpid).
-use Rattle.std.proofs.Common.{◌≡◌, ℕ, Bool, true, false, List, [], ◌∷◌, map, Option, Some, None, refl}
-use Rattle.std.specs.Prelude.{drop, option_map, replicate}
+use Rattle.pct_names.proofs.Names.{[], acts, after_transition, Bool, child_of, default_config, Disable, drop, false, family_of}
+use Rattle.pct_names.proofs.Names.{first_process, goes_on, goes_on_exiting, List, map, may_register, new_frame, new_shared, new_thread}
+use Rattle.pct_names.proofs.Names.{no_change, None, Option, option_map, Prepare, Process, ProcessEnd, refl, registers_if, replicate}
+use Rattle.pct_names.proofs.Names.{shared_after, SharedState, Some, Status, step, Thread, Transition, true, was_reaped, What, World, ℕ, ◌∷◌}
+use Rattle.pct_names.proofs.Names.{◌≡◌}
 use Rattle.pct_model.specs.declared.event.Caller.TheVariants as caller
-use Rattle.pct_model.specs.declared.event.What.{What}
 use Rattle.pct_model.specs.declared.event.What.TheVariants as what
 use Rattle.pct_model.specs.declared.process.Child.{Child}
 use Rattle.pct_model.specs.declared.state.FrameKind.TheVariants as kind
-use Rattle.pct_model.specs.declared.state.Phase.TheVariants.{Prepare, Child as ChildPhase}
-use Rattle.pct_model.specs.declared.state.State.TheVariants.{Disable}
+use Rattle.pct_model.specs.declared.state.Phase.TheVariants.{Child as ChildPhase}
 use Rattle.pct_model.specs.declared.state.Reason.TheVariants as reason
-use Rattle.pct_model.specs.declared.state.Status.{Status}
 use Rattle.pct_model.specs.declared.state.Status.TheVariants as status
 use Rattle.pct_model.specs.declared.statement.Dest.TheVariants as destination
 use Rattle.pct_model.specs.declared.transition.Action.TheVariants as action
-use Rattle.pct_model.specs.declared.transition.Transition.{Transition}
-use Rattle.pct_model.specs.World.{Thread, SharedState, ProcessEnd, Process, World, was_reaped, new_frame, new_thread, new_shared, first_process}
-use Rattle.pct_model.specs.OtherProcesses.{family_of}
-use Rattle.pct_model.specs.ProcessExit.{goes_on_exiting, may_register, registers_if}
-use Rattle.pct_model.specs.Transitions.{goes_on, acts, no_change}
-use Rattle.pct_model.specs.Actions.{shared_after, child_of, after_transition}
-use Rattle.pct_model.specs.Step.{step}
-use Rattle.pct_model.specs.RunOptions.{default_config}
 use Rattle.pct_rows.proofs.OnLiterals.{runs_on_literals}
 use Rattle.pct_rows.proofs.ExampleScripts.{smallest}
 use Rattle.pct_rows.specs.Examples.{first_goes}

@@ -1,6 +1,5 @@
 -- Lists of events of which a law refuses the newest.
-use Rattle.std.specs.Prelude.{Bool, false, not, ◌&&◌, List, [], ◌∷◌}
-use Rattle.pct_model.specs.declared.event.Event.{Event}
+use Rattle.pct_names.proofs.Names.{◌&&◌, [], Bool, Event, false, List, not, ◌∷◌}
 use Rattle.pct_laws.specs.Each.{each}
 
 -- the newest event may not come after those before it, which keep the law

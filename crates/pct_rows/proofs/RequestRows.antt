@@ -1,20 +1,13 @@
 -- Lists of events that keep the law of cancellation, and lists that do not, each with the name of the sentence that it breaks; they are
 -- listed newest first. Where nothing else is said, the events are those of thread 1 of process 1, whose thread 2 makes requests.
-use Rattle.std.proofs.Common.{◌≡◌, ℕ, Bool, true, false, List, [], ◌∷◌, refl}
+use Rattle.pct_names.proofs.Names.{[], Bool, cond_wait_point, Event, false, join_point, List, point_kind, points, refl, sem_wait_point}
+use Rattle.pct_names.proofs.Names.{testcancel_point, true, waitpid_point, What, ℕ, ◌∷◌, ◌≡◌}
 use Rattle.pct_model.specs.declared.event.Caller.TheVariants as caller
-use Rattle.pct_model.specs.declared.event.Event.{Event}
-use Rattle.pct_model.specs.declared.event.What.{What}
 use Rattle.pct_model.specs.declared.event.What.TheVariants as what
-use Rattle.pct_model.specs.CancelCalls.{point_kind, testcancel_point}
 use Rattle.pct_laws.specs.CancelEvents.{is_asynchronous_last}
 use Rattle.pct_laws.specs.Each.{each}
 use Rattle.pct_laws.specs.RequestsLaw.{allows}
 use Rattle.pct_rows.proofs.Refusals.{refuses}
-use Rattle.pct_model.specs.CondCalls.{cond_wait_point}
-use Rattle.pct_model.specs.ForkCalls.{waitpid_point}
-use Rattle.pct_model.specs.Points.{points}
-use Rattle.pct_model.specs.SemCalls.{sem_wait_point}
-use Rattle.pct_model.specs.ThreadCalls.{join_point}
 
 -- the events keep the law
 abbrev keeps : List Event → Bool

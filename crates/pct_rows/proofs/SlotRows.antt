@@ -1,14 +1,11 @@
 -- Lists of events that keep the law of thread ids and slots, and lists that do not, each with the name of the sentence that it breaks. They
 -- are listed newest first. A process has two slots: the threads 1 and 3 are on one of them, the threads 2 and 4 on the other. Where nothing
 -- else is said, threads are those of process 1.
-use Rattle.std.proofs.Common.{◌≡◌, ℕ, Bool, true, false, List, [], ◌∷◌, ◌++◌, refl}
-use Rattle.pct_model.specs.declared.event.Event.{Event}
-use Rattle.pct_model.specs.declared.event.What.{What}
+use Rattle.pct_names.proofs.Names.{◌++◌, [], Bool, Event, false, join_point, List, refl, true, What, ℕ, ◌∷◌, ◌≡◌}
 use Rattle.pct_model.specs.declared.event.What.TheVariants as what
 use Rattle.pct_laws.specs.Each.{each}
 use Rattle.pct_rows.proofs.Refusals.{refuses}
 use Rattle.pct_laws.specs.SlotLaw.{allows}
-use Rattle.pct_model.specs.ThreadCalls.{join_point}
 
 -- the events keep the law
 abbrev keeps : List Event → Bool

@@ -1,25 +1,15 @@
 -- Made steps that keep the law of the stages of an end with a limit of four passes, and its law of values, and made steps that do not. Each
 -- step that does not differs from one that does in one thing, and has the name of the sentence that it breaks.
-use Rattle.std.proofs.Common.{◌≡◌, ℕ, zero, suc, Bool, true, false, List, [], ◌∷◌, map, slice_get, Option, Some, None, refl, sym, ap, arith}
-use Rattle.std.specs.Prelude.{IsTrue, codes}
-use Rattle.std.specs.Option.{option_map_or}
-use Rattle.std.proofs.lemmas.Bool.{false≢true}
-use Rattle.std.proofs.lemmas.Option.{none-some}
-use Rattle.pct_model.specs.declared.event.What.{What}
+use Rattle.pct_names.proofs.Names.{[], ap, arith, Bool, codes, false, false≢true, first_process, Frame, Func, is_static, IsTrue, KeyPlace}
+use Rattle.pct_names.proofs.Names.{List, map, new_frame, new_shared, new_thread, None, none-some, Option, option_map_or, Process, refl}
+use Rattle.pct_names.proofs.Names.{Script, slice_get, Some, Stmt, suc, sym, Thread, true, value_at, What, zero, ℕ, ◌∷◌, ◌≡◌}
 use Rattle.pct_model.specs.declared.event.What.TheVariants as what
-use Rattle.pct_model.specs.declared.frame.Frame.{Frame}
-use Rattle.pct_model.specs.declared.script.Func.{Func}
-use Rattle.pct_model.specs.declared.script.Script.{Script}
 use Rattle.pct_model.specs.declared.state.FrameKind.TheVariants as kind
 use Rattle.pct_model.specs.declared.state.Status.TheVariants as status
 use Rattle.pct_model.specs.declared.statement.Operand.TheVariants as operand
-use Rattle.pct_model.specs.declared.statement.Stmt.{Stmt}
 use Rattle.pct_model.specs.declared.statement.Stmt.TheVariants as statement
 use Rattle.pct_laws.specs.Ends.{count_due, each_may_begin, KeepsValue, KeepsValues}
-use Rattle.pct_model.specs.Keys.{KeyPlace, value_at}
-use Rattle.pct_model.specs.Static.{is_static}
 use Rattle.pct_laws.specs.ThreadSteps.{ThreadStep}
-use Rattle.pct_model.specs.World.{Thread, Process, new_frame, new_thread, new_shared, first_process}
 use Rattle.pct_rows.proofs.ExampleScripts.{smallest}
 use Rattle.pct_rows.proofs.OnLiterals.{checks_on_literals, runs_on_literals}
 

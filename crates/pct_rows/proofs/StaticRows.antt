@@ -1,18 +1,11 @@
 -- Contents that no text spells, and tables of line kinds.
-use Rattle.std.proofs.Common.{◌≡◌, ℕ, Bool, true, false, List, [], ◌∷◌, ◌++◌, map, replicate, refl, bytes_eq}
-use Rattle.std.specs.Prelude.{codes, filter, is_some}
-use Rattle.std.specs.List.{position_or_len}
+use Rattle.pct_names.proofs.Names.{◌++◌, [], Bool, bytes_eq, codes, Contents, declaration_syntax, false, filter, Func, is_plain, is_some}
+use Rattle.pct_names.proofs.Names.{is_static, line_kinds, List, map, point_of, point_statement, points, position_or_len, refl, replicate}
+use Rattle.pct_names.proofs.Names.{Stmt, syntax_of, true, ℕ, ◌∷◌, ◌≡◌}
 use Rattle.pct_model.specs.declared.line_kind.LineKind.TheVariants as line_kind
-use Rattle.pct_model.specs.declared.script.Func.{Func}
 use Rattle.pct_model.specs.declared.statement.Dest.TheVariants as destination
 use Rattle.pct_model.specs.declared.statement.Operand.TheVariants as operand
-use Rattle.pct_model.specs.declared.statement.Stmt.{Stmt}
 use Rattle.pct_model.specs.declared.statement.Stmt.TheVariants as statement
-use Rattle.pct_model.specs.Points.{points, point_of}
-use Rattle.pct_model.specs.LineKinds.{declaration_syntax, syntax_of, point_statement, line_kinds}
-use Rattle.pct_model.specs.Contents.{Contents}
-use Rattle.pct_model.specs.Static.{is_static}
-use Rattle.pct_model.specs.Checks.{is_plain}
 use Rattle.pct_rows.proofs.OnLiterals.{checks_on_literals}
 
 abbrev function : List ℕ → List (List ℕ) → List Stmt → Func

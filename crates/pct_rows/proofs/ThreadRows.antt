@@ -1,15 +1,11 @@
 -- Thread slots and thread ids: when a thread holds its slot, and the ids of new threads where a process did not inherit a thread.
-use Rattle.std.proofs.Common.{◌≡◌, ℕ, Bool, true, false, not, ◌&&◌, ◌||◌, List, [], ◌∷◌, map, is_some, Option, Some, refl, sym, ap, ◌∙◌}
-use Rattle.std.proofs.lemmas.Bool.{false≢true}
+use Rattle.pct_names.proofs.Names.{◌&&◌, [], ap, Bool, exits_after_its_end, false, false≢true, free_ids, holds_slot, is_ended_status}
+use Rattle.pct_names.proofs.Names.{is_some, is_unreclaimed, KeyPlace, List, map, new_frame, new_thread, next_id, not, Option, refl, Script}
+use Rattle.pct_names.proofs.Names.{Some, Status, sym, Thread, true, ◌||◌, ℕ, ◌∙◌, ◌∷◌, ◌≡◌}
 use Rattle.pct_model.specs.declared.state.FrameKind.TheVariants as kind
-use Rattle.pct_model.specs.declared.script.Script.{Script}
-use Rattle.pct_model.specs.declared.state.Status.{Status}
 use Rattle.pct_model.specs.declared.state.Status.TheVariants as status
 use Rattle.pct_laws.specs.Kept.{ThreadKept}
-use Rattle.pct_model.specs.Keys.{KeyPlace}
 use Rattle.pct_laws.specs.ThreadSummary.{ThreadSummary}
-use Rattle.pct_model.specs.World.{Thread, new_frame, new_thread}
-use Rattle.pct_model.specs.ThreadSlots.{is_ended_status, is_unreclaimed, exits_after_its_end, holds_slot, next_id, free_ids}
 
 by_its_fields : (gone over ended released : Bool) → (over ≡ true → ended ≡ true) → (not gone && not (over && released)) ≡ ((not gone && (not ended || not released)) || (not gone && ended && not over))
 by_its_fields true over ended released has = refl

@@ -1,27 +1,14 @@
 -- The choices and transitions of mutexes, condition variables and semaphores, by status: each cause, with the mutex free and owned, with a
 -- request and without; and states that no run reaches.
-use Rattle.std.proofs.Common.{◌≡◌, ℕ, true, List, [], ◌∷◌, map, None, refl}
-use Rattle.std.specs.Prelude.{flat_map}
+use Rattle.pct_names.proofs.Names.{[], acts, acts_on_request, after_transition, Alt, Asynchronous, broadcasts, Cause, choices_of, Disable}
+use Rattle.pct_names.proofs.Names.{flat_map, goes_on, List, map, new_shared, no_change, None, others_of, posts, refl, SharedState, Status}
+use Rattle.pct_names.proofs.Names.{Thread, Transition, true, ℕ, ◌∷◌, ◌≡◌}
 use Rattle.pct_model.specs.declared.event.What.TheVariants as what
-use Rattle.pct_model.specs.declared.schedule.Alt.{Alt}
 use Rattle.pct_model.specs.declared.schedule.Alt.TheVariants as alt
-use Rattle.pct_model.specs.declared.state.Cause.{Cause}
 use Rattle.pct_model.specs.declared.state.Cause.TheVariants as cause
-use Rattle.pct_model.specs.declared.state.Mode.TheVariants.{Asynchronous}
-use Rattle.pct_model.specs.declared.state.State.TheVariants.{Disable}
-use Rattle.pct_model.specs.declared.state.Status.{Status}
 use Rattle.pct_model.specs.declared.state.Status.TheVariants as status
 use Rattle.pct_model.specs.declared.statement.Stmt.TheVariants as statement
 use Rattle.pct_model.specs.declared.transition.Action.TheVariants as action
-use Rattle.pct_model.specs.declared.transition.Transition.{Transition}
-use Rattle.pct_model.specs.World.{Thread, SharedState, new_shared}
-use Rattle.pct_model.specs.Transitions.{goes_on, acts, no_change}
-use Rattle.pct_model.specs.CancelCalls.{acts_on_request}
-use Rattle.pct_model.specs.CondCalls.{broadcasts}
-use Rattle.pct_model.specs.SemCalls.{posts}
-use Rattle.pct_model.specs.OtherThreads.{others_of}
-use Rattle.pct_model.specs.ChoiceTable.{choices_of}
-use Rattle.pct_model.specs.Actions.{after_transition}
 use Rattle.pct_rows.proofs.OnLiterals.{runs_on_literals}
 use Rattle.pct_rows.proofs.ExampleScripts.{smallest}
 use Rattle.pct_rows.proofs.ChoiceRows.{config, ready, in_status, process, state_of, nobody, choices_before}

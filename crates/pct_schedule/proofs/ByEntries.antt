@@ -1,12 +1,12 @@
 -- Reading with the list of entries so far gives the schedule of a text, or the prefix in it.
-use Rattle.std.proofs.Common.{◌≡◌, ℕ, ◌+◌, Bool, true, false, cond, List, [], ◌∷◌, ◌++◌, Option, Some, None, Ok, Err, length, map, refl, sym, ap, ◌∙◌, append_assoc, append-nil, length-append, nat_lt}
-use Rattle.pct_model.specs.declared.schedule.Config.{Config}
-use Rattle.pct_model.specs.declared.schedule.Entry.{Entry}
+use Rattle.pct_names.proofs.Names.{◌+◌, ◌++◌, [], ap, Bool, cond, Config, entries_from, Entry, entry_of, Err, false, header_of}
+use Rattle.pct_names.proofs.Names.{keyword_text, length, lines_of, List, map, nat_lt, None, nothing_after, Ok, Option, prepend_entry, Read}
+use Rattle.pct_names.proofs.Names.{read_end, read_entry, refl, sched_of, Schedule, schedule_at, schedule_from, Some, strip_cr, sym, true}
+use Rattle.pct_names.proofs.Names.{with_config, ℕ, ◌∙◌, ◌∷◌, ◌≡◌}
+use Rattle.std.proofs.Common.{append_assoc, append-nil, length-append}
 use Rattle.pct_model.specs.declared.refusal.ScheduleWhy.TheVariants as why
 use Rattle.pct_model.specs.declared.keyword.Keyword.TheVariants as keyword
-use Rattle.pct_model.specs.Keywords.{keyword_text}
-use Rattle.pct_model.specs.Lines.{lines_of, strip_cr}
-use Rattle.pct_model.specs.Schedule.{Read, Schedule, begins, header_of, entry_of, is_end, read_entry, nothing_after, read_end, prepend_entry, entries_from, with_config, schedule_at, schedule_from, sched_of}
+use Rattle.pct_model.specs.Schedule.{begins, is_end}
 use Rattle.pct_schedule.specs.declared.reader.End.{End}
 use Rattle.pct_schedule.specs.declared.reader.End.TheVariants as end
 use Rattle.pct_schedule.specs.Ends.{entries_to}

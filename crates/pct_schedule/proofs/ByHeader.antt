@@ -1,11 +1,10 @@
 -- The schedule of a text, or the prefix in it, is that of its header and the lines after it.
-use Rattle.std.proofs.Common.{◌≡◌, ℕ, ◌+◌, Bool, true, false, cond, List, [], ◌∷◌, Option, Some, None, Err, map, refl, ap, ◌∙◌}
-use Rattle.pct_model.specs.declared.schedule.Config.{Config}
+use Rattle.pct_names.proofs.Names.{◌+◌, [], ap, Bool, cond, Config, Err, false, header_of, keyword_text, lines_of, List, map, None, Option}
+use Rattle.pct_names.proofs.Names.{refl, sched_of, Schedule, schedule_at, schedule_from, Some, strip_cr, true, with_config, ℕ, ◌∙◌, ◌∷◌}
+use Rattle.pct_names.proofs.Names.{◌≡◌}
 use Rattle.pct_model.specs.declared.refusal.ScheduleWhy.TheVariants as why
 use Rattle.pct_model.specs.declared.keyword.Keyword.TheVariants as keyword
-use Rattle.pct_model.specs.Keywords.{keyword_text}
-use Rattle.pct_model.specs.Lines.{lines_of, strip_cr}
-use Rattle.pct_model.specs.Schedule.{Schedule, begins, header_of, with_config, schedule_at, schedule_from, sched_of}
+use Rattle.pct_model.specs.Schedule.{begins}
 use Rattle.pct_schedule.specs.declared.reader.End.{End}
 use Rattle.pct_schedule.specs.declared.reader.End.TheVariants as end
 use Rattle.pct_schedule.specs.Ends.{entries_to, schedule_to}

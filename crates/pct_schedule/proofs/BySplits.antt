@@ -1,15 +1,12 @@
 -- Splitting a line at one space after the other gives what its words give.
-use Rattle.std.proofs.Common.{◌≡◌, ℕ, ◌-◌, ◌<◌, Bool, true, false, ◌&&◌, cond, List, [], ◌∷◌, Option, Some, None, length, take, drop, refl, sym, ap, ◌∙◌, arith, nat_eq, nat_le, eq-eqb, eqb-true, ne_eqb, bytes_eq, option_map, true≢false}
-use Rattle.std.specs.Prelude.{codes}
-use Rattle.std.specs.List.{starts_with}
-use Rattle.std.specs.Option.{option_map_or}
-use Rattle.std.proofs.lemmas.List.{take_rest}
-use Rattle.pct_model.specs.declared.schedule.Alt.{Alt}
-use Rattle.pct_model.specs.declared.schedule.Config.{Config}
+use Rattle.pct_names.proofs.Names.{◌&&◌, ◌-◌, ◌<◌, ◌>>=◌, [], Alt, ap, arith, Bool, bytes_eq, choice_of, codes, cond, Config, config_of}
+use Rattle.pct_names.proofs.Names.{drop, entry_of, entry_of_parts, entry_of_words, false, header_of, header_of_words, is_end_of_words}
+use Rattle.pct_names.proofs.Names.{is_number, keyword_text, length, List, nat_eq, nat_le, None, number_of, numbered_choice, Option}
+use Rattle.pct_names.proofs.Names.{option_map, option_map_or, refl, Some, split_once, starts_with, sym, take, take_rest, true, words_of, ℕ}
+use Rattle.pct_names.proofs.Names.{◌∙◌, ◌∷◌, ◌≡◌}
+use Rattle.std.proofs.Common.{eq-eqb, eqb-true, ne_eqb, true≢false}
 use Rattle.pct_model.specs.declared.keyword.Keyword.TheVariants as keyword
-use Rattle.pct_model.specs.Keywords.{keyword_text}
-use Rattle.pct_model.specs.Lines.{◌>>=◌, split_once, words_of, number_of}
-use Rattle.pct_model.specs.Schedule.{begins, config_of, header_of_words, header_of, numbered_choice, choice_of, entry_of_parts, entry_of_words, entry_of, is_number, is_end_of_words, is_end}
+use Rattle.pct_model.specs.Schedule.{begins, is_end}
 use Rattle.pct_model.proofs.Bytes.{same_bytes}
 use Rattle.pct_text.specs.FirstNumber.{split_number}
 use Rattle.pct_text.proofs.SplitOnce.{lacks-uncons}

@@ -1,13 +1,9 @@
 -- A schedule, or a prefix of one, one line of a text after the other, with the list of entries so far, as the code reads it.
-use Rattle.std.specs.Prelude.{ℕ, ◌+◌, Bool, if◌then◌else◌, List, [], ◌∷◌, ◌++◌, length, Option, Some, None, Ok, Err, nat_lt}
-use Rattle.std.proofs.Common.{◌≡◌, refl}
-use Rattle.pct_model.specs.declared.schedule.Config.{Config}
-use Rattle.pct_model.specs.declared.schedule.Entry.{Entry}
+use Rattle.pct_names.proofs.Names.{◌+◌, ◌++◌, [], Bool, Config, Entry, entry_of, Err, header_of, if◌then◌else◌, keyword_text, length, List}
+use Rattle.pct_names.proofs.Names.{nat_lt, None, Ok, Option, refl, Schedule, Some, strip_cr, ℕ, ◌∷◌, ◌≡◌}
 use Rattle.pct_model.specs.declared.refusal.ScheduleWhy.TheVariants as why
 use Rattle.pct_model.specs.declared.keyword.Keyword.TheVariants as keyword
-use Rattle.pct_model.specs.Keywords.{keyword_text}
-use Rattle.pct_model.specs.Lines.{strip_cr}
-use Rattle.pct_model.specs.Schedule.{Schedule, begins, header_of, entry_of, is_end}
+use Rattle.pct_model.specs.Schedule.{begins, is_end}
 use Rattle.pct_schedule.specs.declared.reader.End.{End}
 use Rattle.pct_schedule.specs.declared.reader.End.TheVariants as end
 

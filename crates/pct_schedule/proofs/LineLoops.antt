@@ -1,15 +1,11 @@
 -- The loop over the lines of a schedule's text.
-use Rattle.std.proofs.Common.{◌≡◌, ℕ, zero, suc, ◌+◌, ◌<◌, arith, Bool, true, false, not, ◌&&◌, cond, List, [], ◌∷◌, ◌++◌, Option, Some, None, Result, Ok, Err, length, refl, sym, ap, ◌∙◌, nat_eq, nat_lt}
-use Rattle.std.specs.Prelude.{is_some}
+use Rattle.pct_names.proofs.Names.{◌&&◌, ◌+◌, ◌++◌, ◌<◌, [], ap, arith, Bool, cond, Config, Entry, entry_of, Err, false, header_of, is_some}
+use Rattle.pct_names.proofs.Names.{keyword_text, length, lines_of, List, nat_eq, nat_lt, None, not, nothing_after, Ok, Option, read_end}
+use Rattle.pct_names.proofs.Names.{read_entry, refl, Result, Schedule, ScheduleWhy, Some, strip_cr, suc, sym, true, zero, ℕ, ◌∙◌, ◌∷◌, ◌≡◌}
 use Rattle.std.proofs.lemmas.Bool.{eqb-true}
-use Rattle.pct_model.specs.declared.schedule.Config.{Config}
-use Rattle.pct_model.specs.declared.schedule.Entry.{Entry}
-use Rattle.pct_model.specs.declared.refusal.ScheduleWhy.{ScheduleWhy}
 use Rattle.pct_model.specs.declared.refusal.ScheduleWhy.TheVariants as why
 use Rattle.pct_model.specs.declared.keyword.Keyword.TheVariants as keyword
-use Rattle.pct_model.specs.Keywords.{keyword_text}
-use Rattle.pct_model.specs.Lines.{lines_of, strip_cr}
-use Rattle.pct_model.specs.Schedule.{Schedule, begins, header_of, entry_of, is_end, read_entry, nothing_after, read_end}
+use Rattle.pct_model.specs.Schedule.{begins, is_end}
 use Rattle.pct_text.specs.FirstLine.{IsFirstLine}
 use Rattle.pct_text.proofs.Lines.{lines_of-nil}
 use Rattle.pct_text.proofs.FirstLines.{has_a_line}

@@ -1,9 +1,7 @@
 -- The line `%%` between the script and the schedule of an input.
-use Rattle.std.proofs.Common.{◌≡◌, ℕ, ◌+◌, ◌-◌, ◌≤◌, ◌⊎◌, inl, inr, Bool, true, false, cond, List, [], ◌∷◌, ◌++◌, Option, Some, length, sym, ap, ◌∙◌, arith, nat_le, bytes_eq, le-leb, length-append}
-use Rattle.std.specs.Prelude.{codes}
-use Rattle.std.proofs.lemmas.Bool.{lt-leb}
-use Rattle.pct_model.specs.Lines.{lines_of}
-use Rattle.pct_model.specs.Schedule.{marker_in, split_at_marker}
+use Rattle.pct_names.proofs.Names.{◌+◌, ◌++◌, ◌-◌, [], ap, arith, Bool, bytes_eq, codes, cond, false, inl, inr, length, lines_of, List}
+use Rattle.pct_names.proofs.Names.{lt-leb, marker_in, nat_le, Option, Some, split_at_marker, sym, true, ℕ, ◌∙◌, ◌∷◌, ◌≡◌, ◌≤◌, ◌⊎◌}
+use Rattle.std.proofs.Common.{le-leb, length-append}
 use Rattle.pct_text.proofs.Lines.{lines_of-nil}
 use Rattle.pct_schedule.proofs.LineLoops.{ReadsLine}
 

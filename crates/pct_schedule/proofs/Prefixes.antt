@@ -1,16 +1,12 @@
 -- How the prefix in a text agrees with the schedule in it.
-use Rattle.std.proofs.Common.{◌≡◌, ℕ, ◌+◌, ◌<◌, Bool, true, false, cond, List, [], ◌∷◌, Option, Some, None, Ok, Err, length, map, refl, ap, ◌∙◌, arith, nat_eq}
+use Rattle.pct_names.proofs.Names.{◌+◌, ◌<◌, [], ap, arith, Bool, cond, Config, default_config, entries_from, Entry, entry_of, Err, false}
+use Rattle.pct_names.proofs.Names.{header_of, keyword_text, length, length-map, lines_of, List, map, nat_eq, None, Ok, Option}
+use Rattle.pct_names.proofs.Names.{prepend_entry, Read, read_end, read_entry, refl, sched_of, schedule_at, schedule_from, ScheduleWhy, Some}
+use Rattle.pct_names.proofs.Names.{strip_cr, true, with_config, ℕ, ◌∙◌, ◌∷◌, ◌≡◌}
 use Rattle.std.proofs.lemmas.Bool.{eqb-true}
-use Rattle.std.proofs.lemmas.List.{length-map}
-use Rattle.pct_model.specs.declared.schedule.Config.{Config}
-use Rattle.pct_model.specs.declared.schedule.Entry.{Entry}
-use Rattle.pct_model.specs.declared.refusal.ScheduleWhy.{ScheduleWhy}
 use Rattle.pct_model.specs.declared.refusal.ScheduleWhy.TheVariants as why
 use Rattle.pct_model.specs.declared.keyword.Keyword.TheVariants as keyword
-use Rattle.pct_model.specs.Keywords.{keyword_text}
-use Rattle.pct_model.specs.Lines.{lines_of, strip_cr}
-use Rattle.pct_model.specs.RunOptions.{default_config}
-use Rattle.pct_model.specs.Schedule.{Read, begins, header_of, entry_of, read_entry, read_end, prepend_entry, entries_from, with_config, schedule_at, schedule_from, sched_of}
+use Rattle.pct_model.specs.Schedule.{begins}
 use Rattle.pct_text.proofs.Lines.{lines_of-nil}
 use Rattle.pct_schedule.specs.Prefix.{prefix_entries_from, prefix_at, prefix_from, prefix_of}
 use Rattle.pct_schedule.specs.PrefixLaws.{SchedulesArePrefixes, PrefixFaultsAreScheduleFaults, OnlyTheEndIsMissing}

@@ -1,14 +1,10 @@
 -- The text of a schedule: its header, its entries and its last line.
-use Rattle.std.proofs.Common.{◌≡◌, ℕ, List, [], ◌∷◌, ◌++◌, length, map, ap, ◌∙◌, append_assoc}
+use Rattle.pct_names.proofs.Names.{◌++◌, [], ap, Config, end_line, Entry, entry_line, flat_map-cons, flat_map-map, header_line, length}
+use Rattle.pct_names.proofs.Names.{line_text, List, map, schedule_lines, text_of, ℕ, ◌∙◌, ◌∷◌, ◌≡◌}
+use Rattle.std.proofs.Common.{append_assoc}
 use Rattle.std.specs.List.{flat_map}
 use Rattle.std.proofs.lemmas.List.{append-nil}
-use Rattle.std.proofs.lemmas.List.Concat.{flat_map-cons}
-use Rattle.std.proofs.lemmas.List.Folds.{flat_map-map}
 use Rattle.std.proofs.lemmas.Grind.{flat_map-append}
-use Rattle.pct_model.specs.declared.schedule.Config.{Config}
-use Rattle.pct_model.specs.declared.schedule.Entry.{Entry}
-use Rattle.pct_model.specs.Keywords.{line_text, text_of}
-use Rattle.pct_model.specs.Report.{entry_line, header_line, end_line, schedule_lines}
 
 -- the text of one line
 pub one_line : (line : List (List ℕ)) → text_of (line ∷ []) ≡ line_text line

@@ -1,15 +1,9 @@
 -- The lines of a schedule, one split at a space after the other, as the code reads them.
-use Rattle.std.specs.Prelude.{ℕ, Bool, false, ◌&&◌, if◌then◌else◌, List, Option, Some, None, nat_le, bytes_eq, codes}
-use Rattle.std.specs.Option.{option_map_or}
-use Rattle.pct_model.specs.declared.schedule.Alt.{Alt}
+use Rattle.pct_names.proofs.Names.{◌&&◌, ◌>>=◌, Alt, Bool, bytes_eq, codes, Config, config_of, Entry, false, if◌then◌else◌, is_number}
+use Rattle.pct_names.proofs.Names.{keyword_text, List, MAX_WORKER, nat_le, None, number_of, numbered_choice, Option, option_map_or, Some}
+use Rattle.pct_names.proofs.Names.{split_once, ℕ}
 use Rattle.pct_model.specs.declared.schedule.Alt.TheVariants as alt
-use Rattle.pct_model.specs.declared.schedule.Config.{Config}
-use Rattle.pct_model.specs.declared.schedule.Entry.{Entry}
 use Rattle.pct_model.specs.declared.keyword.Keyword.TheVariants as keyword
-use Rattle.pct_model.specs.declared.limits.TheConstants.{MAX_WORKER}
-use Rattle.pct_model.specs.Keywords.{keyword_text}
-use Rattle.pct_model.specs.Lines.{◌>>=◌, split_once, number_of}
-use Rattle.pct_model.specs.Schedule.{config_of, numbered_choice, is_number}
 use Rattle.pct_text.specs.FirstNumber.{split_number}
 
 -- whether a line begins with a fixed word and a space

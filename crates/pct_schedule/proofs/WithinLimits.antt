@@ -1,21 +1,16 @@
 -- A schedule that is read is within its limits, and the sections of an input are in the input.
-use Rattle.std.proofs.Common.{◌≡◌, ℕ, ◌+◌, ◌≤◌, ◌<◌, Bool, true, false, ◌&&◌, cond, List, [], ◌∷◌, ◌++◌, Option, Some, None, Ok, Err, length, refl, sym, ◌∙◌, subst, arith, nat_eq, nat_lt, nat_le, ltb-true, leb-true, bytes_eq, decimal, length-append, suc}
-use Rattle.std.specs.Prelude.{IfSome}
-use Rattle.std.specs.List.{list_all, slice_split, onto_first}
-use Rattle.std.specs.Str.Parse.{digits_value}
-use Rattle.std.proofs.lemmas.Bool.{and_parts, and_from, cond_both}
-use Rattle.std.proofs.lemmas.List.Folds.{list_all-append}
-use Rattle.std.proofs.lemmas.List.Splits.{length-slice_split}
-use Rattle.pct_model.specs.declared.schedule.Alt.{Alt}
+use Rattle.pct_names.proofs.Names.{◌&&◌, ◌+◌, ◌++◌, ◌<◌, ◌>>=◌, [], Alt, and_from, and_parts, arith, Bool, bytes_eq, choice_of, cond}
+use Rattle.pct_names.proofs.Names.{cond_both, Config, config_of, decimal, digits_value, Entry, entry_of, entry_of_parts, entry_of_words}
+use Rattle.pct_names.proofs.Names.{Err, false, header_of, header_of_words, IfSome, is_config, is_marker, keyword_text, length}
+use Rattle.pct_names.proofs.Names.{length-slice_split, lines_of, List, list_all, list_all-append, marker_in, nat_eq, nat_le, nat_lt, None}
+use Rattle.pct_names.proofs.Names.{number_of, numbered_choice, Ok, onto_first, Option, refl, replay_parts, sched_of, Schedule, slice_split}
+use Rattle.pct_names.proofs.Names.{Some, split_at_marker, strip_cr, subst, suc, sym, true, without_empty_last, words_of, ℕ, ◌∙◌, ◌∷◌, ◌≡◌}
+use Rattle.pct_names.proofs.Names.{◌≤◌}
+use Rattle.std.proofs.Common.{ltb-true, leb-true, length-append}
 use Rattle.pct_model.specs.declared.schedule.Alt.TheVariants as alt
-use Rattle.pct_model.specs.declared.schedule.Config.{Config}
-use Rattle.pct_model.specs.declared.schedule.Entry.{Entry}
 use Rattle.pct_model.specs.declared.refusal.ScheduleWhy.TheVariants as why
 use Rattle.pct_model.specs.declared.keyword.Keyword.TheVariants as keyword
-use Rattle.pct_model.specs.Keywords.{keyword_text}
-use Rattle.pct_model.specs.Lines.{◌>>=◌, lines_of, without_empty_last, strip_cr, words_of, number_of}
-use Rattle.pct_model.specs.Run.{is_config}
-use Rattle.pct_model.specs.Schedule.{Schedule, begins, config_of, header_of_words, header_of, numbered_choice, choice_of, entry_of_parts, entry_of_words, entry_of, is_end, sched_of, is_marker, marker_in, split_at_marker, replay_parts}
+use Rattle.pct_model.specs.Schedule.{begins, is_end}
 use Rattle.pct_schedule.specs.declared.reader.End.{End}
 use Rattle.pct_schedule.specs.declared.reader.End.TheVariants as end
 use Rattle.pct_schedule.specs.Ends.{schedule_to}

@@ -1,32 +1,18 @@
 -- The greatest size of a script's canonical text.
-use Rattle.std.proofs.Common.{◌≡◌, ℕ, zero, suc, ◌+◌, ◌*◌, ◌≤◌, Bool, true, false, not, ◌&&◌, List, [], ◌∷◌, ◌++◌, length, map, ap, ◌∙◌, arith, nat_le, leb-true, decimal, length-append, flat_map}
-use Rattle.std.specs.List.{list_all}
-use Rattle.std.proofs.lemmas.Bool.{and_parts}
-use Rattle.std.proofs.lemmas.List.{length-map}
-use Rattle.std.proofs.lemmas.List.Concat.{flat_map-cons}
-use Rattle.std.proofs.lemmas.List.Sums.{sum_by-cons}
+use Rattle.pct_names.proofs.Names.{◌&&◌, ◌*◌, ◌+◌, ◌++◌, [], and_parts, ap, Argument, argument_kinds_of, argument_text, argument_texts}
+use Rattle.pct_names.proofs.Names.{ArgumentKind, arguments_of, arith, Bool, canon, Contents, contents_of, decimal, declaration_line}
+use Rattle.pct_names.proofs.Names.{declaration_syntax, encode, false, flag_text, flat_map, flat_map-cons, Func, function_lines, has_lines}
+use Rattle.pct_names.proofs.Names.{is_digit, is_name, is_name_byte, length, length-map, line_kind_of_statement, line_text, LineKind, List}
+use Rattle.pct_names.proofs.Names.{list_all, map, name_at, names_of_kind, nat_le, not, Script, script_lines, SemDecl, statement_lines}
+use Rattle.pct_names.proofs.Names.{statement_words, Stmt, suc, sum_by-cons, symbol_kind_at, SymbolKind, syntax_of, text_of, true, zero, ℕ}
+use Rattle.pct_names.proofs.Names.{◌∙◌, ◌∷◌, ◌≡◌, ◌≤◌}
+use Rattle.std.proofs.Common.{leb-true, length-append}
 use Rattle.std.proofs.lemmas.Grind.{flat_map-append}
-use Rattle.pct_model.specs.declared.line_kind.LineKind.{LineKind}
 use Rattle.pct_model.specs.declared.line_kind.LineKind.TheVariants as line_kind
-use Rattle.pct_model.specs.declared.line_kind.SymbolKind.{SymbolKind}
 use Rattle.pct_model.specs.declared.line_kind.SymbolKind.TheVariants as kind
-use Rattle.pct_model.specs.declared.line_kind.ArgumentKind.{ArgumentKind}
 use Rattle.pct_model.specs.declared.line_kind.ArgumentKind.TheVariants as argument_kind
-use Rattle.pct_model.specs.declared.parsed_line.Argument.{Argument}
 use Rattle.pct_model.specs.declared.parsed_line.Argument.TheVariants as argument
-use Rattle.pct_model.specs.declared.script.Func.{Func}
-use Rattle.pct_model.specs.declared.script.SemDecl.{SemDecl}
-use Rattle.pct_model.specs.declared.script.Script.{Script}
-use Rattle.pct_model.specs.declared.statement.Stmt.{Stmt}
 use Rattle.pct_model.specs.declared.statement.Stmt.TheVariants as statement
-use Rattle.pct_model.specs.Keywords.{line_text, text_of}
-use Rattle.pct_model.specs.Names.{is_digit, is_name_byte, is_name, name_at}
-use Rattle.pct_model.specs.LineKinds.{declaration_syntax, syntax_of}
-use Rattle.pct_model.specs.Statements.{encode, line_kind_of_statement, arguments_of, argument_kinds_of}
-use Rattle.pct_model.specs.Contents.{Contents, names_of_kind}
-use Rattle.pct_model.specs.Static.{has_lines, statement_lines}
-use Rattle.pct_model.specs.Spells.{contents_of}
-use Rattle.pct_model.specs.Canon.{symbol_kind_at, flag_text, argument_text, argument_texts, declaration_line, statement_words, function_lines, script_lines, canon}
 use Rattle.pct_model.proofs.StaticFacts.{limits_kept, lines_of_function, few_functions}
 use Rattle.pct_schedule_laws.proofs.PlainWords.{is_plain}
 use Rattle.pct_schedule_laws.proofs.FirstWords.{begins_percent, first_word}

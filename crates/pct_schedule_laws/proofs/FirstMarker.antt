@@ -1,12 +1,8 @@
 -- The line `%%` after lines of plain words, none of which is `%%`, is the first line `%%`.
-use Rattle.std.proofs.Common.{◌≡◌, ℕ, ◌+◌, Bool, true, false, not, ◌&&◌, cond, List, [], ◌∷◌, ◌++◌, Option, Some, length, refl, ap, ◌∙◌, append_assoc, arith, bytes_eq, length-append}
-use Rattle.std.specs.Prelude.{codes}
-use Rattle.std.specs.List.{list_all, join_with_byte}
-use Rattle.std.proofs.lemmas.Bool.{and_parts, and_from, not-true}
-use Rattle.std.proofs.lemmas.List.Concat.{flat_map-cons}
-use Rattle.pct_model.specs.Keywords.{line_text, text_of}
-use Rattle.pct_model.specs.Lines.{split_once, lines_of, strip_cr}
-use Rattle.pct_model.specs.Schedule.{is_marker, marker_in}
+use Rattle.pct_names.proofs.Names.{◌&&◌, ◌+◌, ◌++◌, [], and_from, and_parts, ap, arith, Bool, bytes_eq, codes, cond, false, flat_map-cons}
+use Rattle.pct_names.proofs.Names.{is_marker, join_with_byte, length, line_text, lines_of, List, list_all, marker_in, not, not-true, Option}
+use Rattle.pct_names.proofs.Names.{refl, Some, split_once, strip_cr, text_of, true, ℕ, ◌∙◌, ◌∷◌, ◌≡◌}
+use Rattle.std.proofs.Common.{append_assoc, length-append}
 use Rattle.pct_text.proofs.Lines.{lines_of-line}
 use Rattle.pct_schedule_laws.proofs.PlainWords.{are_plain}
 use Rattle.pct_schedule_laws.proofs.ReadBack.{line_lacks, line_unchanged}

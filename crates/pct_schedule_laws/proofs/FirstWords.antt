@@ -1,16 +1,10 @@
 -- The keywords of a script's lines: none contains a byte up to the space (LF and CR among them) or begins with `%`, and
 -- none has more than 22 bytes.
-use Rattle.std.proofs.Common.{◌≡◌, ℕ, zero, suc, Bool, true, false, not, ◌&&◌, List, [], ◌∷◌, length, refl, nat_eq, nat_le}
-use Rattle.std.specs.Prelude.{slice_get}
-use Rattle.std.specs.List.{list_all}
-use Rattle.std.specs.Option.{option_map_or}
-use Rattle.std.proofs.lemmas.Bool.{and_parts}
-use Rattle.pct_model.specs.declared.line_kind.LineKind.{LineKind}
+use Rattle.pct_names.proofs.Names.{◌&&◌, [], and_parts, Bool, declaration_syntax, false, length, LineKind, List, list_all, nat_eq, nat_le}
+use Rattle.pct_names.proofs.Names.{not, option_map_or, point_name, points, refl, Row, slice_get, suc, SymbolKind, syntax_of, true, zero, ℕ}
+use Rattle.pct_names.proofs.Names.{◌∷◌, ◌≡◌}
 use Rattle.pct_model.specs.declared.line_kind.LineKind.TheVariants as line_kind
-use Rattle.pct_model.specs.declared.line_kind.SymbolKind.{SymbolKind}
 use Rattle.pct_model.specs.declared.line_kind.SymbolKind.TheVariants as kind
-use Rattle.pct_model.specs.Points.{Row, points, point_name}
-use Rattle.pct_model.specs.LineKinds.{declaration_syntax, syntax_of}
 use Rattle.pct_schedule_laws.proofs.PlainWords.{is_plain}
 
 abbrev pub begins_percent : List ℕ → Bool

@@ -1,33 +1,15 @@
 -- The lines of a report: their words are plain.
-use Rattle.std.proofs.Common.{◌≡◌, ℕ, Bool, true, false, not, ◌&&◌, List, [], ◌∷◌, length, map, refl, nat_le, decimal}
-use Rattle.std.proofs.lemmas.Bool.{and_parts}
-use Rattle.pct_model.specs.declared.script.Script.{Script}
-use Rattle.pct_model.specs.declared.line_kind.LineKind.{LineKind}
+use Rattle.pct_names.proofs.Names.{◌&&◌, [], Alt, alt_words, and_parts, Bool, Caller, caller_name, class_of_stop, Config, contents_of}
+use Rattle.pct_names.proofs.Names.{decimal, either, end_line, Entry, entry_line, Event, event_line, event_words, false, header_line}
+use Rattle.pct_names.proofs.Names.{Keyword, keyword_text, length, line_kind_of_caller, LineKind, List, map, name_at, name_of_stop}
+use Rattle.pct_names.proofs.Names.{names_of_kind, nat_le, not, point_name, refl, Script, stop_words, SymbolKind, syntax_of, thread_text}
+use Rattle.pct_names.proofs.Names.{title_line, true, Verdict, verdict_line, verdict_words, What, Why, ℕ, ◌∷◌, ◌≡◌}
 use Rattle.pct_model.specs.declared.line_kind.LineKind.TheVariants as line_kind
-use Rattle.pct_model.specs.declared.line_kind.SymbolKind.{SymbolKind}
 use Rattle.pct_model.specs.declared.line_kind.SymbolKind.TheVariants as kind
-use Rattle.pct_model.specs.declared.event.Caller.{Caller}
-use Rattle.pct_model.specs.declared.event.Event.{Event}
-use Rattle.pct_model.specs.declared.event.What.{What}
 use Rattle.pct_model.specs.declared.event.What.TheVariants as what
-use Rattle.pct_model.specs.declared.schedule.Alt.{Alt}
 use Rattle.pct_model.specs.declared.schedule.Alt.TheVariants as alt
-use Rattle.pct_model.specs.declared.schedule.Config.{Config}
-use Rattle.pct_model.specs.declared.schedule.Entry.{Entry}
-use Rattle.pct_model.specs.declared.stop.Why.{Why}
-use Rattle.pct_model.specs.declared.stop.Verdict.{Verdict}
 use Rattle.pct_model.specs.declared.stop.Verdict.TheVariants as verdict
-use Rattle.pct_model.specs.declared.keyword.Keyword.{Keyword}
 use Rattle.pct_model.specs.declared.keyword.Keyword.TheVariants as keyword
-use Rattle.pct_model.specs.Keywords.{keyword_text}
-use Rattle.pct_model.specs.Names.{name_at}
-use Rattle.pct_model.specs.Points.{point_name}
-use Rattle.pct_model.specs.LineKinds.{syntax_of}
-use Rattle.pct_model.specs.Contents.{names_of_kind}
-use Rattle.pct_model.specs.Spells.{contents_of}
-use Rattle.pct_model.specs.StopTexts.{class_of_stop, name_of_stop, stop_words}
-use Rattle.pct_model.specs.EventTexts.{either, line_kind_of_caller, caller_name, event_words}
-use Rattle.pct_model.specs.Report.{thread_text, event_line, alt_words, entry_line, header_line, end_line, verdict_words, verdict_line, title_line}
 use Rattle.pct_schedule_laws.proofs.PlainWords.{is_plain, are_plain, more, decimal_plain, declared_plain, thread_plain, keyword_plain}
 use Rattle.pct_schedule_laws.proofs.FirstWords.{begins_percent, first_word}
 

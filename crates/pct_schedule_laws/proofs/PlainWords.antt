@@ -1,17 +1,9 @@
 -- The words of a report: none contains a byte up to the space (LF and CR among them).
-use Rattle.std.proofs.Common.{◌≡◌, ℕ, zero, suc, ◌≤◌, Bool, true, false, not, ◌&&◌, List, [], ◌∷◌, length, refl, sym, ◌∙◌, arith, nat_lt, nat_le, ltb-false, leb-true, lt-ltb, ne_eqb, decimal}
-use Rattle.std.specs.List.{list_all}
-use Rattle.std.proofs.lemmas.Bool.{and_parts, and_from, lt-leb}
-use Rattle.std.proofs.lemmas.List.Folds.{list_all-append}
-use Rattle.pct_model.specs.declared.script.Script.{Script}
-use Rattle.pct_model.specs.declared.line_kind.SymbolKind.{SymbolKind}
-use Rattle.pct_model.specs.declared.keyword.Keyword.{Keyword}
+use Rattle.pct_names.proofs.Names.{◌&&◌, [], and_from, and_parts, arith, Bool, contents_of, decimal, false, is_digit, is_name, is_name_byte}
+use Rattle.pct_names.proofs.Names.{Keyword, keyword_text, length, List, list_all, list_all-append, lt-leb, name_at, names_of_kind, nat_le}
+use Rattle.pct_names.proofs.Names.{nat_lt, not, refl, Script, suc, sym, SymbolKind, thread_text, true, zero, ℕ, ◌∙◌, ◌∷◌, ◌≡◌, ◌≤◌}
+use Rattle.std.proofs.Common.{ltb-false, leb-true, lt-ltb, ne_eqb}
 use Rattle.pct_model.specs.declared.keyword.Keyword.TheVariants as keyword
-use Rattle.pct_model.specs.Keywords.{keyword_text}
-use Rattle.pct_model.specs.Names.{is_digit, is_name_byte, is_name, name_at}
-use Rattle.pct_model.specs.Contents.{names_of_kind}
-use Rattle.pct_model.specs.Spells.{contents_of}
-use Rattle.pct_model.specs.Report.{thread_text}
 use Rattle.pct_text.proofs.Numbers.{digits_of_decimal}
 use Rattle.pct_model.proofs.StaticFacts.{passes_all, text_parts, kinds_are_names}
 

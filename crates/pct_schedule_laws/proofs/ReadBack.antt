@@ -1,31 +1,17 @@
 -- The schedule of a report is read back from its text.
-use Rattle.std.proofs.Common.{◌≡◌, ℕ, ◌+◌, ◌≤◌, ◌<◌, Bool, true, false, ◌&&◌, cond, List, [], ◌∷◌, ◌++◌, Option, Some, None, Ok, Err, length, map, refl, sym, ap, ◌∙◌, append_assoc, append-nil, arith, nat_eq, nat_le, leb-true, lt-ltb, eq-eqb, true≢false, bytes_eq, decimal, length-append, option_map, reverse, le-leb}
-use Rattle.std.specs.Prelude.{All}
-use Rattle.std.specs.List.{list_all, join_with_byte}
-use Rattle.std.specs.Fmt.{digits}
-use Rattle.std.specs.Option.{option_map_or}
-use Rattle.std.proofs.lemmas.Bool.{and_from, and_parts, false_from_ne_true}
-use Rattle.std.proofs.lemmas.List.Concat.{flat_map-cons}
-use Rattle.std.proofs.lemmas.List.Elements.{All-head, All-tail}
-use Rattle.std.proofs.lemmas.List.Folds.{list_all-append}
-use Rattle.std.proofs.lemmas.Option.{same_Some}
-use Rattle.pct_model.specs.declared.limits.TheConstants.{MAX_WORKER}
-use Rattle.pct_model.specs.declared.script.Script.{Script}
-use Rattle.pct_model.specs.declared.event.Event.{Event}
-use Rattle.pct_model.specs.declared.schedule.Alt.{Alt}
+use Rattle.pct_names.proofs.Names.{◌&&◌, ◌+◌, ◌++◌, ◌<◌, [], All, All-head, All-tail, Alt, alt_words, and_from, and_parts, ap, arith, Bool}
+use Rattle.pct_names.proofs.Names.{bytes_eq, cond, Config, decimal, digits, end_line, Entry, entry_line, entry_of, Err, Event, event_line}
+use Rattle.pct_names.proofs.Names.{event_words, false, false_from_ne_true, flat_map-cons, header_line, header_of, is_config, is_digit}
+use Rattle.pct_names.proofs.Names.{join_with_byte, keyword_text, length, line_text, lines_of, List, list_all, list_all-append, map}
+use Rattle.pct_names.proofs.Names.{MAX_WORKER, nat_eq, nat_le, None, Ok, Option, option_map, option_map_or, refl, report, report_lines}
+use Rattle.pct_names.proofs.Names.{report_of, reverse, Run, run, same_Some, sched_of, Schedule, schedule_lines, Script, Some, split_once}
+use Rattle.pct_names.proofs.Names.{strip_cr, sym, text_of, thread_text, title_line, true, Verdict, verdict_line, verdict_of, verdict_words}
+use Rattle.pct_names.proofs.Names.{ℕ, ◌∙◌, ◌∷◌, ◌≡◌, ◌≤◌}
+use Rattle.std.proofs.Common.{append_assoc, append-nil, leb-true, lt-ltb, eq-eqb, true≢false, length-append, le-leb}
 use Rattle.pct_model.specs.declared.schedule.Alt.TheVariants as alt
-use Rattle.pct_model.specs.declared.schedule.Config.{Config}
-use Rattle.pct_model.specs.declared.schedule.Entry.{Entry}
-use Rattle.pct_model.specs.declared.stop.Verdict.{Verdict}
 use Rattle.pct_model.specs.declared.refusal.ScheduleWhy.TheVariants as why
 use Rattle.pct_model.specs.declared.keyword.Keyword.TheVariants as keyword
-use Rattle.pct_model.specs.Keywords.{keyword_text, line_text, text_of}
-use Rattle.pct_model.specs.Names.{is_digit}
-use Rattle.pct_model.specs.EventTexts.{event_words}
-use Rattle.pct_model.specs.Report.{thread_text, event_line, alt_words, entry_line, header_line, end_line, schedule_lines, verdict_words, verdict_line, title_line, report_lines, report_of, report}
-use Rattle.pct_model.specs.Lines.{split_once, lines_of, strip_cr}
-use Rattle.pct_model.specs.Run.{Run, is_config, run, verdict_of}
-use Rattle.pct_model.specs.Schedule.{Schedule, begins, header_of, entry_of, is_end, sched_of}
+use Rattle.pct_model.specs.Schedule.{begins, is_end}
 use Rattle.pct_model.proofs.Bytes.{same_bytes, bytes_eq-refl}
 use Rattle.pct_engine_laws.specs.RunNumbers.{IsChoiceWithin, IsEntryWithin}
 use Rattle.pct_engine_laws.proofs.LongerRuns.{run_parts}

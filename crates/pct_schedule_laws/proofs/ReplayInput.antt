@@ -1,19 +1,10 @@
 -- An input of `replay`, built from a script and a schedule.
-use Rattle.std.proofs.Common.{◌≡◌, ℕ, ◌+◌, ◌≤◌, Bool, cond, List, [], ◌∷◌, ◌++◌, Some, Ok, length, take, drop, ap, ◌∙◌, arith, le-leb, length-append}
-use Rattle.std.specs.Prelude.{codes}
-use Rattle.std.proofs.Math.Seq.{take-append_seam, drop-append-add}
-use Rattle.pct_model.specs.declared.script.Script.{Script}
-use Rattle.pct_model.specs.declared.schedule.Config.{Config}
-use Rattle.pct_model.specs.declared.schedule.Entry.{Entry}
+use Rattle.pct_names.proofs.Names.{◌+◌, ◌++◌, [], ap, arith, Bool, canon, codes, cond, Config, contents_of, drop, drop-append-add, Entry}
+use Rattle.pct_names.proofs.Names.{is_asked, keyword_text, length, lines_of, List, marker_in, Ok, replay_parts, Run, run, sched_of}
+use Rattle.pct_names.proofs.Names.{schedule_lines, schedule_part, Script, script_lines, script_part, Some, split_at_marker, take}
+use Rattle.pct_names.proofs.Names.{take-append_seam, text_of, ℕ, ◌∙◌, ◌∷◌, ◌≡◌, ◌≤◌}
+use Rattle.std.proofs.Common.{le-leb, length-append}
 use Rattle.pct_model.specs.declared.keyword.Keyword.TheVariants as keyword
-use Rattle.pct_model.specs.Keywords.{keyword_text, text_of}
-use Rattle.pct_model.specs.Spells.{contents_of}
-use Rattle.pct_model.specs.Canon.{script_lines, canon}
-use Rattle.pct_model.specs.Report.{schedule_lines}
-use Rattle.pct_model.specs.Run.{Run, run}
-use Rattle.pct_model.specs.Lines.{lines_of}
-use Rattle.pct_model.specs.Schedule.{marker_in, split_at_marker, replay_parts, sched_of}
-use Rattle.pct_model.specs.Outcome.{is_asked, script_part, schedule_part}
 use Rattle.pct_schedule.specs.Schedules.{IsSchedule}
 use Rattle.pct_schedule_laws.specs.ReplayInput.{replay_input, IsSplit, IsReplayInput}
 use Rattle.pct_schedule.proofs.ByEntries.{by_lines}

@@ -1,28 +1,14 @@
 -- The lines of a canonical text: their words are plain, and none is `%%`.
-use Rattle.std.proofs.Common.{◌≡◌, ℕ, Bool, true, false, not, ◌&&◌, List, [], ◌∷◌, ◌++◌, length, map, refl, ap, ◌∙◌, nat_le, decimal, flat_map}
-use Rattle.std.specs.List.{list_all, join_with_byte}
-use Rattle.std.proofs.lemmas.Bool.{and_parts, and_from, not-true}
-use Rattle.std.proofs.lemmas.List.Concat.{flat_map-cons}
-use Rattle.std.proofs.lemmas.List.Folds.{list_all-append}
-use Rattle.pct_model.specs.declared.line_kind.LineKind.{LineKind}
+use Rattle.pct_names.proofs.Names.{◌&&◌, ◌++◌, [], and_from, and_parts, ap, Argument, argument_kinds_of, argument_text, argument_texts}
+use Rattle.pct_names.proofs.Names.{ArgumentKind, arguments_of, Bool, Contents, contents_of, decimal, declaration_line, false, flag_text}
+use Rattle.pct_names.proofs.Names.{flat_map, flat_map-cons, Func, function_lines, has_lines, is_name, join_with_byte, length}
+use Rattle.pct_names.proofs.Names.{line_kind_of_statement, LineKind, List, list_all, list_all-append, map, names_of_kind, nat_le, not}
+use Rattle.pct_names.proofs.Names.{not-true, refl, Script, script_lines, SemDecl, statement_words, Stmt, symbol_kind_at, SymbolKind}
+use Rattle.pct_names.proofs.Names.{syntax_of, true, ℕ, ◌∙◌, ◌∷◌, ◌≡◌}
 use Rattle.pct_model.specs.declared.line_kind.LineKind.TheVariants as line_kind
-use Rattle.pct_model.specs.declared.line_kind.SymbolKind.{SymbolKind}
 use Rattle.pct_model.specs.declared.line_kind.SymbolKind.TheVariants as kind
-use Rattle.pct_model.specs.declared.line_kind.ArgumentKind.{ArgumentKind}
 use Rattle.pct_model.specs.declared.line_kind.ArgumentKind.TheVariants as argument_kind
-use Rattle.pct_model.specs.declared.parsed_line.Argument.{Argument}
 use Rattle.pct_model.specs.declared.parsed_line.Argument.TheVariants as argument
-use Rattle.pct_model.specs.declared.script.Func.{Func}
-use Rattle.pct_model.specs.declared.script.SemDecl.{SemDecl}
-use Rattle.pct_model.specs.declared.script.Script.{Script}
-use Rattle.pct_model.specs.declared.statement.Stmt.{Stmt}
-use Rattle.pct_model.specs.Names.{is_name}
-use Rattle.pct_model.specs.LineKinds.{syntax_of}
-use Rattle.pct_model.specs.Statements.{line_kind_of_statement, arguments_of, argument_kinds_of}
-use Rattle.pct_model.specs.Contents.{Contents, names_of_kind}
-use Rattle.pct_model.specs.Static.{has_lines}
-use Rattle.pct_model.specs.Spells.{contents_of}
-use Rattle.pct_model.specs.Canon.{symbol_kind_at, flag_text, argument_text, argument_texts, declaration_line, statement_words, function_lines, script_lines}
 use Rattle.pct_model.proofs.StaticFacts.{passes_all, text_parts, kinds_are_names, lines_of_function}
 use Rattle.pct_schedule_laws.proofs.PlainWords.{is_plain, are_plain, more, decimal_plain, plain_name, name_at_plain}
 use Rattle.pct_schedule_laws.proofs.FirstWords.{begins_percent, first_word}

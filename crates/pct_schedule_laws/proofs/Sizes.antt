@@ -1,16 +1,10 @@
 -- The greatest size of a schedule's text.
-use Rattle.std.proofs.Common.{◌≡◌, ℕ, zero, suc, ◌+◌, ◌*◌, ◌/◌, ◌%◌, ◌≤◌, true, false, List, [], ◌∷◌, ◌++◌, length, ap, ◌∙◌, arith, nat_eq, leb-true, decimal, length-append, flat_map}
-use Rattle.std.specs.Fmt.{digit_glyph, digits_onto, digits}
-use Rattle.std.specs.List.{list_all, join_with_byte}
-use Rattle.std.proofs.lemmas.Bool.{and_parts, cond_both}
-use Rattle.std.proofs.lemmas.Fmt.{length-decimal-le}
-use Rattle.std.proofs.lemmas.List.Concat.{flat_map-cons}
-use Rattle.pct_model.specs.declared.schedule.Alt.{Alt}
+use Rattle.pct_names.proofs.Names.{◌%◌, ◌*◌, ◌+◌, ◌++◌, ◌/◌, [], Alt, alt_words, and_parts, ap, arith, cond_both, Config, decimal}
+use Rattle.pct_names.proofs.Names.{digit_glyph, digits, digits_onto, end_line, Entry, entry_line, false, flat_map, flat_map-cons}
+use Rattle.pct_names.proofs.Names.{header_line, join_with_byte, keyword_text, length, length-decimal-le, line_text, List, list_all, nat_eq}
+use Rattle.pct_names.proofs.Names.{schedule_lines, suc, text_of, true, zero, ℕ, ◌∙◌, ◌∷◌, ◌≡◌, ◌≤◌}
+use Rattle.std.proofs.Common.{leb-true, length-append}
 use Rattle.pct_model.specs.declared.schedule.Alt.TheVariants as alt
-use Rattle.pct_model.specs.declared.schedule.Config.{Config}
-use Rattle.pct_model.specs.declared.schedule.Entry.{Entry}
-use Rattle.pct_model.specs.Keywords.{keyword_text, line_text, text_of}
-use Rattle.pct_model.specs.Report.{alt_words, entry_line, header_line, end_line, schedule_lines}
 use Rattle.pct_schedule.specs.Schedules.{is_choice, is_entry, IsSchedule}
 use Rattle.pct_schedule_laws.proofs.ReadBack.{InLimits, in_limits, FitsEntry, fits_entry}
 use Rattle.pct_schedule.proofs.ScheduleTexts.{schedule-text}

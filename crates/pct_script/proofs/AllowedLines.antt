@@ -1,24 +1,14 @@
 -- Each byte of a line whose words parse is allowed.
-use Rattle.std.proofs.Common.{◌≡◌, ℕ, zero, suc, Bool, true, false, not, ◌&&◌, ◌||◌, cond, List, [], ◌∷◌, Option, Some, None, length, filter, refl, sym, ap, ◌∙◌, position, option_map, nat_le, get_or, true≢false}
-use Rattle.std.specs.Prelude.{is_some, find, bytes_eq, codes}
-use Rattle.std.specs.List.{list_all, slice_split, onto_first}
-use Rattle.std.specs.Str.Parse.{digits_value}
-use Rattle.std.proofs.lemmas.List.Quantifiers.{position-Some}
-use Rattle.std.specs.Option.{option_or, option_map_or}
-use Rattle.std.proofs.lemmas.Bool.{and_parts, and_from, or_right}
-use Rattle.std.proofs.lemmas.Option.{option_and_then_some}
-use Rattle.pct_model.specs.declared.line_kind.LineKind.{LineKind}
+use Rattle.pct_names.proofs.Names.{◌&&◌, ◌>>=◌, [], and_from, and_parts, ap, ArgumentKind, Bool, bytes_eq, codes, cond, declaration_syntax}
+use Rattle.pct_names.proofs.Names.{digits_value, false, filter, find, get_or, is_allowed, is_blank, is_digit, is_empty, is_name, is_numeral}
+use Rattle.pct_names.proofs.Names.{is_some, length, line_kind_of, line_kinds, LineKind, List, list_all, nat_le, None, not, NoWait, numeral}
+use Rattle.pct_names.proofs.Names.{onto_first, Option, option_and_then_some, option_map, option_map_or, option_or, Optional, or_right}
+use Rattle.pct_names.proofs.Names.{parsed, parsed_as, parsed_words, point_at, point_of, point_statement, points, position, position-Some}
+use Rattle.pct_names.proofs.Names.{refl, Row, slice_split, Some, suc, sym, syntax_of, Token, token_at, tokens_at, true, words_in, zero}
+use Rattle.pct_names.proofs.Names.{◌||◌, ℕ, ◌∙◌, ◌∷◌, ◌≡◌}
+use Rattle.std.proofs.Common.{true≢false}
 use Rattle.pct_model.specs.declared.line_kind.LineKind.TheVariants as line_kind
-use Rattle.pct_model.specs.declared.line_kind.ArgumentKind.{ArgumentKind}
 use Rattle.pct_model.specs.declared.line_kind.ArgumentKind.TheVariants as argument_kind
-use Rattle.pct_model.specs.declared.parsed_line.Token.{Token}
-use Rattle.pct_model.specs.declared.point.PointKind.TheVariants.{Optional}
-use Rattle.pct_model.specs.declared.point.PointWait.TheVariants.{NoWait}
-use Rattle.pct_model.specs.Names.{is_digit, is_name}
-use Rattle.pct_model.specs.Lines.{◌>>=◌}
-use Rattle.pct_model.specs.LineKinds.{syntax_of, declaration_syntax, line_kinds, point_statement, line_kind_of}
-use Rattle.pct_model.specs.LineParsing.{is_blank, is_empty, is_allowed, is_numeral, numeral, words_in, token_at, tokens_at, parsed_as, parsed_words, parsed}
-use Rattle.pct_model.specs.Points.{Row, points, point_at, point_of}
 use Rattle.pct_model.proofs.Bytes.{same_bytes}
 use Rattle.pct_grammar.proofs.SharedWords.{is_printable}
 use Rattle.pct_grammar.proofs.TokensResolve.{all_more, digit_is_printed, name_is_word}

@@ -1,14 +1,7 @@
 -- The order of checks: the first fault of a text is that of the first check that finds one.
-use Rattle.std.proofs.Common.{◌≡◌, ℕ, List, Option, Some, None, refl, sym, ap, ◌∙◌}
-use Rattle.std.specs.Prelude.{is_none, true}
-use Rattle.std.specs.List.{list_all}
-use Rattle.std.specs.Option.{option_or}
-use Rattle.std.proofs.lemmas.Bool.{and_parts}
-use Rattle.pct_model.specs.Checks.{roles, too_many, name_twice, unknown_name, return_in_push, not_plain, no_main, checks, first_fault}
-use Rattle.pct_model.specs.Nesting.{nesting}
-use Rattle.pct_model.specs.Sections.{functions_in, parsed_lines, are_in_functions}
-use Rattle.pct_model.specs.LineParsing.{spelled_lines}
-use Rattle.pct_model.specs.Spelling.{Fault, spelling}
+use Rattle.pct_names.proofs.Names.{and_parts, ap, are_in_functions, checks, Fault, first_fault, functions_in, is_none, List, list_all}
+use Rattle.pct_names.proofs.Names.{name_twice, nesting, no_main, None, not_plain, Option, option_or, parsed_lines, refl, return_in_push}
+use Rattle.pct_names.proofs.Names.{roles, Some, spelled_lines, spelling, sym, too_many, true, unknown_name, ℕ, ◌∙◌, ◌≡◌}
 use Rattle.pct_script.specs.declared.fault.ParseFault.{ParseFault}
 use Rattle.pct_script.specs.declared.fault.ParseFault.TheVariants as fault
 use Rattle.pct_script.specs.Fault.{IsFoundBy, IsFaultOf}

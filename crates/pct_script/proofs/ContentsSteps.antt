@@ -1,13 +1,8 @@
 -- The contents of a script from its resolved functions.
-use Rattle.std.proofs.Common.{◌≡◌, ℕ, List, Option, Some, sym, ap, ◌∙◌, option_map}
+use Rattle.pct_names.proofs.Names.{ap, Contents, Func, functions_in, Line, List, names_declared, Option, option_map, SemDecl, Some, sym}
+use Rattle.pct_names.proofs.Names.{SymbolKind, unknown_name, ℕ, ◌∙◌, ◌≡◌}
 use Rattle.std.proofs.Math.Path.{fun_ext}
-use Rattle.pct_model.specs.declared.line_kind.SymbolKind.{SymbolKind}
 use Rattle.pct_model.specs.declared.line_kind.SymbolKind.TheVariants as kind
-use Rattle.pct_model.specs.declared.script.Func.{Func}
-use Rattle.pct_model.specs.declared.script.SemDecl.{SemDecl}
-use Rattle.pct_model.specs.Checks.{unknown_name}
-use Rattle.pct_model.specs.Contents.{Contents}
-use Rattle.pct_model.specs.Sections.{Line, names_declared, functions_in}
 use Rattle.pct_grammar.specs.Resolving.{resolve_functions, sems_in, resolve_contents}
 use Rattle.pct_script.specs.UnknownNames.{unknown_in_sections}
 

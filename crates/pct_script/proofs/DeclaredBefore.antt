@@ -1,14 +1,9 @@
 -- The first declaration of a name that is declared before, found line by line.
-use Rattle.std.proofs.Common.{◌≡◌, ℕ, suc, zero, ◌+◌, Bool, true, false, not, ◌&&◌, ◌||◌, cond, List, [], ◌∷◌, ◌++◌, Option, Some, None, length, refl, sym, ap, ◌∙◌, filter, flat_map, take, drop, arith, bytes_eq}
-use Rattle.std.specs.List.{list_any}
-use Rattle.std.proofs.lemmas.List.Folds.{list_any-append}
-use Rattle.std.proofs.lemmas.List.Concat.{flat_map-cons}
+use Rattle.pct_names.proofs.Names.{◌&&◌, ◌+◌, ◌++◌, [], all_different, ap, arith, Bool, bytes_eq, cond, declared_by, declares}
+use Rattle.pct_names.proofs.Names.{declares_again, drop, false, fault_at_line, filter, first_wrong, flat_map, flat_map-cons, is_declaration}
+use Rattle.pct_names.proofs.Names.{length, Line, List, list_any, list_any-append, locals_of, name_twice, NameTwice, None, not, Option}
+use Rattle.pct_names.proofs.Names.{ParsedLine, refl, role_in, Some, suc, sym, take, true, zero, ◌||◌, ℕ, ◌∙◌, ◌∷◌, ◌≡◌}
 use Rattle.pct_model.specs.declared.line_kind.SymbolKind.TheVariants as kind
-use Rattle.pct_model.specs.declared.refusal.ParseWhy.TheVariants.{NameTwice}
-use Rattle.pct_model.specs.declared.parsed_line.ParsedLine.{ParsedLine}
-use Rattle.pct_model.specs.Names.{all_different}
-use Rattle.pct_model.specs.Sections.{Line, role_in, is_declaration, declares, declared_by, locals_of}
-use Rattle.pct_model.specs.Checks.{first_wrong, fault_at_line, declares_again, name_twice}
 use Rattle.pct_script.specs.DeclaredBefore.{declares_name, declare_name, declares_twice, is_wrong, first_twice}
 use Rattle.pct_grammar.proofs.FunctionHeaders.{headers_are}
 

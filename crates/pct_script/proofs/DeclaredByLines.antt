@@ -1,12 +1,11 @@
 -- What lines declare, line by line.
-use Rattle.std.proofs.Common.{◌≡◌, ℕ, ◌≤◌, Bool, true, false, cond, List, [], ◌∷◌, ◌++◌, filter_map, flat_map, length, take, refl, sym, ap, ◌∙◌, arith, append_assoc, append-nil}
+use Rattle.pct_names.proofs.Names.{◌++◌, [], ap, arith, Bool, cond, declared_by, declares, declaring, false, filter-append, filter_map}
+use Rattle.pct_names.proofs.Names.{filter_map-append, flat_map, length, Line, List, names_declared, names_in, refl, SemDecl, sym}
+use Rattle.pct_names.proofs.Names.{SymbolKind, take, true, ℕ, ◌∙◌, ◌∷◌, ◌≡◌, ◌≤◌}
+use Rattle.std.proofs.Common.{append_assoc, append-nil}
 use Rattle.std.proofs.lemmas.List.{length-append}
 use Rattle.std.proofs.lemmas.List.Concat.{flat_map-append}
-use Rattle.std.proofs.lemmas.List.Elements.{filter-append, filter_map-append}
-use Rattle.pct_model.specs.declared.line_kind.SymbolKind.{SymbolKind}
 use Rattle.pct_model.specs.declared.line_kind.SymbolKind.TheVariants as kind
-use Rattle.pct_model.specs.declared.script.SemDecl.{SemDecl}
-use Rattle.pct_model.specs.Sections.{Line, declares, declared_by, names_in, declaring, names_declared}
 use Rattle.pct_grammar.specs.Resolving.{sem_in, sems_in}
 
 -- ---- names

@@ -1,13 +1,8 @@
 -- The fault of a text without a line that spells something, and what the first three checks say of spelling.
-use Rattle.std.proofs.Common.{◌≡◌, ℕ, List, [], ◌∷◌, Option, Some, None, Result, Ok, Err, refl, ap, ◌∙◌, filter_map}
-use Rattle.std.specs.Prelude.{IfErr}
-use Rattle.std.specs.Option.{option_or}
-use Rattle.pct_model.specs.declared.refusal.ParseWhy.TheVariants.{NoMain}
-use Rattle.pct_model.specs.Checks.{roles, first_wrong, too_many, name_twice, unknown_name, return_in_push, not_plain, no_main}
-use Rattle.pct_model.specs.LineParsing.{Numbered, spelled_lines}
-use Rattle.pct_model.specs.Nesting.{nesting, nesting_in}
-use Rattle.pct_model.specs.Sections.{parsed_numbered, parsed_lines, split_sections}
-use Rattle.pct_model.specs.Spelling.{Fault, first_of, spelling}
+use Rattle.pct_names.proofs.Names.{[], ap, Err, Fault, filter_map, first_of, first_wrong, IfErr, List, name_twice, nesting, nesting_in}
+use Rattle.pct_names.proofs.Names.{no_main, NoMain, None, not_plain, Numbered, Ok, Option, option_or, parsed_lines, parsed_numbered, refl}
+use Rattle.pct_names.proofs.Names.{Result, return_in_push, roles, Some, spelled_lines, spelling, split_sections, too_many, unknown_name, ℕ}
+use Rattle.pct_names.proofs.Names.{◌∙◌, ◌∷◌, ◌≡◌}
 use Rattle.pct_script.proofs.CheckOrder.{both_nothing}
 use Rattle.pct_script.specs.declared.fault.ParseFault.{ParseFault}
 use Rattle.pct_script.specs.declared.fault.ParseFault.TheVariants.{NoMemory}

@@ -1,12 +1,7 @@
 -- The first word that does not fit its argument kind, word by word.
-use Rattle.std.proofs.Common.{◌≡◌, ◌⊎◌, inl, inr, ℕ, suc, ◌+◌, ◌<◌, ◌≤◌, true, false, cond, List, [], ◌∷◌, Some, None, length, drop, refl, sym, ap, ◌∙◌, arith, get_or}
-use Rattle.std.specs.Prelude.{is_some, slice_get}
-use Rattle.std.proofs.Math.Seq.{drop-cons}
-use Rattle.std.proofs.lemmas.List.{drop_all}
-use Rattle.std.proofs.lemmas.Option.{slice_get_within, get_or_from_slice_get, slice_get_cases}
-use Rattle.pct_model.specs.declared.line_kind.ArgumentKind.{ArgumentKind}
-use Rattle.pct_model.specs.LineParsing.{token_at}
-use Rattle.pct_model.specs.Spelling.{why_not, faulty_word}
+use Rattle.pct_names.proofs.Names.{◌+◌, ◌<◌, [], ap, ArgumentKind, arith, cond, drop, drop-cons, drop_all, false, faulty_word, get_or}
+use Rattle.pct_names.proofs.Names.{get_or_from_slice_get, inl, inr, is_some, length, List, None, refl, slice_get, slice_get_cases}
+use Rattle.pct_names.proofs.Names.{slice_get_within, Some, suc, sym, token_at, true, why_not, ℕ, ◌∙◌, ◌∷◌, ◌≡◌, ◌≤◌, ◌⊎◌}
 
 -- without words there is no fault
 pub faulty_word-nil : (argument_kinds : List ArgumentKind) → faulty_word argument_kinds [] ≡ None

@@ -1,12 +1,7 @@
 -- The tests of whether a word fits an argument kind.
-use Rattle.std.proofs.Common.{◌≡◌, ℕ, Bool, true, false, ◌||◌, cond, List, Option, Some, None, refl, sym, nat_le, option_map}
-use Rattle.std.specs.Prelude.{is_some, codes, bytes_eq}
-use Rattle.std.specs.Option.{option_or, option_map_or}
-use Rattle.pct_model.specs.declared.line_kind.ArgumentKind.{ArgumentKind}
+use Rattle.pct_names.proofs.Names.{◌>>=◌, ArgumentKind, Bool, bytes_eq, codes, cond, false, is_name, is_some, List, nat_le, None, numeral}
+use Rattle.pct_names.proofs.Names.{Option, option_map, option_map_or, option_or, refl, Some, sym, token_at, true, ◌||◌, ℕ, ◌≡◌}
 use Rattle.pct_model.specs.declared.line_kind.ArgumentKind.TheVariants as argument_kind
-use Rattle.pct_model.specs.Names.{is_name}
-use Rattle.pct_model.specs.Lines.{◌>>=◌}
-use Rattle.pct_model.specs.LineParsing.{numeral, token_at}
 use Rattle.pct_script.specs.Fitting.{fits}
 
 -- ---- argument kinds

@@ -1,7 +1,8 @@
 -- The numbers of the lines of each function, found line by line.
-use Rattle.std.proofs.Common.{◌≡◌, ℕ, Bool, true, false, cond, List, [], ◌∷◌, ◌++◌, map, filter, refl, sym, ap, ◌∙◌, append_assoc, append-nil}
+use Rattle.pct_names.proofs.Names.{◌++◌, [], ap, Bool, cond, declares, false, filter, is_function, is_statement, Line, List, map}
+use Rattle.pct_names.proofs.Names.{parsed_lines, refl, Section, Sections, split_sections, sym, true, ℕ, ◌∙◌, ◌∷◌, ◌≡◌}
+use Rattle.std.proofs.Common.{append_assoc, append-nil}
 use Rattle.pct_model.specs.declared.line_kind.SymbolKind.TheVariants as kind
-use Rattle.pct_model.specs.Sections.{Line, Section, Sections, declares, is_function, is_statement, split_sections, parsed_lines}
 use Rattle.pct_script.specs.LineRuns.{with_more}
 use Rattle.pct_script.specs.StatementLines.{numbers_in, statement_lines}
 

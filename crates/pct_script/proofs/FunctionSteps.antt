@@ -1,6 +1,5 @@
 -- The functions of lines, one after the other.
-use Rattle.std.proofs.Common.{◌≡◌, [], refl}
-use Rattle.pct_model.specs.Sections.{split_sections, functions_in}
+use Rattle.pct_names.proofs.Names.{[], functions_in, refl, split_sections, ◌≡◌}
 
 -- without lines there is no function
 pub no_functions : functions_in [] ≡ []

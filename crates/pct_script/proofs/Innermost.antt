@@ -1,9 +1,5 @@
 -- The innermost open block decides about a line.
-use Rattle.std.proofs.Common.{◌≡◌, ℕ, [], ◌∷◌, Some, None, refl}
-use Rattle.std.specs.Prelude.{slice_get}
-use Rattle.pct_model.specs.declared.role.Block.{Block}
-use Rattle.pct_model.specs.declared.role.Role.{Role}
-use Rattle.pct_model.specs.Nesting.{Blocks, outside, inside, change_at, kinds_of}
+use Rattle.pct_names.proofs.Names.{[], Block, Blocks, change_at, inside, kinds_of, None, outside, refl, Role, slice_get, Some, ℕ, ◌∷◌, ◌≡◌}
 
 -- a line inside the innermost block
 pub inside_first : (blocks : Blocks) (n : ℕ) (b : Block) (r : Role) → slice_get blocks 0 ≡ Some (n, b) → inside b r ≡ change_at (kinds_of blocks) r

@@ -1,9 +1,8 @@
 -- The line kind of a keyword.
-use Rattle.std.proofs.Common.{◌≡◌, ℕ, true, List, Some, refl, sym, ap, ◌∙◌, bytes_eq}
-use Rattle.pct_model.specs.declared.line_kind.LineKind.{LineKind}
+use Rattle.pct_names.proofs.Names.{ap, bytes_eq, declaration_syntax, is_no_point, line_kind_of, line_kinds, LineKind, List, refl, Some, sym}
+use Rattle.pct_names.proofs.Names.{syntax_of, true, ℕ, ◌∙◌, ◌≡◌}
 use Rattle.pct_model.specs.declared.line_kind.LineKind.TheVariants as line_kind
 use Rattle.pct_model.specs.declared.line_kind.SymbolKind.TheVariants as kind
-use Rattle.pct_model.specs.LineKinds.{syntax_of, declaration_syntax, is_no_point, line_kinds, line_kind_of}
 use Rattle.pct_model.proofs.Bytes.{same_bytes}
 
 keyword_found : (f : LineKind) → is_no_point f ≡ true → line_kind_of (syntax_of f).keyword ≡ Some f

@@ -1,15 +1,12 @@
 -- The `fn` lines of a text that exceeds no limit have a name and at most 8 locals.
-use Rattle.std.proofs.Common.{◌≡◌, ℕ, ◌≤◌, Bool, true, false, not, ◌&&◌, ◌||◌, cond, List, [], ◌∷◌, Option, Some, None, length, refl, ap, arith, nat_le, nat_lt, le-leb, filter, filter_map, suc}
-use Rattle.std.specs.List.{list_all, cons_option, slice_split, onto_first, enumerate_from}
-use Rattle.std.proofs.lemmas.Bool.{and_from, or_parts, ltb-false}
-use Rattle.std.proofs.lemmas.List.FromFn.{length-enumerate_from}
+use Rattle.pct_names.proofs.Names.{◌&&◌, [], and_from, ap, arith, Bool, cond, cons_option, declares, enumerate_from, exceeds_limit, false}
+use Rattle.pct_names.proofs.Names.{fault_at_line, filter, filter_map, first_wrong, has_many_locals, length, length-enumerate_from, Line}
+use Rattle.pct_names.proofs.Names.{lines_of, List, list_all, locals_of, nat_le, nat_lt, None, not, onto_first, Option, or_parts}
+use Rattle.pct_names.proofs.Names.{parsed_lines, parsed_numbered, ParsedLine, refl, slice_split, Some, spell_something, spelled_lines, suc}
+use Rattle.pct_names.proofs.Names.{too_many, TooMany, true, without_empty_last, words_in, ◌||◌, ℕ, ◌∷◌, ◌≡◌, ◌≤◌}
+use Rattle.std.proofs.Common.{le-leb}
+use Rattle.std.proofs.lemmas.Bool.{ltb-false}
 use Rattle.pct_model.specs.declared.line_kind.SymbolKind.TheVariants as kind
-use Rattle.pct_model.specs.declared.refusal.ParseWhy.TheVariants.{TooMany}
-use Rattle.pct_model.specs.declared.parsed_line.ParsedLine.{ParsedLine}
-use Rattle.pct_model.specs.Lines.{without_empty_last, lines_of}
-use Rattle.pct_model.specs.LineParsing.{words_in, spell_something, spelled_lines}
-use Rattle.pct_model.specs.Sections.{Line, parsed_numbered, declares, locals_of, parsed_lines}
-use Rattle.pct_model.specs.Checks.{first_wrong, has_many_locals, exceeds_limit, too_many, fault_at_line}
 use Rattle.pct_script.specs.SectionSteps.{begins_with_name, is_ready}
 use Rattle.pct_grammar.proofs.SharedWords.{IsParsed, EachParsed}
 use Rattle.pct_grammar.proofs.ParsedFromWords.{DeclaresFunction, line_declares}

@@ -1,27 +1,18 @@
 -- The first line that exceeds a limit, by the numbers of lines of each sort before it.
-use Rattle.std.proofs.Common.{◌≡◌, ℕ, zero, suc, ◌+◌, ◌-◌, Bool, true, false, ◌&&◌, ◌||◌, not, cond, List, [], ◌∷◌, Option, Some, None, length, drop, replicate, subst, ltb-true, ltb-false, refl, sym, ap, ◌∙◌, arith, option_map, filter_map, nat_le, nat_lt}
-use Rattle.std.specs.List.{list_all, cons_option, count_by}
-use Rattle.std.specs.Option.{option_map_or}
-use Rattle.std.proofs.lemmas.Bool.{and_parts}
-use Rattle.std.proofs.lemmas.List.{length-drop}
-use Rattle.std.proofs.lemmas.List.Sums.{sum_by-cons}
-use Rattle.std.proofs.lemmas.Option.{same_Some, cond_some}
-use Rattle.pct_model.specs.declared.line_kind.LineKind.{LineKind}
+use Rattle.pct_names.proofs.Names.{◌&&◌, ◌+◌, ◌-◌, [], and_parts, ap, ArgumentKind, arith, Bool, cond, cond_some, cons_option}
+use Rattle.pct_names.proofs.Names.{declaration_syntax, declares, declares_by, drop, exceeds_limit, false, fault_at_line, filter_map}
+use Rattle.pct_names.proofs.Names.{first_wrong, is_allowed, is_declaration, is_name, is_statement, length, length-drop, Line, line_kind_of}
+use Rattle.pct_names.proofs.Names.{LineKind, List, list_all, locals_of, names_in, nat_le, nat_lt, None, not, Numbered, Option, option_map}
+use Rattle.pct_names.proofs.Names.{option_map_or, parsed, parsed_as, parsed_lines, parsed_numbered, parsed_words, ParsedLine, refl}
+use Rattle.pct_names.proofs.Names.{replicate, Role, role_in, same_Some, Some, spelled_lines, subst, suc, sum_by-cons, sym, syntax_of, Token}
+use Rattle.pct_names.proofs.Names.{token_at, tokens_at, too_many, TooMany, true, words_in, zero, ◌||◌, ℕ, ◌∙◌, ◌∷◌, ◌≡◌}
+use Rattle.std.proofs.Common.{ltb-true, ltb-false}
+use Rattle.std.specs.List.{count_by}
 use Rattle.pct_model.specs.declared.line_kind.LineKind.TheVariants as line_kind
 use Rattle.pct_model.specs.declared.line_kind.SymbolKind.TheVariants as kind
-use Rattle.pct_model.specs.declared.line_kind.ArgumentKind.{ArgumentKind}
 use Rattle.pct_model.specs.declared.line_kind.ArgumentKind.TheVariants as argument_kind
-use Rattle.pct_model.specs.declared.refusal.ParseWhy.TheVariants.{TooMany}
-use Rattle.pct_model.specs.declared.role.Role.{Role}
 use Rattle.pct_model.specs.declared.role.Role.TheVariants as role
-use Rattle.pct_model.specs.declared.parsed_line.ParsedLine.{ParsedLine}
-use Rattle.pct_model.specs.declared.parsed_line.Token.{Token}
 use Rattle.pct_model.specs.declared.parsed_line.Token.TheVariants as token
-use Rattle.pct_model.specs.Names.{is_name}
-use Rattle.pct_model.specs.LineKinds.{syntax_of, declaration_syntax, line_kind_of}
-use Rattle.pct_model.specs.Checks.{first_wrong, fault_at_line, exceeds_limit, too_many}
-use Rattle.pct_model.specs.Sections.{Line, parsed_numbered, role_in, declares_by, declares, is_declaration, is_statement, names_in, locals_of, parsed_lines}
-use Rattle.pct_model.specs.LineParsing.{Numbered, is_allowed, words_in, token_at, tokens_at, parsed_as, parsed_words, parsed, spelled_lines}
 use Rattle.pct_script.specs.declared.scan.LineOutline.{LineOutline}
 use Rattle.pct_script.specs.declared.limits.Counts.{Counts}
 use Rattle.pct_script.specs.Outlines.{outline_of, outlines_of}

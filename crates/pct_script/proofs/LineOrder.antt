@@ -1,11 +1,9 @@
 -- The numbers of the lines of statements ascend.
-use Rattle.std.proofs.Common.{ℕ, zero, suc, ◌+◌, ◌<◌, ◌≤◌, Bool, true, false, cond, List, [], ◌∷◌, ◌++◌, map, filter, filter_map, length, slice_index, Option, Some, None, add-one, arith, option_map}
-use Rattle.std.specs.List.{concat, cons_option, enumerate_from}
-use Rattle.std.specs.List.Sorted.{IsStrictlyIncreasing}
-use Rattle.pct_model.specs.Lines.{lines_of}
-use Rattle.pct_model.specs.LineParsing.{Numbered, parsed, spell_something, spelled_lines, words_in}
-use Rattle.pct_model.specs.declared.parsed_line.ParsedLine.{ParsedLine}
-use Rattle.pct_model.specs.Sections.{Line, Section, Sections, is_function, is_statement, parsed_lines, parsed_numbered, split_sections}
+use Rattle.pct_names.proofs.Names.{◌+◌, ◌++◌, ◌<◌, [], add-one, arith, Bool, concat, cond, cons_option, enumerate_from, false, filter}
+use Rattle.pct_names.proofs.Names.{filter_map, is_function, is_statement, IsStrictlyIncreasing, length, Line, lines_of, List, map, None}
+use Rattle.pct_names.proofs.Names.{Numbered, Option, option_map, parsed, parsed_lines, parsed_numbered, ParsedLine, Section, Sections}
+use Rattle.pct_names.proofs.Names.{slice_index, Some, spell_something, spelled_lines, split_sections, suc, true, words_in, zero, ℕ, ◌∷◌}
+use Rattle.pct_names.proofs.Names.{◌≤◌}
 use Rattle.pct_script.specs.StatementLines.{numbers_in, statement_lines}
 
 -- the numbers ascend, and the first is at least this one

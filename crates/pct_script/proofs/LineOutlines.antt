@@ -1,20 +1,9 @@
 -- The outlines of lines, line by line, and of lines that are not misspelled.
-use Rattle.std.proofs.Common.{◌≡◌, ℕ, true, List, [], ◌∷◌, ◌++◌, Option, Some, None, length, refl, sym, ap, ◌∙◌, option_map, filter_map}
-use Rattle.std.specs.Prelude.{is_some, slice_get, Result, Ok, Err}
-use Rattle.std.specs.List.{list_all, cons_option}
-use Rattle.std.proofs.lemmas.Bool.{and_parts}
-use Rattle.pct_model.specs.declared.refusal.ParseWhy.{ParseWhy}
-use Rattle.pct_model.specs.declared.refusal.ParseWhy.TheVariants.{Unclosed}
-use Rattle.pct_model.specs.declared.role.Block.{Block}
-use Rattle.pct_model.specs.declared.role.Change.{Change}
-use Rattle.pct_model.specs.declared.parsed_line.ParsedLine.{ParsedLine}
-use Rattle.pct_model.specs.declared.parsed_line.Token.{Token}
-use Rattle.pct_model.specs.LineKinds.{syntax_of, line_kind_of}
-use Rattle.pct_model.specs.Checks.{roles}
-use Rattle.pct_model.specs.Nesting.{Blocks, change_at, kinds_of, open_after_line, faulty_or, nesting_in, nesting}
-use Rattle.pct_model.specs.Spelling.{Fault}
-use Rattle.pct_model.specs.Sections.{Line, parsed_numbered, role_in}
-use Rattle.pct_model.specs.LineParsing.{Numbered, is_allowed, words_in, tokens_at, parsed_as, parsed_words, parsed}
+use Rattle.pct_names.proofs.Names.{◌++◌, [], and_parts, ap, Block, Blocks, Change, change_at, cons_option, Err, Fault, faulty_or}
+use Rattle.pct_names.proofs.Names.{filter_map, is_allowed, is_some, kinds_of, length, Line, line_kind_of, List, list_all, nesting}
+use Rattle.pct_names.proofs.Names.{nesting_in, None, Numbered, Ok, open_after_line, Option, option_map, parsed, parsed_as, parsed_numbered}
+use Rattle.pct_names.proofs.Names.{parsed_words, ParsedLine, ParseWhy, refl, Result, role_in, roles, slice_get, Some, sym, syntax_of, Token}
+use Rattle.pct_names.proofs.Names.{tokens_at, true, Unclosed, words_in, ℕ, ◌∙◌, ◌∷◌, ◌≡◌}
 use Rattle.pct_script.specs.declared.scan.LineOutline.{LineOutline}
 use Rattle.pct_script.specs.Outlines.{outline_of_words, outline_numbered, outlines_in, outline_roles, outline_of, outlines_of}
 use Rattle.pct_grammar.proofs.TokensResolve.{words_at_lengths}

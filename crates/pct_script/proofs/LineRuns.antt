@@ -1,10 +1,7 @@
 -- Lists that are kept in one list.
-use Rattle.std.proofs.Common.{◌≡◌, ℕ, zero, suc, ◌-◌, ◌≤◌, List, [], ◌∷◌, ◌++◌, Some, None, length, slice_get, slice_range, take, drop, refl, sym, ap, ◌∙◌, subst, arith, Option, MatchOption}
-use Rattle.std.specs.List.{PartBy}
-use Rattle.std.specs.Prelude.{unwrap_or}
-use Rattle.std.proofs.lemmas.List.{drop-append-le, length-drop, take-append-le}
-use Rattle.std.proofs.lemmas.List.Edits.{between_none}
-use Rattle.std.proofs.lemmas.Slice.{between_to_end}
+use Rattle.pct_names.proofs.Names.{◌++◌, ◌-◌, [], ap, arith, between_none, between_to_end, drop, drop-append-le, length, length-drop, List}
+use Rattle.pct_names.proofs.Names.{MatchOption, None, Option, PartBy, refl, slice_get, slice_range, Some, subst, suc, sym, take}
+use Rattle.pct_names.proofs.Names.{take-append-le, unwrap_or, zero, ℕ, ◌∙◌, ◌∷◌, ◌≡◌, ◌≤◌}
 use Rattle.pct_script.specs.LineRuns.{AreStarts, end_before, lists_at, with_more}
 
 -- without starts there are no lists

@@ -1,8 +1,7 @@
 -- The lengths of names.
-use Rattle.std.proofs.Common.{◌≡◌, ℕ, ◌<◌, ◌≤◌, true, not, ◌&&◌, List, [], ◌∷◌, length, arith, nat_le, leb-true}
-use Rattle.std.specs.List.{list_all}
-use Rattle.std.proofs.lemmas.Bool.{and_parts}
-use Rattle.pct_model.specs.Names.{is_digit, is_name_byte, is_name}
+use Rattle.pct_names.proofs.Names.{◌&&◌, ◌<◌, [], and_parts, arith, is_digit, is_name, is_name_byte, length, List, list_all, nat_le, not}
+use Rattle.pct_names.proofs.Names.{true, ℕ, ◌∷◌, ◌≡◌, ◌≤◌}
+use Rattle.std.proofs.Common.{leb-true}
 
 -- a name has at least 1 byte
 pub name_is_some : (w : List ℕ) → is_name w ≡ true → 0 < length w

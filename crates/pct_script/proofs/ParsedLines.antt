@@ -1,9 +1,8 @@
 -- The parsed lines, line by line.
-use Rattle.std.proofs.Common.{◌≡◌, ℕ, List, ◌∷◌, ◌++◌, Option, Some, None, refl, sym, ap, ◌∙◌, append_assoc, filter_map}
+use Rattle.pct_names.proofs.Names.{◌++◌, ap, cons_option, filter_map, Line, List, None, Numbered, Option, parsed_numbered, refl, Some, sym}
+use Rattle.pct_names.proofs.Names.{ℕ, ◌∙◌, ◌∷◌, ◌≡◌}
+use Rattle.std.proofs.Common.{append_assoc}
 use Rattle.std.specs.Prelude.{option_to_list}
-use Rattle.std.specs.List.{cons_option}
-use Rattle.pct_model.specs.Sections.{Line, parsed_numbered}
-use Rattle.pct_model.specs.LineParsing.{Numbered}
 
 prepend_entry : {A : Type 0} (o : Option A) (xs : List A) → cons_option o xs ≡ option_to_list o ++ xs
 prepend_entry None xs = refl

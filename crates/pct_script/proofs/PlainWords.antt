@@ -1,19 +1,11 @@
 -- The arguments of a line that have to be plain functions, token by token.
-use Rattle.std.proofs.Common.{◌≡◌, ℕ, zero, suc, ◌+◌, ◌-◌, min, Bool, true, false, not, ◌&&◌, cond, List, [], ◌∷◌, ◌++◌, Some, None, length, drop, refl, sym, ap, ap₂, ◌∙◌, arith}
-use Rattle.std.specs.Prelude.{slice_get, replicate}
-use Rattle.std.specs.List.{list_all}
-use Rattle.std.proofs.lemmas.List.Folds.{list_all-append}
-use Rattle.std.proofs.lemmas.Bool.{and_parts, and_from}
-use Rattle.std.proofs.lemmas.Option.{slice_get_cases}
-use Rattle.pct_model.specs.declared.line_kind.ArgumentKind.{ArgumentKind}
+use Rattle.pct_names.proofs.Names.{◌&&◌, ◌+◌, ◌++◌, ◌-◌, [], and_from, and_parts, ap, ap₂, ArgumentKind, arith, asks_plain, Bool, cond}
+use Rattle.pct_names.proofs.Names.{declaration_syntax, drop, false, length, LineKind, List, list_all, list_all-append, min, names_in, None}
+use Rattle.pct_names.proofs.Names.{not, plain_names, refl, replicate, slice_get, slice_get_cases, Some, suc, sym, syntax_of, Token, true}
+use Rattle.pct_names.proofs.Names.{zero, ℕ, ◌∙◌, ◌∷◌, ◌≡◌}
 use Rattle.pct_model.specs.declared.line_kind.ArgumentKind.TheVariants as argument_kind
-use Rattle.pct_model.specs.declared.line_kind.LineKind.{LineKind}
 use Rattle.pct_model.specs.declared.line_kind.LineKind.TheVariants as line_kind
 use Rattle.pct_model.specs.declared.line_kind.SymbolKind.TheVariants as kind
-use Rattle.pct_model.specs.declared.parsed_line.Token.{Token}
-use Rattle.pct_model.specs.LineKinds.{syntax_of, declaration_syntax}
-use Rattle.pct_model.specs.Sections.{names_in}
-use Rattle.pct_model.specs.Checks.{asks_plain, plain_names}
 use Rattle.pct_script.specs.PlainArguments.{has_plain_arguments}
 use Rattle.pct_script.proofs.FaultyWords.{argument_kind_first, past}
 

@@ -1,10 +1,6 @@
 -- The first return between a push and its pop, found by counting pushes and pops.
-use Rattle.std.proofs.Common.{◌≡◌, ℕ, ◌+◌, Bool, true, false, cond, List, [], ◌∷◌, Option, Some, refl, ap, ◌∙◌, arith}
-use Rattle.std.specs.Prelude.{count_by}
-use Rattle.std.proofs.lemmas.List.Sums.{sum_by-cons}
-use Rattle.pct_model.specs.declared.role.Role.{Role}
-use Rattle.pct_model.specs.LineParsing.{Numbered}
-use Rattle.pct_model.specs.Checks.{first_wrong, is_push, is_pop, is_in_push}
+use Rattle.pct_names.proofs.Names.{◌+◌, [], ap, arith, Bool, cond, count_by, false, first_wrong, is_in_push, is_pop, is_push, List}
+use Rattle.pct_names.proofs.Names.{Numbered, Option, refl, Role, Some, sum_by-cons, true, ℕ, ◌∙◌, ◌∷◌, ◌≡◌}
 use Rattle.pct_script.specs.PushCounts.{one_if, return_after}
 
 one_more : (t : Bool) (n m : ℕ) → m ≡ cond t 1 0 + n → m ≡ n + one_if t

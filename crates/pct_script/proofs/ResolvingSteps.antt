@@ -1,21 +1,11 @@
 -- Resolving the statements of a function and the functions of a script, one by one.
-use Rattle.std.proofs.Common.{◌≡◌, ℕ, Bool, true, cond, List, [], ◌∷◌, ◌++◌, Option, Some, None, filter, find, map, refl, sym, ap, ◌∙◌, option_map, append-nil, is_none}
-use Rattle.std.specs.Option.{option_or}
-use Rattle.std.specs.List.{list_all}
-use Rattle.std.proofs.lemmas.Bool.{and_parts}
-use Rattle.pct_model.specs.declared.line_kind.SymbolKind.{SymbolKind}
+use Rattle.pct_names.proofs.Names.{◌++◌, ◌>>=◌, [], and_parts, ap, Argument, argument_kinds_in, Bool, cond, declares, Fault, fault_at_line}
+use Rattle.pct_names.proofs.Names.{filter, find, first_of, Func, functions_in, is_declaration, is_function, is_none, is_statement, Line}
+use Rattle.pct_names.proofs.Names.{List, list_all, locals_of, map, None, Option, option_map, option_or, ParsedLine, ParseWhy, refl}
+use Rattle.pct_names.proofs.Names.{resolve_all, role_in, Section, Sections, sections_of, Some, split_sections, Stmt, sym, SymbolKind, true}
+use Rattle.pct_names.proofs.Names.{unknown_in, UnknownName, uses_unknown, ℕ, ◌∙◌, ◌∷◌, ◌≡◌}
+use Rattle.std.proofs.Common.{append-nil}
 use Rattle.pct_model.specs.declared.line_kind.SymbolKind.TheVariants as kind
-use Rattle.pct_model.specs.declared.refusal.ParseWhy.{ParseWhy}
-use Rattle.pct_model.specs.declared.refusal.ParseWhy.TheVariants.{UnknownName}
-use Rattle.pct_model.specs.declared.parsed_line.Argument.{Argument}
-use Rattle.pct_model.specs.declared.parsed_line.ParsedLine.{ParsedLine}
-use Rattle.pct_model.specs.declared.script.Func.{Func}
-use Rattle.pct_model.specs.declared.statement.Stmt.{Stmt}
-use Rattle.pct_model.specs.Lines.{◌>>=◌}
-use Rattle.pct_model.specs.Checks.{uses_unknown, unknown_in, fault_at_line}
-use Rattle.pct_model.specs.Contents.{resolve_all}
-use Rattle.pct_model.specs.Sections.{Line, Section, Sections, role_in, is_declaration, declares, is_function, is_statement, locals_of, argument_kinds_in, split_sections, sections_of, functions_in}
-use Rattle.pct_model.specs.Spelling.{Fault, first_of}
 use Rattle.pct_script.specs.declared.fault.ParseFault.{ParseFault}
 use Rattle.pct_script.specs.declared.fault.ParseFault.TheVariants as fault
 use Rattle.pct_script.specs.Fault.{IsFoundBy}

@@ -1,21 +1,13 @@
 -- Resolving the tokens of a statement, token by token.
-use Rattle.std.proofs.Common.{◌≡◌, ℕ, suc, ◌-◌, ◌<◌, ◌≤◌, true, false, List, [], ◌∷◌, ◌++◌, Option, Some, None, length, drop, min, replicate, refl, sym, ap, ◌∙◌, arith, option_map, append_assoc, append-nil}
-use Rattle.std.specs.Prelude.{slice_get}
-use Rattle.std.proofs.lemmas.Bool.{true≢false, not-true}
-use Rattle.std.proofs.lemmas.List.{length-append, length-replicate}
-use Rattle.std.proofs.lemmas.Option.{slice_get_within}
-use Rattle.pct_model.specs.declared.line_kind.LineKind.{LineKind}
+use Rattle.pct_names.proofs.Names.{◌++◌, ◌-◌, ◌<◌, ◌>>=◌, [], ap, Argument, argument_kinds_in, ArgumentKind, arith, drop, false}
+use Rattle.pct_names.proofs.Names.{is_declaration, is_statement, length, length-replicate, LineKind, List, min, None, not-true, Option}
+use Rattle.pct_names.proofs.Names.{option_map, ParsedLine, refl, replicate, resolve, resolve_all, role_in, slice_get, slice_get_within}
+use Rattle.pct_names.proofs.Names.{Some, suc, sym, SymbolKind, syntax_of, Token, true, ℕ, ◌∙◌, ◌∷◌, ◌≡◌, ◌≤◌}
+use Rattle.std.proofs.Common.{append_assoc, append-nil}
+use Rattle.std.proofs.lemmas.Bool.{true≢false}
+use Rattle.std.proofs.lemmas.List.{length-append}
 use Rattle.pct_model.specs.declared.line_kind.LineKind.TheVariants as line_kind
-use Rattle.pct_model.specs.declared.line_kind.SymbolKind.{SymbolKind}
-use Rattle.pct_model.specs.declared.line_kind.ArgumentKind.{ArgumentKind}
 use Rattle.pct_model.specs.declared.line_kind.ArgumentKind.TheVariants as argument_kind
-use Rattle.pct_model.specs.declared.parsed_line.Argument.{Argument}
-use Rattle.pct_model.specs.declared.parsed_line.ParsedLine.{ParsedLine}
-use Rattle.pct_model.specs.declared.parsed_line.Token.{Token}
-use Rattle.pct_model.specs.Lines.{◌>>=◌}
-use Rattle.pct_model.specs.Contents.{resolve, resolve_all}
-use Rattle.pct_model.specs.LineKinds.{syntax_of}
-use Rattle.pct_model.specs.Sections.{is_declaration, is_statement, role_in, argument_kinds_in}
 use Rattle.pct_grammar.proofs.SharedWords.{role_of_kind}
 use Rattle.pct_script.proofs.FaultyWords.{argument_kind_first, past_kinds}
 

@@ -1,11 +1,8 @@
 -- The first section of lines, and the lines after it.
-use Rattle.std.proofs.Common.{◌≡◌, ℕ, suc, ◌+◌, ◌≤◌, Bool, true, false, not, cond, List, [], ◌∷◌, ◌++◌, Some, None, length, take, drop, refl, sym, ap, ◌∙◌, subst, arith, nat_lt, position}
-use Rattle.std.specs.Prelude.{unwrap_or}
-use Rattle.std.specs.List.{position_or_len}
+use Rattle.pct_names.proofs.Names.{◌+◌, ◌++◌, [], ap, arith, Bool, cond, drop, false, is_statement, length, Line, List, nat_lt, None, not}
+use Rattle.pct_names.proofs.Names.{position, position_or_len, prefix_len-le-length, refl, Section, Sections, sections_of, Some}
+use Rattle.pct_names.proofs.Names.{split_sections, subst, suc, sym, take, take-append-drop, true, unwrap_or, ℕ, ◌∙◌, ◌∷◌, ◌≡◌, ◌≤◌}
 use Rattle.std.proofs.lemmas.Bool.{ltb-false}
-use Rattle.std.proofs.lemmas.List.{take-append-drop}
-use Rattle.std.proofs.lemmas.List.Sums.{prefix_len-le-length}
-use Rattle.pct_model.specs.Sections.{Line, Section, Sections, is_statement, split_sections, sections_of}
 use Rattle.pct_script.specs.SectionSteps.{BeginsWithSection}
 
 -- the index of the first declaration, or the number of lines

@@ -1,11 +1,7 @@
 -- The lines of a text that spell something, line by line, and their spelling.
-use Rattle.std.proofs.Common.{◌≡◌, ℕ, ◌+◌, Bool, true, false, cond, List, [], ◌∷◌, Option, Some, None, refl, ap, ◌∙◌, option_map, filter}
-use Rattle.std.specs.List.{enumerate_from}
-use Rattle.std.specs.Option.{option_or}
-use Rattle.pct_model.specs.declared.refusal.ParseWhy.{ParseWhy}
-use Rattle.pct_model.specs.Lines.{lines_of}
-use Rattle.pct_model.specs.LineParsing.{Numbered, words_in, spell_something, spelled_lines}
-use Rattle.pct_model.specs.Spelling.{Fault, misspelled, spelling}
+use Rattle.pct_names.proofs.Names.{◌+◌, [], ap, Bool, cond, enumerate_from, false, Fault, filter, lines_of, List, misspelled, None}
+use Rattle.pct_names.proofs.Names.{Numbered, Option, option_map, option_or, ParseWhy, refl, Some, spell_something, spelled_lines, spelling}
+use Rattle.pct_names.proofs.Names.{true, words_in, ℕ, ◌∙◌, ◌∷◌, ◌≡◌}
 use Rattle.pct_text.proofs.Lines.{lines_of-nil}
 use Rattle.pct_script.specs.declared.fault.ParseFault.{ParseFault}
 use Rattle.pct_script.specs.declared.fault.ParseFault.TheVariants as fault

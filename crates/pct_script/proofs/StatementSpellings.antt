@@ -1,17 +1,10 @@
 -- In a text that spells a script, the lines of a function are those that spell its statements.
-use Rattle.std.proofs.Common.{◌≡◌, ℕ, zero, suc, Bool, true, false, cond, List, [], ◌∷◌, All, Contains, Option, Some, None, is_some, IsSomeAnd, slice_get, refl, sym, ap, ◌∙◌, subst, option_map, option_and_then}
-use Rattle.std.specs.List.{AllZip}
-use Rattle.std.proofs.lemmas.List.Elements.{All-nil, All-cons, All-head, All-tail, All-filter, All-get_or, All-contains_itself}
-use Rattle.std.proofs.lemmas.Option.{get_or_from_slice_get, slice_get-map, slice_get_within}
-use Rattle.pct_model.specs.declared.frame.Frame.{Frame}
-use Rattle.pct_model.specs.declared.script.Func.{Func}
-use Rattle.pct_model.specs.declared.script.Script.{Script}
-use Rattle.pct_model.specs.declared.statement.Stmt.{Stmt}
-use Rattle.pct_model.specs.Contents.{Contents}
-use Rattle.pct_model.specs.Sections.{Line, Section, Sections, is_function, is_statement, functions_in, parsed_lines, sections_of, split_sections}
-use Rattle.pct_model.specs.Spells.{SpellsBody, Spells, contents_of, encoded}
-use Rattle.pct_model.specs.Statements.{EncodedStmt, encode}
-use Rattle.pct_model.specs.World.{statement_at}
+use Rattle.pct_names.proofs.Names.{[], All, All-cons, All-contains_itself, All-filter, All-get_or, All-head, All-nil, All-tail, AllZip, ap}
+use Rattle.pct_names.proofs.Names.{Bool, cond, Contains, Contents, contents_of, encode, encoded, EncodedStmt, false, Frame, Func}
+use Rattle.pct_names.proofs.Names.{functions_in, get_or_from_slice_get, is_function, is_some, is_statement, IsSomeAnd, Line, List, None}
+use Rattle.pct_names.proofs.Names.{Option, option_and_then, option_map, parsed_lines, refl, Script, Section, Sections, sections_of}
+use Rattle.pct_names.proofs.Names.{slice_get, slice_get-map, slice_get_within, Some, Spells, SpellsBody, split_sections, statement_at, Stmt}
+use Rattle.pct_names.proofs.Names.{subst, suc, sym, true, zero, ℕ, ◌∙◌, ◌∷◌, ◌≡◌}
 use Rattle.pct_grammar.proofs.OptionFacts.{mapped_some}
 use Rattle.pct_script.specs.StatementLines.{SpellsStatement, function_lines, line_at, numbers_in, statement_lines}
 

@@ -1,16 +1,9 @@
 -- The checks of spelling, nesting and limits: facts on the stored lines, and which fault is the first.
-use Rattle.std.proofs.Common.{◌≡◌, ℕ, true, List, [], ◌∷◌, ◌++◌, Option, Some, None, option_map, subst, refl, sym, ap, ◌∙◌, filter_map}
-use Rattle.std.specs.Prelude.{is_none, is_some, option_to_list}
-use Rattle.std.specs.List.{list_all}
-use Rattle.std.specs.Option.{option_or}
-use Rattle.std.proofs.lemmas.Bool.{and_parts}
-use Rattle.std.proofs.lemmas.Option.{same_Some}
-use Rattle.pct_model.specs.declared.refusal.ParseWhy.TheVariants.{TooMany}
-use Rattle.pct_model.specs.Checks.{roles, fault_at_line, too_many}
-use Rattle.pct_model.specs.Nesting.{nesting}
-use Rattle.pct_model.specs.Sections.{Line, parsed_numbered, parsed_lines}
-use Rattle.pct_model.specs.LineParsing.{Numbered, parsed, spelled_lines}
-use Rattle.pct_model.specs.Spelling.{Fault, misspelled, spelling}
+use Rattle.pct_names.proofs.Names.{◌++◌, [], and_parts, ap, Fault, fault_at_line, filter_map, is_none, is_some, Line, List, list_all}
+use Rattle.pct_names.proofs.Names.{misspelled, nesting, None, Numbered, Option, option_map, option_or, parsed, parsed_lines}
+use Rattle.pct_names.proofs.Names.{parsed_numbered, refl, roles, same_Some, Some, spelled_lines, spelling, subst, sym, too_many, TooMany}
+use Rattle.pct_names.proofs.Names.{true, ℕ, ◌∙◌, ◌∷◌, ◌≡◌}
+use Rattle.std.specs.Prelude.{option_to_list}
 use Rattle.pct_script.specs.declared.fault.ParseFault.{ParseFault}
 use Rattle.pct_script.specs.declared.fault.ParseFault.TheVariants as fault
 use Rattle.pct_script.specs.Fault.{IsFoundBy}

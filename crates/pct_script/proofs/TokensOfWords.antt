@@ -1,12 +1,7 @@
 -- Parsing the words of a line, word by word.
-use Rattle.std.proofs.Common.{◌≡◌, ℕ, suc, ◌+◌, List, [], ◌∷◌, ◌++◌, Option, Some, None, drop, ap, ◌∙◌, arith, option_map}
-use Rattle.std.specs.Prelude.{slice_get}
+use Rattle.pct_names.proofs.Names.{◌+◌, ◌++◌, ◌>>=◌, [], ap, ArgumentKind, arith, drop, List, None, Option, option_map, slice_get}
+use Rattle.pct_names.proofs.Names.{slice_get_cases, Some, suc, Token, token_at, tokens_at, ℕ, ◌∙◌, ◌∷◌, ◌≡◌}
 use Rattle.std.proofs.lemmas.List.{append-nil}
-use Rattle.std.proofs.lemmas.Option.{slice_get_cases}
-use Rattle.pct_model.specs.declared.line_kind.ArgumentKind.{ArgumentKind}
-use Rattle.pct_model.specs.declared.parsed_line.Token.{Token}
-use Rattle.pct_model.specs.Lines.{◌>>=◌}
-use Rattle.pct_model.specs.LineParsing.{token_at, tokens_at}
 use Rattle.pct_script.proofs.ResolvingTokens.{onto, regroup}
 use Rattle.pct_script.proofs.FaultyWords.{argument_kind_first, past}
 

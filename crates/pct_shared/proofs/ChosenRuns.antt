@@ -1,16 +1,11 @@
 -- Runs that go on as a worker chooses by a stream of words, an entry after the other.
-use Rattle.std.proofs.Common.{◌≡◌, ◌⊎◌, inl, inr, ℕ, ◌+◌, ◌*◌, ◌<◌, ◌≤◌, List, [], ◌∷◌, ◌++◌, Option, Some, None, refl, sym, ap, ◌∙◌, subst, arith, length, length-append, append-nil, true}
-use Rattle.std.specs.Prelude.{is_some}
-use Rattle.std.proofs.Math.Seq.{take-append_seam}
-use Rattle.std.proofs.lemmas.List.{take-append-le, append_assoc}
-use Rattle.std.proofs.lemmas.Option.{same_Some}
+use Rattle.pct_names.proofs.Names.{◌*◌, ◌+◌, ◌++◌, ◌<◌, [], ap, arith, chosen, Config, Entry, inl, inr, is_some, length, List, None, Option}
+use Rattle.pct_names.proofs.Names.{refl, Run, run, same_Some, Script, Some, subst, sym, take-append-le, take-append_seam, true, ℕ, ◌∙◌, ◌∷◌}
+use Rattle.pct_names.proofs.Names.{◌≡◌, ◌≤◌, ◌⊎◌}
+use Rattle.std.proofs.Common.{length-append, append-nil}
+use Rattle.std.proofs.lemmas.List.{append_assoc}
 use Rattle.rand_pcg.specs.Lcg.{Lcg}
 use Rattle.rand_pcg.specs.Pcg.{pcg32}
-use Rattle.pct_model.specs.declared.script.Script.{Script}
-use Rattle.pct_model.specs.declared.schedule.Config.{Config}
-use Rattle.pct_model.specs.declared.schedule.Entry.{Entry}
-use Rattle.pct_model.specs.Chosen.{chosen}
-use Rattle.pct_model.specs.Run.{Run, run}
 use Rattle.pct_engine.specs.EngineStates.{EngineValue, IsChoice}
 use Rattle.pct_engine.proofs.ChosenEntries.{is_open, chosen-legal, get-before, get-last, earlier_or_last}
 use Rattle.pct_engine_laws.proofs.LongerRuns.{run_parts}

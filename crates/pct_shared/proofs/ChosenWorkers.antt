@@ -1,13 +1,6 @@
 -- An entry that a worker chooses has its number.
-use Rattle.std.proofs.Common.{◌≡◌, ℕ, Bool, true, false, cond, Option, Some, None, sym, ap}
-use Rattle.std.specs.Prelude.{option_map, option_and_then, is_none}
-use Rattle.std.proofs.lemmas.Option.{none-some, same_Some}
-use Rattle.pct_model.specs.declared.script.Script.{Script}
-use Rattle.pct_model.specs.declared.schedule.Alt.{Alt}
-use Rattle.pct_model.specs.declared.schedule.Config.{Config}
-use Rattle.pct_model.specs.declared.schedule.Entry.{Entry}
-use Rattle.pct_model.specs.World.{World}
-use Rattle.pct_model.specs.Chosen.{Candidate, candidates, chosen, entry_for, item_at}
+use Rattle.pct_names.proofs.Names.{Alt, ap, Bool, Candidate, candidates, chosen, cond, Config, Entry, entry_for, false, is_none, item_at}
+use Rattle.pct_names.proofs.Names.{None, none-some, Option, option_and_then, option_map, same_Some, Script, Some, sym, true, World, ℕ, ◌≡◌}
 
 by_item : (worker : ℕ) (c : Candidate) (choice : Option Alt) (e : Entry) → option_map {U = Entry} (λ x. record { worker = worker; pid = c.pid; tid = c.tid; alt = x }) choice ≡ Some e → e.worker ≡ worker
 by_item worker c None e is = absurd (none-some e is)

@@ -1,17 +1,12 @@
 -- A host whose passes are all taken in by one: nobody has the turn, and the engine has made the run of the longest history.
-use Rattle.std.proofs.Common.{◌≡◌, ◌⊎◌, inl, inr, ℕ, zero, suc, ◌<◌, ◌≤◌, Bool, true, false, cond, List, [], ◌∷◌, ◌++◌, map, length, get_or, Some, None, refl, sym, ap, ◌∙◌, subst, arith, append-nil, nat_eq, eq-eqb}
-use Rattle.std.specs.Prelude.{All, Contains, slice_get}
-use Rattle.std.specs.Global.{Box}
-use Rattle.std.proofs.lemmas.Option.{none-some, same_Some, slice_get-get_or}
-use Rattle.std.proofs.lemmas.Bool.{false≢true}
-use Rattle.std.proofs.lemmas.List.{append_cancel_left}
-use Rattle.std.proofs.lemmas.List.Elements.{All-cons, All-contains, All-nil, filter-append}
+use Rattle.pct_names.proofs.Names.{◌++◌, ◌<◌, [], All, All-cons, All-contains, All-nil, ap, append_cancel_left, arith, Bool, Box, cond}
+use Rattle.pct_names.proofs.Names.{Contains, dec_le, Entry, false, false≢true, filter-append, get_elem?, get_or, inl, inr, length, List}
+use Rattle.pct_names.proofs.Names.{map, nat_eq, None, none-some, refl, same_Some, slice_get, slice_get-get_or, Some, subst, suc, sym, true}
+use Rattle.pct_names.proofs.Names.{zero, ℕ, ℕ_discrete, ◌∙◌, ◌∷◌, ◌≡◌, ◌≤◌, ◌⊎◌}
+use Rattle.std.proofs.Common.{append-nil, eq-eqb}
 use mathlib.Core.Option as maybe
-use native.Mathlib.Decide.{dec_le, ℕ_discrete}
-use lib.ListN.{get_elem?}
 use Rattle.atomic_table.specs.Seated.{TableId}
 use Rattle.atomic_table.specs.Table.{Me, State, Final, Seen}
-use Rattle.pct_model.specs.declared.schedule.Entry.{Entry}
 use Rattle.pct_engine.specs.EngineStates.{EngineValue}
 use Rattle.pct_shared.specs.declared.view.Known.{Known}
 use Rattle.pct_shared.specs.declared.view.Opening.{Opening}

@@ -1,13 +1,9 @@
 -- Entries that were chosen, in histories that grow.
-use Rattle.std.proofs.Common.{◌≡◌, ℕ, zero, suc, ◌+◌, ◌*◌, ◌<◌, All, List, [], ◌∷◌, ◌++◌, Some, refl, sym, ap, ◌∙◌, subst, arith, length, get_or, length-append}
-use Rattle.std.specs.Prelude.{slice_get}
-use Rattle.std.proofs.lemmas.List.{get_or-append-add, take-append-le}
-use Rattle.std.proofs.lemmas.Option.{slice_get-get_or}
+use Rattle.pct_names.proofs.Names.{◌*◌, ◌+◌, ◌++◌, ◌<◌, [], All, ap, arith, Config, Entry, get_or, get_or-append-add, length, List, refl}
+use Rattle.pct_names.proofs.Names.{Run, run, Script, slice_get, slice_get-get_or, Some, subst, suc, sym, take-append-le, zero, ℕ, ◌∙◌, ◌∷◌}
+use Rattle.pct_names.proofs.Names.{◌≡◌}
+use Rattle.std.proofs.Common.{length-append}
 use Rattle.rand_pcg.specs.Lcg.{Lcg}
-use Rattle.pct_model.specs.declared.script.Script.{Script}
-use Rattle.pct_model.specs.declared.schedule.Config.{Config}
-use Rattle.pct_model.specs.declared.schedule.Entry.{Entry}
-use Rattle.pct_model.specs.Run.{Run, run}
 use Rattle.pct_shared.specs.Streams.{AreChosenBy, IsChosenAt, word_at}
 use Rattle.pct_shared.specs.Views.{IsPrefix}
 use Rattle.pct_shared.proofs.ChosenWorkers.{chosen-worker}

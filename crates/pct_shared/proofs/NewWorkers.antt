@@ -1,7 +1,6 @@
 -- New workers, one after the other.
-use Rattle.std.proofs.Common.{◌≡◌, ◌⊎◌, inl, inr, ℕ, zero, suc, ◌<◌, List, [], ◌∷◌, ◌++◌, length, Some, refl, sym, ap, ◌∙◌, subst, arith}
-use Rattle.std.specs.Prelude.{slice_get, option_map}
-use Rattle.std.proofs.lemmas.Option.{none-some, same_Some}
+use Rattle.pct_names.proofs.Names.{◌++◌, ◌<◌, [], ap, arith, inl, inr, length, List, none-some, option_map, refl, same_Some, slice_get}
+use Rattle.pct_names.proofs.Names.{Some, subst, suc, sym, zero, ℕ, ◌∙◌, ◌∷◌, ◌≡◌, ◌⊎◌}
 use Rattle.atomic_table.specs.Table.{Me, Splits}
 use Rattle.pct_shared.specs.declared.view.Opening.{Opening}
 use Rattle.pct_shared.specs.declared.workers.Worker.{Worker}

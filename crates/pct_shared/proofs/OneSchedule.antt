@@ -1,11 +1,6 @@
 -- A seed has one schedule.
-use Rattle.std.proofs.Common.{◌≡◌, inl, inr, ℕ, ◌+◌, ◌-◌, ◌<◌, ◌≤◌, List, Some, sym, ◌∙◌, subst, arith, length, take}
-use Rattle.std.specs.Prelude.{slice_get}
-use Rattle.std.proofs.lemmas.Bool.{cases_order}
-use Rattle.pct_model.specs.declared.script.Script.{Script}
-use Rattle.pct_model.specs.declared.schedule.Config.{Config}
-use Rattle.pct_model.specs.declared.schedule.Entry.{Entry}
-use Rattle.pct_model.specs.Run.{Run, run}
+use Rattle.pct_names.proofs.Names.{◌+◌, ◌-◌, ◌<◌, arith, cases_order, Config, Entry, inl, inr, length, List, Run, run, Script, slice_get}
+use Rattle.pct_names.proofs.Names.{Some, subst, sym, take, ℕ, ◌∙◌, ◌≡◌, ◌≤◌}
 use Rattle.pct_shared.specs.Schedules.{SeedSchedule}
 use Rattle.pct_shared.specs.Streams.{IsChosenAt, stream_of}
 use Rattle.pct_shared.proofs.WholeRuns.{whole_is_one}

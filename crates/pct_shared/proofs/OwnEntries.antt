@@ -1,9 +1,9 @@
 -- The entries of a worker and their places, in a history that grows, and prefixes of it.
-use Rattle.std.proofs.Common.{◌≡◌, ℕ, suc, ◌+◌, Bool, true, false, cond, List, [], ◌∷◌, ◌++◌, length, refl, sym, ap, ◌∙◌, subst, arith, append-nil, nat_eq}
+use Rattle.pct_names.proofs.Names.{◌+◌, ◌++◌, [], ap, arith, Bool, cond, Entry, false, filter-append, length, List, nat_eq, refl, subst}
+use Rattle.pct_names.proofs.Names.{suc, sym, true, ℕ, ◌∙◌, ◌∷◌, ◌≡◌}
+use Rattle.std.proofs.Common.{append-nil}
 use Rattle.std.proofs.Math.Nat.{zero-add}
 use Rattle.std.proofs.lemmas.List.{append_assoc}
-use Rattle.std.proofs.lemmas.List.Elements.{filter-append}
-use Rattle.pct_model.specs.declared.schedule.Entry.{Entry}
 use Rattle.pct_shared.specs.Views.{IsPrefix, own, places, places_from}
 
 -- ---- prefixes

@@ -1,7 +1,6 @@
 -- A pass before and after a turn.
-use Rattle.std.proofs.Common.{◌≡◌, ℕ, ◌≤◌, ◌<◌, false, [], Some, refl, sym, ap, ◌∙◌, subst}
+use Rattle.pct_names.proofs.Names.{◌<◌, [], ap, false, MAX_WORKER, refl, Some, subst, sym, ℕ, ◌∙◌, ◌≡◌, ◌≤◌}
 use Rattle.atomic_table.specs.Table.{Me}
-use Rattle.pct_model.specs.declared.limits.TheConstants.{MAX_WORKER}
 use Rattle.pct_shared.specs.declared.shared.Turn.{Turn}
 use Rattle.pct_shared.specs.declared.shared.Turn.TheVariants as turn
 use Rattle.pct_shared.specs.declared.view.Opening.{Opening}

@@ -1,8 +1,8 @@
 -- Numbers that rise or are counted, and the places of entries of which all or none have a number.
-use Rattle.std.proofs.Common.{◌≡◌, ◌≢◌, ℕ, zero, suc, ◌+◌, ◌<◌, ◌≤◌, true, false, All, List, [], ◌∷◌, ◌++◌, length, get_or, refl, sym, ap, ◌∙◌, subst, arith, append-nil, nat_eq}
+use Rattle.pct_names.proofs.Names.{◌+◌, ◌++◌, ◌<◌, [], All, All-head, All-tail, ap, arith, Entry, false, get_or, length, List, nat_eq, refl}
+use Rattle.pct_names.proofs.Names.{subst, suc, sym, true, zero, ℕ, ◌∙◌, ◌∷◌, ◌≡◌, ◌≢◌, ◌≤◌}
+use Rattle.std.proofs.Common.{append-nil}
 use Rattle.std.proofs.lemmas.Bool.{eq-eqb, ne_eqb}
-use Rattle.std.proofs.lemmas.List.Elements.{All-head, All-tail}
-use Rattle.pct_model.specs.declared.schedule.Entry.{Entry}
 use Rattle.pct_shared.specs.Hosts.{RiseWithin, counted_from}
 use Rattle.pct_shared.specs.Views.{places, places_from}
 use Rattle.pct_shared.proofs.OwnEntries.{places-append}

@@ -1,16 +1,12 @@
 -- The seats of a host after a pass was split off, or was taken in, and at the opening.
-use Rattle.std.proofs.Common.{◌≡◌, ◌≢◌, ◌⊎◌, inl, inr, ℕ, zero, suc, ◌+◌, ◌<◌, ◌≤◌, Bool, true, false, List, [], ◌∷◌, ◌++◌, length, set, Some, None, refl, sym, ap, ◌∙◌, subst, arith, append-nil, nat_eq, length-set, length-append}
-use Rattle.std.specs.Prelude.{All, Contains}
+use Rattle.pct_names.proofs.Names.{◌+◌, ◌++◌, ◌<◌, [], All, All-append, All-cons, All-nil, All-weaker, ap, append_cancel_left, arith, Bool}
+use Rattle.pct_names.proofs.Names.{Contains, Contains-append_left, Contains-append_right, Entry, false, false≢true, filter-append}
+use Rattle.pct_names.proofs.Names.{get_elem?, inl, inr, length, List, nat_eq, None, none-some, refl, same_Some, set, Some, subst, suc, sym}
+use Rattle.pct_names.proofs.Names.{true, zero, ℕ, ℕ_discrete, ◌∙◌, ◌∷◌, ◌≡◌, ◌≢◌, ◌≤◌, ◌⊎◌}
+use Rattle.std.proofs.Common.{append-nil, length-set, length-append}
 use Rattle.std.proofs.Math.Nat.{zero-add}
-use Rattle.std.proofs.lemmas.Option.{none-some, same_Some}
-use Rattle.std.proofs.lemmas.Bool.{false≢true}
-use Rattle.std.proofs.lemmas.List.{append_cancel_left}
-use Rattle.std.proofs.lemmas.List.Elements.{All-weaker, All-append, All-cons, All-nil, Contains-append_left, Contains-append_right, filter-append}
 use mathlib.Core.Option as maybe
-use native.Mathlib.Decide.{ℕ_discrete}
-use lib.ListN.{get_elem?}
 use Rattle.atomic_table.proofs.Lists.{at_set, at_longer, set_here, set_else}
-use Rattle.pct_model.specs.declared.schedule.Entry.{Entry}
 use Rattle.pct_shared.specs.declared.view.Opening.{Opening}
 use Rattle.pct_shared.specs.declared.view.Known.{Known}
 use Rattle.pct_shared.specs.declared.view.View.{View}

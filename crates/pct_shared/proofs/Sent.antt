@@ -2,14 +2,13 @@
 use denote.RattleType.{RattleType}
 use denote.Struct.Declared as declared
 use denote.Param.Send.{IsSend, plain_send, recorded_send, struct_send, view_send}
-use Rattle.std.proofs.Crossing.{crosses}
+use Rattle.pct_names.proofs.Names.{crosses, ghosts}
 use Rattle.std.proofs.alloc.Global.TheSendSync as heap
 use Rattle.std.below.std_heap.proofs.GlobalAllocator.TheSendSync as allocator
 use Rattle.std.proofs.boxed.Box.TheSendSync as boxed
 use Rattle.std.proofs.option.Option.TheSendSync as optional
 use Rattle.std.specs.contracts.alloc.Global as Global
 use Rattle.std.specs.contracts.boxed.Box as Box
-use Rattle.std.specs.contracts.impls.GlobalAllocator.TheImpl.{ghosts}
 use Rattle.std.specs.contracts.option.Option as Option
 use Rattle.std.specs.contracts.snapshot.Snapshot as Snapshot
 use Rattle.atomic_table.proofs.shared.Seat.TheSendSync as seat

@@ -1,16 +1,12 @@
 -- The steps on the table of a host keep the rule of the turn.
-use Rattle.std.proofs.Common.{◌≡◌, ◌≢◌, inl, inr, ℕ, suc, ◌<◌, Bool, true, false, List, [], ◌∷◌, ◌++◌, map, length, set, Some, None, refl, sym, ap, ◌∙◌, subst, arith, append-nil, eqb, ne_eqb}
-use Rattle.std.specs.Prelude.{drop, slice_index}
-use Rattle.std.specs.Global.{Box}
-use Rattle.std.proofs.lemmas.Option.{same_Some}
-use Rattle.std.proofs.lemmas.Bool.{false≢true}
+use Rattle.pct_names.proofs.Names.{◌++◌, ◌<◌, [], ap, arith, Bool, Box, drop, Entry, eqb, false, false≢true, get_elem?, inl, inr, length}
+use Rattle.pct_names.proofs.Names.{List, map, None, refl, same_Some, set, slice_index, Some, subst, suc, sym, true, ℕ, ℕ_discrete, ◌∙◌, ◌∷◌}
+use Rattle.pct_names.proofs.Names.{◌≡◌, ◌≢◌}
+use Rattle.std.proofs.Common.{append-nil, ne_eqb}
 use mathlib.Core.Option as maybe
-use native.Mathlib.Decide.{ℕ_discrete}
-use lib.ListN.{get_elem?}
 use prog.Atomic.{either}
 use Rattle.atomic_table.specs.Table.{State, Me, Act, keeps, takes, gives, stepped, carried_after, Valid, Allows, Splits, Joins, opening}
 use Rattle.atomic_table.proofs.Lists.{at_longer, set_here, set_else}
-use Rattle.pct_model.specs.declared.schedule.Entry.{Entry}
 use Rattle.pct_engine.specs.EngineStates.{EngineValue}
 use Rattle.pct_shared.specs.declared.view.Opening.{Opening}
 use Rattle.pct_shared.specs.declared.view.View.{View}

@@ -1,7 +1,7 @@
 -- The seats of a host after a take, and after the turn was given back.
-use Rattle.std.proofs.Common.{◌≡◌, ◌≢◌, inl, ℕ, true, false, List, [], ◌∷◌, ◌++◌, length, set, Some, refl, sym, ◌∙◌, arith, nat_eq, ne_eqb, eq-eqb}
-use Rattle.std.proofs.lemmas.Bool.{false≢true}
-use Rattle.pct_model.specs.declared.schedule.Entry.{Entry}
+use Rattle.pct_names.proofs.Names.{◌++◌, [], arith, Entry, false, false≢true, inl, length, List, nat_eq, refl, set, Some, sym, true, ℕ, ◌∙◌}
+use Rattle.pct_names.proofs.Names.{◌∷◌, ◌≡◌, ◌≢◌}
+use Rattle.std.proofs.Common.{ne_eqb, eq-eqb}
 use Rattle.pct_shared.specs.declared.view.Opening.{Opening}
 use Rattle.pct_shared.specs.declared.view.View.{View}
 use Rattle.pct_shared.specs.TurnRule.{AreSeated, HasSeat, SeatView}

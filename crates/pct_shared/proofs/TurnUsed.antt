@@ -1,13 +1,9 @@
 -- A turn of a pass that has lifted the engine: a step, or the verdict.
-use Rattle.std.proofs.Common.{◌≡◌, inl, inr, ℕ, false, List, [], ◌∷◌, ◌++◌, length, Some, None, refl, sym, ap, ◌∙◌, subst, append-nil, eq-eqb}
-use Rattle.std.specs.Prelude.{option_map}
-use Rattle.std.proofs.lemmas.Option.{same_Some}
+use Rattle.pct_names.proofs.Names.{◌++◌, [], ap, chosen, Entry, false, inl, inr, length, List, None, option_map, refl, Run, same_Some, Some}
+use Rattle.pct_names.proofs.Names.{subst, sym, Verdict, verdict_of, ℕ, ◌∙◌, ◌∷◌, ◌≡◌}
+use Rattle.std.proofs.Common.{append-nil, eq-eqb}
 use Rattle.atomic_table.specs.Table.{Me}
-use Rattle.pct_model.specs.declared.schedule.Entry.{Entry}
-use Rattle.pct_model.specs.declared.stop.Verdict.{Verdict}
 use Rattle.pct_model.specs.declared.stop.Verdict.TheVariants as verdict
-use Rattle.pct_model.specs.Chosen.{chosen}
-use Rattle.pct_model.specs.Run.{Run, verdict_of}
 use Rattle.pct_engine.specs.EngineStates.{EngineValue, IsChoice, IsRunOf, IsRunWith}
 use Rattle.pct_engine.proofs.ChosenEntries.{chosen-legal, is_open}
 use Rattle.pct_shared.specs.declared.shared.Turn.TheVariants as turn

@@ -1,17 +1,11 @@
 -- The first entries of a run, and runs to their end: nothing comes after a closed run, and two whole runs that go on alike are one.
-use Rattle.std.proofs.Common.{◌≡◌, inl, inr, ℕ, zero, suc, ◌<◌, ◌≤◌, List, [], ◌∷◌, ◌++◌, Option, Some, None, refl, sym, ap, ◌∙◌, arith, length, get_or, take, drop, take-suc, length-append, length-take-le, append-nil}
-use Rattle.std.specs.Prelude.{is_some, option_and_then, slice_get}
-use Rattle.std.proofs.Math.Seq.{take-append_seam, take-length}
-use Rattle.std.proofs.lemmas.Bool.{cases_order}
-use Rattle.std.proofs.lemmas.List.{append_assoc, take-append-drop}
-use Rattle.std.proofs.lemmas.Option.{none-some, same_Some, slice_get-get_or}
-use Rattle.pct_model.specs.declared.script.Script.{Script}
-use Rattle.pct_model.specs.declared.schedule.Alt.TheVariants.{Go}
-use Rattle.pct_model.specs.declared.schedule.Config.{Config}
-use Rattle.pct_model.specs.declared.schedule.Entry.{Entry}
+use Rattle.pct_names.proofs.Names.{◌++◌, ◌<◌, [], ap, arith, cases_order, Config, drop, Entry, get_or, Go, inl, inr, is_some, length, List}
+use Rattle.pct_names.proofs.Names.{None, none-some, opening, Option, option_and_then, refl, Run, run, run_from, run_step, same_Some, Script}
+use Rattle.pct_names.proofs.Names.{slice_get, slice_get-get_or, Some, suc, sym, take, take-append-drop, take-append_seam, take-length}
+use Rattle.pct_names.proofs.Names.{take-suc, verdict_of, zero, ℕ, ◌∙◌, ◌∷◌, ◌≡◌, ◌≤◌}
+use Rattle.std.proofs.Common.{length-append, length-take-le, append-nil}
+use Rattle.std.proofs.lemmas.List.{append_assoc}
 use Rattle.pct_model.specs.declared.stop.Verdict.TheVariants as verdict
-use Rattle.pct_model.specs.World.{opening}
-use Rattle.pct_model.specs.Run.{Run, run_step, run_from, run, verdict_of}
 use Rattle.pct_engine_laws.proofs.LongerRuns.{run_parts, run_within}
 use Rattle.pct_engine_laws.proofs.OpenRuns.{goes_on_while_open}
 use Rattle.pct_shared.specs.Schedules.{IsWholeRun}

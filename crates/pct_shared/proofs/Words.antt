@@ -1,5 +1,5 @@
 -- The words of a stream, drawn two by two.
-use Rattle.std.proofs.Common.{◌≡◌, ℕ, zero, suc, ◌+◌, ◌*◌, refl, sym, ap, ◌∙◌, arith}
+use Rattle.pct_names.proofs.Names.{◌*◌, ◌+◌, ap, arith, refl, suc, sym, zero, ℕ, ◌∙◌, ◌≡◌}
 use Rattle.rand_pcg.specs.Lcg.{Lcg}
 use Rattle.rand_pcg.specs.Pcg.{pcg32}
 use Rattle.pct_shared.specs.Streams.{after_words, word_at}

@@ -1,14 +1,11 @@
 -- The schedules of runs that workers make: from what each worker did, the closing of the host, and the end of the run.
-use Rattle.std.proofs.Common.{◌≡◌, ◌⊎◌, inl, inr, ℕ, zero, suc, ◌+◌, ◌-◌, ◌<◌, ◌≤◌, Bool, true, false, All, List, [], ◌++◌, Some, map, refl, sym, ap, ◌∙◌, subst, arith, if◌then◌else◌, length, append-nil, get_or, slice_index_or}
-use Rattle.std.specs.Prelude.{slice_get}
-use Rattle.std.proofs.lemmas.Bool.{cases_Bool, cases_order, false≢true}
-use Rattle.std.proofs.lemmas.List.{get_or-map, length-map}
-use Rattle.std.proofs.lemmas.Option.{get_or_from_slice_get, slice_get_cases, slice_get-get_or, slice_get_within}
+use Rattle.pct_names.proofs.Names.{◌+◌, ◌++◌, ◌-◌, ◌<◌, [], All, ap, arith, Bool, cases_Bool, cases_order, Config, Entry, false, false≢true}
+use Rattle.pct_names.proofs.Names.{get_or, get_or_from_slice_get, if◌then◌else◌, inl, inr, length, length-map, List, map, refl, Run, run}
+use Rattle.pct_names.proofs.Names.{RunOptions, slice_get, slice_get-get_or, slice_get_cases, slice_get_within, slice_index_or, Some, subst}
+use Rattle.pct_names.proofs.Names.{suc, sym, true, zero, ℕ, ◌∙◌, ◌≡◌, ◌≤◌, ◌⊎◌}
+use Rattle.std.proofs.Common.{append-nil}
+use Rattle.std.proofs.lemmas.List.{get_or-map}
 use Rattle.rand_pcg.specs.Lcg.{Lcg}
-use Rattle.pct_model.specs.declared.schedule.Config.{Config}
-use Rattle.pct_model.specs.declared.schedule.Entry.{Entry}
-use Rattle.pct_model.specs.declared.run_options.RunOptions.{RunOptions}
-use Rattle.pct_model.specs.Run.{Run, run}
 use Rattle.pct_engine.specs.EngineStates.{EngineValue}
 use Rattle.pct_shared.specs.declared.view.Opening.{Opening}
 use Rattle.pct_shared.specs.declared.view.Known.{Known}

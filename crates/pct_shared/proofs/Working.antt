@@ -1,17 +1,12 @@
 -- What a worker did so far, turn by turn, and at the end.
-use Rattle.std.proofs.Common.{◌≡◌, ◌≢◌, ℕ, suc, ◌+◌, ◌*◌, ◌-◌, ◌<◌, ◌≤◌, true, false, List, [], ◌∷◌, ◌++◌, map, length, take, Option, Some, refl, sym, ap, ◌∙◌, subst, arith, append-nil, length-append}
-use Rattle.std.specs.Prelude.{slice_get, slice_index_or, is_some, All}
-use Rattle.std.proofs.lemmas.List.{append_assoc, get_or_append_left, length-map, map-append, take-append-le, take_all}
-use Rattle.std.proofs.lemmas.List.Elements.{All-cons, All-head, All-nil, All-push, All-tail}
-use Rattle.std.proofs.lemmas.Option.{slice_get-get_or}
+use Rattle.pct_names.proofs.Names.{◌*◌, ◌+◌, ◌++◌, ◌-◌, ◌<◌, [], All, All-cons, All-head, All-nil, All-push, All-tail, ap, arith, chosen}
+use Rattle.pct_names.proofs.Names.{Config, Entry, false, get_or_append_left, is_some, length, length-map, List, map, map-append, Option}
+use Rattle.pct_names.proofs.Names.{refl, Run, run, Script, slice_get, slice_get-get_or, slice_index_or, Some, subst, suc, sym, take}
+use Rattle.pct_names.proofs.Names.{take-append-le, take_all, true, Verdict, verdict_of, ℕ, ◌∙◌, ◌∷◌, ◌≡◌, ◌≢◌, ◌≤◌}
+use Rattle.std.proofs.Common.{append-nil, length-append}
+use Rattle.std.proofs.lemmas.List.{append_assoc}
 use Rattle.rand_pcg.specs.Lcg.{Lcg}
 use Rattle.rand_pcg.specs.Pcg.{pcg32}
-use Rattle.pct_model.specs.declared.script.Script.{Script}
-use Rattle.pct_model.specs.declared.schedule.Config.{Config}
-use Rattle.pct_model.specs.declared.schedule.Entry.{Entry}
-use Rattle.pct_model.specs.declared.stop.Verdict.{Verdict}
-use Rattle.pct_model.specs.Chosen.{chosen}
-use Rattle.pct_model.specs.Run.{Run, run, verdict_of}
 use Rattle.pct_engine.specs.EngineStates.{IsRunOf, IsRunWith}
 use Rattle.pct_engine.proofs.ChosenEntries.{get-last}
 use Rattle.pct_shared.specs.declared.shared.Turn.{Turn}

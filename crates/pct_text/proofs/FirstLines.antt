@@ -1,7 +1,8 @@
 -- The first line of a text ends at its first LF, or it is the whole text.
-use Rattle.std.proofs.Common.{◌≡◌, ℕ, zero, suc, ◌+◌, ◌<◌, Bool, true, false, cond, List, [], ◌∷◌, ◌++◌, Option, Some, None, length, take, drop, slice_index, refl, sym, ap, ◌∙◌, subst, arith, inl, inr, length-append, nat_eq, option_map}
+use Rattle.pct_names.proofs.Names.{◌+◌, ◌++◌, ◌<◌, [], ap, arith, Bool, cond, drop, false, inl, inr, length, List, nat_eq, None, Option}
+use Rattle.pct_names.proofs.Names.{option_map, refl, slice_index, Some, split_once, subst, suc, sym, take, true, zero, ℕ, ◌∙◌, ◌∷◌, ◌≡◌}
+use Rattle.std.proofs.Common.{length-append}
 use Rattle.memchr.specs.Find.{IsFirstByte, is_byte}
-use Rattle.pct_model.specs.Lines.{split_once}
 use Rattle.pct_text.specs.FirstLine.{IsFirstLine}
 use Rattle.pct_text.proofs.SplitOnce.{split_joins}
 use Rattle.pct_text.proofs.Lines.{lines_of-split_once, lines_of-last, lines_of-nil}

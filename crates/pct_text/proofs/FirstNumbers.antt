@@ -1,6 +1,7 @@
 -- The loop over bytes reads the number before the first space.
-use Rattle.std.proofs.Common.{◌≡◌, ℕ, Bool, true, false, cond, List, [], ◌∷◌, Option, Some, None, refl, sym, ap, ◌∙◌, eqb-true, nat_eq, option_map}
-use Rattle.pct_model.specs.Lines.{◌>>=◌, split_once, number_of}
+use Rattle.pct_names.proofs.Names.{◌>>=◌, [], ap, Bool, cond, false, List, nat_eq, None, number_of, Option, option_map, refl, Some}
+use Rattle.pct_names.proofs.Names.{split_once, sym, true, ℕ, ◌∙◌, ◌∷◌, ◌≡◌}
+use Rattle.std.proofs.Common.{eqb-true}
 use Rattle.pct_text.specs.FirstNumber.{split_number}
 use Rattle.pct_text.specs.Digits.{with_digit, with_next, number_from, number_in, number_until, split_number_in}
 use Rattle.pct_text.proofs.Numbers.{number_as_read}

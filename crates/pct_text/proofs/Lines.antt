@@ -1,9 +1,8 @@
 -- Lines and words, one split after the other.
-use Rattle.std.proofs.Common.{◌≡◌, ◌≢◌, ℕ, ◌<◌, Bool, true, false, cond, List, [], ◌∷◌, ◌++◌, Option, Some, None, length, refl, ap, ◌∙◌, arith, nat_eq, ne_eqb, option_map, length-append}
-use Rattle.std.specs.List.{slice_split, onto_first}
-use Rattle.std.specs.Option.{option_map_or}
-use Rattle.std.proofs.lemmas.List.Splits.{length-slice_split}
-use Rattle.pct_model.specs.Lines.{split_once, without_empty_last, lines_of, strip_cr, words_of}
+use Rattle.pct_names.proofs.Names.{◌++◌, ◌<◌, [], ap, arith, Bool, cond, false, length, length-slice_split, lines_of, List, nat_eq, None}
+use Rattle.pct_names.proofs.Names.{onto_first, Option, option_map, option_map_or, refl, slice_split, Some, split_once, strip_cr, true}
+use Rattle.pct_names.proofs.Names.{without_empty_last, words_of, ℕ, ◌∙◌, ◌∷◌, ◌≡◌, ◌≢◌}
+use Rattle.std.proofs.Common.{ne_eqb, length-append}
 use Rattle.pct_text.proofs.SplitOnce.{split_again, lacks-uncons}
 
 -- ---- the CR at the end of a line

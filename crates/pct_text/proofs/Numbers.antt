@@ -1,13 +1,10 @@
 -- The decimal text of a number, and the number that is read from it.
-use Rattle.std.proofs.Common.{◌≡◌, ℕ, ◌+◌, ◌-◌, ◌*◌, ◌/◌, ◌%◌, ◌≤◌, ◌<◌, Bool, true, false, not, ◌&&◌, cond, List, [], ◌∷◌, ◌++◌, Option, Some, None, length, refl, sym, ap, ◌∙◌, arith, nat_eq, nat_le, le-leb, leb-true, ne_eqb, lt-ltb, bytes_eq, decimal, true≢false, zero, suc, append-nil, append_assoc}
-use Rattle.std.specs.Fmt.{digit_glyph, digits_onto, digits}
-use Rattle.std.specs.List.{list_all}
-use Rattle.std.specs.Str.Parse.{digits_value}
-use Rattle.std.proofs.lemmas.Bool.{and_parts, and_from, not-true}
-use Rattle.std.proofs.lemmas.Fmt.{decimal_by_steps, decimal_digit, decimal_step, decimal_is_IsNumeral}
-use Rattle.std.proofs.lemmas.Option.{cond_some}
-use Rattle.pct_model.specs.Names.{is_digit, is_name_byte, is_name}
-use Rattle.pct_model.specs.Lines.{◌>>=◌, split_once, number_of}
+use Rattle.pct_names.proofs.Names.{◌%◌, ◌&&◌, ◌*◌, ◌+◌, ◌++◌, ◌-◌, ◌/◌, ◌<◌, ◌>>=◌, [], and_from, and_parts, ap, arith, Bool, bytes_eq}
+use Rattle.pct_names.proofs.Names.{cond, cond_some, decimal, decimal_by_steps, decimal_digit, decimal_is_IsNumeral, decimal_step}
+use Rattle.pct_names.proofs.Names.{digit_glyph, digits, digits_onto, digits_value, false, is_digit, is_name, is_name_byte, length, List}
+use Rattle.pct_names.proofs.Names.{list_all, nat_eq, nat_le, None, not, not-true, number_of, Option, refl, Some, split_once, suc, sym, true}
+use Rattle.pct_names.proofs.Names.{zero, ℕ, ◌∙◌, ◌∷◌, ◌≡◌, ◌≤◌}
+use Rattle.std.proofs.Common.{le-leb, leb-true, ne_eqb, lt-ltb, true≢false, append-nil, append_assoc}
 use Rattle.pct_text.specs.Digits.{with_digit, with_next, number_from, number_in}
 use Rattle.pct_text.proofs.SplitOnce.{lacks_other}
 use Rattle.pct_model.proofs.Bytes.{same_bytes, bytes_eq-refl}

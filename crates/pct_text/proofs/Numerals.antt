@@ -1,13 +1,8 @@
 -- The loop over digits reads the value of a numeral.
-use Rattle.std.proofs.Common.{◌≡◌, ℕ, ◌+◌, ◌*◌, ◌-◌, ◌≤◌, Bool, true, false, not, ◌&&◌, cond, List, [], ◌∷◌, Option, Some, None, length, refl, sym, ap, ◌∙◌, arith, nat_le, leb-true, leb-false, le-leb}
-use Rattle.std.specs.List.{list_all}
-use Rattle.std.specs.Char.{digit_value}
-use Rattle.std.specs.Str.Parse.{digits_value, digits_value_after}
-use Rattle.std.proofs.lemmas.Bool.{and_parts, lt-leb}
-use Rattle.std.proofs.lemmas.Str.{digit_value_digit}
-use Rattle.pct_model.specs.Names.{is_digit}
-use Rattle.pct_model.specs.Lines.{◌>>=◌}
-use Rattle.pct_model.specs.LineParsing.{is_empty, numeral}
+use Rattle.pct_names.proofs.Names.{◌&&◌, ◌*◌, ◌+◌, ◌-◌, ◌>>=◌, [], and_parts, ap, arith, Bool, cond, digit_value, digit_value_digit}
+use Rattle.pct_names.proofs.Names.{digits_value, digits_value_after, false, is_digit, is_empty, length, List, list_all, lt-leb, nat_le}
+use Rattle.pct_names.proofs.Names.{None, not, numeral, Option, refl, Some, sym, true, ℕ, ◌∙◌, ◌∷◌, ◌≡◌, ◌≤◌}
+use Rattle.std.proofs.Common.{leb-true, leb-false, le-leb}
 use Rattle.pct_text.specs.Digits.{with_digit, value_from, numeral_in}
 
 -- the value v, where all bytes are digits and it is at most 4294967295

@@ -1,9 +1,8 @@
 -- Splitting at the first delimiter.
-use Rattle.std.proofs.Common.{◌≡◌, ℕ, zero, suc, ◌+◌, ◌≤◌, Bool, true, false, not, cond, List, [], ◌∷◌, ◌++◌, Option, Some, None, length, take, drop, refl, sym, ap, ◌∙◌, subst, arith, nat_eq, nat_lt, ltb-false, eqb-true, eq-eqb, ne_eqb, true≢false, position, option_map}
-use Rattle.std.specs.List.{position_or_len, list_all}
-use Rattle.std.proofs.lemmas.Bool.{and_parts}
-use Rattle.std.proofs.lemmas.Option.{same_Some}
-use Rattle.pct_model.specs.Lines.{split_once}
+use Rattle.pct_names.proofs.Names.{◌+◌, ◌++◌, [], and_parts, ap, arith, Bool, cond, drop, false, length, List, list_all, nat_eq, nat_lt}
+use Rattle.pct_names.proofs.Names.{None, not, Option, option_map, position, position_or_len, refl, same_Some, Some, split_once, subst, suc}
+use Rattle.pct_names.proofs.Names.{sym, take, true, zero, ℕ, ◌∙◌, ◌∷◌, ◌≡◌, ◌≤◌}
+use Rattle.std.proofs.Common.{ltb-false, eqb-true, eq-eqb, ne_eqb, true≢false}
 
 abbrev index : ℕ → List ℕ → ℕ
 index c xs = position_or_len (λ b. nat_eq b c) xs

@@ -1,14 +1,9 @@
 -- The words of a line, one after the other.
-use Rattle.std.proofs.Common.{◌≡◌, ℕ, suc, ◌+◌, ◌<◌, ◌≤◌, Bool, true, false, not, cond, List, [], ◌∷◌, Some, None, length, take, drop, get_or, refl, sym, ap, ◌∙◌, subst, arith, nat_lt, position}
-use Rattle.std.specs.Prelude.{filter, unwrap_or}
-use Rattle.std.specs.List.{slice_split, onto_first, position_or_len}
-use Rattle.std.proofs.Math.Seq.{drop-cons, drop-length}
+use Rattle.pct_names.proofs.Names.{◌+◌, ◌<◌, [], ap, arith, Bool, cond, drop, drop-cons, drop-length, false, filter, get_or, is_blank}
+use Rattle.pct_names.proofs.Names.{is_empty, length, length-drop, length-prefix_len, List, nat_lt, None, not, onto_first, position}
+use Rattle.pct_names.proofs.Names.{position-Some, position_or_len, prefix_len-le-length, refl, slice_split, Some, subst, suc, sym, take}
+use Rattle.pct_names.proofs.Names.{true, unwrap_or, words_in, ℕ, ◌∙◌, ◌∷◌, ◌≡◌, ◌≤◌}
 use Rattle.std.proofs.lemmas.Bool.{ltb-false}
-use Rattle.std.proofs.lemmas.List.{length-drop}
-use Rattle.std.proofs.lemmas.List.Folds.{length-prefix_len}
-use Rattle.std.proofs.lemmas.List.Sums.{prefix_len-le-length}
-use Rattle.std.proofs.lemmas.List.Quantifiers.{position-Some}
-use Rattle.pct_model.specs.LineParsing.{is_blank, is_empty, words_in}
 
 -- the pieces that are not empty
 abbrev filled : List (List ℕ) → List (List ℕ)

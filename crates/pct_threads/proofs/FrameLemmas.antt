@@ -1,12 +1,10 @@
 -- Frames are kept oldest first, and listed newest first.
-use Rattle.std.proofs.Common.{◌≡◌, refl, sym, ap, ◌∙◌, ℕ, ◌-◌, ◌<◌, Bool, true, false, cond, List, [], length, get_or, Some, None, inl, inr, arith, length-set, option_map}
-use Rattle.std.specs.Prelude.{slice_set, reverse}
-use Rattle.std.specs.Option.{option_map_or}
-use Rattle.std.proofs.lemmas.List.{same_lists, get_or-reverse, get_or_default, get_or-set_same, get_or-set_other, length-reverse}
-use Rattle.std.proofs.lemmas.Bool.{cases_eq}
-use Rattle.pct_model.specs.declared.frame.Frame.{Frame}
+use Rattle.pct_names.proofs.Names.{◌-◌, ◌<◌, [], ap, arith, Bool, cases_eq, cond, false, Frame, get_or, get_or-reverse, get_or_default, inl}
+use Rattle.pct_names.proofs.Names.{inr, length, length-reverse, List, new_frame, None, option_map, option_map_or, refl, reverse, same_lists}
+use Rattle.pct_names.proofs.Names.{slice_set, Some, sym, true, ℕ, ◌∙◌, ◌≡◌}
+use Rattle.std.proofs.Common.{length-set}
+use Rattle.std.proofs.lemmas.List.{get_or-set_same, get_or-set_other}
 use Rattle.pct_model.specs.declared.state.FrameKind.TheVariants as kind
-use Rattle.pct_model.specs.World.{new_frame}
 use Rattle.pct_threads.specs.FrameWords.{with_word}
 use Rattle.pct_threads.specs.Slots.{Held, frame_at, on_frame, with_frame_word}
 

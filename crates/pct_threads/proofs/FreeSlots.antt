@@ -1,6 +1,7 @@
 -- The free slots, found by a scan.
-use Rattle.std.proofs.Common.{◌≡◌, refl, sym, ap, ◌∙◌, ℕ, ◌+◌, ◌<◌, Bool, true, false, not, ◌&&◌, cond, List, length, nat_lt, inl, inr, arith}
-use Rattle.std.proofs.lemmas.Bool.{cases_eq, cases_lt, cases_Bool, eq-eqb, ne_eqb, lt-ltb, le-ltb, and_right}
+use Rattle.pct_names.proofs.Names.{◌&&◌, ◌+◌, ◌<◌, and_right, ap, arith, Bool, cases_Bool, cases_eq, cases_lt, cond, false, inl, inr}
+use Rattle.pct_names.proofs.Names.{le-ltb, length, List, nat_lt, not, refl, sym, true, ℕ, ◌∙◌, ◌≡◌}
+use Rattle.std.proofs.lemmas.Bool.{eq-eqb, ne_eqb, lt-ltb}
 use Rattle.pct_set.specs.Slots.{slots_where, with_slot}
 use Rattle.pct_set.proofs.SlotLemmas.{slots_agree, with_slot-where}
 use Rattle.pct_threads.specs.Slots.{Slot}

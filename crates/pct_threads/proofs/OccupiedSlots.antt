@@ -1,7 +1,7 @@
 -- The set of the occupied slots, after a change of one slot.
-use Rattle.std.proofs.Common.{◌≡◌, refl, sym, ap, ◌∙◌, ℕ, ◌<◌, Bool, true, false, cond, List, [], length, map, Option, Some, None, is_some, option_map, inl, inr}
-use Rattle.std.specs.Prelude.{slice_set}
-use Rattle.std.proofs.lemmas.Bool.{cases_eq, eq-eqb, ne_eqb}
+use Rattle.pct_names.proofs.Names.{◌<◌, [], ap, Bool, cases_eq, cond, false, inl, inr, is_some, length, List, map, None, Option, option_map}
+use Rattle.pct_names.proofs.Names.{refl, slice_set, Some, sym, true, ℕ, ◌∙◌, ◌≡◌}
+use Rattle.std.proofs.lemmas.Bool.{eq-eqb, ne_eqb}
 use Rattle.std.proofs.lemmas.List.{get_or-set_same, get_or-set_other}
 use Rattle.std.proofs.Math.ListN.{get_or-map}
 use Rattle.pct_set.specs.Slots.{slots_where, with_slot, without_slot}

@@ -1,10 +1,9 @@
 -- Laws of tables of threads, for the crates that use them.
-use Rattle.std.proofs.Common.{◌≡◌, refl, sym, ap, ◌∙◌, ℕ, ◌<◌, ◌≤◌, Bool, true, false, not, List, length, Option, Some, None, is_some, inl, inr, arith, length-set}
-use Rattle.std.specs.Prelude.{slice_set}
-use Rattle.std.specs.Option.{option_map_or}
-use Rattle.std.proofs.lemmas.Bool.{cases_lt, false≢true}
-use Rattle.std.proofs.lemmas.List.{get_or_past, get_or-set_same, set-set, set_past}
-use Rattle.std.proofs.lemmas.Option.{slice_get_past, slice_get-get_or}
+use Rattle.pct_names.proofs.Names.{◌<◌, ap, arith, Bool, cases_lt, false, false≢true, get_or_past, inl, inr, is_some, length, List, None}
+use Rattle.pct_names.proofs.Names.{not, Option, option_map_or, refl, set-set, set_past, slice_get-get_or, slice_get_past, slice_set, Some}
+use Rattle.pct_names.proofs.Names.{sym, true, ℕ, ◌∙◌, ◌≡◌, ◌≤◌}
+use Rattle.std.proofs.Common.{length-set}
+use Rattle.std.proofs.lemmas.List.{get_or-set_same}
 use Rattle.pct_threads.specs.Slots.{Held, Slot, unused, is_occupied, holds_thread, frames_of, is_reclaimable}
 use Rattle.pct_threads.specs.Tables.{slot_at, is_occupied_at, is_free_at, frames_at, is_reclaimable_at, on_slot}
 

@@ -1,58 +1,36 @@
 -- Each transition of the table is one of the cases.
-use Rattle.std.proofs.Common.{◌≡◌, ℕ, suc, ◌<◌, ◌≤◌, Bool, true, false, cond, not, ◌&&◌, ◌||◌, List, [], ◌∷◌, ◌++◌, length, nat_eq, nat_lt, find, slice_index, is_none, is_some, Option, Some, None, option_map, option_and_then, inl, inr, refl, sym, ap, subst, ◌∙◌, eqb-true, pos_of_ne-zero, arith}
-use Rattle.std.specs.List.{list_any}
-use Rattle.std.specs.Option.{option_map_or}
-use Rattle.std.proofs.lemmas.Bool.{true≢false, or_parts, not-true, not-false, ltb-true, ltb-false, eqb-false}
-use Rattle.std.proofs.lemmas.Option.{none-some}
+use Rattle.pct_names.proofs.Names.{◌&&◌, ◌++◌, ◌<◌, [], acts, acts_on_request, acts_or, adds, after_block, after_end, after_test, Alt, ap}
+use Rattle.pct_names.proofs.Names.{arith, AsyncCall, begins_fork, begins_join, begins_sem_wait, begins_wait, begins_waitpid, Bool}
+use Rattle.pct_names.proofs.Names.{broadcasts, called_kind, calls, calls_destructor, calls_handler, calls_point, Cause, choices_at, cond}
+use Rattle.pct_names.proofs.Names.{cond_wait_point, creates, creates_by, creates_key, creates_key_by, deletes_key, Dest, detaches, due_keys}
+use Rattle.pct_names.proofs.Names.{emits, end_value, ends_block, ends_by_exit, ends_join, ends_now, ends_thread, eqb-false, exit_value_of}
+use Rattle.pct_names.proofs.Names.{exits, exits_twice, fails_to_create, fails_to_create_key, false, find, finds_no_child, first_stop}
+use Rattle.pct_names.proofs.Names.{ForkAt, ForkChildCall, forks_by, Frame, FrameKind, gets_self, gets_specific, goes_on}
+use Rattle.pct_names.proofs.Names.{goes_on_after_handlers, goes_on_ending, goes_on_exiting, goes_on_forking, HandlerCall, hands_on}
+use Rattle.pct_names.proofs.Names.{has_begun_to_end, in_fork, inl, inr, is_allowed_asynchronously, is_asynchronous, is_deliverable}
+use Rattle.pct_names.proofs.Names.{is_forbidden_in_child, is_in_handler, is_none, is_required, is_some, is_stack_full, join_point, joins_at}
+use Rattle.pct_names.proofs.Names.{jumps, Key, key_place, key_with, leaves_handler, leaves_wait, left_keys, length, List, list_any, locks}
+use Rattle.pct_names.proofs.Names.{MAX_FORK_HANDLERS, MAX_FRAMES, MAX_HANDLERS, may_register, nat_eq, nat_lt, next_handler, NextStatement}
+use Rattle.pct_names.proofs.Names.{None, none-some, not, not-false, not-true, offers, open_of, Operand, Option, option_and_then, option_map}
+use Rattle.pct_names.proofs.Names.{option_map_or, Optional, or_parts, Others, owns, Parent, passes_point, Phase, point_kind, PointKind}
+use Rattle.pct_names.proofs.Names.{points, pops, pos_of_ne-zero, posts, Prepare, pushes, reacquires, reaps, reaps_if, refl, registers_fork}
+use Rattle.pct_names.proofs.Names.{registers_if, requests, Required, returns_by, returns_in_child, returns_in_parent, runs, sem_wait_point}
+use Rattle.pct_names.proofs.Names.{sets, sets_mode, sets_specific, sets_state, SharedState, signals_by, slice_index, Some, StatementIn}
+use Rattle.pct_names.proofs.Names.{Status, Stmt, stop_at, stops_of, stops_or, StopTest, subst, suc, sym, takes, testcancel_point}
+use Rattle.pct_names.proofs.Names.{tests_cancel, Thread, Transition, transition_at, true, unlocks, value_at, value_of, waitpid_point}
+use Rattle.pct_names.proofs.Names.{waits_at, waits_with_another_mutex, Why, ◌||◌, ℕ, ◌∙◌, ◌∷◌, ◌≡◌, ◌≤◌}
+use Rattle.std.proofs.Common.{eqb-true}
+use Rattle.std.proofs.lemmas.Bool.{true≢false, ltb-true, ltb-false}
 use Rattle.pct_model.specs.declared.event.Caller.TheVariants as caller
 use Rattle.pct_model.specs.declared.event.What.TheVariants as what
-use Rattle.pct_model.specs.declared.frame.Frame.{Frame}
-use Rattle.pct_model.specs.declared.limits.TheConstants.{MAX_FORK_HANDLERS, MAX_FRAMES, MAX_HANDLERS}
-use Rattle.pct_model.specs.declared.point.PointKind.{PointKind}
-use Rattle.pct_model.specs.declared.point.PointKind.TheVariants.{Required, Optional}
 use Rattle.pct_model.specs.declared.process.Child.{Child}
-use Rattle.pct_model.specs.declared.process.HandlerCall.{HandlerCall}
-use Rattle.pct_model.specs.declared.schedule.Alt.{Alt}
 use Rattle.pct_model.specs.declared.schedule.Alt.TheVariants as alt
-use Rattle.pct_model.specs.declared.state.Cause.{Cause}
 use Rattle.pct_model.specs.declared.state.Cause.TheVariants as cause
-use Rattle.pct_model.specs.declared.state.ForkAt.{ForkAt}
-use Rattle.pct_model.specs.declared.state.FrameKind.{FrameKind}
 use Rattle.pct_model.specs.declared.state.FrameKind.TheVariants as kind
-use Rattle.pct_model.specs.declared.state.Phase.{Phase}
-use Rattle.pct_model.specs.declared.state.Phase.TheVariants.{Prepare, Parent, Child as ChildPhase}
-use Rattle.pct_model.specs.declared.state.Status.{Status}
+use Rattle.pct_model.specs.declared.state.Phase.TheVariants.{Child as ChildPhase}
 use Rattle.pct_model.specs.declared.state.Status.TheVariants as status
-use Rattle.pct_model.specs.declared.statement.Dest.{Dest}
-use Rattle.pct_model.specs.declared.statement.Operand.{Operand}
-use Rattle.pct_model.specs.declared.statement.Stmt.{Stmt}
 use Rattle.pct_model.specs.declared.statement.Stmt.TheVariants as statement
-use Rattle.pct_model.specs.declared.stop.Why.{Why}
-use Rattle.pct_model.specs.declared.stop.Why.TheVariants.{ForkChildCall, AsyncCall}
 use Rattle.pct_model.specs.declared.transition.Action.TheVariants as action
-use Rattle.pct_model.specs.declared.transition.Transition.{Transition}
-use Rattle.pct_model.specs.Cancelability.{is_deliverable, is_asynchronous}
-use Rattle.pct_model.specs.CancelCalls.{requests, sets_state, sets_mode, testcancel_point, tests_cancel, point_kind, called_kind, is_required, calls_point, passes_point, acts_on_request}
-use Rattle.pct_model.specs.ChoiceTable.{choices_at, offers}
-use Rattle.pct_model.specs.CleanupHandlers.{pushes, pops}
-use Rattle.pct_model.specs.CondCalls.{cond_wait_point, begins_wait, reacquires, leaves_wait, hands_on, signals_by, broadcasts}
-use Rattle.pct_model.specs.ForkCalls.{in_fork, next_handler, calls_handler, registers_fork, begins_fork, forks_by, returns_in_parent, returns_in_child, goes_on_after_handlers, goes_on_forking, leaves_handler, finds_no_child, waitpid_point, begins_waitpid, reaps, reaps_if, waits_at}
-use Rattle.pct_model.specs.Jumps.{open_of}
-use Rattle.pct_model.specs.KeyCalls.{creates_key, fails_to_create_key, creates_key_by, deletes_key, sets_specific, gets_specific}
-use Rattle.pct_model.specs.Keys.{Key, key_place, key_with, left_keys, value_at}
-use Rattle.pct_model.specs.MutexCalls.{owns, locks, unlocks}
-use Rattle.pct_model.specs.NextStatement.{NextStatement, StatementIn}
-use Rattle.pct_model.specs.OtherThreads.{Others, waits_with_another_mutex, exit_value_of}
-use Rattle.pct_model.specs.Points.{points}
-use Rattle.pct_model.specs.ProcessExit.{exits, returns_by, ends_now, goes_on_exiting, may_register, registers_if}
-use Rattle.pct_model.specs.ScriptStatements.{jumps, emits, sets, adds, calls, after_block, after_test, after_end}
-use Rattle.pct_model.specs.SemCalls.{sem_wait_point, begins_sem_wait, takes, posts}
-use Rattle.pct_model.specs.StopTable.{StopTest, first_stop, is_stack_full, has_begun_to_end, is_in_handler, is_allowed_asynchronously, is_forbidden_in_child, exits_twice, stops_of, stop_at}
-use Rattle.pct_model.specs.ThreadCalls.{creates, fails_to_create, creates_by, join_point, begins_join, ends_join, joins_at, detaches, gets_self}
-use Rattle.pct_model.specs.ThreadEnds.{end_value, ends_by_exit, ends_thread, calls_destructor, due_keys, goes_on_ending}
-use Rattle.pct_model.specs.Transitions.{goes_on, acts}
-use Rattle.pct_model.specs.TransitionTable.{ends_block, stops_or, runs, transition_at, acts_or}
-use Rattle.pct_model.specs.World.{Thread, SharedState, value_of}
 use Rattle.pct_transition_cases.proofs.OfferedChoices.{is_acting, goes_at, Offered, offered_alive, may_go_on, act_delivered, act_where_it_may, heir_among, picked_among, id_among, key_among, left_among, offered_of, free_to_lock, gone_on_at_required, no_key_left}
 use Rattle.pct_transition_cases.proofs.TransitionCases.{past_nop, past_if, past_while, past_else, past_end, Returns, by_return, by_end, TransitionCase, rests, stopped, jumped, emitted, variable_set, variable_added, function_called, main_returned, start_returned, call_left, handler_left, exit_function_left, thread_made, thread_not_made, join_begun, join_ended, thread_detached, self_got, request_sent, state_set, mode_set, cancel_tested, point_begun, point_done, point_passed, canceled, canceled_at_point, canceled_in_join, canceled_in_sem_wait, canceled_in_waitpid, mutex_locked, mutex_unlocked, wait_begun, wait_ended, canceled_in_wait, canceled_after_wait, signal_handed_on, ended_in_wait, signal_sent, signal_lost, broadcast_sent, sem_wait_begun, sem_taken, sem_posted, fork_registered, fork_not_registered, fork_begun, fork_handler_called, fork_handler_left, process_forked, process_not_forked, fork_failed, fork_returned, waitpid_begun, child_reaped, no_child_found, child_lost, key_made, key_not_made, key_deleted, specific_set, specific_got, handler_pushed, handler_popped, handler_called, exit_called, handler_run, destructor_called, pass_begun, thread_ended, thread_ended_with_keys, last_ended, last_ended_with_keys, exit_registered, exit_not_registered, process_exited, process_ended_now, exit_function_called, process_ended}
 

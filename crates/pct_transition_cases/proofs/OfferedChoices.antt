@@ -1,36 +1,20 @@
 -- The choices that a thread is offered, by case.
-use Rattle.std.proofs.Common.{◌≡◌, ℕ, Bool, true, false, not, cond, ◌&&◌, List, [], ◌∷◌, ◌++◌, map, nat_eq, nat_lt, slice_index, Option, Some, None, is_some, inl, inr, refl, sym, ap, ◌∙◌, subst, eqb-true, eq-eqb}
-use Rattle.std.specs.List.{AllByRecursion, list_any}
-use Rattle.std.proofs.lemmas.Bool.{true≢false, false≢true, and_parts, or_cases, or_left, or_right}
-use Rattle.pct_model.specs.declared.frame.Frame.{Frame}
-use Rattle.pct_model.specs.declared.point.PointKind.{PointKind}
-use Rattle.pct_model.specs.declared.point.PointKind.TheVariants.{Required, Optional}
-use Rattle.pct_model.specs.declared.schedule.Alt.{Alt}
+use Rattle.pct_names.proofs.Names.{◌&&◌, ◌++◌, [], act_if, AllByRecursion, Alt, and_parts, ap, Asynchronous, Bool, called_kind, Cause}
+use Rattle.pct_names.proofs.Names.{ChoiceRow, choices_at, cond, Deferred, Dest, Disable, dtor_or_go, Enable, ending_choices, false}
+use Rattle.pct_names.proofs.Names.{false≢true, first_row, Frame, go_if, hand_on_or_act, inl, inr, is_allowed_asynchronously}
+use Rattle.pct_names.proofs.Names.{is_asynchronous, is_at_cancellation_point, is_blocked, is_create, is_deliverable, is_ended_status}
+use Rattle.pct_names.proofs.Names.{is_ended_thread, is_forbidden_in_child, is_free_mutex, is_key_create, is_optional, is_required}
+use Rattle.pct_names.proofs.Names.{is_running_child, is_signal, is_some, left_keys, List, list_any, map, may_return, Mode, nat_eq, nat_lt}
+use Rattle.pct_names.proofs.Names.{new_keys, new_or_go, NextStatement, None, not, offers, Operand, Option, Optional, or_cases, or_left}
+use Rattle.pct_names.proofs.Names.{or_right, Others, pick_or_go, PointKind, refl, Required, running_choices, running_rows, same_choice}
+use Rattle.pct_names.proofs.Names.{SharedState, slice_index, Some, State, StatementIn, Status, Stmt, subst, sym, Thread, true}
+use Rattle.pct_names.proofs.Names.{unblocked_acts, waiters_to_signal, ℕ, ◌∙◌, ◌∷◌, ◌≡◌}
+use Rattle.std.proofs.Common.{eqb-true, eq-eqb}
+use Rattle.std.proofs.lemmas.Bool.{true≢false}
 use Rattle.pct_model.specs.declared.schedule.Alt.TheVariants as alt
-use Rattle.pct_model.specs.declared.state.Cause.{Cause}
 use Rattle.pct_model.specs.declared.state.Cause.TheVariants as cause
-use Rattle.pct_model.specs.declared.state.Mode.{Mode}
-use Rattle.pct_model.specs.declared.state.Mode.TheVariants.{Asynchronous, Deferred}
-use Rattle.pct_model.specs.declared.state.State.{State}
-use Rattle.pct_model.specs.declared.state.State.TheVariants.{Enable, Disable}
-use Rattle.pct_model.specs.declared.state.Status.{Status}
 use Rattle.pct_model.specs.declared.state.Status.TheVariants as status
-use Rattle.pct_model.specs.declared.statement.Dest.{Dest}
-use Rattle.pct_model.specs.declared.statement.Operand.{Operand}
-use Rattle.pct_model.specs.declared.statement.Stmt.{Stmt}
 use Rattle.pct_model.specs.declared.statement.Stmt.TheVariants as statement
-use Rattle.pct_model.specs.Cancelability.{is_deliverable, is_asynchronous}
-use Rattle.pct_model.specs.CancelCalls.{called_kind, is_required, is_optional, may_return}
-use Rattle.pct_model.specs.StatusKinds.{is_at_cancellation_point}
-use Rattle.pct_model.specs.ChoiceTable.{ChoiceRow, first_row, go_if, act_if, new_or_go, dtor_or_go, pick_or_go, hand_on_or_act, unblocked_acts, is_create, is_key_create, is_signal, waiters_to_signal, running_rows, running_choices, ending_choices, choices_at, same_choice, offers}
-use Rattle.pct_model.specs.Keys.{new_keys, left_keys}
-use Rattle.pct_model.specs.OtherProcesses.{is_running_child}
-use Rattle.pct_model.specs.MutexCalls.{is_free_mutex, is_blocked}
-use Rattle.pct_model.specs.NextStatement.{NextStatement, StatementIn}
-use Rattle.pct_model.specs.OtherThreads.{Others, is_ended_thread}
-use Rattle.pct_model.specs.StopTable.{is_forbidden_in_child, is_allowed_asynchronously}
-use Rattle.pct_model.specs.ThreadSlots.{is_ended_status}
-use Rattle.pct_model.specs.World.{Thread, SharedState}
 
 -- ---- the cases
 

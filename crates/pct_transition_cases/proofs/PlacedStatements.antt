@@ -1,10 +1,6 @@
 -- The next statement of a thread is that at the pc of its top frame.
-use Rattle.std.proofs.Common.{◌≡◌, List, [], ◌∷◌, Option, Some, None, refl}
-use Rattle.pct_model.specs.declared.frame.Frame.{Frame}
-use Rattle.pct_model.specs.declared.script.Script.{Script}
-use Rattle.pct_model.specs.declared.statement.Stmt.{Stmt}
-use Rattle.pct_model.specs.NextStatement.{NextStatement, NoStatement, StatementIn, next_in, next_of, body_at}
-use Rattle.pct_model.specs.World.{body_of, statement_at}
+use Rattle.pct_names.proofs.Names.{[], body_at, body_of, Frame, List, next_in, next_of, NextStatement, None, NoStatement, Option, refl}
+use Rattle.pct_names.proofs.Names.{Script, Some, statement_at, StatementIn, Stmt, ◌∷◌, ◌≡◌}
 
 -- the next statement of a thread with these frames, and the body of which it is
 pub data IsPlaced (script : Script) : List Frame → List Stmt → NextStatement → Type 0 where

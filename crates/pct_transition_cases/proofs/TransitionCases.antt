@@ -1,54 +1,25 @@
 -- What the transition of a thread can be, by case: one case for each shape of transition, with its actions and events in full, and
 -- with what is known of the thread where it is made. A proof about transitions has a clause for each case of which it has something to
 -- say, and one for all others.
-use Rattle.std.proofs.Common.{◌≡◌, ℕ, suc, ◌+◌, ◌%◌, ◌<◌, ◌≤◌, Bool, true, false, ◌&&◌, List, [], ◌∷◌, length, nat_eq, is_none, is_some, Option, Some, None, ◌⊎◌}
-use Rattle.std.specs.Prelude.{◌-◌, nat_lt, slice_index}
-use Rattle.std.specs.List.{list_any}
+use Rattle.pct_names.proofs.Names.{◌%◌, ◌&&◌, ◌+◌, ◌-◌, ◌<◌, [], acts, after_block, after_end, after_test, Asynchronous, Bool}
+use Rattle.pct_names.proofs.Names.{calls_cancellation_point, Cause, cond_wait_point, creates_thread, Dest, due_keys, end_value, false}
+use Rattle.pct_names.proofs.Names.{ForkAt, ForkHandlers, Frame, goes_on, handler_event, HandlerCall, has_begun_to_end, has_left_wait}
+use Rattle.pct_names.proofs.Names.{in_fork, is_deliverable, is_ended_status, is_free_mutex, is_in_handler, is_none, is_required, is_some}
+use Rattle.pct_names.proofs.Names.{join_point, Key, key_place, key_with, left_keys, length, List, list_any, MAX_FORK_HANDLERS, MAX_FRAMES}
+use Rattle.pct_names.proofs.Names.{MAX_HANDLERS, may_register, mode_if, mode_number, nat_eq, nat_lt, new_keys, next_handler, NextStatement}
+use Rattle.pct_names.proofs.Names.{no_change, None, open_of, Operand, Option, Others, owns, Parent, Phase, point_kind, Prepare, Required}
+use Rattle.pct_names.proofs.Names.{sem_wait_point, SharedState, slice_index, Some, state_if, state_number, StatementIn, Status, Stmt, stops}
+use Rattle.pct_names.proofs.Names.{suc, testcancel_point, Thread, Transition, true, value_at, value_of, variable_value, waitpid_point}
+use Rattle.pct_names.proofs.Names.{waits_with_another_mutex, while_called, Why, ℕ, ◌∷◌, ◌≡◌, ◌≤◌, ◌⊎◌}
 use Rattle.pct_model.specs.declared.event.Caller.TheVariants as caller
 use Rattle.pct_model.specs.declared.event.What.TheVariants as what
-use Rattle.pct_model.specs.declared.frame.Frame.{Frame}
-use Rattle.pct_model.specs.declared.limits.TheConstants.{MAX_FORK_HANDLERS, MAX_FRAMES, MAX_HANDLERS}
-use Rattle.pct_model.specs.declared.point.PointKind.TheVariants.{Required}
 use Rattle.pct_model.specs.declared.process.Child.{Child}
-use Rattle.pct_model.specs.declared.process.ForkHandlers.{ForkHandlers}
-use Rattle.pct_model.specs.declared.process.HandlerCall.{HandlerCall}
-use Rattle.pct_model.specs.declared.state.Cause.{Cause}
 use Rattle.pct_model.specs.declared.state.Cause.TheVariants as cause
-use Rattle.pct_model.specs.declared.state.ForkAt.{ForkAt}
 use Rattle.pct_model.specs.declared.state.FrameKind.TheVariants as kind
-use Rattle.pct_model.specs.declared.state.Mode.TheVariants.{Asynchronous}
-use Rattle.pct_model.specs.declared.state.Phase.{Phase}
-use Rattle.pct_model.specs.declared.state.Phase.TheVariants.{Prepare, Parent}
 use Rattle.pct_model.specs.declared.state.Reason.TheVariants as reason
-use Rattle.pct_model.specs.declared.state.Status.{Status}
 use Rattle.pct_model.specs.declared.state.Status.TheVariants as status
-use Rattle.pct_model.specs.declared.statement.Dest.{Dest}
-use Rattle.pct_model.specs.declared.statement.Operand.{Operand}
-use Rattle.pct_model.specs.declared.statement.Stmt.{Stmt}
 use Rattle.pct_model.specs.declared.statement.Stmt.TheVariants as statement
-use Rattle.pct_model.specs.declared.stop.Why.{Why}
 use Rattle.pct_model.specs.declared.transition.Action.TheVariants as action
-use Rattle.pct_model.specs.declared.transition.Transition.{Transition}
-use Rattle.pct_model.specs.Cancelability.{is_deliverable}
-use Rattle.pct_model.specs.CancelCalls.{state_number, mode_number, state_if, mode_if, testcancel_point, point_kind, is_required}
-use Rattle.pct_model.specs.StatusKinds.{calls_cancellation_point}
-use Rattle.pct_model.specs.CondCalls.{cond_wait_point}
-use Rattle.pct_model.specs.ForkCalls.{in_fork, next_handler, while_called, handler_event, waitpid_point}
-use Rattle.pct_model.specs.Jumps.{open_of}
-use Rattle.pct_model.specs.StatusKinds.{has_left_wait}
-use Rattle.pct_model.specs.Keys.{Key, key_place, key_with, new_keys, left_keys, value_at}
-use Rattle.pct_model.specs.NextStatement.{NextStatement, StatementIn}
-use Rattle.pct_model.specs.MutexCalls.{is_free_mutex, owns}
-use Rattle.pct_model.specs.OtherThreads.{Others, waits_with_another_mutex}
-use Rattle.pct_model.specs.ProcessExit.{may_register}
-use Rattle.pct_model.specs.ScriptStatements.{variable_value, after_block, after_test, after_end}
-use Rattle.pct_model.specs.SemCalls.{sem_wait_point}
-use Rattle.pct_model.specs.StopTable.{has_begun_to_end, is_in_handler}
-use Rattle.pct_model.specs.ThreadCalls.{join_point}
-use Rattle.pct_model.specs.ThreadEnds.{end_value, due_keys}
-use Rattle.pct_model.specs.ThreadSlots.{is_ended_status}
-use Rattle.pct_model.specs.Transitions.{goes_on, creates_thread, acts, no_change, stops}
-use Rattle.pct_model.specs.World.{Thread, SharedState, value_of}
 
 -- ---- jumps and returns
 

@@ -1,13 +1,7 @@
 -- The bodies of a script's functions, and the statements in them.
-use Rattle.std.proofs.Common.{◌≡◌, ℕ, ◌<◌, ◌≤◌, true, false, List, [], length, Option, Some, None, refl, sym, ap, ◌∙◌, arith, lit≤}
-use Rattle.std.specs.Prelude.{slice_get, option_and_then}
-use Rattle.std.specs.Option.{option_map_or}
-use Rattle.std.proofs.lemmas.Option.{slice_get_within, get_or_from_slice_get}
-use Rattle.pct_model.specs.declared.frame.Frame.{Frame}
-use Rattle.pct_model.specs.declared.script.Func.{Func}
-use Rattle.pct_model.specs.declared.script.Script.{Script}
-use Rattle.pct_model.specs.declared.statement.Stmt.{Stmt}
-use Rattle.pct_model.specs.World.{body_of, statement_at}
+use Rattle.pct_names.proofs.Names.{◌<◌, [], ap, arith, body_of, false, Frame, Func, get_or_from_slice_get, length, List, lit≤, None, Option}
+use Rattle.pct_names.proofs.Names.{option_and_then, option_map_or, refl, Script, slice_get, slice_get_within, Some, statement_at, Stmt, sym}
+use Rattle.pct_names.proofs.Names.{true, ℕ, ◌∙◌, ◌≡◌, ◌≤◌}
 use Rattle.pct_jumps.specs.declared.jump_table.Blocks.{Blocks}
 use Rattle.pct_jumps.specs.JumpTable.{jumps_of, opens_block, IsOpening}
 use Rattle.pct_jumps.proofs.JumpTableFacts.{few_in}

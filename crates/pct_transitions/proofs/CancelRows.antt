@@ -1,16 +1,9 @@
 -- The choices of a running thread, by the rows of the table.
-use Rattle.std.proofs.Common.{◌≡◌, true, false, List, [], ◌∷◌, ◌++◌, Option, Some, None, refl}
-use Rattle.pct_model.specs.declared.frame.Frame.{Frame}
-use Rattle.pct_model.specs.declared.point.PointKind.{PointKind}
+use Rattle.pct_names.proofs.Names.{◌++◌, [], act_if, called_kind, false, Frame, go_if, is_asynchronous, is_deliverable}
+use Rattle.pct_names.proofs.Names.{is_forbidden_in_child, List, None, Option, Others, PointKind, refl, running_choices, running_rows}
+use Rattle.pct_names.proofs.Names.{SharedState, Some, Stmt, Thread, true, ◌∷◌, ◌≡◌}
 use Rattle.pct_model.specs.declared.point.PointKind.TheVariants as kinds
 use Rattle.pct_model.specs.declared.schedule.Alt.TheVariants as alt
-use Rattle.pct_model.specs.declared.statement.Stmt.{Stmt}
-use Rattle.pct_model.specs.Cancelability.{is_deliverable, is_asynchronous}
-use Rattle.pct_model.specs.CancelCalls.{called_kind}
-use Rattle.pct_model.specs.ChoiceTable.{go_if, act_if, running_rows, running_choices}
-use Rattle.pct_model.specs.OtherThreads.{Others}
-use Rattle.pct_model.specs.StopTable.{is_forbidden_in_child}
-use Rattle.pct_model.specs.World.{Thread, SharedState}
 use Rattle.pct_transitions.specs.Listed.{statement_choices, choices_at_point, requested_choices}
 
 module _ (body : List Stmt) (shared : SharedState) (t : Thread) (others : Others) (frame : Frame) (s : Stmt) where

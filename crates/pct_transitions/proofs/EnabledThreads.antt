@@ -1,22 +1,13 @@
 -- Whether a thread has a choice, by its status, or by the statement at which it runs.
-use Rattle.std.proofs.Common.{◌≡◌, ℕ, Bool, true, false, not, ◌&&◌, ◌||◌, List, [], ◌∷◌, ◌++◌, if◌then◌else◌, refl, sym, ap, ◌∙◌}
-use Rattle.std.proofs.lemmas.Bool.{false≢true}
-use Rattle.pct_model.specs.declared.frame.Frame.{Frame}
-use Rattle.pct_model.specs.declared.schedule.Alt.{Alt}
+use Rattle.pct_names.proofs.Names.{◌&&◌, ◌++◌, [], act_if, Alt, ap, Bool, called_kind, Cause, choices_at, dtor_or_go, ending_choices, false}
+use Rattle.pct_names.proofs.Names.{false≢true, first_row, Frame, go_if, if◌then◌else◌, is_asynchronous, is_blocked, is_create}
+use Rattle.pct_names.proofs.Names.{is_deliverable, is_enabled, is_forbidden_in_child, is_fork_kind, is_free_mutex, is_key_create}
+use Rattle.pct_names.proofs.Names.{is_optional, is_required, is_signal, left_keys, List, new_keys, new_or_go, NextStatement, not, Others}
+use Rattle.pct_names.proofs.Names.{pick_or_go, refl, running_choices, running_rows, SharedState, Stmt, sym, Thread, true, unblocked_acts}
+use Rattle.pct_names.proofs.Names.{Waiter, waiters_to_signal, ◌||◌, ℕ, ◌∙◌, ◌∷◌, ◌≡◌}
 use Rattle.pct_model.specs.declared.schedule.Alt.TheVariants as alt
-use Rattle.pct_model.specs.declared.statement.Stmt.{Stmt}
 use Rattle.pct_model.specs.declared.statement.Stmt.TheVariants as statement
-use Rattle.pct_model.specs.declared.state.Cause.{Cause}
 use Rattle.pct_model.specs.declared.state.Status.TheVariants as status
-use Rattle.pct_model.specs.Cancelability.{is_deliverable, is_asynchronous}
-use Rattle.pct_model.specs.ChoiceTable.{go_if, act_if, first_row, is_create, is_key_create, is_signal, waiters_to_signal, new_or_go, pick_or_go, dtor_or_go, unblocked_acts, running_rows, running_choices, ending_choices, choices_at, is_enabled}
-use Rattle.pct_model.specs.CancelCalls.{called_kind, is_required, is_optional}
-use Rattle.pct_model.specs.Keys.{new_keys, left_keys}
-use Rattle.pct_model.specs.MutexCalls.{is_free_mutex, is_blocked}
-use Rattle.pct_model.specs.NextStatement.{NextStatement}
-use Rattle.pct_model.specs.OtherThreads.{Waiter, Others}
-use Rattle.pct_model.specs.StopTable.{is_fork_kind, is_forbidden_in_child}
-use Rattle.pct_model.specs.World.{Thread, SharedState}
 
 -- ---- lists of choices
 

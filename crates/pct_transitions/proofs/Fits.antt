@@ -1,23 +1,9 @@
 -- Each transition fits the thread that makes it.
-use Rattle.std.proofs.Common.{◌≡◌, ℕ, suc, ◌<◌, ◌≤◌, Bool, true, false, cond, List, [], length, Option, Some, None, refl, subst, arith, nat_eq}
-use Rattle.std.specs.Prelude.{unwrap_or}
-use Rattle.std.proofs.lemmas.Bool.{false≢true}
-use Rattle.pct_model.specs.declared.frame.Frame.{Frame}
-use Rattle.pct_model.specs.declared.limits.TheConstants.{MAX_FRAMES, MAX_PASSES}
-use Rattle.pct_model.specs.declared.schedule.Alt.{Alt}
+use Rattle.pct_names.proofs.Names.{◌<◌, [], acts_on_request, after_block, after_test, Alt, arith, body_at, body_of, Bool, close_of, cond}
+use Rattle.pct_names.proofs.Names.{false, false≢true, Frame, holds, is_forking, is_while, length, List, MAX_FRAMES, MAX_PASSES, nat_eq}
+use Rattle.pct_names.proofs.Names.{next_of, NextStatement, None, NoStatement, Option, Others, refl, Script, SharedState, Some, StatementIn}
+use Rattle.pct_names.proofs.Names.{Status, Stmt, subst, suc, Thread, Transition, transition_at, true, unwrap_or, ℕ, ◌≡◌, ◌≤◌}
 use Rattle.pct_model.specs.declared.schedule.Alt.TheVariants as alt
-use Rattle.pct_model.specs.declared.script.Script.{Script}
-use Rattle.pct_model.specs.declared.state.Status.{Status}
-use Rattle.pct_model.specs.declared.statement.Stmt.{Stmt}
-use Rattle.pct_model.specs.declared.transition.Transition.{Transition}
-use Rattle.pct_model.specs.CancelCalls.{acts_on_request}
-use Rattle.pct_model.specs.Jumps.{holds, is_while, close_of}
-use Rattle.pct_model.specs.StatusKinds.{is_forking}
-use Rattle.pct_model.specs.NextStatement.{NextStatement, NoStatement, StatementIn, next_of, body_at}
-use Rattle.pct_model.specs.OtherThreads.{Others}
-use Rattle.pct_model.specs.ScriptStatements.{after_block, after_test}
-use Rattle.pct_model.specs.TransitionTable.{transition_at}
-use Rattle.pct_model.specs.World.{Thread, SharedState, body_of}
 use Rattle.pct_transition_cases.proofs.CaseOfTransition.{going_case, case_of}
 use Rattle.pct_transition_cases.proofs.PlacedStatements.{IsPlaced, nowhere, on_top, is_placed, body_placed}
 use Rattle.pct_transition_cases.proofs.TransitionCases.{Leads, past_nop, past_if, past_while, past_else, past_end, TransitionCase, jumped, function_called, fork_handler_called, handler_pushed, handler_called, pass_begun}

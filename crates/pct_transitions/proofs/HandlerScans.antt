@@ -1,12 +1,7 @@
 -- The fork handler that is called next: the first of those among indexes.
-use Rattle.std.proofs.Common.{◌≡◌, ℕ, zero, suc, ◌+◌, ◌-◌, ◌<◌, List, [], ◌∷◌, ◌++◌, reverse, Option, Some, None, refl, ap, ◌∙◌, arith}
-use Rattle.std.specs.Prelude.{slice_get}
-use Rattle.std.specs.List.{range_with_len}
-use Rattle.std.proofs.lemmas.List.{reverse-append}
-use Rattle.pct_model.specs.declared.process.ForkHandlers.{ForkHandlers}
-use Rattle.pct_model.specs.declared.process.HandlerCall.{HandlerCall}
-use Rattle.pct_model.specs.declared.state.Phase.{Phase}
-use Rattle.pct_model.specs.ForkCalls.{handler_at, handlers_among}
+use Rattle.pct_names.proofs.Names.{◌+◌, ◌++◌, ◌-◌, ◌<◌, [], ap, arith, ForkHandlers, handler_at, HandlerCall, handlers_among, List, None}
+use Rattle.pct_names.proofs.Names.{Option, Phase, range_with_len, refl, reverse, reverse-append, slice_get, Some, suc, zero, ℕ, ◌∙◌, ◌∷◌}
+use Rattle.pct_names.proofs.Names.{◌≡◌}
 
 -- ---- indexes
 

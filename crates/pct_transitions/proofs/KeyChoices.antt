@@ -1,21 +1,16 @@
 -- The choices of a thread that makes a key, and of one that calls destructors.
-use Rattle.std.proofs.Common.{◌≡◌, ℕ, ◌+◌, ◌-◌, ◌*◌, ◌%◌, ◌<◌, ◌≤◌, Bool, true, false, not, ◌&&◌, cond, List, [], ◌∷◌, map, filter, length, get_or, Option, Some, None, refl, sym, ap, ◌∙◌, inl, inr, arith, zero-add, nat_eq}
-use Rattle.std.specs.Prelude.{slice_get, is_some, is_none, option_map, option_and_then}
-use Rattle.std.proofs.lemmas.Option.{none-some, same_Some, slice_get-map, slice_get_past}
-use Rattle.std.specs.List.{list_any, range_with_len}
-use Rattle.std.specs.Option.{option_map_or}
+use Rattle.pct_names.proofs.Names.{◌%◌, ◌&&◌, ◌*◌, ◌+◌, ◌-◌, ◌<◌, [], add-mul-mod_self_left, Alt, and_parts, ap, arith, Bool, cases_Bool}
+use Rattle.pct_names.proofs.Names.{cond, count_by-le-length, false, false≢true, filter, free_places, get_or, get_or-range_with_len}
+use Rattle.pct_names.proofs.Names.{if_number, inl, inr, is_left, is_none, is_some, Key, key_at, key_place, key_with, KeyPlace, KeyValues}
+use Rattle.pct_names.proofs.Names.{left_keys, left_places, length, length-filter, length-map, length-range_with_len, List, list_any}
+use Rattle.pct_names.proofs.Names.{list_any_at, list_any_none, map, MAX_KEYS, mod-eq_of_lt, nat_eq, new_keys, next_key, None, none-some}
+use Rattle.pct_names.proofs.Names.{not, number_at, offers, Option, option_and_then, option_map, option_map_or, range_with_len, refl}
+use Rattle.pct_names.proofs.Names.{same_choice, same_Some, slice_get, slice_get-map, slice_get_past, Some, sym, true, value_at, ℕ, ◌∙◌, ◌∷◌}
+use Rattle.pct_names.proofs.Names.{◌≡◌, ◌≤◌}
+use Rattle.std.proofs.Common.{zero-add}
 use Rattle.std.proofs.Math.Bool.{and-true, and-false}
-use Rattle.std.proofs.lemmas.Bool.{cases_Bool, and_parts, eqb-true, false≢true, true≢false}
-use Rattle.std.proofs.lemmas.List.Folds.{list_any_at, list_any_none}
-use Rattle.std.proofs.lemmas.List.{length-map}
-use Rattle.std.proofs.lemmas.List.Sums.{length-filter, count_by-le-length}
-use Rattle.std.proofs.lemmas.List.FromFn.{length-range_with_len, get_or-range_with_len}
-use Rattle.std.proofs.Math.Nat.{add-mul-mod_self_left, mod-eq_of_lt}
-use Rattle.pct_model.specs.declared.limits.TheConstants.{MAX_KEYS}
-use Rattle.pct_model.specs.declared.schedule.Alt.{Alt}
+use Rattle.std.proofs.lemmas.Bool.{eqb-true, true≢false}
 use Rattle.pct_model.specs.declared.schedule.Alt.TheVariants as alt
-use Rattle.pct_model.specs.ChoiceTable.{same_choice, offers}
-use Rattle.pct_model.specs.Keys.{Key, KeyPlace, KeyValues, key_place, key_at, next_key, if_number, key_with, number_at, free_places, new_keys, value_at, is_left, left_places, left_keys}
 use Rattle.pct_engine_laws.proofs.ListFacts.{any-map, any-filter, map-map}
 use Rattle.pct_keys.specs.Tables.{Table, IsSound}
 use Rattle.pct_transitions.specs.Numbers.{AreOnPlaces}

@@ -1,13 +1,9 @@
 -- The choices of a thread that creates another.
-use Rattle.std.proofs.Common.{◌≡◌, ℕ, ◌+◌, ◌-◌, ◌*◌, ◌%◌, ◌<◌, Bool, true, false, ◌&&◌, ◌||◌, List, [], ◌∷◌, map, length, refl, sym, ap, ◌∙◌, inl, inr, arith}
-use Rattle.std.specs.Prelude.{All, nat_eq}
-use Rattle.std.specs.List.{list_any}
-use Rattle.std.proofs.lemmas.Bool.{cases_eq, eq-eqb, ne_eqb}
-use Rattle.std.proofs.lemmas.List.Elements.{All-tail}
-use Rattle.std.proofs.Math.Nat.{add-mul-mod_self_left, mod-eq_of_lt}
-use Rattle.pct_model.specs.declared.schedule.Alt.{Alt}
+use Rattle.pct_names.proofs.Names.{◌%◌, ◌&&◌, ◌*◌, ◌+◌, ◌-◌, ◌<◌, [], add-mul-mod_self_left, All, All-tail, Alt, ap, arith, Bool, cases_eq}
+use Rattle.pct_names.proofs.Names.{false, inl, inr, length, List, list_any, map, mod-eq_of_lt, nat_eq, new_or_go, offers, refl, same_choice}
+use Rattle.pct_names.proofs.Names.{sym, true, ◌||◌, ℕ, ◌∙◌, ◌∷◌, ◌≡◌}
+use Rattle.std.proofs.lemmas.Bool.{eq-eqb, ne_eqb}
 use Rattle.pct_model.specs.declared.schedule.Alt.TheVariants as alt
-use Rattle.pct_model.specs.ChoiceTable.{new_or_go, same_choice, offers}
 use Rattle.pct_engine_laws.proofs.ListFacts.{any_agree, any_never, any-map, any_and, map-map}
 use Rattle.pct_set.specs.Slots.{has_slot}
 use Rattle.pct_threads.specs.Slots.{Slot}

@@ -1,5 +1,5 @@
 -- What the list of its choices says of a thread.
-use Rattle.std.proofs.Common.{◌≡◌, ℕ, ◌<◌, List, length, sym, subst}
+use Rattle.pct_names.proofs.Names.{◌<◌, length, List, subst, sym, ℕ, ◌≡◌}
 use Rattle.pct_threads.specs.Slots.{Slot}
 use Rattle.pct_keys.specs.Tables.{Table}
 use Rattle.pct_transitions.specs.declared.choice_table.Choices.{Choices}

@@ -1,19 +1,11 @@
 -- What is read of the table of threads is what a thread sees of the others.
-use Rattle.std.proofs.Common.{◌≡◌, ℕ, zero, suc, ◌+◌, ◌*◌, ◌<◌, ◌≤◌, Bool, true, false, not, ◌||◌, cond, List, [], ◌∷◌, ◌++◌, map, take, drop, length, nat_eq, Option, Some, None, refl, sym, ap, ◌∙◌, inl, inr, arith}
-use Rattle.std.specs.Prelude.{All, filter, is_none, is_some, option_map, option_and_then}
-use Rattle.std.specs.List.{list_any, range_with_len}
-use Rattle.std.specs.Option.{option_map_or}
+use Rattle.pct_names.proofs.Names.{◌*◌, ◌+◌, ◌++◌, ◌<◌, [], All, ap, arith, Bool, cases_lt, cond, drop, drop_all, drop_more, exit_value_of}
+use Rattle.pct_names.proofs.Names.{exit_value_with, false, false≢true, Family, filter, filter_passes, inl, inr, is_detached_thread}
+use Rattle.pct_names.proofs.Names.{is_joining, is_none, is_some, KeyValues, length, List, list_any, list_any-append, list_any_at, map}
+use Rattle.pct_names.proofs.Names.{nat_eq, no_live_thread, None, none-some, not, Option, option_and_then, option_map, option_map_or, Others}
+use Rattle.pct_names.proofs.Names.{range_with_len, refl, same_Some, slice_get-get_or, slice_get_past, slot_of, Some, suc, sym, take}
+use Rattle.pct_names.proofs.Names.{take_all, Thread, true, zero, ◌||◌, ℕ, ◌∙◌, ◌∷◌, ◌≡◌, ◌≤◌}
 use Rattle.std.proofs.Math.Bool.{or-false}
-use Rattle.std.proofs.lemmas.Bool.{cases_lt, false≢true}
-use Rattle.std.proofs.lemmas.List.{take_all, drop_more, drop_all}
-use Rattle.std.proofs.lemmas.List.Elements.{filter_passes}
-use Rattle.std.proofs.lemmas.List.Folds.{list_any-append, list_any_at}
-use Rattle.std.proofs.lemmas.Option.{none-some, slice_get-get_or, slice_get_past, same_Some}
-use Rattle.pct_model.specs.Keys.{KeyValues}
-use Rattle.pct_model.specs.OtherProcesses.{Family}
-use Rattle.pct_model.specs.OtherThreads.{Others, no_live_thread, is_detached_thread, exit_value_of, exit_value_with, is_joining}
-use Rattle.pct_model.specs.ThreadSlots.{slot_of}
-use Rattle.pct_model.specs.World.{Thread}
 use Rattle.pct_set.specs.Slots.{slots_where}
 use Rattle.pct_threads.specs.declared.record.Place.{Place}
 use Rattle.pct_threads.specs.declared.record.Thread.{Thread as Kept}

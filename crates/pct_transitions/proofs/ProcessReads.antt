@@ -1,10 +1,6 @@
 -- What is read of the tables of a process is what its data has.
-use Rattle.std.proofs.Common.{◌≡◌, ℕ, ◌+◌, ◌*◌, ◌<◌, ◌^◌, true, List, [], length, Option, Some, None, refl, sym, ap, ◌∙◌, subst}
-use Rattle.std.specs.Prelude.{is_some, option_map}
-use Rattle.std.specs.Option.{option_map_or}
-use Rattle.std.proofs.lemmas.Bool.{false≢true}
-use Rattle.std.proofs.lemmas.Option.{none-some, same_Some, get_or_from_slice_get}
-use Rattle.pct_model.specs.World.{Thread}
+use Rattle.pct_names.proofs.Names.{◌*◌, ◌+◌, ◌<◌, [], ◌^◌, ap, false≢true, get_or_from_slice_get, is_some, length, List, None, none-some}
+use Rattle.pct_names.proofs.Names.{Option, option_map, option_map_or, refl, same_Some, Some, subst, sym, Thread, true, ℕ, ◌∙◌, ◌≡◌}
 use Rattle.pct_threads.specs.declared.record.Thread.{Thread as Record}
 use Rattle.pct_threads.specs.Slots.{Held, Slot}
 use Rattle.pct_threads.specs.Tables.{slot_at, held_at, thread_at, frames_at, is_occupied_at}

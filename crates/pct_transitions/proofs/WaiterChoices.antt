@@ -1,12 +1,8 @@
 -- The choices of a thread that signals a condition variable, or that hands a signal on.
-use Rattle.std.proofs.Common.{◌≡◌, ℕ, ◌<◌, ◌≤◌, true, false, ◌&&◌, List, [], ◌∷◌, length, map, Option, Some, None, refl, sym, ap, ◌∙◌, get_or, arith, nat_eq}
-use Rattle.std.specs.Prelude.{All, is_some}
-use Rattle.std.specs.List.{list_any}
-use Rattle.std.specs.Option.{option_map_or}
-use Rattle.std.proofs.lemmas.Bool.{eqb-true, eq-eqb, false≢true}
-use Rattle.std.proofs.lemmas.List.Folds.{Any-from_list_any, list_any_at, list_any_none}
-use Rattle.pct_model.specs.declared.schedule.Alt.{Alt}
-use Rattle.pct_model.specs.OtherThreads.{Waiter}
+use Rattle.pct_names.proofs.Names.{◌&&◌, ◌<◌, [], All, Alt, Any-from_list_any, ap, arith, false, false≢true, get_or, is_some, length, List}
+use Rattle.pct_names.proofs.Names.{list_any, list_any_at, list_any_none, map, nat_eq, None, Option, option_map_or, refl, Some, sym, true}
+use Rattle.pct_names.proofs.Names.{Waiter, ℕ, ◌∙◌, ◌∷◌, ◌≡◌, ◌≤◌}
+use Rattle.std.proofs.lemmas.Bool.{eqb-true, eq-eqb}
 use Rattle.pct_engine_laws.proofs.ListFacts.{any-map, map-map}
 use Rattle.pct_set.specs.Slots.{has_slot}
 use Rattle.pct_threads.specs.Slots.{Held, Slot, has_id}

@@ -1,21 +1,14 @@
 -- What is read of the table of threads is which threads wait on a condition variable.
-use Rattle.std.proofs.Common.{◌≡◌, ℕ, zero, suc, ◌+◌, ◌≤◌, Bool, true, false, not, ◌&&◌, cond, List, [], ◌∷◌, ◌++◌, map, drop, length, nat_eq, Option, Some, None, refl, sym, ap, ◌∙◌, inl, inr, append-nil, arith}
-use Rattle.std.specs.Prelude.{All, is_some, option_map}
-use Rattle.std.specs.List.{flat_map, list_any, range_with_len}
-use Rattle.std.specs.Option.{option_map_or}
+use Rattle.pct_names.proofs.Names.{◌&&◌, ◌+◌, ◌++◌, [], All, ap, arith, Bool, cases_lt, cond, drop, drop_all, drop_more, false, false≢true}
+use Rattle.pct_names.proofs.Names.{Family, filter_passes, get_or_past, inl, inr, is_some, is_waiting_on, KeyValues, length, List, list_any}
+use Rattle.pct_names.proofs.Names.{map, map-append, nat_eq, None, none-some, not, Option, option_map, option_map_or, Others, range_with_len}
+use Rattle.pct_names.proofs.Names.{refl, same_Some, Some, Status, suc, sym, Thread, true, Waiter, waiter_by, waiters_among}
+use Rattle.pct_names.proofs.Names.{waits_with_another_mutex, zero, ℕ, ◌∙◌, ◌∷◌, ◌≡◌, ◌≤◌}
+use Rattle.std.proofs.Common.{append-nil}
+use Rattle.std.specs.List.{flat_map}
 use Rattle.std.proofs.Math.Bool.{or-false}
-use Rattle.std.proofs.lemmas.Bool.{cases_lt, false≢true}
-use Rattle.std.proofs.lemmas.List.{drop_more, drop_all, get_or_past, map-append}
 use Rattle.std.proofs.lemmas.List.Concat.{flat_map-append}
-use Rattle.std.proofs.lemmas.List.Elements.{filter_passes}
-use Rattle.std.proofs.lemmas.Option.{none-some, same_Some}
-use Rattle.pct_model.specs.declared.state.Status.{Status}
 use Rattle.pct_model.specs.declared.state.Status.TheVariants as status
-use Rattle.pct_model.specs.CondCalls.{is_waiting_on}
-use Rattle.pct_model.specs.Keys.{KeyValues}
-use Rattle.pct_model.specs.OtherProcesses.{Family}
-use Rattle.pct_model.specs.OtherThreads.{Waiter, Others, waits_with_another_mutex, waiter_by, waiters_among}
-use Rattle.pct_model.specs.World.{Thread}
 use Rattle.pct_set.specs.Slots.{slots_where}
 use Rattle.pct_threads.specs.declared.record.Thread.{Thread as Kept}
 use Rattle.pct_threads.specs.Slots.{Held, Slot, unused}

@@ -1,21 +1,14 @@
 -- The canonical text of a generated script.
-use Rattle.std.proofs.Common.{◌≡◌, ℕ, ◌+◌, ◌/◌, ◌%◌, ◌^◌, ◌<◌, ◌≤◌, List, [], ◌∷◌, ◌++◌, Some, map, codes, decimal, flat_map, refl, sym, ap, ◌∙◌, arith}
-use Rattle.std.specs.List.{join_with_byte, range_with_len}
-use Rattle.std.proofs.lemmas.List.{map-append, append_assoc, append-nil}
-use Rattle.std.proofs.lemmas.Fmt.{decimal_digit, decimal_step}
-use Rattle.std.proofs.lemmas.List.Folds.{flat_map-map}
-use Rattle.std.proofs.lemmas.Simd.{map-map}
-use Rattle.pct_model.specs.declared.statement.Stmt.{Stmt}
+use Rattle.pct_names.proofs.Names.{◌%◌, ◌+◌, ◌++◌, ◌/◌, ◌<◌, [], ◌^◌, ap, argument_text, argument_texts, arith, codes, Contents, decimal}
+use Rattle.pct_names.proofs.Names.{decimal_digit, decimal_step, declaration_line, declaration_syntax, encode, end_texts, first_globals}
+use Rattle.pct_names.proofs.Names.{flat_map, flat_map-map, function_lines, function_texts, generated_lines, generated_text, join_with_byte}
+use Rattle.pct_names.proofs.Names.{later_declarations, List, map, map-append, map-map, name_at, range_with_len, refl, round_texts}
+use Rattle.pct_names.proofs.Names.{rounds_of, script_lines, Some, statement_words, Stmt, sym, syntax_of, text_of, threads_of, ℕ, ◌∙◌, ◌∷◌}
+use Rattle.pct_names.proofs.Names.{◌≡◌, ◌≤◌}
+use Rattle.std.proofs.lemmas.List.{append_assoc, append-nil}
 use Rattle.pct_model.specs.declared.statement.Stmt.TheVariants as statement
 use Rattle.pct_model.specs.declared.statement.Dest.TheVariants as dest
 use Rattle.pct_model.specs.declared.line_kind.SymbolKind.TheVariants as kind
-use Rattle.pct_model.specs.Keywords.{text_of}
-use Rattle.pct_model.specs.Names.{name_at}
-use Rattle.pct_model.specs.Statements.{encode}
-use Rattle.pct_model.specs.LineKinds.{syntax_of, declaration_syntax}
-use Rattle.pct_model.specs.Contents.{Contents}
-use Rattle.pct_model.specs.Canon.{argument_text, argument_texts, statement_words, declaration_line, function_lines, script_lines}
-use Rattle.pct_model.specs.GeneratedScript.{first_globals, later_declarations, function_texts, round_texts, end_texts, generated_lines, threads_of, rounds_of, generated_text}
 use Rattle.pct_vectors.specs.declared.calls.Call.{Call}
 use Rattle.pct_vectors.specs.declared.calls.Call.TheVariants as call
 use Rattle.pct_vectors.specs.GeneratedContents.{thread_name, statement_of, calls, set_rounds, rounds_body, end_body, main_body, global_names, generated_functions, generated_contents}

@@ -1,9 +1,7 @@
 -- Items for the numbers from 1 on.
-use Rattle.std.proofs.Common.{◌≡◌, inl, inr, ℕ, zero, suc, ◌+◌, ◌-◌, ◌<◌, ◌≤◌, Bool, true, List, [], ◌∷◌, ◌++◌, map, refl, sym, ap, ◌∙◌, arith}
-use Rattle.std.specs.List.{list_all, range_with_len}
-use Rattle.std.proofs.lemmas.Bool.{and_parts, cases_order}
+use Rattle.pct_names.proofs.Names.{◌+◌, ◌++◌, ◌-◌, ◌<◌, [], and_parts, ap, arith, Bool, cases_order, inl, inr, List, list_all, map}
+use Rattle.pct_names.proofs.Names.{map-range_with_len_more, range_with_len, refl, suc, sym, true, zero, ℕ, ◌∙◌, ◌∷◌, ◌≡◌, ◌≤◌}
 use Rattle.std.proofs.lemmas.List.{append_assoc}
-use Rattle.std.proofs.lemmas.List.FromFn.{map-range_with_len_more}
 
 -- the items for the numbers below n
 abbrev pub below : {X : Type 0} → (ℕ → X) → ℕ → List X

@@ -1,13 +1,9 @@
 -- The declarations of a generated script are well-formed. The checks are computed for each number of threads.
-use Rattle.std.proofs.Common.{◌≡◌, ℕ, ◌<◌, ◌≤◌, true, refl, arith, nat_le, le-leb}
-use Rattle.std.specs.List.{list_all, range_with_len}
-use Rattle.pct_model.specs.Keywords.{keyword_text}
-use Rattle.pct_model.specs.Names.{is_name, name_at, all_different}
-use Rattle.pct_model.specs.Statements.{encode}
-use Rattle.pct_model.specs.LineKinds.{syntax_of, declaration_syntax}
-use Rattle.pct_model.specs.Nesting.{are_nested, change_at, outside, inside, open_after}
-use Rattle.pct_model.specs.Checks.{none_wrong}
-use Rattle.pct_model.specs.Static.{is_static, has_text, has_lines, has_line, has_first_word, have_words, has_word, keeps_limits, has_each_name_once, names_plain}
+use Rattle.pct_names.proofs.Names.{◌<◌, all_different, are_nested, arith, change_at, declaration_syntax, encode, has_each_name_once}
+use Rattle.pct_names.proofs.Names.{has_first_word, has_line, has_lines, has_text, has_word, have_words, inside, is_name, is_static}
+use Rattle.pct_names.proofs.Names.{keeps_limits, keyword_text, list_all, name_at, names_plain, nat_le, none_wrong, open_after, outside}
+use Rattle.pct_names.proofs.Names.{range_with_len, refl, syntax_of, true, ℕ, ◌≡◌, ◌≤◌}
+use Rattle.std.proofs.Common.{le-leb}
 use Rattle.pct_vectors.specs.GeneratedContents.{thread_name, generated_contents}
 use Rattle.pct_vectors.proofs.Numbered.{at_each}
 

@@ -1,11 +1,8 @@
 -- The names of the globals for the ids of threads.
-use Rattle.std.proofs.Common.{◌≡◌, ℕ, zero, suc, ◌+◌, ◌-◌, ◌/◌, ◌%◌, ◌<◌, ◌≤◌, Bool, true, false, cond, List, [], ◌∷◌, ◌++◌, map, length, get_or, refl, sym, ap, ◌∙◌, arith, decimal, nat_lt}
-use Rattle.std.specs.List.{range_with_len}
+use Rattle.pct_names.proofs.Names.{◌%◌, ◌+◌, ◌++◌, ◌-◌, ◌/◌, ◌<◌, [], ap, arith, Bool, cond, decimal, decimal_digit, decimal_step, false}
+use Rattle.pct_names.proofs.Names.{get_or, get_or-map-range_with_len, length, List, map, name_at, nat_lt, range_with_len, refl, suc, sym}
+use Rattle.pct_names.proofs.Names.{true, unwrap_or-slice_get, zero, ℕ, ◌∙◌, ◌∷◌, ◌≡◌, ◌≤◌}
 use Rattle.std.proofs.lemmas.Bool.{ltb-true, ltb-false}
-use Rattle.std.proofs.lemmas.Fmt.{decimal_digit, decimal_step}
-use Rattle.std.proofs.lemmas.List.FromFn.{get_or-map-range_with_len}
-use Rattle.std.proofs.lemmas.Option.{unwrap_or-slice_get}
-use Rattle.pct_model.specs.Names.{name_at}
 use Rattle.pct_vectors.specs.GeneratedContents.{thread_name, global_names}
 
 -- a number of at most two digits

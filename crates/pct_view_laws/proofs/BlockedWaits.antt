@@ -1,31 +1,18 @@
 -- A thread that waits cannot go on, and one that has no choice waits.
-use Rattle.std.proofs.Common.{◌≡◌, ℕ, ◌<◌, Bool, true, false, not, ◌&&◌, List, [], ◌∷◌, ◌++◌, length, All, Option, Some, None, is_some, nat_lt, option_and_then, slice_get, slice_index, if◌then◌else◌, refl, sym, ap, ◌∙◌, subst, arith}
-use Rattle.std.specs.Option.{option_map_or}
-use Rattle.std.proofs.lemmas.Bool.{false≢true, true≢false, false_from_ne_true, true_from_ne_false}
-use Rattle.std.proofs.lemmas.List.Elements.{All-head}
-use Rattle.std.proofs.lemmas.Option.{slice_get-get_or}
-use Rattle.pct_model.specs.declared.frame.Frame.{Frame}
-use Rattle.pct_model.specs.declared.schedule.Alt.{Alt}
+use Rattle.pct_names.proofs.Names.{◌&&◌, ◌++◌, ◌<◌, [], All, All-head, Alt, ap, arith, body_at, body_of, Bool, called_kind, choices_at}
+use Rattle.pct_names.proofs.Names.{choices_of, dtor_or_go, ending_choices, false, false_from_ne_true, false≢true, Frame, Func, go_if}
+use Rattle.pct_names.proofs.Names.{has_no_frame, if◌then◌else◌, is_asynchronous, is_blocked, is_create, is_deliverable, is_empty}
+use Rattle.pct_names.proofs.Names.{is_enabled, is_ended_status, is_ended_thread, is_forbidden_in_child, is_free_mutex, is_key_create}
+use Rattle.pct_names.proofs.Names.{is_optional, is_required, is_running_child, is_signal, is_some, left_keys, length, List, made_process}
+use Rattle.pct_names.proofs.Names.{may_return, nat_lt, new_keys, new_or_go, next_in, next_of, NextStatement, None, NoStatement, not, offers}
+use Rattle.pct_names.proofs.Names.{Option, option_and_then, option_map_or, Others, others_of, pick_or_go, Process, refl, running_choices}
+use Rattle.pct_names.proofs.Names.{running_rows, Script, SharedState, slice_get, slice_get-get_or, slice_index, Some, statement_at}
+use Rattle.pct_names.proofs.Names.{StatementIn, Status, Stmt, subst, sym, Thread, true, true_from_ne_false, Waiter, waiters_to_signal}
+use Rattle.pct_names.proofs.Names.{World, ℕ, ◌∙◌, ◌∷◌, ◌≡◌}
+use Rattle.std.proofs.lemmas.Bool.{true≢false}
 use Rattle.pct_model.specs.declared.schedule.Alt.TheVariants as alt
-use Rattle.pct_model.specs.declared.script.Func.{Func}
-use Rattle.pct_model.specs.declared.script.Script.{Script}
-use Rattle.pct_model.specs.declared.state.Status.{Status}
 use Rattle.pct_model.specs.declared.state.Status.TheVariants as status
-use Rattle.pct_model.specs.declared.statement.Stmt.{Stmt}
 use Rattle.pct_model.specs.declared.statement.Stmt.TheVariants as statement
-use Rattle.pct_model.specs.Cancelability.{is_asynchronous, is_deliverable}
-use Rattle.pct_model.specs.CancelCalls.{called_kind, is_optional, is_required, may_return}
-use Rattle.pct_model.specs.ChoiceTable.{choices_at, choices_of, dtor_or_go, ending_choices, go_if, is_create, is_enabled, is_key_create, is_signal, new_or_go, offers, pick_or_go, running_choices, running_rows, waiters_to_signal}
-use Rattle.pct_model.specs.StatusKinds.{has_no_frame}
-use Rattle.pct_model.specs.Keys.{left_keys, new_keys}
-use Rattle.pct_model.specs.LineParsing.{is_empty}
-use Rattle.pct_model.specs.MutexCalls.{is_blocked, is_free_mutex}
-use Rattle.pct_model.specs.NextStatement.{NextStatement, NoStatement, StatementIn, body_at, next_in, next_of}
-use Rattle.pct_model.specs.OtherProcesses.{is_running_child}
-use Rattle.pct_model.specs.OtherThreads.{Others, Waiter, is_ended_thread, others_of}
-use Rattle.pct_model.specs.StopTable.{is_forbidden_in_child}
-use Rattle.pct_model.specs.ThreadSlots.{is_ended_status}
-use Rattle.pct_model.specs.World.{SharedState, Thread, Process, World, body_of, made_process, statement_at}
 use Rattle.pct_transition_cases.proofs.OfferedChoices.{goes_at, may_go_on, offered_of}
 use Rattle.pct_ending_laws.proofs.KeptStates.{every_state_is_kept}
 use Rattle.pct_ending_laws.proofs.lift.MadeThreads.{IsLive, live_thread, process_is_made}

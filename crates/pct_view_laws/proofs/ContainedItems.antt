@@ -1,11 +1,11 @@
 -- What a list contains that is made of another one, and look-up by a number of what a list contains.
-use Rattle.std.proofs.Common.{◌≡◌, ℕ, zero, suc, ◌<◌, Bool, true, false, ◌&&◌, cond, List, [], ◌∷◌, map, filter, flat_map, find, get_or, nat_eq, Contains, Option, Some, ◌⊎◌, inl, inr, refl, sym, ap, ◌∙◌, subst, arith, zero-add, eq-eqb, ne_eqb}
-use Rattle.std.specs.List.{list_any, position_or_len, range_with_len}
-use Rattle.std.proofs.lemmas.Bool.{and_from, and_left, true≢false}
-use Rattle.std.proofs.lemmas.List.Elements.{All-contains, All-contains_itself, All-filter, All-map, Contains-append_left, Contains-append_right, Contains-get_or, filter_passes}
-use Rattle.std.proofs.lemmas.List.Folds.{list_any_at}
-use Rattle.std.proofs.lemmas.List.FromFn.{length-range_with_len, get_or-range_with_len}
-use Rattle.std.proofs.lemmas.Option.{get_or_from_slice_get, slice_get_within}
+use Rattle.pct_names.proofs.Names.{◌&&◌, ◌<◌, [], All-contains, All-contains_itself, All-filter, All-map, and_from, and_left, ap, arith}
+use Rattle.pct_names.proofs.Names.{Bool, cond, Contains, Contains-append_left, Contains-append_right, Contains-get_or, false, filter}
+use Rattle.pct_names.proofs.Names.{filter_passes, find, flat_map, get_or, get_or-range_with_len, get_or_from_slice_get, inl, inr}
+use Rattle.pct_names.proofs.Names.{length-range_with_len, List, list_any, list_any_at, map, nat_eq, Option, position_or_len, range_with_len}
+use Rattle.pct_names.proofs.Names.{refl, slice_get_within, Some, subst, suc, sym, true, zero, ℕ, ◌∙◌, ◌∷◌, ◌≡◌, ◌⊎◌}
+use Rattle.std.proofs.Common.{zero-add, eq-eqb, ne_eqb}
+use Rattle.std.proofs.lemmas.Bool.{true≢false}
 use Rattle.pct_engine_laws.proofs.ListFacts.{All-flat_map}
 use Rattle.pct_ending_laws.proofs.lift.KeyedLists.{AreDistinct, found_at}
 

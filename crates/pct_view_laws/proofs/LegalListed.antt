@@ -1,21 +1,10 @@
 -- The entries that are listed of a state are the legal ones with worker 1.
-use Rattle.std.proofs.Common.{◌≡◌, ℕ, true, not, if◌then◌else◌, List, [], map, find, nat_eq, Contains, Option, Some, None, is_none, refl, sym, ap, ◌∙◌, subst, arith, eqb-true, eq-eqb}
-use Rattle.std.proofs.lemmas.Bool.{and_parts, false≢true}
-use Rattle.std.proofs.lemmas.List.Folds.{list_any_at}
-use Rattle.std.proofs.lemmas.Map.Views.{Contains-from_any}
-use Rattle.pct_model.specs.declared.schedule.Alt.{Alt}
+use Rattle.pct_names.proofs.Names.{[], Alt, and_parts, ap, arith, body_at, choices_of, Config, Contains, Contains-from_any, Entry}
+use Rattle.pct_names.proofs.Names.{false≢true, find, has_ended, holds_slot, if◌then◌else◌, is_live_process, is_live_thread, is_none, Legal}
+use Rattle.pct_names.proofs.Names.{List, list_any_at, map, nat_eq, next_of, None, not, offers, Option, others_of, Process, refl}
+use Rattle.pct_names.proofs.Names.{same_choice, Script, Some, subst, sym, Thread, true, Why, with_id, World, ℕ, ◌∙◌, ◌≡◌}
+use Rattle.std.proofs.Common.{eqb-true, eq-eqb}
 use Rattle.pct_model.specs.declared.schedule.Alt.TheVariants as alt
-use Rattle.pct_model.specs.declared.schedule.Config.{Config}
-use Rattle.pct_model.specs.declared.schedule.Entry.{Entry}
-use Rattle.pct_model.specs.declared.script.Script.{Script}
-use Rattle.pct_model.specs.declared.stop.Why.{Why}
-use Rattle.pct_model.specs.Actions.{has_ended, is_live_process}
-use Rattle.pct_model.specs.ChoiceTable.{choices_of, offers, same_choice}
-use Rattle.pct_model.specs.NextStatement.{body_at, next_of}
-use Rattle.pct_model.specs.OtherThreads.{others_of}
-use Rattle.pct_model.specs.Step.{Legal}
-use Rattle.pct_model.specs.ThreadSlots.{holds_slot, is_live_thread, with_id}
-use Rattle.pct_model.specs.World.{Thread, Process, World}
 use Rattle.pct_view_laws.specs.Listed.{ListedThread, ListsLegalEntries, entries_of, entry_by, listed_entries, listed_of, listed_threads}
 use Rattle.pct_transition_cases.proofs.OfferedChoices.{offered_alive, offered_of}
 use Rattle.pct_ending_laws.proofs.lift.KeyedLists.{found_passes}

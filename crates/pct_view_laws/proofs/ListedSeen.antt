@@ -1,14 +1,8 @@
 -- What is listed of a state depends only on what is kept of it.
-use Rattle.std.proofs.Common.{◌≡◌, ◌<◌, Bool, true, false, not, cond, List, [], ◌∷◌, map, filter, flat_map, Option, Some, None, is_some, option_map, refl, sym, ap, ◌∙◌}
+use Rattle.pct_names.proofs.Names.{◌<◌, [], ap, body_at, Bool, by_slot, choices_at, cond, Config, false, filter, flat_map, flat_map-map}
+use Rattle.pct_names.proofs.Names.{is_some, List, map, next_of, None, not, Option, option_map, Others, Process, ProcessEnd, refl, Script}
+use Rattle.pct_names.proofs.Names.{Some, sym, Thread, true, was_reaped, World, ◌∙◌, ◌∷◌, ◌≡◌}
 use Rattle.std.proofs.Math.Path.{fun_ext}
-use Rattle.std.proofs.lemmas.List.Folds.{flat_map-map}
-use Rattle.pct_model.specs.declared.script.Script.{Script}
-use Rattle.pct_model.specs.declared.schedule.Config.{Config}
-use Rattle.pct_model.specs.ChoiceTable.{choices_at}
-use Rattle.pct_model.specs.NextStatement.{next_of, body_at}
-use Rattle.pct_model.specs.OtherThreads.{Others}
-use Rattle.pct_model.specs.ThreadSlots.{by_slot}
-use Rattle.pct_model.specs.World.{Thread, ProcessEnd, Process, World, was_reaped}
 use Rattle.pct_engine_laws.specs.Seen.{SeenSlot, SeenProcess, seen_process, seen, family_in}
 use Rattle.pct_engine_laws.proofs.AnswerSeen.{threads_seen, others_seen}
 use Rattle.pct_engine_laws.proofs.ListFacts.{flat_map_agree, flat_map-filter, flat_map-flat_map, map-filter}

@@ -1,12 +1,9 @@
 -- The threads that are listed of a state: those that hold a slot and have not ended, of the processes that have not ended.
-use Rattle.std.proofs.Common.{◌≡◌, ℕ, ◌<◌, Bool, true, false, not, ◌&&◌, cond, List, [], map, filter, find, Contains, Some, nat_eq, refl, sym, ap, subst, arith, eq-eqb}
-use Rattle.std.specs.List.{range_with_len}
-use Rattle.std.proofs.lemmas.Bool.{and_from, and_parts, not-true}
-use Rattle.pct_model.specs.declared.schedule.Config.{Config}
-use Rattle.pct_model.specs.declared.script.Script.{Script}
-use Rattle.pct_model.specs.Actions.{has_ended, is_live_process}
-use Rattle.pct_model.specs.ThreadSlots.{by_slot, holds_slot, is_ended_status, is_live_thread, is_on, slot_of, with_id}
-use Rattle.pct_model.specs.World.{Thread, Process, World}
+use Rattle.pct_names.proofs.Names.{◌&&◌, ◌<◌, [], and_from, and_parts, ap, arith, Bool, by_slot, cond, Config, Contains, false, filter}
+use Rattle.pct_names.proofs.Names.{find, has_ended, holds_slot, is_ended_status, is_live_process, is_live_thread, is_on, List, map, nat_eq}
+use Rattle.pct_names.proofs.Names.{not, not-true, Process, range_with_len, refl, Script, slot_of, Some, subst, sym, Thread, true, with_id}
+use Rattle.pct_names.proofs.Names.{World, ℕ, ◌≡◌}
+use Rattle.std.proofs.Common.{eq-eqb}
 use Rattle.pct_view_laws.specs.Listed.{ListedThread, is_unended, listed_of, listed_threads, unended_of}
 use Rattle.pct_engine_laws.proofs.ThreadChanges.{slot_below}
 use Rattle.pct_ending_laws.proofs.lift.KeyedLists.{found_passes}

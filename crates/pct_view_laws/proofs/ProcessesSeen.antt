@@ -1,10 +1,6 @@
 -- The processes that are listed of a state depend only on what is kept of it.
-use Rattle.std.proofs.Common.{◌≡◌, ◌<◌, not, cond, List, [], ◌∷◌, filter, Option, Some, None, is_some, option_map, refl, sym, ap, ◌∙◌}
-use Rattle.std.proofs.lemmas.List.Folds.{flat_map-map}
-use Rattle.pct_model.specs.declared.schedule.Config.{Config}
-use Rattle.pct_model.specs.Actions.{has_ended}
-use Rattle.pct_model.specs.ThreadSlots.{by_slot}
-use Rattle.pct_model.specs.World.{Thread, ProcessEnd, Process, World, was_reaped}
+use Rattle.pct_names.proofs.Names.{◌<◌, [], ap, by_slot, cond, Config, filter, flat_map-map, has_ended, is_some, List, None, not, Option}
+use Rattle.pct_names.proofs.Names.{option_map, Process, ProcessEnd, refl, Some, sym, Thread, was_reaped, World, ◌∙◌, ◌∷◌, ◌≡◌}
 use Rattle.pct_engine_laws.specs.Seen.{SeenProcess, seen_process, seen}
 use Rattle.pct_engine_laws.proofs.AnswerSeen.{threads_seen}
 use Rattle.pct_engine_laws.proofs.ListFacts.{flat_map_agree, flat_map-filter, map-filter}

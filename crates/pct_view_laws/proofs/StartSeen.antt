@@ -1,9 +1,7 @@
 -- Where a step begins depends only on what is kept of the state.
-use Rattle.std.proofs.Common.{◌≡◌, ℕ, ◌<◌, find, Option, option_map, option_and_then, sym, ap, ◌∙◌}
+use Rattle.pct_names.proofs.Names.{◌<◌, ap, Entry, find, is_live_process, Option, option_and_then, option_map, Process, sym, Thread, World}
+use Rattle.pct_names.proofs.Names.{ℕ, ◌∙◌, ◌≡◌}
 use Rattle.std.proofs.Math.Path.{fun_ext}
-use Rattle.pct_model.specs.declared.schedule.Entry.{Entry}
-use Rattle.pct_model.specs.Actions.{is_live_process}
-use Rattle.pct_model.specs.World.{Thread, Process, World}
 use Rattle.pct_engine_laws.specs.Seen.{SeenProcess, seen_process, seen, is_live_seen}
 use Rattle.pct_engine_laws.specs.SeenSteps.{thread_with}
 use Rattle.pct_engine_laws.proofs.AnswerSeen.{thread_seen}

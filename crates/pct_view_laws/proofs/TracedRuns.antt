@@ -1,15 +1,8 @@
 -- The steps of a run have its entries and its events, in order, and a run with one entry more has one step more.
-use Rattle.std.proofs.Common.{◌≡◌, List, [], ◌∷◌, ◌++◌, map, reverse, flat_map, Option, Some, None, option_map, option_and_then, refl, sym, ap, ◌∙◌}
-use Rattle.std.specs.Option.{option_map_or}
-use Rattle.std.proofs.lemmas.List.{append-nil, append_assoc, map-append, reverse-append, reverse-reverse}
-use Rattle.std.proofs.lemmas.Option.{none-some, same_Some}
-use Rattle.pct_model.specs.declared.event.Event.{Event}
-use Rattle.pct_model.specs.declared.schedule.Config.{Config}
-use Rattle.pct_model.specs.declared.schedule.Entry.{Entry}
-use Rattle.pct_model.specs.declared.script.Script.{Script}
-use Rattle.pct_model.specs.Run.{Run, event_of, run_step, run_from, run}
-use Rattle.pct_model.specs.Step.{Successor, step}
-use Rattle.pct_model.specs.World.{World}
+use Rattle.pct_names.proofs.Names.{◌++◌, [], ap, Config, Entry, Event, event_of, flat_map, List, map, map-append, None, none-some, Option}
+use Rattle.pct_names.proofs.Names.{option_and_then, option_map, option_map_or, refl, reverse, reverse-append, reverse-reverse, Run, run}
+use Rattle.pct_names.proofs.Names.{run_from, run_step, same_Some, Script, Some, step, Successor, sym, World, ◌∙◌, ◌∷◌, ◌≡◌}
+use Rattle.std.proofs.lemmas.List.{append-nil, append_assoc}
 use Rattle.pct_model.proofs.Runs.{run_from-more}
 use Rattle.pct_engine_laws.proofs.LongerRuns.{run_parts, run_after}
 use Rattle.pct_ending_laws.proofs.lift.TakenSteps.{first_run}

@@ -1,5 +1,6 @@
 -- Texts that are appended in several calls.
-use Rattle.std.proofs.Common.{◌≡◌, ℕ, List, ◌++◌, Result, Ok, Err, OnOk, ap, ◌∙◌, append_assoc}
+use Rattle.pct_names.proofs.Names.{◌++◌, ap, Err, List, Ok, OnOk, Result, ℕ, ◌∙◌, ◌≡◌}
+use Rattle.std.proofs.Common.{append_assoc}
 
 -- the same text
 pub as_text : {E : Type 0} (r : Result (Unit {0}) E) (old new a b : List ℕ) → a ≡ b → OnOk r (new ≡ old ++ a) → OnOk r (new ≡ old ++ b)

@@ -1,13 +1,10 @@
 -- The texts of fields and of lines, as their pieces one after the other.
-use Rattle.std.proofs.Common.{◌≡◌, ℕ, List, [], ◌∷◌, ◌++◌, map, refl, sym, ap, ◌∙◌, append_assoc, codes}
+use Rattle.pct_names.proofs.Names.{◌++◌, [], ap, codes, Event, event_words, flat_map-map, List, map, refl, Script, sym, What, ℕ, ◌∙◌, ◌∷◌}
+use Rattle.pct_names.proofs.Names.{◌≡◌}
+use Rattle.std.proofs.Common.{append_assoc}
 use Rattle.std.specs.List.{flat_map}
 use Rattle.std.proofs.lemmas.List.{append-nil}
-use Rattle.std.proofs.lemmas.List.Folds.{flat_map-map}
 use Rattle.std.proofs.lemmas.Grind.{flat_map-append}
-use Rattle.pct_model.specs.declared.event.Event.{Event}
-use Rattle.pct_model.specs.declared.event.What.{What}
-use Rattle.pct_model.specs.declared.script.Script.{Script}
-use Rattle.pct_model.specs.EventTexts.{event_words}
 use Rattle.pct_view_texts.specs.Fields.{Phrase, phrase_text, field_text, fields_text, before_comma, word_field}
 
 -- a field of one phrase

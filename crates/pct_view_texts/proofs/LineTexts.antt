@@ -1,10 +1,7 @@
 -- The lines of steps and of threads, as the parts in which they are appended.
-use Rattle.std.proofs.Common.{◌≡◌, ℕ, List, [], ◌∷◌, ◌++◌, Result, OnOk, map, refl, ap, ◌∙◌, append_assoc, decimal}
-use Rattle.std.specs.List.{join_with_byte}
-use Rattle.std.specs.Option.{option_map_or}
-use Rattle.pct_model.specs.declared.script.Script.{Script}
-use Rattle.pct_model.specs.EventTexts.{event_words}
-use Rattle.pct_model.specs.Report.{alt_words, thread_text}
+use Rattle.pct_names.proofs.Names.{◌++◌, [], alt_words, ap, decimal, event_words, join_with_byte, List, map, OnOk, option_map_or, refl}
+use Rattle.pct_names.proofs.Names.{Result, Script, thread_text, ℕ, ◌∙◌, ◌∷◌, ◌≡◌}
+use Rattle.std.proofs.Common.{append_assoc}
 use Rattle.pct_view_laws.specs.Listed.{ListedThread}
 use Rattle.pct_view_laws.specs.TracedSteps.{TracedStep}
 use Rattle.pct_views.specs.declared.thread_view.ThreadView.{ThreadView}

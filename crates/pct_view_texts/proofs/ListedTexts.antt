@@ -1,22 +1,11 @@
 -- The lines of the threads that are listed, appended one after the other.
-use Rattle.std.proofs.Common.{◌≡◌, ℕ, zero, suc, ◌+◌, ◌<◌, ◌≤◌, Bool, true, false, cond, List, [], ◌∷◌, ◌++◌, length, take, get_or, map, flat_map, Option, Some, None, Result, OnOk, refl, sym, ap, ◌∙◌, subst, append_assoc, add-one, append-nil, arith}
-use Rattle.std.specs.Prelude.{slice_get, is_none}
-use Rattle.std.specs.Option.{option_map_or}
+use Rattle.pct_names.proofs.Names.{◌+◌, ◌++◌, ◌<◌, [], add-one, ap, arith, Bool, Budget, Complete, cond, Config, Deadlock, Entry}
+use Rattle.pct_names.proofs.Names.{entry_line, false, Family, flat_map, flat_map-map, get_or, is_none, length, line_text, List, map, None}
+use Rattle.pct_names.proofs.Names.{none-some, OnOk, Open, Option, option_map_or, refl, Result, Script, slice_get, Some, subst, suc, sym}
+use Rattle.pct_names.proofs.Names.{take, take_all, take_more, text_of, true, Verdict, verdict_by, verdict_line, verdict_of, Why, World}
+use Rattle.pct_names.proofs.Names.{zero, ℕ, ◌∙◌, ◌∷◌, ◌≡◌, ◌≤◌}
+use Rattle.std.proofs.Common.{append_assoc, append-nil}
 use Rattle.std.proofs.lemmas.Grind.{flat_map-append}
-use Rattle.std.proofs.lemmas.List.{take_all, take_more}
-use Rattle.std.proofs.lemmas.List.Folds.{flat_map-map}
-use Rattle.std.proofs.lemmas.Option.{none-some}
-use Rattle.pct_model.specs.declared.schedule.Config.{Config}
-use Rattle.pct_model.specs.declared.schedule.Entry.{Entry}
-use Rattle.pct_model.specs.declared.script.Script.{Script}
-use Rattle.pct_model.specs.declared.stop.Verdict.{Verdict}
-use Rattle.pct_model.specs.declared.stop.Verdict.TheVariants.{Complete, Deadlock, Budget, Open}
-use Rattle.pct_model.specs.declared.stop.Why.{Why}
-use Rattle.pct_model.specs.Keywords.{line_text, text_of}
-use Rattle.pct_model.specs.OtherProcesses.{Family}
-use Rattle.pct_model.specs.Report.{entry_line, verdict_line}
-use Rattle.pct_model.specs.Run.{verdict_by, verdict_of}
-use Rattle.pct_model.specs.World.{World}
 use Rattle.pct_engine_laws.specs.Seen.{SeenProcess, Seen, seen, family_in}
 use Rattle.pct_engine_laws.proofs.ListFacts.{flat_map_agree}
 use Rattle.pct_machine.specs.declared.process_view.ProcessView.{ProcessView}

@@ -1,18 +1,13 @@
 -- Phrases that are collected one after the other, each after a comma.
-use Rattle.std.proofs.Common.{◌≡◌, ◌⊎◌, inl, inr, ℕ, ◌+◌, ◌-◌, ◌<◌, ◌≤◌, List, [], ◌∷◌, ◌++◌, length, take, drop, map, flat_map, Bool, Option, Some, Result, OnOk, refl, sym, ap, ◌∙◌, append_assoc, arith, codes, decimal}
-use Rattle.std.specs.Prelude.{slice_get, zip}
-use Rattle.std.specs.List.{join_with_byte, range_with_len}
+use Rattle.pct_names.proofs.Names.{◌+◌, ◌++◌, ◌-◌, ◌<◌, [], ap, arith, between_to_end, Bool, codes, decimal, drop, flat_map, flat_map-map}
+use Rattle.pct_names.proofs.Names.{ForkHandlers, inl, inr, join_with_byte, KeyPlace, KeyValues, length, List, map, map-range_with_len_more}
+use Rattle.pct_names.proofs.Names.{MAX_KEYS, OnOk, Option, range_with_len, refl, Result, Script, slice_get, Some, sym, take, zip, ℕ, ◌∙◌}
+use Rattle.pct_names.proofs.Names.{◌∷◌, ◌≡◌, ◌≤◌, ◌⊎◌}
+use Rattle.std.proofs.Common.{append_assoc}
 use Rattle.std.proofs.lemmas.Grind.{flat_map-append}
 use Rattle.std.proofs.lemmas.List.{append-nil}
-use Rattle.std.proofs.lemmas.List.Folds.{flat_map-map}
-use Rattle.std.proofs.lemmas.List.FromFn.{map-range_with_len_more}
-use Rattle.std.proofs.lemmas.Slice.{between_to_end}
 use Rattle.pct_engine_laws.proofs.ListFacts.{flat_map_agree, flat_map-flat_map}
 use Rattle.pct_io.proofs.Joined.{joined}
-use Rattle.pct_model.specs.declared.limits.TheConstants.{MAX_KEYS}
-use Rattle.pct_model.specs.declared.process.ForkHandlers.{ForkHandlers}
-use Rattle.pct_model.specs.declared.script.Script.{Script}
-use Rattle.pct_model.specs.Keys.{KeyPlace, KeyValues}
 use Rattle.pct_view_texts.specs.States.{exit_function_phrase, exit_phrases, fork_handlers_phrase, key_on, key_phrases, restricted_phrases, specific_on, specific_phrases, value_words}
 use Rattle.pct_view_texts.proofs.Appending.{as_text, then_text}
 use Rattle.pct_view_texts.specs.Fields.{Phrase, phrase_text, field_text, after_commas}

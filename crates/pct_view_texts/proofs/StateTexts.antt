@@ -1,22 +1,12 @@
 -- The lines of processes and of their threads, with their values.
-use Rattle.std.proofs.Common.{◌≡◌, ℕ, ◌+◌, ◌<◌, ◌≤◌, Bool, true, false, cond, List, [], ◌∷◌, ◌++◌, length, take, get_or, map, flat_map, reverse, Some, None, Result, OnOk, refl, sym, ap, ◌∙◌, append-nil, arith, decimal}
-use Rattle.std.specs.Prelude.{filter, is_some, slice_get}
-use Rattle.std.specs.Option.{option_map_or}
+use Rattle.pct_names.proofs.Names.{◌+◌, ◌++◌, ◌<◌, [], ap, arith, Bool, cond, Config, decimal, either, false, filter, filter-append}
+use Rattle.pct_names.proofs.Names.{flat_map, get_or, is_some, KeyPlace, length, line_text, List, map, None, none-some, OnOk, option_map_or}
+use Rattle.pct_names.proofs.Names.{refl, Result, reverse, Script, SharedState, slice_get, Some, sym, take, take_all, take_more, Thread}
+use Rattle.pct_names.proofs.Names.{thread_text, true, Verdict, verdict_line, verdict_of, World, ℕ, ◌∙◌, ◌∷◌, ◌≡◌, ◌≤◌}
+use Rattle.std.proofs.Common.{append-nil}
 use Rattle.std.proofs.lemmas.Grind.{flat_map-append}
-use Rattle.std.proofs.lemmas.List.{take_all, take_more}
-use Rattle.std.proofs.lemmas.List.Elements.{filter-append}
-use Rattle.std.proofs.lemmas.Option.{none-some}
-use Rattle.pct_model.specs.declared.schedule.Config.{Config}
-use Rattle.pct_model.specs.declared.script.Script.{Script}
-use Rattle.pct_model.specs.declared.stop.Verdict.{Verdict}
 use Rattle.pct_model.specs.declared.keyword.Keyword.TheVariants as keyword
-use Rattle.pct_model.specs.EventTexts.{either}
 use Rattle.pct_keys.specs.Tables.{row_at}
-use Rattle.pct_model.specs.Keys.{KeyPlace}
-use Rattle.pct_model.specs.Keywords.{line_text}
-use Rattle.pct_model.specs.Report.{thread_text, verdict_line}
-use Rattle.pct_model.specs.Run.{verdict_of}
-use Rattle.pct_model.specs.World.{SharedState, Thread, World}
 use Rattle.pct_engine_laws.specs.Seen.{SeenSlot, SeenProcess, Seen, seen, threads_on}
 use Rattle.pct_engine_laws.proofs.ListFacts.{flat_map_agree, flat_map-flat_map}
 use Rattle.pct_view_laws.specs.Listed.{is_unended}

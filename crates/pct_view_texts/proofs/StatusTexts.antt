@@ -1,7 +1,5 @@
 -- The phrases of statuses and of waits.
-use Rattle.std.proofs.Common.{◌≡◌, ℕ, List, ◌++◌, refl, codes}
-use Rattle.pct_model.specs.declared.script.Script.{Script}
-use Rattle.pct_model.specs.declared.state.Status.{Status}
+use Rattle.pct_names.proofs.Names.{◌++◌, codes, List, refl, Script, Status, ℕ, ◌≡◌}
 use Rattle.pct_model.specs.declared.state.Status.TheVariants as status
 use Rattle.pct_view_laws.specs.declared.wait.Wait.{Wait}
 use Rattle.pct_view_laws.specs.declared.wait.Wait.TheVariants as wait

@@ -1,18 +1,11 @@
 -- The lines of the steps of a run, and of a run with one entry more.
-use Rattle.std.proofs.Common.{◌≡◌, ℕ, ◌+◌, ◌≤◌, List, [], ◌∷◌, ◌++◌, length, map, drop, reverse, flat_map, Option, Some, sym, ap, ◌∙◌, arith, length-append}
-use Rattle.std.specs.List.{enumerate_from}
-use Rattle.std.proofs.Math.Seq.{drop-append_seam}
+use Rattle.pct_names.proofs.Names.{◌+◌, ◌++◌, [], ap, arith, Config, drop, drop-append_seam, Entry, enumerate_from, Event, event_of}
+use Rattle.pct_names.proofs.Names.{flat_map, flat_map-cons, length, length-map, List, map, map-id, Option, reverse, Run, run, Script, Some}
+use Rattle.pct_names.proofs.Names.{step, Successor, sym, What, ℕ, ◌∙◌, ◌∷◌, ◌≡◌, ◌≤◌}
+use Rattle.std.proofs.Common.{length-append}
 use Rattle.std.proofs.lemmas.Grind.{flat_map-append}
-use Rattle.std.proofs.lemmas.List.{append-nil, length-map, map-id}
-use Rattle.std.proofs.lemmas.List.Concat.{flat_map-cons}
+use Rattle.std.proofs.lemmas.List.{append-nil}
 use Rattle.pct_engine_laws.proofs.ListFacts.{map-map}
-use Rattle.pct_model.specs.declared.event.Event.{Event}
-use Rattle.pct_model.specs.declared.event.What.{What}
-use Rattle.pct_model.specs.declared.schedule.Config.{Config}
-use Rattle.pct_model.specs.declared.schedule.Entry.{Entry}
-use Rattle.pct_model.specs.declared.script.Script.{Script}
-use Rattle.pct_model.specs.Run.{Run, event_of, run}
-use Rattle.pct_model.specs.Step.{Successor, step}
 use Rattle.pct_engine.specs.EngineStates.{EngineValue, IsRunOf}
 use Rattle.pct_view_laws.specs.declared.position.StepStart.{StepStart}
 use Rattle.pct_view_laws.specs.TracedSteps.{TracedStep, start_in, steps_from, steps_of}

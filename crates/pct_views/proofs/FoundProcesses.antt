@@ -1,13 +1,10 @@
 -- The process with an id that has not ended, looked for from the first one on, and where a thread of it begins its step.
-use Rattle.std.proofs.Common.{◌≡◌, ℕ, zero, suc, ◌+◌, ◌<◌, ◌≤◌, Bool, true, false, cond, List, [], ◌∷◌, length, drop, Option, Some, None, refl, sym, ap, ◌∙◌, not, ◌&&◌, nat_eq, eq-eqb, ne_eqb}
-use Rattle.std.specs.Prelude.{find, slice_get, option_map, option_and_then}
-use Rattle.std.proofs.lemmas.Bool.{and_right}
-use Rattle.std.proofs.lemmas.List.{at_drop_more}
-use Rattle.std.proofs.lemmas.Option.{none-some, slice_get_within, get_or_from_slice_get}
+use Rattle.pct_names.proofs.Names.{◌&&◌, ◌+◌, ◌<◌, [], and_right, ap, at_drop_more, Bool, cond, drop, Entry, false, Family, find}
+use Rattle.pct_names.proofs.Names.{get_or_from_slice_get, length, List, nat_eq, None, none-some, not, Option, option_and_then, option_map}
+use Rattle.pct_names.proofs.Names.{refl, slice_get, slice_get_within, Some, suc, sym, true, zero, ℕ, ◌∙◌, ◌∷◌, ◌≡◌, ◌≤◌}
+use Rattle.std.proofs.Common.{eq-eqb, ne_eqb}
 use Rattle.pct_engine_laws.specs.Seen.{SeenProcess, Seen, is_live_seen, family_in}
 use Rattle.pct_engine_laws.specs.SeenSteps.{thread_with}
-use Rattle.pct_model.specs.declared.schedule.Entry.{Entry}
-use Rattle.pct_model.specs.OtherProcesses.{Family}
 use Rattle.pct_transitions.specs.Programs.{ProgramValue}
 use Rattle.pct_machine.specs.declared.process_view.ProcessView.{ProcessView}
 use Rattle.pct_machine.specs.ShownProcesses.{ShowsProcess, ShowsIfSome}

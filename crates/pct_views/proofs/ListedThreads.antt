@@ -1,15 +1,9 @@
 -- The threads of a process that is shown, as they are listed.
-use Rattle.std.proofs.Common.{◌≡◌, ℕ, ◌≤◌, Bool, true, false, cond, List, [], ◌∷◌, map, length, Option, Some, None, refl, sym, ap, ◌∙◌, subst, inl, inr, arith}
-use Rattle.std.specs.Prelude.{All, filter, is_some}
-use Rattle.std.proofs.lemmas.Bool.{cases_lt, false≢true}
-use Rattle.std.proofs.lemmas.List.{get_or_past}
-use Rattle.std.proofs.lemmas.Option.{none-some, same_Some}
+use Rattle.pct_names.proofs.Names.{[], All, Alt, ap, arith, Bool, cases_lt, cond, false, false≢true, Family, filter, get_or_past, inl, inr}
+use Rattle.pct_names.proofs.Names.{is_some, length, List, map, None, none-some, Option, refl, same_Some, Script, Some, subst, sym, Thread}
+use Rattle.pct_names.proofs.Names.{true, ℕ, ◌∙◌, ◌∷◌, ◌≡◌, ◌≤◌}
 use Rattle.pct_engine_laws.specs.Seen.{SeenSlot, SeenProcess}
 use Rattle.pct_engine_laws.specs.SeenSteps.{choices_in}
-use Rattle.pct_model.specs.declared.schedule.Alt.{Alt}
-use Rattle.pct_model.specs.declared.script.Script.{Script}
-use Rattle.pct_model.specs.OtherProcesses.{Family}
-use Rattle.pct_model.specs.World.{Thread}
 use Rattle.pct_process.specs.FamilyViews.{other_processes}
 use Rattle.pct_process.specs.ProcessViews.{ProcessData, first_of, slot_on, thread_on_slot}
 use Rattle.pct_transitions.specs.ProcessSteps.{with_data}

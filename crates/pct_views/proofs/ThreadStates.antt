@@ -1,10 +1,7 @@
 -- The values of a thread, as they are read of the tables of its process.
-use Rattle.std.proofs.Common.{◌≡◌, ℕ, ◌<◌, List, [], ◌∷◌, length, Option, Some, None, refl, sym, ap, ◌∙◌, subst}
-use Rattle.std.specs.Prelude.{option_map}
-use Rattle.std.proofs.lemmas.Option.{same_Some}
+use Rattle.pct_names.proofs.Names.{◌<◌, [], ap, KeyPlace, length, List, None, Option, option_map, refl, same_Some, Some, subst, sym, Thread}
+use Rattle.pct_names.proofs.Names.{ℕ, ◌∙◌, ◌∷◌, ◌≡◌}
 use Rattle.pct_keys.specs.Tables.{Table, row_at}
-use Rattle.pct_model.specs.Keys.{KeyPlace}
-use Rattle.pct_model.specs.World.{Thread}
 use Rattle.pct_threads.specs.declared.record.Place.{Place}
 use Rattle.pct_threads.specs.Slots.{Held, Slot, place_of}
 use Rattle.pct_threads.specs.Tables.{held_at, place_at}

@@ -1,10 +1,7 @@
 -- The threads of a table that have not ended.
-use Rattle.std.proofs.Common.{◌≡◌, ℕ, ◌<◌, Bool, true, false, not, cond, List, [], ◌∷◌, map, length, Option, Some, None, refl, sym, ap, ◌∙◌}
-use Rattle.std.specs.Prelude.{filter, is_some, option_map}
-use Rattle.std.proofs.lemmas.Bool.{false≢true}
-use Rattle.std.proofs.lemmas.Option.{none-some, same_Some, get_or_from_slice_get}
-use Rattle.pct_model.specs.ThreadSlots.{is_ended_status}
-use Rattle.pct_model.specs.World.{Thread}
+use Rattle.pct_names.proofs.Names.{◌<◌, [], ap, Bool, cond, false, false≢true, filter, get_or_from_slice_get, is_ended_status, is_some}
+use Rattle.pct_names.proofs.Names.{length, List, map, None, none-some, not, Option, option_map, refl, same_Some, Some, sym, Thread, true, ℕ}
+use Rattle.pct_names.proofs.Names.{◌∙◌, ◌∷◌, ◌≡◌}
 use Rattle.pct_threads.specs.declared.record.Thread.{Thread as Record}
 use Rattle.pct_threads.specs.Slots.{Held, Slot}
 use Rattle.pct_threads.specs.Tables.{slot_at, held_at, thread_at, is_occupied_at}

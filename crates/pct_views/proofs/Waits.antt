@@ -1,11 +1,6 @@
 -- What a thread waits for, by its status and its next statement.
-use Rattle.std.proofs.Common.{◌≡◌, ℕ, Bool, true, false, not, cond, Some, None, refl}
-use Rattle.pct_model.specs.declared.frame.Frame.{Frame}
-use Rattle.pct_model.specs.declared.statement.Stmt.{Stmt}
+use Rattle.pct_names.proofs.Names.{Bool, cond, false, Frame, None, not, Others, refl, SharedState, Some, StatementIn, Stmt, true, ℕ, ◌≡◌}
 use Rattle.pct_model.specs.declared.statement.Stmt.TheVariants as statement
-use Rattle.pct_model.specs.NextStatement.{StatementIn}
-use Rattle.pct_model.specs.OtherThreads.{Others}
-use Rattle.pct_model.specs.World.{SharedState}
 use Rattle.pct_view_laws.specs.declared.wait.Wait.{Wait}
 use Rattle.pct_view_laws.specs.Waits.{wait_at}
 

@@ -1,31 +1,19 @@
 -- What follows the end of a thread, and what a thread does that exits its process: no event but those of its exit functions; and the last
 -- thread of a process begins to exit it directly after its end, as each thread of the process has ended.
+use Rattle.pct_names.proofs.Names.{◌&&◌, ◌++◌, [], and_from, and_left, and_parts, ap, ap₂, Bool, cond, Config, Entry, eqb-false, Event}
+use Rattle.pct_names.proofs.Names.{event_of, false, false_from_ne_true, false≢true, holds_slot, inl, inr, is_live_thread, is_some, List}
+use Rattle.pct_names.proofs.Names.{list_all, list_any, made_process, map, nat_eq, NextStatement, None, Option, option_and_then, or_left}
+use Rattle.pct_names.proofs.Names.{or_right, Others, others_of, Process, refl, reverse, Run, run, Script, SharedState, Some, Status, Stmt}
+use Rattle.pct_names.proofs.Names.{subst, sym, Thread, thread_with, Transition, transition_by, true, What, ◌||◌, ℕ, ◌∙◌, ◌∷◌, ◌≡◌, ◌⊎◌}
 use mathlib.Core.Bool.{and-false, or-false}
-use Rattle.std.proofs.Common.{◌≡◌, ℕ, Bool, true, false, ◌&&◌, ◌||◌, cond, List, [], ◌∷◌, ◌++◌, map, reverse, nat_eq, Option, Some, None, option_and_then, ◌⊎◌, inl, inr, refl, sym, ap, ap₂, ◌∙◌, subst, eqb-true, eq-eqb}
-use Rattle.std.specs.Prelude.{is_some}
-use Rattle.std.specs.List.{list_all, list_any}
+use Rattle.std.proofs.Common.{eqb-true, eq-eqb}
 use Rattle.std.proofs.Math.Bool.{or_assoc}
-use Rattle.std.proofs.lemmas.Bool.{false≢true, and_parts, and_from, and_left, or_left, or_right, eqb-false, false_from_ne_true}
-use Rattle.pct_model.specs.declared.event.Event.{Event}
-use Rattle.pct_model.specs.declared.event.What.{What}
 use Rattle.pct_model.specs.declared.event.What.TheVariants as what
-use Rattle.pct_model.specs.declared.schedule.Config.{Config}
-use Rattle.pct_model.specs.declared.schedule.Entry.{Entry}
-use Rattle.pct_model.specs.declared.script.Script.{Script}
-use Rattle.pct_model.specs.declared.state.Status.{Status}
-use Rattle.pct_model.specs.declared.statement.Stmt.{Stmt}
-use Rattle.pct_model.specs.declared.transition.Transition.{Transition}
 use Rattle.pct_laws.specs.AfterEnd.{begins_exit_with_0, is_of_exit, all_have_ended, allows}
 use Rattle.pct_laws.specs.Each.{each}
 use Rattle.pct_laws.specs.KnownIds.{known_ids}
 use Rattle.pct_laws.specs.KnownThreads.{makes_process, is_fork_of, creates_id, is_known, reports_end}
-use Rattle.pct_model.specs.NextStatement.{NextStatement}
-use Rattle.pct_model.specs.OtherThreads.{Others, others_of}
-use Rattle.pct_model.specs.Run.{Run, event_of, run}
-use Rattle.pct_model.specs.ThreadSlots.{holds_slot, is_live_thread}
 use Rattle.pct_laws.specs.ThreadSummary.{ThreadSummary, with_event, summary_of, thread_ended}
-use Rattle.pct_model.specs.TransitionTable.{transition_by}
-use Rattle.pct_model.specs.World.{Thread, SharedState, Process, made_process, thread_with}
 use Rattle.pct_transition_cases.proofs.TransitionCases.{TransitionCase, fork_handler_called, last_ended, last_ended_with_keys}
 use Rattle.pct_ending_laws.proofs.LastThreads.{LastExits, last_exits, others_if_last}
 use Rattle.pct_ending_laws.proofs.ThreadsOfRun.{threads_fit, threads_kept}

@@ -1,16 +1,13 @@
 -- The law of handlers that ran follows from the law of cleanup handlers and destructors, where each fork comes before the events of the
 -- process that it makes. This is over lists of events alone.
-use Rattle.std.proofs.Common.{◌≡◌, ℕ, ◌<◌, Bool, true, false, ◌&&◌, ◌||◌, cond, List, [], ◌∷◌, ◌++◌, length, nat_eq, inl, inr, not, ap₂, refl, sym, ap, ◌∙◌, subst, append-nil, append_assoc, length-append, eqb-true, eq-eqb, arith}
-use Rattle.std.specs.List.{list_any}
-use Rattle.std.proofs.lemmas.Bool.{false≢true, and_parts, and_from, or_right, or_cases, not-true, ltb-true}
-use Rattle.pct_model.specs.declared.event.Event.{Event}
-use Rattle.pct_model.specs.declared.event.What.{What}
+use Rattle.pct_names.proofs.Names.{◌&&◌, ◌++◌, ◌<◌, [], and_from, and_parts, ap, ap₂, arith, Bool, cond, Event, false, false≢true}
+use Rattle.pct_names.proofs.Names.{has_begun_to_end, inl, inr, is_empty, length, List, list_any, nat_eq, not, not-true, or_cases, or_right}
+use Rattle.pct_names.proofs.Names.{Reason, refl, subst, sym, true, What, without_first, ◌||◌, ℕ, ◌∙◌, ◌∷◌, ◌≡◌}
+use Rattle.std.proofs.Common.{append-nil, append_assoc, length-append, eqb-true, eq-eqb}
+use Rattle.std.proofs.lemmas.Bool.{ltb-true}
 use Rattle.pct_model.specs.declared.event.What.TheVariants as what
-use Rattle.pct_model.specs.declared.state.Reason.{Reason}
-use Rattle.pct_model.specs.Actions.{without_first}
 use Rattle.pct_laws.specs.KnownThreads.{is_in, is_own, is_fork_of, makes_process}
 use Rattle.pct_laws.specs.Each.{each}
-use Rattle.pct_model.specs.LineParsing.{is_empty}
 use Rattle.pct_laws.specs.Once.{is_newest, may_come}
 use Rattle.pct_laws.specs.Once as Once
 use Rattle.pct_laws.specs.ProcessLaw.{is_stop}
@@ -18,7 +15,6 @@ use Rattle.pct_laws.specs.ProcessLaw.{may_change}
 use Rattle.pct_laws.specs.ProcessLaw as ProcessLaw
 use Rattle.pct_laws.specs.RanAll.{begins_to_end, open_at_ending, handler_run, handlers_run, are_same, may_end}
 use Rattle.pct_laws.specs.RanAll as RanAll
-use Rattle.pct_model.specs.StopTable.{has_begun_to_end}
 use Rattle.pct_laws.specs.ThreadSummary.{ThreadSummary, with_event, summary_of}
 
 -- ---- the handlers of a thread

@@ -1,19 +1,9 @@
 -- Each event that values are left is directly followed by the end of its thread: both are events of one step.
-use Rattle.std.proofs.Common.{◌≡◌, ℕ, true, false, List, [], ◌∷◌, reverse, refl}
-use Rattle.std.proofs.lemmas.Bool.{false≢true}
-use Rattle.pct_model.specs.declared.event.What.{What}
-use Rattle.pct_model.specs.declared.schedule.Config.{Config}
-use Rattle.pct_model.specs.declared.script.Script.{Script}
-use Rattle.pct_model.specs.declared.state.Status.{Status}
-use Rattle.pct_model.specs.declared.statement.Stmt.{Stmt}
-use Rattle.pct_model.specs.declared.transition.Transition.{Transition}
+use Rattle.pct_names.proofs.Names.{[], body_at, Config, false, false≢true, List, next_of, NextStatement, Others, others_of, refl, reverse}
+use Rattle.pct_names.proofs.Names.{Script, SharedState, Status, Stmt, Thread, Transition, transition_by, true, What, ℕ, ◌∷◌, ◌≡◌}
 use Rattle.pct_laws.specs.Ends.{is_leftover}
 use Rattle.pct_laws.specs.FollowedEvents.{are_followed}
 use Rattle.pct_laws.specs.KnownThreads.{reports_end}
-use Rattle.pct_model.specs.NextStatement.{NextStatement, next_of, body_at}
-use Rattle.pct_model.specs.OtherThreads.{Others, others_of}
-use Rattle.pct_model.specs.TransitionTable.{transition_by}
-use Rattle.pct_model.specs.World.{Thread, SharedState}
 use Rattle.pct_transition_cases.proofs.CaseOfTransition.{case_of}
 use Rattle.pct_transition_cases.proofs.TransitionCases.{TransitionCase, fork_handler_called}
 use Rattle.pct_ending_laws.proofs.lift.FollowedEvents.{step_follows, followed_later}

@@ -1,28 +1,15 @@
 -- A thread that exits its process, in a function registered with atexit: the function is plain, so that it goes on, jumps or returns.
-use Rattle.std.proofs.Common.{◌≡◌, ℕ, suc, ◌<◌, true, false, List, [], ◌∷◌, length, inl, inr, refl, sym, ap, ◌∙◌}
-use Rattle.std.proofs.lemmas.Bool.{false≢true, or_right}
+use Rattle.pct_names.proofs.Names.{◌<◌, [], acts, ap, body_of, Dest, encode, false, false≢true, Frame, FrameKind, frames_written}
+use Rattle.pct_names.proofs.Names.{has_begun_to_end, inl, inr, length, List, NextStatement, or_right, Others, refl, Script, SharedState}
+use Rattle.pct_names.proofs.Names.{Stmt, suc, sym, syntax_of, Thread, thread_after, thread_at, Transition, true, ℕ, ◌∙◌, ◌∷◌, ◌≡◌}
 use Rattle.pct_model.specs.declared.event.What.TheVariants as what
-use Rattle.pct_model.specs.declared.frame.Frame.{Frame}
-use Rattle.pct_model.specs.declared.script.Script.{Script}
-use Rattle.pct_model.specs.declared.state.FrameKind.{FrameKind}
 use Rattle.pct_model.specs.declared.state.FrameKind.TheVariants as kind
 use Rattle.pct_model.specs.declared.state.Status.TheVariants as status
-use Rattle.pct_model.specs.declared.statement.Dest.{Dest}
 use Rattle.pct_model.specs.declared.statement.Dest.TheVariants as destination
-use Rattle.pct_model.specs.declared.statement.Stmt.{Stmt}
 use Rattle.pct_model.specs.declared.statement.Stmt.TheVariants as statement
 use Rattle.pct_model.specs.declared.transition.Action.TheVariants as action
-use Rattle.pct_model.specs.declared.transition.Transition.{Transition}
-use Rattle.pct_model.specs.Actions.{frames_written, thread_at, thread_after}
 use Rattle.pct_laws.specs.Kept.{is_exit_kind, IsPlainFunction}
-use Rattle.pct_model.specs.LineKinds.{syntax_of}
-use Rattle.pct_model.specs.NextStatement.{NextStatement}
-use Rattle.pct_model.specs.OtherThreads.{Others}
-use Rattle.pct_model.specs.Statements.{encode}
-use Rattle.pct_model.specs.StopTable.{has_begun_to_end}
 use Rattle.pct_laws.specs.ThreadSummary.{ThreadSummary}
-use Rattle.pct_model.specs.Transitions.{acts}
-use Rattle.pct_model.specs.World.{Thread, SharedState, body_of}
 use Rattle.pct_transition_cases.proofs.OfferedChoices.{deliverable_enabled}
 use Rattle.pct_transition_cases.proofs.PlacedStatements.{IsPlaced, on_top}
 use Rattle.pct_transition_cases.proofs.TransitionCases.{TransitionCase, rests, stopped, jumped, emitted, variable_set, variable_added, main_returned, start_returned, call_left, handler_left, exit_function_left, fork_handler_left, mutex_locked, mutex_unlocked, canceled}

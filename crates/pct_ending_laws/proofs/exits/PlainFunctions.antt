@@ -1,24 +1,11 @@
 -- The functions that atexit and pthread_atfork name are plain functions of the script, and what the statements of plain functions are.
-use Rattle.std.proofs.Common.{◌≡◌, ℕ, ◌<◌, Bool, true, false, List, ◌∷◌, length, Option, Some, None, refl, slice_get}
-use Rattle.std.specs.Prelude.{option_and_then}
-use Rattle.std.specs.List.{list_all}
-use Rattle.std.specs.Option.{IsSomeAnd, option_map_or}
-use Rattle.std.proofs.lemmas.Bool.{false≢true, and_parts}
-use Rattle.std.proofs.lemmas.Option.{none-some, slice_get_within}
-use Rattle.pct_model.specs.declared.frame.Frame.{Frame}
-use Rattle.pct_model.specs.declared.process.ForkHandlers.{ForkHandlers}
-use Rattle.pct_model.specs.declared.script.Func.{Func}
-use Rattle.pct_model.specs.declared.script.Script.{Script}
-use Rattle.pct_model.specs.declared.statement.Dest.{Dest}
-use Rattle.pct_model.specs.declared.statement.Stmt.{Stmt}
+use Rattle.pct_names.proofs.Names.{◌<◌, and_parts, Bool, Dest, encode, false, false≢true, ForkHandlers, Frame, Func, is_plain, is_plain_at}
+use Rattle.pct_names.proofs.Names.{is_plain_body, length, List, list_all, names_plain, names_plain_functions, NextStatement, None}
+use Rattle.pct_names.proofs.Names.{none-some, NoStatement, Option, option_and_then, option_map_or, optional, refl, role_of, Script}
+use Rattle.pct_names.proofs.Names.{slice_get, slice_get_within, Some, statement_at, StatementIn, Stmt, syntax_of, true, ℕ, ◌∷◌, ◌≡◌}
+use Rattle.std.specs.Option.{IsSomeAnd}
 use Rattle.pct_model.specs.declared.statement.Stmt.TheVariants as statement
-use Rattle.pct_model.specs.Checks.{is_plain}
 use Rattle.pct_laws.specs.Kept.{IsPlainFunction, IsPlainIfSome, ArePlainHandlers}
-use Rattle.pct_model.specs.LineKinds.{syntax_of}
-use Rattle.pct_model.specs.NextStatement.{NextStatement, NoStatement, StatementIn}
-use Rattle.pct_model.specs.Statements.{encode, optional, role_of}
-use Rattle.pct_model.specs.Static.{is_plain_body, is_plain_at, names_plain, names_plain_functions}
-use Rattle.pct_model.specs.World.{statement_at}
 use Rattle.pct_model.proofs.StaticFacts.{passes_all}
 use Rattle.pct_transition_cases.proofs.PlacedStatements.{IsPlaced, nowhere, on_top}
 use Rattle.pct_ending_laws.proofs.lift.KeyedLists.{item_passes}

@@ -1,27 +1,13 @@
 -- After every run, the functions that are registered with atexit and with pthread_atfork in a process are plain functions of the script.
-use Rattle.std.proofs.Common.{◌≡◌, ℕ, true, List, [], ◌∷◌, ◌++◌, All, slice_get, Option, Some, None, option_map, refl, sym, ap, subst}
+use Rattle.pct_names.proofs.Names.{◌++◌, [], All, All-nil, All-push, AllByRecursion, ap, body_at, changed, child_of, Config, Entry}
+use Rattle.pct_names.proofs.Names.{for_each, ForkAt, ForkHandlers, get_or_from_slice_get, handler_at, handler_for, HandlerCall}
+use Rattle.pct_names.proofs.Names.{handlers_among, indexes_left, List, next_handler, next_of, NextStatement, None, none-some, Option}
+use Rattle.pct_names.proofs.Names.{option_and_then_some, option_map, Others, others_of, Parent, Phase, Prepare, Process, refl, same_Some}
+use Rattle.pct_names.proofs.Names.{Script, shared_after, SharedState, slice_get, slice_get_within, Some, Status, Stmt, subst, sym, Thread}
+use Rattle.pct_names.proofs.Names.{Transition, transition_by, true, without_first, World, ℕ, ◌∷◌, ◌≡◌}
 use Rattle.std.specs.Prelude.{option_to_list}
-use Rattle.std.specs.List.{AllByRecursion}
-use Rattle.std.proofs.lemmas.List.Elements.{All-nil, All-push}
-use Rattle.std.proofs.lemmas.Option.{none-some, same_Some, option_and_then_some, get_or_from_slice_get, slice_get_within}
-use Rattle.pct_model.specs.declared.process.ForkHandlers.{ForkHandlers}
-use Rattle.pct_model.specs.declared.process.HandlerCall.{HandlerCall}
-use Rattle.pct_model.specs.declared.schedule.Config.{Config}
-use Rattle.pct_model.specs.declared.schedule.Entry.{Entry}
-use Rattle.pct_model.specs.declared.script.Script.{Script}
-use Rattle.pct_model.specs.declared.state.ForkAt.{ForkAt}
-use Rattle.pct_model.specs.declared.state.Phase.{Phase}
-use Rattle.pct_model.specs.declared.state.Phase.TheVariants.{Prepare, Parent, Child}
-use Rattle.pct_model.specs.declared.state.Status.{Status}
-use Rattle.pct_model.specs.declared.statement.Stmt.{Stmt}
-use Rattle.pct_model.specs.declared.transition.Transition.{Transition}
-use Rattle.pct_model.specs.Actions.{without_first, shared_after, for_each, child_of, changed}
-use Rattle.pct_model.specs.ForkCalls.{handler_for, handler_at, handlers_among, indexes_left, next_handler}
+use Rattle.pct_model.specs.declared.state.Phase.TheVariants.{Child}
 use Rattle.pct_laws.specs.Kept.{IsPlainFunction, IsPlainIfSome, ArePlainHandlers}
-use Rattle.pct_model.specs.NextStatement.{NextStatement, next_of, body_at}
-use Rattle.pct_model.specs.OtherThreads.{Others, others_of}
-use Rattle.pct_model.specs.TransitionTable.{transition_by}
-use Rattle.pct_model.specs.World.{Thread, SharedState, Process, World}
 use Rattle.pct_transition_cases.proofs.CaseOfTransition.{case_of}
 use Rattle.pct_transition_cases.proofs.PlacedStatements.{IsPlaced, is_placed, statement_placed}
 use Rattle.pct_transition_cases.proofs.TransitionCases.{TransitionCase, fork_registered, exit_registered, exit_function_called}

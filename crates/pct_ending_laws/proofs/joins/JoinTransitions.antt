@@ -1,28 +1,13 @@
 -- What each transition does with the threads that it names, by the tables: at most one action names a thread, which holds its slot,
 -- and an event reports it.
-use Rattle.std.proofs.Common.{◌≡◌, ℕ, suc, Bool, true, false, not, List, [], ◌∷◌, reverse, nat_eq, Some, None, refl}
-use Rattle.std.specs.List.{list_all}
-use Rattle.std.proofs.lemmas.Bool.{false≢true}
-use Rattle.pct_model.specs.declared.event.What.{What}
+use Rattle.pct_names.proofs.Names.{[], Action, acts_on_request, Alt, begins_join, body_at, Bool, choices_of, Config, creates, Dest}
+use Rattle.pct_names.proofs.Names.{detaches, ends_join, false, false≢true, is_ended_status, is_joined_by_one, List, list_all, nat_eq}
+use Rattle.pct_names.proofs.Names.{next_of, NextStatement, None, not, offers, others_of, Process, refl, requests, reverse, Script}
+use Rattle.pct_names.proofs.Names.{SharedState, Some, Status, Stmt, suc, Thread, Transition, transition_by, true, value_of, What, with_id}
+use Rattle.pct_names.proofs.Names.{World, ℕ, ◌∷◌, ◌≡◌}
 use Rattle.pct_model.specs.declared.event.What.TheVariants as what
-use Rattle.pct_model.specs.declared.schedule.Alt.{Alt}
-use Rattle.pct_model.specs.declared.schedule.Config.{Config}
-use Rattle.pct_model.specs.declared.script.Script.{Script}
-use Rattle.pct_model.specs.declared.state.Status.{Status}
 use Rattle.pct_model.specs.declared.state.Status.TheVariants as status
-use Rattle.pct_model.specs.declared.statement.Dest.{Dest}
-use Rattle.pct_model.specs.declared.statement.Stmt.{Stmt}
-use Rattle.pct_model.specs.declared.transition.Action.{Action}
 use Rattle.pct_model.specs.declared.transition.Action.TheVariants as action
-use Rattle.pct_model.specs.declared.transition.Transition.{Transition}
-use Rattle.pct_model.specs.CancelCalls.{requests, acts_on_request}
-use Rattle.pct_model.specs.ChoiceTable.{choices_of, offers}
-use Rattle.pct_model.specs.NextStatement.{NextStatement, next_of, body_at}
-use Rattle.pct_model.specs.OtherThreads.{is_joined_by_one, others_of}
-use Rattle.pct_model.specs.ThreadCalls.{creates, begins_join, ends_join, detaches}
-use Rattle.pct_model.specs.ThreadSlots.{is_ended_status, with_id}
-use Rattle.pct_model.specs.TransitionTable.{transition_by}
-use Rattle.pct_model.specs.World.{Thread, SharedState, Process, World, value_of}
 use Rattle.pct_transition_cases.proofs.CaseOfTransition.{case_of}
 use Rattle.pct_transition_cases.proofs.OfferedChoices.{offered_alive, offered_of}
 use Rattle.pct_transition_cases.proofs.TransitionCases.{TransitionCase, rests, thread_made, join_begun, join_ended, thread_detached, request_sent, canceled_in_join, fork_handler_called}

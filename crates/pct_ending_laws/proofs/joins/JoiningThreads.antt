@@ -1,23 +1,15 @@
 -- Each thread that is suspended in pthread_join joins another thread of its process, which is neither joined nor detached, and it is
 -- the only one that joins it.
+use Rattle.pct_names.proofs.Names.{◌&&◌, and_parts, any_passes_from_place, ap, Bool, changed, child_of, cond, cond_some, Config, Entry}
+use Rattle.pct_names.proofs.Names.{eqb-false, false, false_from_ne_true, false≢true, find, first_process, holds_slot, in_child, inl, inr}
+use Rattle.pct_names.proofs.Names.{is_ended_status, is_joined_by_one, is_joining, is_live_thread, List, moved, named_after, nat_eq, not}
+use Rattle.pct_names.proofs.Names.{Option, option_map, option_or, or_cases, or_parts, position_or_len, Process, refl, same_Some, Script}
+use Rattle.pct_names.proofs.Names.{Some, Status, subst, sym, Thread, thread_created, thread_moved, Transition, transition_by, true, World}
+use Rattle.pct_names.proofs.Names.{◌||◌, ℕ, ◌∙◌, ◌≡◌, ◌≢◌}
 use mathlib.Core.Bool.{or-false}
-use Rattle.std.proofs.Common.{◌≡◌, ◌≢◌, ℕ, Bool, true, false, not, ◌&&◌, ◌||◌, cond, List, find, nat_eq, Option, Some, option_map, inl, inr, refl, sym, ap, ◌∙◌, subst, eqb-true, eq-eqb}
-use Rattle.std.specs.List.{position_or_len}
-use Rattle.std.specs.Option.{option_or}
-use Rattle.std.proofs.lemmas.Bool.{false≢true, true≢false, and_parts, or_cases, or_parts, eqb-false, false_from_ne_true}
-use Rattle.std.proofs.lemmas.Map.Keys.{any_passes_from_place}
-use Rattle.std.proofs.lemmas.Option.{same_Some, cond_some}
-use Rattle.pct_model.specs.declared.script.Script.{Script}
-use Rattle.pct_model.specs.declared.schedule.Config.{Config}
-use Rattle.pct_model.specs.declared.schedule.Entry.{Entry}
-use Rattle.pct_model.specs.declared.state.Status.{Status}
+use Rattle.std.proofs.Common.{eqb-true, eq-eqb}
+use Rattle.std.proofs.lemmas.Bool.{true≢false}
 use Rattle.pct_model.specs.declared.state.Status.TheVariants as status
-use Rattle.pct_model.specs.declared.transition.Transition.{Transition}
-use Rattle.pct_model.specs.Actions.{named_after, in_child, moved, thread_moved, thread_created, changed, child_of}
-use Rattle.pct_model.specs.OtherThreads.{is_joining, is_joined_by_one}
-use Rattle.pct_model.specs.ThreadSlots.{is_ended_status, holds_slot, is_live_thread}
-use Rattle.pct_model.specs.TransitionTable.{transition_by}
-use Rattle.pct_model.specs.World.{Thread, Process, World, first_process}
 use Rattle.pct_ending_laws.proofs.lift.KeyedLists.{found_at, found_passes}
 use Rattle.pct_ending_laws.proofs.lift.TakenSteps.{AfterEveryRun}
 use Rattle.pct_ending_laws.proofs.lift.ChangedThreads.{all_keep, settled, same_settled, named_keeps, other_threads}

@@ -1,32 +1,20 @@
 -- The law of joins holds of the events of every run.
-use Rattle.std.proofs.Common.{◌≡◌, ℕ, Bool, true, false, not, ◌&&◌, ◌||◌, List, ◌∷◌, ◌++◌, map, reverse, nat_eq, Option, Some, option_and_then, refl, sym, ap, ◌∙◌, eq-eqb}
-use Rattle.std.specs.List.{list_all}
-use Rattle.std.specs.Option.{option_map_or}
-use Rattle.std.proofs.lemmas.Bool.{false≢true, true≢false, and_from, true_from_ne_false, false_from_ne_true}
-use Rattle.std.proofs.lemmas.Option.{same_Some}
-use Rattle.pct_model.specs.declared.script.Script.{Script}
-use Rattle.pct_model.specs.declared.schedule.Config.{Config}
-use Rattle.pct_model.specs.declared.schedule.Entry.{Entry}
-use Rattle.pct_model.specs.declared.event.What.{What}
+use Rattle.pct_names.proofs.Names.{◌&&◌, ◌++◌, and_from, ap, Bool, Config, Entry, event_of, false, false_from_ne_true, false≢true}
+use Rattle.pct_names.proofs.Names.{is_ended_status, join_point, List, list_all, made_process, made_thread, map, nat_eq, NextStatement, not}
+use Rattle.pct_names.proofs.Names.{Option, option_and_then, option_map_or, others_of, Process, refl, reverse, Run, run, same_Some, Script}
+use Rattle.pct_names.proofs.Names.{Some, Status, Stmt, sym, Thread, thread_with, Transition, transition_by, true, true_from_ne_false}
+use Rattle.pct_names.proofs.Names.{value_of, What, with_id, ◌||◌, ℕ, ◌∙◌, ◌∷◌, ◌≡◌}
+use Rattle.std.proofs.Common.{eq-eqb}
+use Rattle.std.proofs.lemmas.Bool.{true≢false}
 use Rattle.pct_model.specs.declared.event.What.TheVariants as what
-use Rattle.pct_model.specs.declared.state.Status.{Status}
 use Rattle.pct_model.specs.declared.state.Status.TheVariants as status
-use Rattle.pct_model.specs.declared.statement.Stmt.{Stmt}
-use Rattle.pct_model.specs.NextStatement.{NextStatement}
-use Rattle.pct_model.specs.OtherThreads.{others_of}
 use Rattle.pct_transition_cases.proofs.TransitionCases.{TransitionCase, join_ended, thread_detached, request_sent, fork_handler_called}
-use Rattle.pct_model.specs.declared.transition.Transition.{Transition}
 use Rattle.pct_laws.specs.Each.{each}
 use Rattle.pct_laws.specs.JoinLaw.{is_live, may_name, allows}
 use Rattle.pct_laws.specs.NewestEvents.{calls_point}
 use Rattle.pct_laws.specs.Kept.{ThreadKept}
 use Rattle.pct_laws.specs.KnownThreads.{is_joined, is_detached}
-use Rattle.pct_model.specs.World.{made_process, thread_with, made_thread, Thread, Process, value_of}
-use Rattle.pct_model.specs.Run.{Run, event_of, run}
-use Rattle.pct_model.specs.ThreadCalls.{join_point}
-use Rattle.pct_model.specs.ThreadSlots.{is_ended_status, with_id}
 use Rattle.pct_laws.specs.ThreadSummary.{ThreadSummary, summary_of}
-use Rattle.pct_model.specs.TransitionTable.{transition_by}
 use Rattle.pct_ending_laws.proofs.ThreadsOfRun.{threads_fit, threads_kept}
 use Rattle.pct_ending_laws.proofs.LastThreads.{last_exits}
 use Rattle.pct_ending_laws.proofs.lift.HandlerEvents.{of_each_phase}

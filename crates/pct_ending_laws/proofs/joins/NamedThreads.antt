@@ -1,25 +1,16 @@
 -- A thread of a process after a transition of one of them: whether it is joined and detached, by the action that names a thread.
+use Rattle.pct_names.proofs.Names.{◌&&◌, [], Action, acts_on_request, and_parts, ap, begins_join, Bool, cond, creates, detaches, ends_join}
+use Rattle.pct_names.proofs.Names.{eqb-false, false, false≢true, for_each, holds_slot, is_ended_status, is_live_thread, is_waiting_on, List}
+use Rattle.pct_names.proofs.Names.{list_all, list_any, moved, named_after, nat_eq, NewThread, not, Option, option_map_or, or_from, Process}
+use Rattle.pct_names.proofs.Names.{refl, requests, reverse, Some, Status, sym, Thread, thread_after, thread_at, thread_moved, thread_with}
+use Rattle.pct_names.proofs.Names.{Transition, true, unblocked, What, with_id, ◌||◌, ℕ, ◌∙◌, ◌∷◌, ◌≡◌}
 use mathlib.Core.Bool.{or-false}
-use Rattle.std.proofs.Common.{◌≡◌, ℕ, Bool, true, false, not, ◌||◌, ◌&&◌, cond, List, [], ◌∷◌, reverse, nat_eq, Option, Some, refl, sym, ap, ◌∙◌, ne_eqb, eqb-true, eq-eqb}
-use Rattle.std.specs.List.{list_all, list_any}
-use Rattle.std.specs.Option.{option_map_or}
-use Rattle.std.proofs.lemmas.Bool.{false≢true, and_parts, eqb-false, or_from}
-use Rattle.pct_model.specs.declared.event.What.{What}
+use Rattle.std.proofs.Common.{ne_eqb, eqb-true, eq-eqb}
 use Rattle.pct_model.specs.declared.event.What.TheVariants as what
 use Rattle.pct_model.specs.declared.state.Cause.TheVariants as cause
-use Rattle.pct_model.specs.declared.state.Status.{Status}
 use Rattle.pct_model.specs.declared.state.Status.TheVariants as status
-use Rattle.pct_model.specs.declared.transition.Action.{Action}
 use Rattle.pct_model.specs.declared.transition.Action.TheVariants as action
-use Rattle.pct_model.specs.declared.transition.NewThread.{NewThread}
-use Rattle.pct_model.specs.declared.transition.Transition.{Transition}
-use Rattle.pct_model.specs.Actions.{thread_at, thread_after, named_after, for_each, moved, thread_moved}
-use Rattle.pct_model.specs.CancelCalls.{requests, acts_on_request}
-use Rattle.pct_model.specs.CondCalls.{is_waiting_on, unblocked}
 use Rattle.pct_laws.specs.KnownThreads.{detaches_id, joins_id}
-use Rattle.pct_model.specs.ThreadCalls.{creates, begins_join, ends_join, detaches}
-use Rattle.pct_model.specs.ThreadSlots.{is_ended_status, holds_slot, is_live_thread, with_id}
-use Rattle.pct_model.specs.World.{Thread, Process, thread_with}
 use Rattle.pct_ending_laws.proofs.lift.KeyedLists.{AreDistinct}
 use Rattle.pct_ending_laws.proofs.lift.ThreadIds.{ids_of}
 use Rattle.pct_ending_laws.proofs.lift.ChangedThreads.{either_keeps, all_keep_if, flags, moved_flags}

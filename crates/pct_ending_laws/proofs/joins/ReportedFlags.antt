@@ -1,25 +1,13 @@
 -- A thread that was made, and that its process inherited, is known, and it is joined or detached exactly if the events report so.
-use mathlib.Core.Bool.{and-true, and-false, or-false, or_assoc, and_comm}
+use Rattle.pct_names.proofs.Names.{◌&&◌, [], Action, and_comm, and_right, ap, ap₂, Bool, changed, cond, Config, Entry, Event, event_of}
+use Rattle.pct_names.proofs.Names.{false, false_from_ne_true, false≢true, find, holds_slot, List, list_any, made_process, made_thread, map}
+use Rattle.pct_names.proofs.Names.{nat_eq, NewThread, None, none-some, not, Option, option_and_then, option_map_or, or_left, or_right}
+use Rattle.pct_names.proofs.Names.{Process, refl, replica_of, reverse, Run, run, same_Some, Script, Some, subst, sym, Thread, thread_moved}
+use Rattle.pct_names.proofs.Names.{thread_with, Transition, transition_by, true, What, World, ◌||◌, ℕ, ◌∙◌, ◌∷◌, ◌≡◌}
+use mathlib.Core.Bool.{and-true, and-false, or-false, or_assoc}
 use mathlib.Core.Path.{fun_ext}
-use Rattle.std.proofs.Common.{◌≡◌, ℕ, Bool, true, false, not, ◌&&◌, ◌||◌, cond, List, [], ◌∷◌, map, reverse, find, nat_eq, Option, Some, None, option_and_then, refl, sym, ap, ap₂, ◌∙◌, subst, eqb-true}
-use Rattle.std.specs.List.{list_any}
-use Rattle.std.specs.Option.{option_map_or}
-use Rattle.std.proofs.lemmas.Bool.{false≢true, or_left, or_right, and_right, false_from_ne_true}
-use Rattle.std.proofs.lemmas.Option.{none-some, same_Some}
-use Rattle.pct_model.specs.declared.script.Script.{Script}
-use Rattle.pct_model.specs.declared.schedule.Config.{Config}
-use Rattle.pct_model.specs.declared.schedule.Entry.{Entry}
-use Rattle.pct_model.specs.declared.event.Event.{Event}
-use Rattle.pct_model.specs.declared.event.What.{What}
-use Rattle.pct_model.specs.declared.transition.Action.{Action}
-use Rattle.pct_model.specs.declared.transition.NewThread.{NewThread}
-use Rattle.pct_model.specs.declared.transition.Transition.{Transition}
-use Rattle.pct_model.specs.World.{Thread, Process, World, made_process, thread_with, made_thread}
-use Rattle.pct_model.specs.TransitionTable.{transition_by}
-use Rattle.pct_model.specs.Actions.{replica_of, thread_moved, changed}
-use Rattle.pct_model.specs.Run.{Run, event_of, run}
+use Rattle.std.proofs.Common.{eqb-true}
 use Rattle.pct_laws.specs.KnownThreads.{makes_process, is_in, is_fork_of, creates_id, is_known, detaches_id, is_detached, joins_id, is_joined}
-use Rattle.pct_model.specs.ThreadSlots.{holds_slot}
 use Rattle.pct_ending_laws.proofs.lift.KeyedLists.{found_passes}
 use Rattle.pct_ending_laws.proofs.lift.TakenSteps.{AfterEveryRun}
 use Rattle.pct_ending_laws.proofs.lift.CreatedThreads.{reports_created}

@@ -1,16 +1,10 @@
 -- A thread that is suspended in pthread_join after its transition was so before, or begins to join in it.
-use Rattle.std.proofs.Common.{◌≡◌, ℕ, true, false, List, [], ◌∷◌, Option, Some, None, refl, sym, ap, ◌∙◌}
-use Rattle.std.specs.List.{list_all}
-use Rattle.std.proofs.lemmas.Bool.{false≢true, true≢false, and_parts, not-true}
-use Rattle.pct_model.specs.declared.state.Status.{Status}
+use Rattle.pct_names.proofs.Names.{[], Action, acts_on_request, and_parts, ap, begins_join, creates, detaches, ends_join, false, false≢true}
+use Rattle.pct_names.proofs.Names.{for_each, List, list_all, moved, None, not-true, Option, refl, requests, Some, Status, sym, Thread}
+use Rattle.pct_names.proofs.Names.{thread_after, thread_at, Transition, true, ℕ, ◌∙◌, ◌∷◌, ◌≡◌}
+use Rattle.std.proofs.lemmas.Bool.{true≢false}
 use Rattle.pct_model.specs.declared.state.Status.TheVariants as status
-use Rattle.pct_model.specs.declared.transition.Action.{Action}
 use Rattle.pct_model.specs.declared.transition.Action.TheVariants as action
-use Rattle.pct_model.specs.declared.transition.Transition.{Transition}
-use Rattle.pct_model.specs.Actions.{thread_at, thread_after, for_each, moved}
-use Rattle.pct_model.specs.CancelCalls.{requests, acts_on_request}
-use Rattle.pct_model.specs.ThreadCalls.{creates, begins_join, ends_join, detaches}
-use Rattle.pct_model.specs.World.{Thread}
 use Rattle.pct_ending_laws.proofs.joins.JoinTransitions.{is_in_join, is_quiet, MayJoin, Kind, quiet, begins}
 use Rattle.pct_ending_laws.proofs.joins.NamedThreads.{releases, naming}
 

@@ -1,17 +1,13 @@
 -- An action keeps what is kept of keys, and that the data of a thread are empty at each place without a key.
-use Rattle.std.proofs.Common.{◌≡◌, ℕ, zero, suc, ◌+◌, ◌*◌, ◌<◌, Bool, true, false, not, cond, List, [], ◌∷◌, length, nat_eq, get_or, set, get_or-set_other, length-set, slice_get, is_none, Option, Some, None, option_and_then, ◌⊎◌, inl, inr, refl, sym, ap, ◌∙◌, subst, arith}
-use Rattle.std.specs.List.{list_any}
-use Rattle.std.specs.Option.{option_map_or}
+use Rattle.pct_names.proofs.Names.{◌*◌, ◌+◌, ◌<◌, [], Action, ap, arith, Bool, cond, false, false≢true, get_or, inl, inr, is_none, Key}
+use Rattle.pct_names.proofs.Names.{key_at, key_place, KeyPlace, KeyValues, length, length-replicate, List, list_any, MAX_KEYS, nat_eq}
+use Rattle.pct_names.proofs.Names.{new_keys, next_key, no_keys, no_values, None, none-some, not, Option, option_and_then}
+use Rattle.pct_names.proofs.Names.{option_and_then_some, option_map_or, refl, same_Some, Script, set, slice_get, Some, subst, suc, sym}
+use Rattle.pct_names.proofs.Names.{true, value_at, with_key, with_pass, with_value, without_key, without_value, zero, ℕ, ◌∙◌, ◌∷◌, ◌≡◌, ◌⊎◌}
+use Rattle.std.proofs.Common.{get_or-set_other, length-set}
 use Rattle.std.proofs.Math.ListN.{get_or-map}
-use Rattle.std.proofs.lemmas.Bool.{false≢true}
-use Rattle.std.proofs.lemmas.List.{length-replicate}
-use Rattle.std.proofs.lemmas.Option.{none-some, same_Some, option_and_then_some}
-use Rattle.pct_model.specs.declared.limits.TheConstants.{MAX_KEYS}
-use Rattle.pct_model.specs.declared.script.Script.{Script}
-use Rattle.pct_model.specs.declared.transition.Action.{Action}
 use Rattle.pct_model.specs.declared.transition.Action.TheVariants as action
 use Rattle.pct_laws.specs.Kept.{KeysKept, IsLastMade}
-use Rattle.pct_model.specs.Keys.{Key, KeyPlace, no_keys, KeyValues, no_values, key_place, key_at, next_key, new_keys, with_key, without_key, value_at, with_value, without_value, with_pass}
 use Rattle.pct_ending_laws.proofs.lift.OfferedNumbers.{IsNumberOf, new_key_of}
 use Rattle.pct_ending_laws.proofs.keys.KeyPlaces.{default_set, default_stays, default_of_replicate, item_of_replicate, item_set, place_of_next}
 use Rattle.pct_ending_laws.proofs.keys.KeyActions.{MayChange}

@@ -1,26 +1,12 @@
 -- What each transition does with keys, by the tables: only its first action may make or delete a key, set a value of a key, or begin or
 -- change a pass.
-use Rattle.std.proofs.Common.{◌≡◌, ℕ, ◌<◌, Bool, true, false, List, [], ◌∷◌, length, nat_eq, is_none, Option, Some, None, refl, subst}
-use Rattle.std.specs.List.{list_all, list_any}
-use Rattle.std.proofs.lemmas.Option.{none-some, same_Some}
-use Rattle.pct_model.specs.declared.frame.Frame.{Frame}
-use Rattle.pct_model.specs.declared.schedule.Alt.{Alt}
-use Rattle.pct_model.specs.declared.schedule.Config.{Config}
-use Rattle.pct_model.specs.declared.script.Script.{Script}
-use Rattle.pct_model.specs.declared.state.Status.{Status}
-use Rattle.pct_model.specs.declared.statement.Dest.{Dest}
-use Rattle.pct_model.specs.declared.statement.Stmt.{Stmt}
+use Rattle.pct_names.proofs.Names.{◌<◌, [], Action, Alt, body_at, Bool, choices_of, Config, Dest, false, Frame, if_number, is_none, Key}
+use Rattle.pct_names.proofs.Names.{key_at, key_place, key_with, KeyPlace, length, List, list_all, list_any, nat_eq, new_keys, next_of}
+use Rattle.pct_names.proofs.Names.{NextStatement, None, none-some, offers, Option, Others, others_of, Process, refl, same_Some, Script}
+use Rattle.pct_names.proofs.Names.{SharedState, Some, statement_at, Status, Stmt, subst, Thread, Transition, transition_by, true, value_of}
+use Rattle.pct_names.proofs.Names.{without_first, World, ℕ, ◌∷◌, ◌≡◌}
 use Rattle.pct_model.specs.declared.statement.Stmt.TheVariants as statement
-use Rattle.pct_model.specs.declared.transition.Action.{Action}
 use Rattle.pct_model.specs.declared.transition.Action.TheVariants as action
-use Rattle.pct_model.specs.declared.transition.Transition.{Transition}
-use Rattle.pct_model.specs.Actions.{without_first}
-use Rattle.pct_model.specs.ChoiceTable.{choices_of, offers}
-use Rattle.pct_model.specs.Keys.{Key, KeyPlace, key_place, key_at, if_number, key_with, new_keys}
-use Rattle.pct_model.specs.NextStatement.{NextStatement, next_of, body_at}
-use Rattle.pct_model.specs.OtherThreads.{Others, others_of}
-use Rattle.pct_model.specs.TransitionTable.{transition_by}
-use Rattle.pct_model.specs.World.{Thread, SharedState, Process, World, statement_at, value_of}
 use Rattle.pct_transition_cases.proofs.CaseOfTransition.{case_of}
 use Rattle.pct_transition_cases.proofs.PlacedStatements.{IsPlaced, is_placed, statement_placed}
 use Rattle.pct_transition_cases.proofs.TransitionCases.{TransitionCase, key_made, specific_set}

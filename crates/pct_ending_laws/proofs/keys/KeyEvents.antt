@@ -1,31 +1,20 @@
 -- After every run the keys of a process are those that its events report, and a destructor is called with a value that is not NULL, for a
 -- key that was made and not deleted.
+use Rattle.pct_names.proofs.Names.{◌&&◌, ◌+◌, ◌++◌, ◌<◌, [], and_from, ap, arith, body_at, Bool, changed, child_of, cond, Config, Entry}
+use Rattle.pct_names.proofs.Names.{eqb-false, Event, event_of, false, false≢true, for_each, if_number, is_none, is_some, Key, key_at}
+use Rattle.pct_names.proofs.Names.{key_place, key_with, KeyPlace, length, List, list_any, map, MAX_KEYS, nat_eq, new_keys, next_key}
+use Rattle.pct_names.proofs.Names.{next_of, NextStatement, no_keys, None, none-some, not, Option, option_and_then, option_map_or, Others}
+use Rattle.pct_names.proofs.Names.{others_of, Process, refl, replicate, reverse, Script, set, shared_after, SharedState, slice_get}
+use Rattle.pct_names.proofs.Names.{slice_get-get_or, slice_get_within, Some, Status, Stmt, subst, suc, sym, Thread, Transition}
+use Rattle.pct_names.proofs.Names.{transition_by, true, value_at, value_of, What, with_key, without_key, World, zero, ◌||◌, ℕ, ◌∙◌, ◌∷◌}
+use Rattle.pct_names.proofs.Names.{◌≡◌, ◌≢◌}
 use mathlib.Core.Bool.{or-false}
-use Rattle.std.proofs.Common.{◌≡◌, ◌≢◌, ℕ, zero, suc, ◌+◌, ◌<◌, Bool, true, false, not, ◌&&◌, ◌||◌, cond, List, [], ◌∷◌, ◌++◌, length, map, reverse, nat_eq, set, replicate, slice_get, is_none, is_some, Option, Some, None, option_and_then, refl, sym, ap, ◌∙◌, subst, eqb-true, ne_eqb, arith}
-use Rattle.std.specs.List.{list_any}
-use Rattle.std.specs.Option.{option_map_or}
-use Rattle.std.proofs.lemmas.Bool.{true≢false, false≢true, and_from, eqb-false, eq-eqb}
-use Rattle.std.proofs.lemmas.Option.{none-some, slice_get-get_or, slice_get_within}
-use Rattle.pct_model.specs.declared.event.Event.{Event}
-use Rattle.pct_model.specs.declared.event.What.{What}
-use Rattle.pct_model.specs.declared.limits.TheConstants.{MAX_KEYS}
-use Rattle.pct_model.specs.declared.schedule.Config.{Config}
-use Rattle.pct_model.specs.declared.schedule.Entry.{Entry}
-use Rattle.pct_model.specs.declared.script.Script.{Script}
-use Rattle.pct_model.specs.declared.state.Status.{Status}
-use Rattle.pct_model.specs.declared.statement.Stmt.{Stmt}
-use Rattle.pct_model.specs.declared.transition.Transition.{Transition}
-use Rattle.pct_model.specs.Actions.{shared_after, for_each, child_of, changed}
+use Rattle.std.proofs.Common.{eqb-true, ne_eqb}
+use Rattle.std.proofs.lemmas.Bool.{true≢false, eq-eqb}
 use Rattle.pct_laws.specs.Each.{each}
 use Rattle.pct_laws.specs.KeysLaw.{allows}
 use Rattle.pct_laws.specs.Kept.{EachProcess, KeysKept}
 use Rattle.pct_laws.specs.KeyEvents.{key_after, has_key}
-use Rattle.pct_model.specs.Keys.{Key, KeyPlace, no_keys, key_place, key_at, next_key, if_number, key_with, new_keys, with_key, without_key, value_at}
-use Rattle.pct_model.specs.NextStatement.{NextStatement, next_of, body_at}
-use Rattle.pct_model.specs.OtherThreads.{Others, others_of}
-use Rattle.pct_model.specs.Run.{event_of}
-use Rattle.pct_model.specs.TransitionTable.{transition_by}
-use Rattle.pct_model.specs.World.{Thread, SharedState, Process, World, value_of}
 use Rattle.pct_transition_cases.proofs.CaseOfTransition.{case_of}
 use Rattle.pct_transition_cases.proofs.TransitionCases.{TransitionCase, fork_handler_called, key_made, key_deleted, destructor_called}
 use Rattle.pct_ending_laws.proofs.keys.KeyPlaces.{place_of_next}

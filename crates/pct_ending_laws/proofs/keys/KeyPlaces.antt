@@ -1,9 +1,6 @@
 -- Lists by place: a change of one place, and the place of a key.
-use Rattle.std.proofs.Common.{◌≡◌, ℕ, zero, suc, ◌+◌, ◌-◌, ◌*◌, ◌%◌, ◌<◌, List, [], ◌∷◌, get_or, set, replicate, slice_get, Some, ◌⊎◌, inl, inr, refl, ap, ◌∙◌, arith}
-use Rattle.std.proofs.lemmas.Nat.{mod-mul-add}
-use Rattle.std.proofs.lemmas.Option.{none-some, same_Some}
-use Rattle.pct_model.specs.declared.limits.TheConstants.{MAX_KEYS}
-use Rattle.pct_model.specs.Keys.{key_place}
+use Rattle.pct_names.proofs.Names.{◌%◌, ◌*◌, ◌+◌, ◌-◌, ◌<◌, [], ap, arith, get_or, inl, inr, key_place, List, MAX_KEYS, mod-mul-add}
+use Rattle.pct_names.proofs.Names.{none-some, refl, replicate, same_Some, set, slice_get, Some, suc, zero, ℕ, ◌∙◌, ◌∷◌, ◌≡◌, ◌⊎◌}
 
 -- ---- a change of one place
 

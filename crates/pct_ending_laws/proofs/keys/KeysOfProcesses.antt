@@ -1,24 +1,13 @@
 -- After every run, what is kept of keys holds of the keys of each process, and the data of its threads are empty at each place without a
 -- key.
-use Rattle.std.proofs.Common.{◌≡◌, ℕ, Bool, true, false, not, ◌&&◌, cond, List, [], ◌∷◌, find, nat_eq, Some, refl, sym, ap, ◌∙◌, subst}
-use Rattle.std.specs.List.{list_all}
-use Rattle.std.proofs.lemmas.Bool.{false≢true}
-use Rattle.std.proofs.lemmas.Option.{cond_some}
-use Rattle.pct_model.specs.declared.limits.TheConstants.{MAX_KEYS}
-use Rattle.pct_model.specs.declared.script.Script.{Script}
-use Rattle.pct_model.specs.declared.schedule.Config.{Config}
-use Rattle.pct_model.specs.declared.schedule.Entry.{Entry}
+use Rattle.pct_names.proofs.Names.{◌&&◌, [], Action, ap, Bool, changed, child_of, cond, cond_some, Config, Entry, false, false≢true, find}
+use Rattle.pct_names.proofs.Names.{first_process, for_each, is_live_thread, is_waiting_on, KeyPlace, KeyValues, List, list_all, MAX_KEYS}
+use Rattle.pct_names.proofs.Names.{moved, named_after, nat_eq, not, Process, refl, Script, shared_after, SharedState, Some, subst, sym}
+use Rattle.pct_names.proofs.Names.{Thread, thread_after, thread_at, thread_moved, thread_with, Transition, transition_by, true, unblocked}
+use Rattle.pct_names.proofs.Names.{without_first, World, ℕ, ◌∙◌, ◌∷◌, ◌≡◌}
 use Rattle.pct_model.specs.declared.state.Cause.TheVariants as cause
-use Rattle.pct_model.specs.declared.transition.Action.{Action}
 use Rattle.pct_model.specs.declared.transition.Action.TheVariants as action
-use Rattle.pct_model.specs.declared.transition.Transition.{Transition}
-use Rattle.pct_model.specs.Actions.{without_first, thread_at, thread_after, named_after, shared_after, for_each, child_of, moved, thread_moved, changed}
-use Rattle.pct_model.specs.CondCalls.{is_waiting_on, unblocked}
 use Rattle.pct_laws.specs.Kept.{KeysKept}
-use Rattle.pct_model.specs.Keys.{KeyPlace, KeyValues}
-use Rattle.pct_model.specs.ThreadSlots.{is_live_thread}
-use Rattle.pct_model.specs.TransitionTable.{transition_by}
-use Rattle.pct_model.specs.World.{Thread, SharedState, Process, World, first_process, thread_with}
 use Rattle.pct_ending_laws.proofs.lift.ChangedThreads.{either_keeps, all_keep_if, going_on_keeps, changed_shared, other_threads, other_shared}
 use Rattle.pct_ending_laws.proofs.lift.TakenSteps.{AfterEveryRun}
 use Rattle.pct_ending_laws.proofs.lift.MadeThreads.{IsLive}

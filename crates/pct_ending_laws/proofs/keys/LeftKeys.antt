@@ -1,12 +1,9 @@
 -- A key that is left in the pass of a thread: its place, which is in the pass, and its destructor.
-use Rattle.std.proofs.Common.{◌≡◌, ℕ, ◌<◌, Bool, true, false, not, cond, List, length, nat_eq, slice_get, is_some, Option, Some, None, refl, ap, ◌∙◌, subst}
-use Rattle.std.specs.Option.{option_map_or}
-use Rattle.std.proofs.lemmas.Bool.{false≢true, and_parts, not-true}
-use Rattle.std.proofs.lemmas.Option.{none-some, slice_get_within, get_or_from_slice_get, option_and_then_some}
-use Rattle.pct_model.specs.declared.limits.TheConstants.{MAX_KEYS}
-use Rattle.pct_model.specs.declared.script.Script.{Script}
+use Rattle.pct_names.proofs.Names.{◌<◌, and_parts, ap, Bool, cond, false, false≢true, get_or_from_slice_get, if_number, is_due, is_left}
+use Rattle.pct_names.proofs.Names.{is_some, Key, key_at, key_place, key_with, KeyPlace, KeyValues, length, List, MAX_KEYS, nat_eq, None}
+use Rattle.pct_names.proofs.Names.{none-some, not, not-true, number_at, Option, option_and_then_some, option_map_or, refl, Script}
+use Rattle.pct_names.proofs.Names.{slice_get, slice_get_within, Some, subst, true, value_at, ℕ, ◌∙◌, ◌≡◌}
 use Rattle.pct_laws.specs.Kept.{KeysKept, IsLastMade}
-use Rattle.pct_model.specs.Keys.{Key, KeyPlace, KeyValues, key_place, key_at, if_number, key_with, number_at, value_at, is_due, is_left}
 use Rattle.pct_ending_laws.proofs.lift.OfferedNumbers.{IsNumberOf}
 use Rattle.pct_ending_laws.proofs.keys.KeyPlaces.{place_of_last}
 use Rattle.pct_ending_laws.proofs.thread.Passes.{is_in}

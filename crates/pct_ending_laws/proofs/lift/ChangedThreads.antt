@@ -1,21 +1,13 @@
 -- What no transition changes: the numbers of processes and threads, and which threads a process did not inherit. And what no action of
 -- another thread changes: the status of a thread, unless it waits on a condition variable.
-use Rattle.std.proofs.Common.{◌≡◌, ℕ, Bool, true, false, not, ◌&&◌, cond, List, [], ◌∷◌, map, nat_eq, Option, Some, None, refl, sym, ap, ◌∙◌}
-use Rattle.std.specs.List.{list_all}
-use Rattle.std.proofs.lemmas.Bool.{and_parts}
-use Rattle.pct_model.specs.declared.frame.Frame.{Frame}
-use Rattle.pct_model.specs.declared.state.Cause.{Cause}
+use Rattle.pct_names.proofs.Names.{◌&&◌, [], Action, and_parts, ap, as_reaped, at_pc, Bool, Cause, changed, cond, false, for_each, Frame}
+use Rattle.pct_names.proofs.Names.{is_live_process, is_live_thread, is_waiting_on, key_place, KeyValues, List, list_all, map, moved}
+use Rattle.pct_names.proofs.Names.{named_after, nat_eq, None, not, Option, orphaned, other_process_after, Process, process_after}
+use Rattle.pct_names.proofs.Names.{process_moved, ProcessEnd, Reacquire, refl, Running, shared_after, SharedState, Some, Status, sym}
+use Rattle.pct_names.proofs.Names.{Thread, thread_after, thread_at, thread_moved, threads_moved, Transition, true, unblocked, Waiting}
+use Rattle.pct_names.proofs.Names.{without_value, ℕ, ◌∙◌, ◌∷◌, ◌≡◌}
 use Rattle.pct_model.specs.declared.state.Cause.TheVariants as cause
-use Rattle.pct_model.specs.declared.state.Status.{Status}
-use Rattle.pct_model.specs.declared.state.Status.TheVariants.{Running, Waiting, Reacquire}
-use Rattle.pct_model.specs.declared.transition.Action.{Action}
 use Rattle.pct_model.specs.declared.transition.Action.TheVariants as action
-use Rattle.pct_model.specs.declared.transition.Transition.{Transition}
-use Rattle.pct_model.specs.CondCalls.{is_waiting_on, unblocked}
-use Rattle.pct_model.specs.Keys.{KeyValues, key_place, without_value}
-use Rattle.pct_model.specs.World.{Thread, SharedState, ProcessEnd, Process}
-use Rattle.pct_model.specs.ThreadSlots.{is_live_thread}
-use Rattle.pct_model.specs.Actions.{at_pc, thread_at, thread_after, named_after, shared_after, process_after, orphaned, as_reaped, other_process_after, for_each, moved, thread_moved, threads_moved, changed, is_live_process, process_moved}
 
 -- ---- any change
 

@@ -1,17 +1,11 @@
 -- The process that a fork makes: it inherits its parent as that was before the step.
-use Rattle.std.proofs.Common.{◌≡◌, ℕ, Bool, true, false, not, ◌&&◌, ◌||◌, cond, List, [], ◌∷◌, ◌++◌, map, nat_eq, Some, None, refl, sym, ap, ap₂, ◌∙◌, subst, eqb-true}
-use Rattle.std.specs.List.{list_any, AllByRecursion}
-use Rattle.std.proofs.lemmas.Bool.{false≢true, and_parts, and_from, or_parts}
-use Rattle.std.proofs.lemmas.Option.{none-some, same_Some}
+use Rattle.pct_names.proofs.Names.{◌&&◌, ◌++◌, [], AllByRecursion, and_from, and_parts, ap, ap₂, Bool, changed, child_of, cond, false}
+use Rattle.pct_names.proofs.Names.{false≢true, Forking, forks_by, holds_slot, in_child, inherited, is_last, is_live_thread, List, list_any}
+use Rattle.pct_names.proofs.Names.{map, moved, named_after, nat_eq, None, none-some, not, or_parts, Process, process_after, refl}
+use Rattle.pct_names.proofs.Names.{replica_of, same_Some, shared_after, Some, Status, subst, sym, Thread, thread_after, thread_at}
+use Rattle.pct_names.proofs.Names.{thread_moved, Transition, true, was_reclaimed, with_id, World, ◌||◌, ℕ, ◌∙◌, ◌∷◌, ◌≡◌}
+use Rattle.std.proofs.Common.{eqb-true}
 use Rattle.pct_model.specs.declared.state.Phase.TheVariants.{Child}
-use Rattle.pct_model.specs.declared.state.Status.{Status}
-use Rattle.pct_model.specs.declared.state.Status.TheVariants.{Forking}
-use Rattle.pct_model.specs.declared.transition.Transition.{Transition}
-use Rattle.pct_model.specs.Actions.{thread_at, thread_after, named_after, shared_after, process_after, in_child, replica_of, inherited, child_of, moved, thread_moved, changed}
-use Rattle.pct_model.specs.ForkCalls.{forks_by}
-use Rattle.pct_model.specs.OtherThreads.{is_last}
-use Rattle.pct_model.specs.ThreadSlots.{was_reclaimed, holds_slot, is_live_thread, with_id}
-use Rattle.pct_model.specs.World.{Thread, Process, World}
 use Rattle.pct_ending_laws.proofs.lift.CreatedThreads.{Forks}
 use Rattle.pct_ending_laws.proofs.lift.KeyedLists.{AreDistinct}
 use Rattle.pct_ending_laws.proofs.lift.ThreadIds.{ids_of}

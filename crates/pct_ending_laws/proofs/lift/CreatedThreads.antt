@@ -1,33 +1,13 @@
 -- What each transition creates, by the tables: a process only as a thread forks, and a thread only with an id that is offered.
+use Rattle.pct_names.proofs.Names.{◌&&◌, ◌+◌, [], Alt, and_left, arith, body_at, Bool, child_by, choices_of, cond_some, Config, false}
+use Rattle.pct_names.proofs.Names.{family_among, filter, flat_map, Forking, forks_by, free_ids, IfSome, is_unreaped, length, List, list_any}
+use Rattle.pct_names.proofs.Names.{map, MAX_PROCESSES, nat_eq, nat_lt, NewThread, next_of, NextStatement, None, offers, Option}
+use Rattle.pct_names.proofs.Names.{option_map_or, Others, others_of, Prepare, Process, refl, Relative, relative_of, reverse, Script}
+use Rattle.pct_names.proofs.Names.{SharedState, Some, Status, Stmt, subst, suc, sym, Thread, Transition, transition_by, true, What, World}
+use Rattle.pct_names.proofs.Names.{◌||◌, ℕ, ◌∙◌, ◌∷◌, ◌≡◌, ◌≤◌}
 use mathlib.Core.Bool.{and-true, or-false}
-use Rattle.std.proofs.Common.{◌≡◌, ℕ, suc, ◌+◌, ◌≤◌, Bool, true, false, ◌&&◌, ◌||◌, List, [], ◌∷◌, length, flat_map, map, filter, reverse, nat_eq, nat_lt, Option, Some, None, refl, sym, ◌∙◌, subst, ne_eqb, arith}
-use Rattle.std.specs.Prelude.{IfSome}
-use Rattle.std.specs.List.{list_any}
-use Rattle.std.specs.Option.{option_map_or}
-use Rattle.std.proofs.lemmas.Bool.{and_left}
-use Rattle.std.proofs.lemmas.Option.{cond_some}
-use Rattle.pct_model.specs.declared.event.What.{What}
-use Rattle.pct_model.specs.declared.limits.TheConstants.{MAX_PROCESSES}
-use Rattle.pct_model.specs.declared.process.Relative.{Relative}
-use Rattle.pct_model.specs.declared.script.Script.{Script}
-use Rattle.pct_model.specs.declared.statement.Stmt.{Stmt}
-use Rattle.pct_model.specs.declared.schedule.Alt.{Alt}
-use Rattle.pct_model.specs.declared.schedule.Config.{Config}
-use Rattle.pct_model.specs.declared.state.Phase.TheVariants.{Prepare}
-use Rattle.pct_model.specs.declared.state.Status.{Status}
-use Rattle.pct_model.specs.declared.state.Status.TheVariants.{Forking}
-use Rattle.pct_model.specs.declared.transition.NewThread.{NewThread}
-use Rattle.pct_model.specs.declared.transition.Transition.{Transition}
-use Rattle.pct_model.specs.Actions.{child_by}
-use Rattle.pct_model.specs.ChoiceTable.{offers, choices_of}
-use Rattle.pct_model.specs.ForkCalls.{forks_by}
+use Rattle.std.proofs.Common.{ne_eqb}
 use Rattle.pct_laws.specs.KnownThreads.{creates_id, makes_process}
-use Rattle.pct_model.specs.NextStatement.{NextStatement, next_of, body_at}
-use Rattle.pct_model.specs.OtherProcesses.{family_among, is_unreaped, relative_of}
-use Rattle.pct_model.specs.OtherThreads.{Others, others_of}
-use Rattle.pct_model.specs.ThreadSlots.{free_ids}
-use Rattle.pct_model.specs.TransitionTable.{transition_by}
-use Rattle.pct_model.specs.World.{Thread, SharedState, Process, World}
 use Rattle.pct_transition_cases.proofs.CaseOfTransition.{case_of}
 use Rattle.pct_transition_cases.proofs.TransitionCases.{TransitionCase, thread_made, fork_handler_called, process_forked}
 use Rattle.pct_ending_laws.proofs.lift.HandlerEvents.{of_each_phase}

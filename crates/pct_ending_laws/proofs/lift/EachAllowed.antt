@@ -1,10 +1,7 @@
 -- Tests of each event against those before it.
-use Rattle.std.proofs.Common.{◌≡◌, ℕ, Bool, true, ◌&&◌, List, [], ◌∷◌, ◌++◌, map, refl, ap, ◌∙◌, eq-eqb}
-use Rattle.std.proofs.lemmas.Bool.{and_parts, and_from}
-use Rattle.pct_model.specs.declared.event.Event.{Event}
-use Rattle.pct_model.specs.declared.event.What.{What}
-use Rattle.pct_model.specs.declared.schedule.Entry.{Entry}
-use Rattle.pct_model.specs.Run.{event_of}
+use Rattle.pct_names.proofs.Names.{◌&&◌, ◌++◌, [], and_from, and_parts, ap, Bool, Entry, Event, event_of, List, map, refl, true, What, ℕ}
+use Rattle.pct_names.proofs.Names.{◌∙◌, ◌∷◌, ◌≡◌}
+use Rattle.std.proofs.Common.{eq-eqb}
 use Rattle.pct_laws.specs.Each.{each}
 use Rattle.pct_ending_laws.proofs.lift.ReportedBy.{reported_by, ThreadReading, of_thread, own_after, after_all, read_step}
 

@@ -1,24 +1,13 @@
 -- The lift from steps to runs: a relation between a process and what the events report of it, which each step keeps, and which a fork
 -- passes on to the process that it makes, holds of every process after every run.
+use Rattle.pct_names.proofs.Names.{◌++◌, [], after_transition, ap, Bool, changed, child_of, cond, Config, Entry, Event, event_of, false}
+use Rattle.pct_names.proofs.Names.{find, first_process, for_each, Forked, forks_by, List, list_any, made_process, map, nat_eq, None}
+use Rattle.pct_names.proofs.Names.{none-some, opening, Option, option_map, option_or, or_from, other_process_after, Process, process_moved}
+use Rattle.pct_names.proofs.Names.{refl, reverse, Run, same_Some, Script, Some, subst, subst₂, sym, Thread, Transition, transition_by, true}
+use Rattle.pct_names.proofs.Names.{What, World, ℕ, ◌∙◌, ◌∷◌, ◌≡◌}
 use mathlib.Core.Path.{fun_ext}
-use Rattle.std.proofs.Common.{◌≡◌, ℕ, Bool, true, false, cond, List, [], ◌∷◌, ◌++◌, map, reverse, find, nat_eq, Option, Some, None, option_map, refl, sym, ap, ◌∙◌, subst, subst₂, eqb-true, ne_eqb}
-use Rattle.std.specs.List.{list_any}
-use Rattle.std.specs.Option.{option_or}
-use Rattle.std.proofs.lemmas.Bool.{or_from}
-use Rattle.std.proofs.lemmas.Option.{none-some, same_Some}
+use Rattle.std.proofs.Common.{eqb-true, ne_eqb}
 use Rattle.pct_laws.specs.KnownThreads.{makes_process}
-use Rattle.pct_model.specs.declared.event.Event.{Event}
-use Rattle.pct_model.specs.declared.event.What.{What}
-use Rattle.pct_model.specs.declared.event.What.TheVariants.{Forked}
-use Rattle.pct_model.specs.declared.script.Script.{Script}
-use Rattle.pct_model.specs.declared.schedule.Config.{Config}
-use Rattle.pct_model.specs.declared.schedule.Entry.{Entry}
-use Rattle.pct_model.specs.declared.transition.Transition.{Transition}
-use Rattle.pct_model.specs.World.{Thread, Process, World, first_process, opening, made_process}
-use Rattle.pct_model.specs.TransitionTable.{transition_by}
-use Rattle.pct_model.specs.Actions.{other_process_after, for_each, child_of, changed, process_moved, after_transition}
-use Rattle.pct_model.specs.ForkCalls.{forks_by}
-use Rattle.pct_model.specs.Run.{Run, event_of}
 use Rattle.pct_ending_laws.proofs.lift.KeyedLists.{found_passes, not_found}
 use Rattle.pct_ending_laws.proofs.lift.TakenSteps.{IsTaken, first_run, AfterEveryRun, every_run}
 use Rattle.pct_ending_laws.proofs.lift.CreatedThreads.{Forks, Makes, makes_none, forks}

@@ -1,24 +1,13 @@
 -- A relation between a thread and what the events report of it, that each transition keeps where a rule of its process holds, holds of
 -- every thread after every run.
+use Rattle.pct_names.proofs.Names.{◌&&◌, [], Action, Alt, and_left, ap, Bool, changed, child_of, choices_of, cond, Config, Entry, eqb-false}
+use Rattle.pct_names.proofs.Names.{event_of, false, false≢true, find, for_each, Forking, holds_slot, is_live_thread, List, made_process}
+use Rattle.pct_names.proofs.Names.{made_thread, map, moved, named_after, nat_eq, NewThread, None, none-some, offers, Option}
+use Rattle.pct_names.proofs.Names.{option_and_then, Prepare, Process, refl, replica_of, reverse, Run, same_Some, Script, Some, subst}
+use Rattle.pct_names.proofs.Names.{subst₂, sym, Thread, thread_moved, thread_with, Transition, transition_by, true, World, ℕ, ◌∙◌, ◌∷◌, ◌≡◌}
 use mathlib.Core.Bool.{and-true, and-false}
-use Rattle.std.proofs.Common.{◌≡◌, ℕ, Bool, true, false, ◌&&◌, cond, List, [], ◌∷◌, map, reverse, find, nat_eq, Option, Some, None, option_and_then, refl, sym, ap, ◌∙◌, subst, subst₂, ne_eqb, eqb-true}
-use Rattle.std.proofs.lemmas.Bool.{false≢true, true≢false, and_left, eqb-false}
-use Rattle.std.proofs.lemmas.Option.{none-some, same_Some}
-use Rattle.pct_model.specs.declared.script.Script.{Script}
-use Rattle.pct_model.specs.declared.schedule.Alt.{Alt}
-use Rattle.pct_model.specs.declared.schedule.Config.{Config}
-use Rattle.pct_model.specs.declared.schedule.Entry.{Entry}
-use Rattle.pct_model.specs.declared.state.Phase.TheVariants.{Prepare}
-use Rattle.pct_model.specs.declared.state.Status.TheVariants.{Forking}
-use Rattle.pct_model.specs.declared.transition.Action.{Action}
-use Rattle.pct_model.specs.declared.transition.NewThread.{NewThread}
-use Rattle.pct_model.specs.declared.transition.Transition.{Transition}
-use Rattle.pct_model.specs.World.{Thread, Process, World, made_process, thread_with, made_thread}
-use Rattle.pct_model.specs.ThreadSlots.{holds_slot, is_live_thread}
-use Rattle.pct_model.specs.ChoiceTable.{choices_of, offers}
-use Rattle.pct_model.specs.TransitionTable.{transition_by}
-use Rattle.pct_model.specs.Actions.{named_after, for_each, replica_of, child_of, moved, thread_moved, changed}
-use Rattle.pct_model.specs.Run.{Run, event_of}
+use Rattle.std.proofs.Common.{ne_eqb, eqb-true}
+use Rattle.std.proofs.lemmas.Bool.{true≢false}
 use Rattle.pct_ending_laws.proofs.lift.KeyedLists.{found_passes}
 use Rattle.pct_ending_laws.proofs.lift.TakenSteps.{AfterEveryRun}
 use Rattle.pct_ending_laws.proofs.lift.ChangedThreads.{other_threads}

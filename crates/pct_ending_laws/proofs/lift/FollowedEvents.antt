@@ -1,10 +1,7 @@
 -- Events that directly follow others, after the events of a step.
-use Rattle.std.proofs.Common.{◌≡◌, Bool, true, false, not, ◌&&◌, ◌||◌, List, [], ◌∷◌, ◌++◌, map, nat_eq, refl, ap, ◌∙◌, eq-eqb}
-use Rattle.std.proofs.lemmas.Bool.{and_parts, and_from, not-true}
-use Rattle.pct_model.specs.declared.event.Event.{Event}
-use Rattle.pct_model.specs.declared.event.What.{What}
-use Rattle.pct_model.specs.declared.schedule.Entry.{Entry}
-use Rattle.pct_model.specs.Run.{event_of}
+use Rattle.pct_names.proofs.Names.{◌&&◌, ◌++◌, [], and_from, and_parts, ap, Bool, Entry, Event, event_of, false, List, map, nat_eq, not}
+use Rattle.pct_names.proofs.Names.{not-true, refl, true, What, ◌||◌, ◌∙◌, ◌∷◌, ◌≡◌}
+use Rattle.std.proofs.Common.{eq-eqb}
 use Rattle.pct_laws.specs.Each.{each}
 use Rattle.pct_laws.specs.FollowedEvents.{newest_passes, follows, are_followed}
 use Rattle.pct_laws.specs.KnownThreads.{is_own}

@@ -1,10 +1,7 @@
 -- The events that a fork handler is called: there is one for each phase of a fork.
-use Rattle.std.proofs.Common.{ℕ}
-use Rattle.pct_model.specs.declared.event.What.{What}
+use Rattle.pct_names.proofs.Names.{handler_event, Parent, Phase, Prepare, What, ℕ}
 use Rattle.pct_model.specs.declared.event.What.TheVariants as what
-use Rattle.pct_model.specs.declared.state.Phase.{Phase}
-use Rattle.pct_model.specs.declared.state.Phase.TheVariants.{Prepare, Parent, Child}
-use Rattle.pct_model.specs.ForkCalls.{handler_event}
+use Rattle.pct_model.specs.declared.state.Phase.TheVariants.{Child}
 
 -- what holds of each of the three events holds of the one of a phase
 pub of_each_phase : (P : What → Type 0) (f : ℕ) → P (what.PrepareRun f) → P (what.ParentRun f) → P (what.ChildRun f) → (phase : Phase) → P (handler_event phase f)

@@ -1,10 +1,8 @@
 -- The threads of a process that a fork makes: it has the replica of the thread that called fork, and each other one is gone.
-use Rattle.std.proofs.Common.{◌≡◌, ℕ, Bool, true, false, cond, nat_eq, Option, Some, None, option_map, refl, sym, ap, ◌∙◌, subst, subst₂, eq-eqb, eqb-true, ne_eqb}
-use Rattle.std.proofs.lemmas.Bool.{false≢true, and_parts}
-use Rattle.std.proofs.lemmas.Option.{none-some, same_Some}
-use Rattle.pct_model.specs.Actions.{replica_of, inherited, child_of}
-use Rattle.pct_model.specs.ThreadSlots.{holds_slot, is_live_thread}
-use Rattle.pct_model.specs.World.{Thread, Process, thread_with}
+use Rattle.pct_names.proofs.Names.{and_parts, ap, Bool, child_of, cond, false, false≢true, holds_slot, inherited, is_live_thread, nat_eq}
+use Rattle.pct_names.proofs.Names.{None, none-some, Option, option_map, Process, refl, replica_of, same_Some, Some, subst, subst₂, sym}
+use Rattle.pct_names.proofs.Names.{Thread, thread_with, true, ℕ, ◌∙◌, ◌≡◌}
+use Rattle.std.proofs.Common.{eq-eqb, eqb-true, ne_eqb}
 use Rattle.pct_ending_laws.proofs.lift.KeyedLists.{found_passes, item_changed}
 use Rattle.pct_ending_laws.proofs.lift.ThreadIds.{HaveIds, ids_changed}
 use Rattle.pct_ending_laws.proofs.lift.ChangedThreads.{either_keeps}

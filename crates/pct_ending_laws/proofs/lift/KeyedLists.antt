@@ -1,11 +1,11 @@
 -- Lists whose items have numbers: look-up by number, and changes that keep the numbers.
-use Rattle.std.proofs.Common.{◌≡◌, ℕ, zero, suc, Bool, true, false, ◌&&◌, ◌||◌, cond, List, [], ◌∷◌, ◌++◌, length, flat_map, map, filter, find, Option, Some, None, nat_eq, option_map, slice_get, ◌⊎◌, inl, inr, refl, sym, ap, ap₂, ◌∙◌, subst, append-nil, eqb-true, ne_eqb}
-use Rattle.std.specs.Prelude.{⊤}
-use Rattle.std.specs.List.{list_all, list_any, position_or_len}
-use Rattle.std.proofs.lemmas.Bool.{false≢true, true≢false, true_from_ne_false, and_left, and_parts, eqb-false, or_parts, or_from}
-use Rattle.std.proofs.lemmas.List.Folds.{find_at, list_all_at, list_any-append}
-use Rattle.std.proofs.lemmas.List.Sums.{passes_at_first}
-use Rattle.std.proofs.lemmas.Option.{none-some, same_Some, slice_get_within, get_or_from_slice_get}
+use Rattle.pct_names.proofs.Names.{◌&&◌, ◌++◌, [], and_left, and_parts, ap, ap₂, Bool, cond, eqb-false, false, false≢true, filter, find}
+use Rattle.pct_names.proofs.Names.{find_at, flat_map, get_or_from_slice_get, inl, inr, length, List, list_all, list_all_at, list_any}
+use Rattle.pct_names.proofs.Names.{list_any-append, map, nat_eq, None, none-some, Option, option_map, or_from, or_parts, passes_at_first}
+use Rattle.pct_names.proofs.Names.{position_or_len, refl, same_Some, slice_get, slice_get_within, Some, subst, suc, sym, true}
+use Rattle.pct_names.proofs.Names.{true_from_ne_false, zero, ◌||◌, ℕ, ◌∙◌, ◌∷◌, ◌≡◌, ◌⊎◌, ⊤}
+use Rattle.std.proofs.Common.{append-nil, eqb-true, ne_eqb}
+use Rattle.std.proofs.lemmas.Bool.{true≢false}
 
 -- ---- numbers
 

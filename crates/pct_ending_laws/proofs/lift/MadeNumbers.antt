@@ -1,17 +1,12 @@
 -- The numbers of processes and threads, and the threads and forks of a run's events, after every run.
-use Rattle.std.proofs.Common.{◌≡◌, ℕ, Bool, true, false, ◌&&◌, ◌||◌, cond, List, slice_index_or, is_some, option_and_then, Option, Some, None, refl, sym, ap₂, ◌∙◌, eq-eqb}
-use Rattle.std.specs.List.{list_any}
+use Rattle.pct_names.proofs.Names.{◌&&◌, ap₂, Bool, cond, Config, Event, false, false_from_ne_true, false≢true, ForksMade, is_some, List}
+use Rattle.pct_names.proofs.Names.{list_any, list_any_at, made_process, made_thread, None, NumbersThreads, Option, option_and_then, or_left}
+use Rattle.pct_names.proofs.Names.{or_right, Process, refl, Script, slice_index_or, Some, sym, Thread, thread_with, true, What, World, ◌||◌}
+use Rattle.pct_names.proofs.Names.{ℕ, ◌∙◌, ◌≡◌}
+use Rattle.std.proofs.Common.{eq-eqb}
 use Rattle.std.specs.Option.{IsSomeAnd}
-use Rattle.std.proofs.lemmas.Bool.{false≢true, false_from_ne_true, or_left, or_right}
-use Rattle.std.proofs.lemmas.List.Folds.{list_any_at}
-use Rattle.pct_model.specs.declared.script.Script.{Script}
-use Rattle.pct_model.specs.declared.schedule.Config.{Config}
-use Rattle.pct_model.specs.declared.event.Event.{Event}
-use Rattle.pct_model.specs.declared.event.What.{What}
 use Rattle.pct_model.specs.declared.event.What.TheVariants as what
-use Rattle.pct_model.specs.World.{Thread, Process, World, made_process, thread_with, made_thread}
 use Rattle.pct_laws.specs.KnownThreads.{is_own, is_fork_of, makes_process}
-use Rattle.pct_model.specs.ThreadNumbers.{ForksMade, NumbersThreads}
 use Rattle.pct_ending_laws.proofs.lift.TakenSteps.{AfterEveryRun}
 use Rattle.pct_ending_laws.proofs.lift.ProcessIds.{have_pids}
 use Rattle.pct_ending_laws.proofs.lift.ReportedBy.{reported_by, ThreadReading, of_thread, is_thread_reading}

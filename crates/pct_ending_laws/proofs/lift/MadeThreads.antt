@@ -1,17 +1,11 @@
 -- The processes and threads that were made, after a step.
-use Rattle.std.proofs.Common.{◌≡◌, ℕ, Bool, true, false, not, ◌&&◌, ◌||◌, cond, List, [], ◌∷◌, ◌++◌, flat_map, map, find, nat_eq, Option, Some, None, option_map, sym, ap, ◌∙◌, ne_eqb, eqb-true}
-use Rattle.std.specs.Option.{option_or}
-use Rattle.std.proofs.lemmas.Bool.{and_left, and_parts, not-true, eqb-false}
-use Rattle.std.proofs.lemmas.List.Folds.{find-append}
-use Rattle.pct_model.specs.declared.schedule.Config.{Config}
-use Rattle.pct_model.specs.declared.schedule.Entry.{Entry}
-use Rattle.pct_model.specs.declared.script.Script.{Script}
-use Rattle.pct_model.specs.declared.transition.Transition.{Transition}
-use Rattle.pct_model.specs.World.{Thread, Process, World, made_process, thread_with}
-use Rattle.pct_model.specs.ThreadSlots.{holds_slot, is_ended_status, is_live_thread, with_id}
-use Rattle.pct_model.specs.TransitionTable.{transition_by}
-use Rattle.pct_model.specs.Actions.{has_ended, other_process_after, for_each, thread_moved, thread_created, child_of, child_by, changed, is_live_process, process_moved, process_made, after_transition}
-use Rattle.pct_model.specs.ForkCalls.{forks_by}
+use Rattle.pct_names.proofs.Names.{◌&&◌, ◌++◌, [], after_transition, and_left, and_parts, ap, Bool, changed, child_by, child_of, cond}
+use Rattle.pct_names.proofs.Names.{Config, Entry, eqb-false, false, find, find-append, flat_map, for_each, forks_by, has_ended, holds_slot}
+use Rattle.pct_names.proofs.Names.{is_ended_status, is_live_process, is_live_thread, List, made_process, map, nat_eq, None, not, not-true}
+use Rattle.pct_names.proofs.Names.{Option, option_map, option_or, other_process_after, Process, process_made, process_moved, Script, Some}
+use Rattle.pct_names.proofs.Names.{sym, Thread, thread_created, thread_moved, thread_with, Transition, transition_by, true, with_id, World}
+use Rattle.pct_names.proofs.Names.{◌||◌, ℕ, ◌∙◌, ◌∷◌, ◌≡◌}
+use Rattle.std.proofs.Common.{ne_eqb, eqb-true}
 use Rattle.pct_ending_laws.proofs.lift.KeyedLists.{AreDistinct, found_passes, only_one, only_one_gives, item_changed}
 use Rattle.pct_ending_laws.proofs.lift.ThreadIds.{ids_of}
 use Rattle.pct_ending_laws.proofs.lift.TakenSteps.{IsTaken}

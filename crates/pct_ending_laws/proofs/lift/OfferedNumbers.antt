@@ -1,9 +1,8 @@
 -- The numbers that a choice may have: those of new keys, and those of the keys that are left in a pass.
-use Rattle.std.proofs.Common.{◌≡◌, ℕ, zero, suc, ◌+◌, ◌<◌, ◌≤◌, Bool, true, false, cond, List, ◌∷◌, map, filter, nat_eq, is_none, inl, inr, refl, eqb-true, arith}
-use Rattle.std.specs.List.{list_any, range_with_len}
-use Rattle.std.proofs.lemmas.Bool.{false≢true, or_cases}
-use Rattle.pct_model.specs.declared.limits.TheConstants.{MAX_KEYS}
-use Rattle.pct_model.specs.Keys.{KeyPlace, KeyValues, key_at, next_key, number_at, free_places, new_keys, is_left, left_places, left_keys}
+use Rattle.pct_names.proofs.Names.{◌+◌, ◌<◌, arith, Bool, cond, false, false≢true, filter, free_places, inl, inr, is_left, is_none, key_at}
+use Rattle.pct_names.proofs.Names.{KeyPlace, KeyValues, left_keys, left_places, List, list_any, map, MAX_KEYS, nat_eq, new_keys, next_key}
+use Rattle.pct_names.proofs.Names.{number_at, or_cases, range_with_len, refl, suc, true, zero, ℕ, ◌∷◌, ◌≡◌, ◌≤◌}
+use Rattle.std.proofs.Common.{eqb-true}
 
 -- ---- numbers of a range
 

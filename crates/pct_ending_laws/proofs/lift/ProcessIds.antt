@@ -1,22 +1,13 @@
 -- The pids of processes and the ids of their threads after every run: the pids are numbered in the order in which the processes were made,
 -- the ids on each slot, and no two are the same.
-use Rattle.std.proofs.Common.{◌≡◌, ℕ, zero, suc, ◌+◌, ◌<◌, ◌≤◌, Bool, false, true, not, cond, List, [], ◌∷◌, ◌++◌, length, map, nat_eq, slice_get, get_or, eqb-true, ne_eqb, arith, Option, Some, inl, inr, refl, sym, ap, ◌∙◌, subst, append-nil, mul-zero}
-use Rattle.std.specs.List.{list_any, position_or_len}
-use Rattle.std.proofs.lemmas.Bool.{and_parts}
-use Rattle.std.proofs.lemmas.List.{map-append, length-map}
-use Rattle.std.proofs.lemmas.List.Elements.{All-map}
-use Rattle.std.proofs.lemmas.List.Folds.{list_any_none}
-use Rattle.std.proofs.lemmas.Option.{none-some, same_Some, slice_get-map, slice_get_within, slice_get-get_or}
-use Rattle.pct_model.specs.declared.script.Script.{Script}
-use Rattle.pct_model.specs.declared.schedule.Config.{Config}
-use Rattle.pct_model.specs.declared.schedule.Entry.{Entry}
-use Rattle.pct_model.specs.declared.transition.NewThread.{NewThread}
-use Rattle.pct_model.specs.declared.transition.Transition.{Transition}
-use Rattle.pct_model.specs.World.{Thread, Process, World, first_process, opening, made_process}
-use Rattle.pct_model.specs.TransitionTable.{transition_by}
-use Rattle.pct_model.specs.Actions.{has_ended, other_process_after, for_each, thread_moved, child_of, changed, is_live_process, process_moved, after_transition}
-use Rattle.pct_model.specs.ThreadNumbers.{HasProcessNumbers}
-use Rattle.pct_model.specs.ThreadSlots.{free_ids}
+use Rattle.pct_names.proofs.Names.{◌+◌, ◌++◌, ◌<◌, [], after_transition, All-map, and_parts, ap, arith, Bool, changed, child_of, cond}
+use Rattle.pct_names.proofs.Names.{Config, Entry, false, first_process, for_each, free_ids, get_or, has_ended, HasProcessNumbers, inl, inr}
+use Rattle.pct_names.proofs.Names.{is_live_process, length, length-map, List, list_any, list_any_none, made_process, map, map-append}
+use Rattle.pct_names.proofs.Names.{mul-zero, nat_eq, NewThread, none-some, not, opening, Option, other_process_after, position_or_len}
+use Rattle.pct_names.proofs.Names.{Process, process_moved, refl, same_Some, Script, slice_get, slice_get-get_or, slice_get-map}
+use Rattle.pct_names.proofs.Names.{slice_get_within, Some, subst, suc, sym, Thread, thread_moved, Transition, transition_by, true, World}
+use Rattle.pct_names.proofs.Names.{zero, ℕ, ◌∙◌, ◌∷◌, ◌≡◌, ◌≤◌}
+use Rattle.std.proofs.Common.{eqb-true, ne_eqb, append-nil}
 use Rattle.pct_ending_laws.proofs.lift.KeyedLists.{AreDistinct, found_at, found_passes, distinct_push, keys_changed, item_pushed, mapped_some}
 use Rattle.pct_ending_laws.proofs.lift.TakenSteps.{AfterEveryRun, every_run}
 use Rattle.pct_ending_laws.proofs.lift.ChangedThreads.{thread_moved_keeps, changed_threads, other_threads, pids_of, process_moved_pid}

@@ -1,14 +1,9 @@
 -- Readings of the events of a run: what the events so far report of a process, by its own events and by the fork that makes it.
+use Rattle.pct_names.proofs.Names.{◌&&◌, ◌++◌, [], and_right, ap, ap₂, Bool, cond, Entry, Event, event_of, false, Forked, List, list_any}
+use Rattle.pct_names.proofs.Names.{map, nat_eq, or_parts, refl, true, What, ℕ, ◌∙◌, ◌∷◌, ◌≡◌}
 use mathlib.Core.Bool.{and-true}
-use Rattle.std.proofs.Common.{◌≡◌, ℕ, Bool, true, false, ◌&&◌, cond, List, [], ◌∷◌, ◌++◌, map, nat_eq, refl, ap, ap₂, ◌∙◌, eq-eqb}
-use Rattle.std.specs.List.{list_any}
-use Rattle.std.proofs.lemmas.Bool.{or_parts, and_right}
+use Rattle.std.proofs.Common.{eq-eqb}
 use Rattle.pct_laws.specs.KnownThreads.{makes_process, is_in, is_own}
-use Rattle.pct_model.specs.declared.event.Event.{Event}
-use Rattle.pct_model.specs.declared.event.What.{What}
-use Rattle.pct_model.specs.declared.event.What.TheVariants.{Forked}
-use Rattle.pct_model.specs.declared.schedule.Entry.{Entry}
-use Rattle.pct_model.specs.Run.{event_of}
 
 -- ---- processes
 

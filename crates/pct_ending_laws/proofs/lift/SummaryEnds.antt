@@ -1,8 +1,5 @@
 -- That a thread has ended, and has begun to exit its process, in its summary: an event of it changes both, and no event takes them back.
-use Rattle.std.proofs.Common.{◌≡◌, ℕ, Bool, true, false, ◌||◌, cond, List, ◌∷◌, is_some, refl, ◌∙◌}
-use Rattle.std.proofs.lemmas.Bool.{or_right}
-use Rattle.pct_model.specs.declared.event.Event.{Event}
-use Rattle.pct_model.specs.declared.event.What.{What}
+use Rattle.pct_names.proofs.Names.{Bool, cond, Event, false, is_some, List, or_right, refl, true, What, ◌||◌, ℕ, ◌∙◌, ◌∷◌, ◌≡◌}
 use Rattle.pct_model.specs.declared.event.What.TheVariants as what
 use Rattle.pct_laws.specs.KnownThreads.{is_own, is_fork_of, reports_end}
 use Rattle.pct_laws.specs.ThreadSummary.{ThreadSummary, with_event, summary_of, thread_ended}

@@ -1,20 +1,12 @@
 -- Runs, entry by entry: a fact of the initial state that each legal entry keeps, by what holds of the run so far, holds after every run.
-use Rattle.std.proofs.Common.{◌≡◌, ◌+◌, ◌<◌, ◌≤◌, Bool, true, false, ◌&&◌, cond, List, [], ◌∷◌, ◌++◌, length, map, reverse, find, nat_le, Option, Some, None, option_map, option_and_then, refl, ap, ◌∙◌, subst, arith}
-use Rattle.std.proofs.lemmas.Bool.{and_parts, and_from, leb-true, le-leb}
+use Rattle.pct_names.proofs.Names.{◌&&◌, ◌+◌, ◌++◌, ◌<◌, [], after_transition, and_from, and_parts, ap, arith, Bool, choices_of, cond}
+use Rattle.pct_names.proofs.Names.{Config, Entry, event_of, false, find, is_config, is_live_process, length, List, map, MAX_BUDGET}
+use Rattle.pct_names.proofs.Names.{MAX_PASSES, MAX_SLOTS, MIN_PASSES, nat_le, None, none-some, offers, opening, Option, option_and_then}
+use Rattle.pct_names.proofs.Names.{option_and_then_some, option_map, Process, refl, reverse, Run, run, run_from, run_step, same_Some}
+use Rattle.pct_names.proofs.Names.{Script, Some, step, subst, Successor, Thread, Transition, transition_by, true, with_id, World, ◌∙◌, ◌∷◌}
+use Rattle.pct_names.proofs.Names.{◌≡◌, ◌≤◌}
+use Rattle.std.proofs.lemmas.Bool.{leb-true, le-leb}
 use Rattle.std.proofs.lemmas.List.{length-append}
-use Rattle.std.proofs.lemmas.Option.{none-some, same_Some, option_and_then_some}
-use Rattle.pct_model.specs.declared.script.Script.{Script}
-use Rattle.pct_model.specs.declared.schedule.Config.{Config}
-use Rattle.pct_model.specs.declared.schedule.Entry.{Entry}
-use Rattle.pct_model.specs.declared.limits.TheConstants.{MAX_BUDGET, MIN_PASSES, MAX_PASSES, MAX_SLOTS}
-use Rattle.pct_model.specs.declared.transition.Transition.{Transition}
-use Rattle.pct_model.specs.World.{Thread, Process, World, opening}
-use Rattle.pct_model.specs.ThreadSlots.{with_id}
-use Rattle.pct_model.specs.ChoiceTable.{choices_of, offers}
-use Rattle.pct_model.specs.TransitionTable.{transition_by}
-use Rattle.pct_model.specs.Actions.{is_live_process, after_transition}
-use Rattle.pct_model.specs.Step.{Successor, step}
-use Rattle.pct_model.specs.Run.{Run, event_of, run_step, run_from, is_config, run}
 use Rattle.pct_model.proofs.LegalSteps.{step_legal}
 
 -- a legal entry: the run was not stopped, and the thread that it names, of a process that has not ended, has the choice

@@ -1,19 +1,10 @@
 -- The ids of the threads of a process: on each slot they are numbered in order, and so no two threads have one id.
-use Rattle.std.proofs.Common.{◌≡◌, ℕ, ◌+◌, ◌-◌, ◌*◌, ◌%◌, ◌<◌, true, false, List, [], ◌∷◌, ◌++◌, length, map, filter, count_by, nat_eq, slice_get, Option, Some, None, ◌⊎◌, inl, inr, refl, sym, ap, ◌∙◌, subst, eqb-true, eq-eqb, append-nil, mul_comm, arith}
-use Rattle.std.specs.List.{list_any}
-use native.Mathlib.Nat.{mul-lt-mul_of_pos_left}
-use Rattle.std.proofs.lemmas.Bool.{false_from_ne_true}
-use Rattle.std.proofs.lemmas.Nat.{mod-mul-add}
-use Rattle.std.proofs.lemmas.List.{map-append, length-map}
-use Rattle.std.proofs.lemmas.List.Elements.{filter-append}
-use Rattle.std.proofs.lemmas.List.Sums.{length-filter}
-use Rattle.std.proofs.lemmas.Option.{slice_get-map, slice_get_within}
-use Rattle.pct_model.specs.declared.transition.NewThread.{NewThread}
-use Rattle.pct_model.specs.declared.state.FrameKind.TheVariants.{Start}
-use Rattle.pct_model.specs.World.{Thread, new_frame, new_thread}
-use Rattle.pct_model.specs.ThreadSlots.{slot_of, is_on, is_free, next_id, free_ids}
-use Rattle.pct_model.specs.Actions.{thread_created}
-use Rattle.pct_model.specs.ThreadNumbers.{HasThreadNumbers}
+use Rattle.pct_names.proofs.Names.{◌%◌, ◌*◌, ◌+◌, ◌++◌, ◌-◌, ◌<◌, [], ap, arith, count_by, false, false_from_ne_true, filter, filter-append}
+use Rattle.pct_names.proofs.Names.{free_ids, HasThreadNumbers, inl, inr, is_free, is_on, length, length-filter, length-map, List, list_any}
+use Rattle.pct_names.proofs.Names.{map, map-append, mod-mul-add, mul-lt-mul_of_pos_left, mul_comm, nat_eq, new_frame, new_thread, NewThread}
+use Rattle.pct_names.proofs.Names.{next_id, None, Option, refl, slice_get, slice_get-map, slice_get_within, slot_of, Some, Start, subst}
+use Rattle.pct_names.proofs.Names.{sym, Thread, thread_created, true, ℕ, ◌∙◌, ◌∷◌, ◌≡◌, ◌⊎◌}
+use Rattle.std.proofs.Common.{eqb-true, eq-eqb, append-nil}
 use Rattle.pct_ending_laws.proofs.lift.OfferedNumbers.{from_range}
 use Rattle.pct_ending_laws.proofs.lift.KeyedLists.{AreDistinct, distinct_push, index_among, keys_changed, filter_changed, item_pushed, mapped_some}
 

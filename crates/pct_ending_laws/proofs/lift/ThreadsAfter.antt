@@ -1,20 +1,11 @@
 -- The threads of a process after a transition of one of them: those that were made before it, and the one that it creates.
-use Rattle.std.proofs.Common.{◌≡◌, ℕ, ◌<◌, ◌≤◌, Bool, true, false, ◌&&◌, cond, length, find, nat_eq, Option, Some, None, option_map, refl, sym, ap, ◌∙◌, subst, eqb-true}
-use Rattle.std.specs.Option.{option_map_or, option_or}
-use Rattle.std.proofs.lemmas.Bool.{and_parts, and_left, false_from_ne_true}
-use Rattle.std.proofs.lemmas.Option.{none-some, same_Some}
-use Rattle.pct_model.specs.declared.script.Script.{Script}
-use Rattle.pct_model.specs.declared.schedule.Config.{Config}
-use Rattle.pct_model.specs.declared.schedule.Entry.{Entry}
+use Rattle.pct_names.proofs.Names.{◌&&◌, ◌<◌, and_left, and_parts, ap, Bool, changed, choices_of, cond, Config, Entry, false}
+use Rattle.pct_names.proofs.Names.{false_from_ne_true, find, holds_slot, is_live_thread, length, main_of, names_of, nat_eq, new_frame}
+use Rattle.pct_names.proofs.Names.{new_thread, NewThread, None, none-some, offers, Option, option_map, option_map_or, option_or, Process}
+use Rattle.pct_names.proofs.Names.{refl, same_Some, Script, Some, subst, sym, Thread, thread_created, thread_moved, thread_with, Transition}
+use Rattle.pct_names.proofs.Names.{transition_by, true, with_id, World, ℕ, ◌∙◌, ◌≡◌, ◌≤◌}
+use Rattle.std.proofs.Common.{eqb-true}
 use Rattle.pct_model.specs.declared.state.FrameKind.TheVariants as kind
-use Rattle.pct_model.specs.declared.transition.NewThread.{NewThread}
-use Rattle.pct_model.specs.declared.transition.Transition.{Transition}
-use Rattle.pct_model.specs.Actions.{thread_moved, thread_created, changed}
-use Rattle.pct_model.specs.ChoiceTable.{choices_of, offers}
-use Rattle.pct_model.specs.Names.{names_of, main_of}
-use Rattle.pct_model.specs.ThreadSlots.{holds_slot, is_live_thread, with_id}
-use Rattle.pct_model.specs.TransitionTable.{transition_by}
-use Rattle.pct_model.specs.World.{Thread, Process, World, new_frame, new_thread, thread_with}
 use Rattle.pct_ending_laws.proofs.lift.KeyedLists.{found_passes, not_found}
 use Rattle.pct_ending_laws.proofs.lift.ChangedThreads.{thread_moved_keeps}
 use Rattle.pct_ending_laws.proofs.lift.CreatedThreads.{creates_with_next_id}

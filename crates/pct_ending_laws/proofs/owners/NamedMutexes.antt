@@ -1,16 +1,9 @@
 -- The mutexes that a script's statements name are mutexes of the script.
-use Rattle.std.proofs.Common.{◌≡◌, ℕ, ◌<◌, true, nat_eq, List, length, Some, subst, eqb-true}
-use Rattle.std.proofs.lemmas.Bool.{false≢true, and_parts}
-use Rattle.pct_model.specs.declared.frame.Frame.{Frame}
-use Rattle.pct_model.specs.declared.script.Script.{Script}
-use Rattle.pct_model.specs.declared.statement.Stmt.{Stmt}
+use Rattle.pct_names.proofs.Names.{◌<◌, and_parts, encode, false≢true, Frame, has_first_word, has_line, has_word, have_words, length, List}
+use Rattle.pct_names.proofs.Names.{nat_eq, NextStatement, Script, Some, statement_at, StatementIn, Stmt, subst, syntax_of, true, ℕ, ◌≡◌}
+use Rattle.std.proofs.Common.{eqb-true}
 use Rattle.pct_model.specs.declared.statement.Stmt.TheVariants as statement
 use Rattle.pct_laws.specs.Kept.{is_cond_wait_of}
-use Rattle.pct_model.specs.LineKinds.{syntax_of}
-use Rattle.pct_model.specs.NextStatement.{NextStatement, StatementIn}
-use Rattle.pct_model.specs.Statements.{encode}
-use Rattle.pct_model.specs.Static.{has_word, have_words, has_first_word, has_line}
-use Rattle.pct_model.specs.World.{statement_at}
 use Rattle.pct_transition_cases.proofs.PlacedStatements.{IsPlaced, statement_placed}
 use Rattle.pct_ending_laws.proofs.thread.NamedFunctions.{found_below, line_of}
 

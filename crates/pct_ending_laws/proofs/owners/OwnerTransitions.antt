@@ -1,29 +1,16 @@
 -- What each transition does with the owners of mutexes, by the tables: it sets those that its events report, a mutex that it acquires has
 -- no owner before, and one that it releases is owned by its thread.
-use Rattle.std.proofs.Common.{◌≡◌, ℕ, ◌<◌, Bool, true, false, cond, List, [], ◌∷◌, ◌++◌, length, map, reverse, nat_eq, refl, sym, ap, ap₂, ◌∙◌, subst, eqb-true}
-use Rattle.std.specs.Prelude.{slice_index, slice_set}
-use Rattle.std.proofs.lemmas.Bool.{eqb-false, and_from}
+use Rattle.pct_names.proofs.Names.{◌++◌, ◌<◌, [], and_from, ap, ap₂, Bool, cond, cond_wait_point, Entry, eqb-false, Event, event_of, false}
+use Rattle.pct_names.proofs.Names.{for_each, Frame, length, List, map, nat_eq, NextStatement, Others, owns, refl, reverse, Script}
+use Rattle.pct_names.proofs.Names.{shared_after, SharedState, slice_index, slice_set, Status, Stmt, subst, sym, Thread, Transition, true}
+use Rattle.pct_names.proofs.Names.{What, ℕ, ◌∙◌, ◌∷◌, ◌≡◌}
+use Rattle.std.proofs.Common.{eqb-true}
 use Rattle.std.proofs.lemmas.List.{get_or-set_same, get_or-set_other, length-set}
-use Rattle.pct_model.specs.declared.event.Event.{Event}
-use Rattle.pct_model.specs.declared.event.What.{What}
 use Rattle.pct_model.specs.declared.event.What.TheVariants as what
-use Rattle.pct_model.specs.declared.frame.Frame.{Frame}
-use Rattle.pct_model.specs.declared.schedule.Entry.{Entry}
-use Rattle.pct_model.specs.declared.script.Script.{Script}
-use Rattle.pct_model.specs.declared.state.Status.{Status}
-use Rattle.pct_model.specs.declared.statement.Stmt.{Stmt}
-use Rattle.pct_model.specs.declared.transition.Transition.{Transition}
-use Rattle.pct_model.specs.Actions.{shared_after, for_each}
-use Rattle.pct_model.specs.CondCalls.{cond_wait_point}
 use Rattle.pct_laws.specs.Each.{each}
 use Rattle.pct_laws.specs.CondLaw.{owners_allow}
 use Rattle.pct_laws.specs.Kept.{IsSuspendedAt}
-use Rattle.pct_model.specs.MutexCalls.{owns}
 use Rattle.pct_laws.specs.MutexOwners.{owner_after, owner_of}
-use Rattle.pct_model.specs.NextStatement.{NextStatement}
-use Rattle.pct_model.specs.OtherThreads.{Others}
-use Rattle.pct_model.specs.Run.{event_of}
-use Rattle.pct_model.specs.World.{Thread, SharedState}
 use Rattle.pct_transition_cases.proofs.PlacedStatements.{IsPlaced, statement_placed}
 use Rattle.pct_transition_cases.proofs.TransitionCases.{TransitionCase, mutex_locked, mutex_unlocked, wait_begun, wait_ended, ended_in_wait, fork_handler_called}
 use Rattle.pct_ending_laws.proofs.lift.HandlerEvents.{of_each_phase}

@@ -1,22 +1,11 @@
 -- After every run the owners of mutexes are those that the events report, and a mutex is acquired while no thread owns it, and released by
 -- its owner.
-use Rattle.std.proofs.Common.{◌≡◌, ℕ, zero, suc, true, List, ◌++◌, length, map, reverse, replicate, refl, sym, ◌∙◌, subst}
-use Rattle.std.specs.Prelude.{slice_index}
-use Rattle.std.proofs.lemmas.List.{length-replicate}
-use Rattle.pct_model.specs.declared.event.Event.{Event}
-use Rattle.pct_model.specs.declared.schedule.Config.{Config}
-use Rattle.pct_model.specs.declared.schedule.Entry.{Entry}
-use Rattle.pct_model.specs.declared.script.Script.{Script}
-use Rattle.pct_model.specs.declared.transition.Transition.{Transition}
-use Rattle.pct_model.specs.Actions.{child_of, changed}
+use Rattle.pct_names.proofs.Names.{◌++◌, body_at, changed, child_of, Config, Entry, Event, event_of, length, length-replicate, List, map}
+use Rattle.pct_names.proofs.Names.{next_of, Others, others_of, Process, refl, replicate, reverse, Script, SharedState, slice_index, subst}
+use Rattle.pct_names.proofs.Names.{suc, sym, Thread, Transition, transition_by, true, World, zero, ℕ, ◌∙◌, ◌≡◌}
 use Rattle.pct_laws.specs.Each.{each}
 use Rattle.pct_laws.specs.CondLaw.{owners_allow}
 use Rattle.pct_laws.specs.Kept.{IsSuspendedAt, EachProcess, OwnersKept}
-use Rattle.pct_model.specs.NextStatement.{next_of, body_at}
-use Rattle.pct_model.specs.OtherThreads.{Others, others_of}
-use Rattle.pct_model.specs.Run.{event_of}
-use Rattle.pct_model.specs.TransitionTable.{transition_by}
-use Rattle.pct_model.specs.World.{Thread, SharedState, Process, World}
 use Rattle.pct_transition_cases.proofs.CaseOfTransition.{case_of}
 use Rattle.pct_transition_cases.proofs.PlacedStatements.{is_placed}
 use Rattle.pct_transition_cases.proofs.TransitionCases.{TransitionCase}

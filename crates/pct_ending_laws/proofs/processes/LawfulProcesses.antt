@@ -1,33 +1,20 @@
 -- The law of processes holds of the events of every run.
-use Rattle.std.proofs.Common.{◌≡◌, ℕ, ◌%◌, true, false, List, [], ◌∷◌, ◌++◌, map, reverse, Option, Some, None, Bool, cond, is_some, is_none, refl, arith, not, nat_eq, nat_lt, sym, ap, ◌∙◌, eq-eqb}
-use Rattle.std.specs.List.{list_any}
-use Rattle.std.proofs.lemmas.Bool.{false≢true, or_parts, or_from, and_from, and_parts, or_left, or_right, false_from_ne_true, lt-ltb}
-use Rattle.std.proofs.lemmas.Nat.{mod_below}
-use Rattle.pct_model.specs.declared.event.Event.{Event}
-use Rattle.pct_model.specs.declared.event.What.{What}
+use Rattle.pct_names.proofs.Names.{◌%◌, ◌++◌, [], and_from, and_parts, ap, arith, body_at, Bool, cond, Config, encode, Entry, Event}
+use Rattle.pct_names.proofs.Names.{event_of, false, false_from_ne_true, false≢true, is_none, is_some, List, list_any, map, mod_below}
+use Rattle.pct_names.proofs.Names.{nat_eq, nat_lt, next_of, NextStatement, None, not, Option, or_from, or_left, or_parts, or_right, Others}
+use Rattle.pct_names.proofs.Names.{others_of, Process, refl, reverse, Run, run, Script, SharedState, Some, Status, Stmt, sym, syntax_of}
+use Rattle.pct_names.proofs.Names.{Thread, Transition, transition_by, true, value_of, What, without_first, ℕ, ◌∙◌, ◌∷◌, ◌≡◌}
+use Rattle.std.proofs.Common.{eq-eqb}
+use Rattle.std.proofs.lemmas.Bool.{lt-ltb}
 use Rattle.pct_model.specs.declared.event.What.TheVariants as what
 use Rattle.pct_model.specs.declared.process.Child.{Child}
-use Rattle.pct_model.specs.declared.schedule.Config.{Config}
-use Rattle.pct_model.specs.declared.schedule.Entry.{Entry}
-use Rattle.pct_model.specs.declared.script.Script.{Script}
-use Rattle.pct_model.specs.declared.state.Status.{Status}
 use Rattle.pct_model.specs.declared.state.Status.TheVariants as status
-use Rattle.pct_model.specs.declared.statement.Stmt.{Stmt}
-use Rattle.pct_model.specs.declared.transition.Transition.{Transition}
-use Rattle.pct_model.specs.Actions.{without_first}
 use Rattle.pct_laws.specs.ProcessEnds.{exit_value, status_after, end_status}
 use Rattle.pct_laws.specs.ThreadSummary.{summary_of}
 use Rattle.pct_laws.specs.KnownThreads.{is_in}
-use Rattle.pct_model.specs.LineKinds.{syntax_of}
-use Rattle.pct_model.specs.NextStatement.{NextStatement, next_of, body_at}
-use Rattle.pct_model.specs.OtherThreads.{Others, others_of}
 use Rattle.pct_laws.specs.ProcessLaw.{is_stop}
 use Rattle.pct_laws.specs.Each.{each}
 use Rattle.pct_laws.specs.ProcessLaw.{is_status_of, may_change, changes_allow, allows}
-use Rattle.pct_model.specs.Run.{Run, event_of, run}
-use Rattle.pct_model.specs.Statements.{encode}
-use Rattle.pct_model.specs.TransitionTable.{transition_by}
-use Rattle.pct_model.specs.World.{Thread, SharedState, Process, value_of}
 use Rattle.pct_transition_cases.proofs.CaseOfTransition.{case_of}
 use Rattle.pct_transition_cases.proofs.TransitionCases.{TransitionCase, main_returned, join_ended, fork_handler_called, process_forked, child_reaped, last_ended, last_ended_with_keys, process_exited, process_ended_now, process_ended}
 use Rattle.pct_ending_laws.proofs.exits.PlainFunctions.{is_plain_next}

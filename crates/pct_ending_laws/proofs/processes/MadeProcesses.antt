@@ -1,22 +1,14 @@
 -- A fork makes a process that was not made before, and that has no event yet; and the thread of each event is known before it.
-use Rattle.std.proofs.Common.{◌≡◌, ℕ, ◌+◌, ◌<◌, true, false, not, ◌&&◌, ◌||◌, List, [], ◌∷◌, ◌++◌, length, map, nat_eq, slice_index_or, is_some, Option, Some, None, option_and_then, refl, sym, ap, ◌∙◌, subst, arith, eqb-true, ne_eqb}
-use Rattle.std.specs.List.{list_any, position_or_len}
-use Rattle.std.specs.Option.{IsSomeAnd, option_map_or}
-use Rattle.std.proofs.lemmas.Bool.{false≢true, or_from, or_right, false_from_ne_true}
-use Rattle.std.proofs.lemmas.List.Folds.{list_any_none}
-use Rattle.std.proofs.lemmas.Option.{slice_get_within}
-use Rattle.pct_model.specs.declared.event.Event.{Event}
-use Rattle.pct_model.specs.declared.event.What.{What}
+use Rattle.pct_names.proofs.Names.{◌&&◌, ◌+◌, ◌++◌, ◌<◌, [], ap, arith, Config, Entry, Event, event_of, false, false_from_ne_true}
+use Rattle.pct_names.proofs.Names.{false≢true, ForksMade, is_live_process, is_some, length, List, list_any, list_any_none, made_process}
+use Rattle.pct_names.proofs.Names.{map, nat_eq, None, not, NumbersThreads, Option, option_and_then, option_map_or, or_from, or_right}
+use Rattle.pct_names.proofs.Names.{position_or_len, Process, refl, Run, run, Script, slice_get_within, slice_index_or, Some, subst, sym}
+use Rattle.pct_names.proofs.Names.{Thread, thread_with, true, What, World, ◌||◌, ℕ, ◌∙◌, ◌∷◌, ◌≡◌}
+use Rattle.std.proofs.Common.{eqb-true, ne_eqb}
+use Rattle.std.specs.Option.{IsSomeAnd}
 use Rattle.pct_model.specs.declared.event.What.TheVariants as what
-use Rattle.pct_model.specs.declared.schedule.Config.{Config}
-use Rattle.pct_model.specs.declared.schedule.Entry.{Entry}
-use Rattle.pct_model.specs.declared.script.Script.{Script}
-use Rattle.pct_model.specs.Actions.{is_live_process}
 use Rattle.pct_laws.specs.KnownThreads.{is_in, is_fork_of, creates_id, is_known, makes_process}
 use Rattle.pct_laws.specs.ProcessLaw.{was_made}
-use Rattle.pct_model.specs.Run.{Run, event_of, run}
-use Rattle.pct_model.specs.ThreadNumbers.{ForksMade, NumbersThreads}
-use Rattle.pct_model.specs.World.{Thread, Process, World, made_process, thread_with}
 use Rattle.pct_ending_laws.proofs.joins.ReportedFlags.{known_of_run}
 use Rattle.pct_ending_laws.proofs.lift.EveryProcess.{process_taken, ids_of_run}
 use Rattle.pct_ending_laws.proofs.lift.KeyedLists.{found_at, not_found}

@@ -1,26 +1,15 @@
 -- What is known of the thread of an entry: one that joins another, one that exits its process, and one that ends as the last thread of its
 -- process, in which exit has not begun then.
-use Rattle.std.proofs.Common.{◌≡◌, ℕ, Bool, true, false, not, List, [], ◌∷◌, nat_eq, Option, Some, None, is_some, cond, ◌⊎◌, inl, inr, option_and_then, refl, sym, ap, ◌∙◌, subst, eq-eqb, eqb-true, ne_eqb}
-use Rattle.std.specs.Prelude.{All}
-use Rattle.std.specs.Option.{IsSomeAnd, option_map_or}
-use Rattle.std.proofs.lemmas.Bool.{false≢true, true≢false, and_from, and_left, or_left, false_from_ne_true}
-use Rattle.std.proofs.lemmas.List.Elements.{All-head, All-tail}
-use Rattle.std.proofs.lemmas.Option.{same_Some}
-use Rattle.pct_model.specs.declared.event.Event.{Event}
-use Rattle.pct_model.specs.declared.event.What.{What}
+use Rattle.pct_names.proofs.Names.{[], All, All-head, All-tail, and_from, and_left, ap, Bool, cond, Config, Entry, Event, false}
+use Rattle.pct_names.proofs.Names.{false_from_ne_true, false≢true, Frame, holds_slot, inl, inr, is_ended_status, is_live_thread, is_some}
+use Rattle.pct_names.proofs.Names.{IsOfThread, List, made_process, made_thread, nat_eq, next_of, None, not, Option, option_and_then}
+use Rattle.pct_names.proofs.Names.{option_map_or, or_left, others_of, Process, refl, Run, run, same_Some, Script, Some, Status, subst, sym}
+use Rattle.pct_names.proofs.Names.{Thread, thread_with, true, What, with_id, World, ℕ, ◌∙◌, ◌∷◌, ◌≡◌, ◌⊎◌}
+use Rattle.std.proofs.Common.{eq-eqb, eqb-true, ne_eqb}
+use Rattle.std.specs.Option.{IsSomeAnd}
+use Rattle.std.proofs.lemmas.Bool.{true≢false}
 use Rattle.pct_model.specs.declared.event.What.TheVariants as what
-use Rattle.pct_model.specs.declared.schedule.Config.{Config}
-use Rattle.pct_model.specs.declared.schedule.Entry.{Entry}
-use Rattle.pct_model.specs.declared.script.Script.{Script}
-use Rattle.pct_model.specs.declared.state.Status.{Status}
 use Rattle.pct_model.specs.declared.state.Status.TheVariants as status
-use Rattle.pct_model.specs.OtherThreads.{others_of}
-use Rattle.pct_model.specs.Run.{Run, run}
-use Rattle.pct_model.specs.ThreadNumbers.{IsOfThread}
-use Rattle.pct_model.specs.ThreadSlots.{is_ended_status, holds_slot, is_live_thread, with_id}
-use Rattle.pct_model.specs.World.{Thread, Process, World, made_process, thread_with, made_thread}
-use Rattle.pct_model.specs.declared.frame.Frame.{Frame}
-use Rattle.pct_model.specs.NextStatement.{next_of}
 use Rattle.pct_laws.specs.ProcessEnds.{exit_after, exit_value}
 use Rattle.pct_laws.specs.Kept.{is_exiting, ThreadKept, is_exit_kind, IsPlainFunction}
 use Rattle.pct_laws.specs.KnownThreads.{is_in, is_own, is_fork_of}

@@ -1,20 +1,10 @@
 -- The exit value and the status of each process are those that the events report.
-use Rattle.std.proofs.Common.{◌≡◌, ℕ, Bool, true, false, cond, List, map, reverse, nat_eq, Option, Some, None, is_some, is_none, option_map, not, refl, sym, ap, ◌∙◌, subst}
-use Rattle.std.proofs.lemmas.Bool.{false≢true, and_parts}
-use Rattle.pct_model.specs.declared.event.What.{What}
-use Rattle.pct_model.specs.declared.schedule.Config.{Config}
-use Rattle.pct_model.specs.declared.schedule.Entry.{Entry}
-use Rattle.pct_model.specs.declared.script.Script.{Script}
-use Rattle.pct_model.specs.declared.state.Status.{Status}
-use Rattle.pct_model.specs.declared.statement.Stmt.{Stmt}
-use Rattle.pct_model.specs.declared.transition.Action.{Action}
+use Rattle.pct_names.proofs.Names.{Action, and_parts, ap, as_reaped, body_at, Bool, changed, child_of, cond, Config, Entry, event_of, false}
+use Rattle.pct_names.proofs.Names.{false≢true, has_ended, is_live_process, is_none, is_some, List, map, nat_eq, next_of, NextStatement}
+use Rattle.pct_names.proofs.Names.{None, not, Option, option_map, orphaned, other_process_after, Others, others_of, Process, process_after}
+use Rattle.pct_names.proofs.Names.{ProcessEnd, refl, reverse, Run, run, Script, shared_after, SharedState, Some, Status, Stmt, subst, sym}
+use Rattle.pct_names.proofs.Names.{Thread, Transition, true, What, ℕ, ◌∙◌, ◌≡◌}
 use Rattle.pct_model.specs.declared.transition.Action.TheVariants as action
-use Rattle.pct_model.specs.declared.transition.Transition.{Transition}
-use Rattle.pct_model.specs.Actions.{has_ended, orphaned, as_reaped, other_process_after, process_after, child_of, is_live_process, shared_after, changed}
-use Rattle.pct_model.specs.NextStatement.{NextStatement, next_of, body_at}
-use Rattle.pct_model.specs.OtherThreads.{Others, others_of}
-use Rattle.pct_model.specs.Run.{Run, event_of, run}
-use Rattle.pct_model.specs.World.{Thread, SharedState, ProcessEnd, Process}
 use Rattle.pct_laws.specs.Kept.{EachProcess, status_of_end}
 use Rattle.pct_laws.specs.ProcessEnds.{status_after, end_status, exit_after, exit_value}
 use Rattle.pct_transition_cases.proofs.CaseOfTransition.{case_of}

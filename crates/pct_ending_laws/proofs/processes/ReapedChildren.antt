@@ -1,35 +1,24 @@
 -- waitpid gives the status of a child that a fork of the process made, that has ended, and that was not reaped before: the parent of a
 -- process forked it, its end is that of an event, and it was reaped if an event reports so.
+use Rattle.pct_names.proofs.Names.{◌&&◌, ◌+◌, [], Action, after_transition, and_from, and_parts, and_right, ap, arith, as_reaped, body_at}
+use Rattle.pct_names.proofs.Names.{Bool, changed, child_of, cond, Config, Entry, Event, event_of, false, false_from_ne_true, false≢true}
+use Rattle.pct_names.proofs.Names.{family_among, family_of, filter, find, for_each, has_ended, inl, inr, is_live_process, is_some}
+use Rattle.pct_names.proofs.Names.{is_unreaped, List, list_any, list_any-append, made_process, map, nat_eq, next_of, NextStatement, None}
+use Rattle.pct_names.proofs.Names.{none-some, not, not-true, Option, option_map, option_or, or_cases, or_right, orphaned}
+use Rattle.pct_names.proofs.Names.{other_process_after, Others, others_of, position_or_len, Process, process_after, process_moved}
+use Rattle.pct_names.proofs.Names.{ProcessEnd, refl, Relative, relative_of, reverse, Run, run, same_Some, Script, shared_after, SharedState}
+use Rattle.pct_names.proofs.Names.{Some, Status, Stmt, subst, sym, Thread, threads_moved, Transition, transition_by, true, was_reaped, What}
+use Rattle.pct_names.proofs.Names.{World, ◌||◌, ℕ, ◌∙◌, ◌∷◌, ◌≡◌, ◌≢◌, ◌⊎◌}
 use mathlib.Core.Bool.{or-false}
-use Rattle.std.proofs.Common.{◌≡◌, ◌≢◌, ℕ, ◌+◌, Bool, true, false, not, ◌&&◌, ◌||◌, cond, List, [], ◌∷◌, map, filter, find, reverse, nat_eq, Option, Some, None, is_some, option_map, ◌⊎◌, inl, inr, refl, sym, ap, ◌∙◌, subst, eq-eqb, eqb-true, arith}
-use Rattle.std.specs.List.{list_any, position_or_len}
-use Rattle.std.specs.Option.{IsSomeAnd, option_or}
-use Rattle.std.proofs.lemmas.Bool.{false≢true, true≢false, and_parts, and_from, and_right, or_right, or_cases, not-true, false_from_ne_true}
-use Rattle.std.proofs.lemmas.List.Folds.{list_any-append}
-use Rattle.std.proofs.lemmas.Option.{none-some, same_Some}
-use Rattle.pct_model.specs.declared.event.Event.{Event}
-use Rattle.pct_model.specs.declared.event.What.{What}
+use Rattle.std.proofs.Common.{eq-eqb, eqb-true}
+use Rattle.std.specs.Option.{IsSomeAnd}
+use Rattle.std.proofs.lemmas.Bool.{true≢false}
 use Rattle.pct_model.specs.declared.event.What.TheVariants as what
 use Rattle.pct_model.specs.declared.process.Child.{Child}
-use Rattle.pct_model.specs.declared.process.Relative.{Relative}
-use Rattle.pct_model.specs.declared.schedule.Config.{Config}
-use Rattle.pct_model.specs.declared.schedule.Entry.{Entry}
-use Rattle.pct_model.specs.declared.script.Script.{Script}
-use Rattle.pct_model.specs.declared.state.Status.{Status}
-use Rattle.pct_model.specs.declared.statement.Stmt.{Stmt}
-use Rattle.pct_model.specs.declared.transition.Action.{Action}
 use Rattle.pct_model.specs.declared.transition.Action.TheVariants as action
-use Rattle.pct_model.specs.declared.transition.Transition.{Transition}
-use Rattle.pct_model.specs.Actions.{has_ended, orphaned, as_reaped, other_process_after, process_after, shared_after, for_each, child_of, threads_moved, changed, is_live_process, process_moved, after_transition}
 use Rattle.pct_laws.specs.Kept.{EachProcess}
 use Rattle.pct_laws.specs.KnownThreads.{is_in, makes_process}
-use Rattle.pct_model.specs.NextStatement.{NextStatement, next_of, body_at}
-use Rattle.pct_model.specs.OtherProcesses.{is_unreaped, relative_of, family_among, family_of}
-use Rattle.pct_model.specs.OtherThreads.{Others, others_of}
 use Rattle.pct_laws.specs.ProcessLaw.{has_status, has_in, reaps_process, may_change}
-use Rattle.pct_model.specs.Run.{Run, event_of, run}
-use Rattle.pct_model.specs.TransitionTable.{transition_by}
-use Rattle.pct_model.specs.World.{Thread, SharedState, ProcessEnd, Process, World, was_reaped, made_process}
 use Rattle.pct_transition_cases.proofs.CaseOfTransition.{case_of}
 use Rattle.pct_transition_cases.proofs.TransitionCases.{TransitionCase, fork_handler_called, child_reaped}
 use Rattle.pct_ending_laws.proofs.lift.ChangedThreads.{all_keep, pids_of}

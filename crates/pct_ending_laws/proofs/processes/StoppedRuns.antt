@@ -1,27 +1,10 @@
 -- A run that was not stopped has no event of a stop; and of the events of a step only the last one stops the run or ends the process.
-use Rattle.std.proofs.Common.{◌≡◌, ℕ, Bool, true, false, ◌||◌, List, [], ◌∷◌, ◌++◌, map, reverse, Option, None, refl, sym, ap, ◌∙◌}
-use Rattle.std.specs.List.{list_any}
-use Rattle.std.proofs.lemmas.Bool.{false≢true, or_from}
-use Rattle.std.proofs.lemmas.List.Folds.{list_any-append}
-use Rattle.std.proofs.lemmas.Option.{none-some}
-use Rattle.pct_model.specs.declared.event.Event.{Event}
-use Rattle.pct_model.specs.declared.event.What.{What}
+use Rattle.pct_names.proofs.Names.{◌++◌, [], after_transition, Alt, ap, body_at, Bool, Config, Entry, Event, event_of, false, false≢true}
+use Rattle.pct_names.proofs.Names.{for_each, List, list_any, list_any-append, map, next_of, NextStatement, None, none-some, Option, or_from}
+use Rattle.pct_names.proofs.Names.{Others, others_of, Process, refl, reverse, Run, Script, SharedState, Status, Stmt, stop_after, sym}
+use Rattle.pct_names.proofs.Names.{Thread, Transition, transition_by, true, What, Why, without_first, World, ◌||◌, ℕ, ◌∙◌, ◌∷◌, ◌≡◌}
 use Rattle.pct_model.specs.declared.event.What.TheVariants as what
-use Rattle.pct_model.specs.declared.schedule.Alt.{Alt}
-use Rattle.pct_model.specs.declared.schedule.Config.{Config}
-use Rattle.pct_model.specs.declared.schedule.Entry.{Entry}
-use Rattle.pct_model.specs.declared.script.Script.{Script}
-use Rattle.pct_model.specs.declared.state.Status.{Status}
-use Rattle.pct_model.specs.declared.statement.Stmt.{Stmt}
-use Rattle.pct_model.specs.declared.stop.Why.{Why}
-use Rattle.pct_model.specs.declared.transition.Transition.{Transition}
-use Rattle.pct_model.specs.Actions.{without_first, stop_after, for_each, after_transition}
-use Rattle.pct_model.specs.NextStatement.{NextStatement, next_of, body_at}
-use Rattle.pct_model.specs.OtherThreads.{Others, others_of}
 use Rattle.pct_laws.specs.ProcessLaw.{is_stop}
-use Rattle.pct_model.specs.Run.{Run, event_of}
-use Rattle.pct_model.specs.TransitionTable.{transition_by}
-use Rattle.pct_model.specs.World.{Thread, SharedState, Process, World}
 use Rattle.pct_transition_cases.proofs.CaseOfTransition.{case_of}
 use Rattle.pct_transition_cases.proofs.TransitionCases.{TransitionCase, stopped, fork_handler_called}
 use Rattle.pct_ending_laws.proofs.lift.HandlerEvents.{of_each_phase}

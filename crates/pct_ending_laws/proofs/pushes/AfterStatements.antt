@@ -1,7 +1,6 @@
 -- The pushes that are open after the first statements of a body.
-use Rattle.std.proofs.Common.{◌≡◌, ℕ, zero, suc, ◌+◌, List, [], ◌∷◌, ◌++◌, take, drop, slice_get, Some, refl, sym, ap, ◌∙◌, take-add}
-use Rattle.std.proofs.lemmas.Option.{same_Some}
-use Rattle.pct_model.specs.declared.statement.Stmt.{Stmt}
+use Rattle.pct_names.proofs.Names.{◌+◌, ◌++◌, [], ap, drop, List, refl, same_Some, slice_get, Some, Stmt, suc, sym, take, take-add, zero, ℕ}
+use Rattle.pct_names.proofs.Names.{◌∙◌, ◌∷◌, ◌≡◌}
 use Rattle.pct_model.specs.declared.statement.Stmt.TheVariants as statement
 use Rattle.pct_laws.specs.OpenPushes.{pushes_after, open_pushes}
 

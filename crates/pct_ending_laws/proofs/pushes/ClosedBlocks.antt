@@ -1,22 +1,17 @@
 -- Where a block closes, the pushes that are open are those that were open where it opened. The statement that closes a block is found by
 -- counting, in the statements after the one that opens it.
-use Rattle.std.proofs.Common.{◌≡◌, ℕ, zero, suc, ◌+◌, ◌-◌, true, cond, ◌||◌, List, [], ◌∷◌, map, take, drop, Some, refl, sym, ap, ◌∙◌, arith, ◌⊎◌, ◌≢◌, inl, inr, ◌<◌, ◌≤◌, Bool, false, ◌&&◌, length, find, nat_eq, count_by, slice_get, slice_range, Option, None, subst}
-use Rattle.std.specs.List.{position_or_len, range_with_len}
-use Rattle.std.specs.Option.{option_map_or}
-use Rattle.std.proofs.lemmas.Bool.{false≢true, true≢false, and_parts, and_from, or_cases, or_left, or_right, eqb-true, eq-eqb}
-use Rattle.std.proofs.lemmas.List.{length-drop}
-use Rattle.std.proofs.lemmas.List.FromFn.{length-range_with_len, get_or-range_with_len}
-use Rattle.std.proofs.lemmas.List.Sums.{fails_before_first}
-use Rattle.std.proofs.lemmas.Option.{slice_get_within, get_or_from_slice_get}
-use Rattle.pct_model.specs.declared.role.Block.{Block}
+use Rattle.pct_names.proofs.Names.{◌&&◌, ◌+◌, ◌-◌, ◌<◌, [], and_from, and_parts, ap, are_nested, arith, Block, Bool, change_at, close_of}
+use Rattle.pct_names.proofs.Names.{closes, closes_else, closing, cond, count_by, drop, encode, ends, fails_before_first, false, false≢true}
+use Rattle.pct_names.proofs.Names.{find, first_later, get_or-range_with_len, get_or_from_slice_get, holds, inl, inr, inside, is_else, is_if}
+use Rattle.pct_names.proofs.Names.{length, length-drop, length-range_with_len, List, map, nat_eq, None, Option, option_map_or, or_cases}
+use Rattle.pct_names.proofs.Names.{or_left, or_right, position_or_len, range_with_len, refl, role_of, slice_get, slice_get_within}
+use Rattle.pct_names.proofs.Names.{slice_range, Some, Stmt, subst, suc, sym, syntax_of, take, true, zero, ◌||◌, ℕ, ◌∙◌, ◌∷◌, ◌≡◌, ◌≢◌, ◌≤◌}
+use Rattle.pct_names.proofs.Names.{◌⊎◌}
+use Rattle.std.proofs.lemmas.Bool.{true≢false, eqb-true, eq-eqb}
 use Rattle.pct_model.specs.declared.role.Block.TheVariants as block
-use Rattle.pct_model.specs.declared.statement.Stmt.{Stmt}
 use Rattle.pct_model.specs.declared.statement.Stmt.TheVariants as statement
-use Rattle.pct_model.specs.Jumps.{is_else, is_end, close_of, is_if, holds, begins, ends, closes, closes_else, first_later, closing}
-use Rattle.pct_model.specs.LineKinds.{syntax_of}
-use Rattle.pct_model.specs.Nesting.{inside, change_at, are_nested}
+use Rattle.pct_model.specs.Jumps.{is_end, begins}
 use Rattle.pct_laws.specs.OpenPushes.{pushes_after, open_pushes}
-use Rattle.pct_model.specs.Statements.{encode, role_of}
 use Rattle.pct_jumps.proofs.NestedBodies.{begins_block, count-cons, get-drop}
 use Rattle.pct_jumps.specs.JumpTable.{opens_block}
 use Rattle.pct_ending_laws.proofs.pushes.AfterStatements.{pushes_after-cons, open_pushes-add, open_pushes-next, drop-at}

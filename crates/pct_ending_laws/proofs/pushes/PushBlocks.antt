@@ -1,21 +1,14 @@
 -- In a body whose blocks nest, the pushes that are open at a statement are as many as the open push blocks.
-use Rattle.std.proofs.Common.{◌≡◌, ℕ, zero, suc, ◌+◌, Bool, true, false, cond, not, ◌&&◌, ◌||◌, List, [], ◌∷◌, length, map, take, drop, nat_lt, count_by, slice_get, Some, refl, sym, ap, ◌∙◌, subst, arith}
-use Rattle.std.proofs.lemmas.Bool.{true≢false, false≢true, and_parts, not-true, ltb-false}
-use Rattle.std.proofs.lemmas.List.{nil_from_length}
-use Rattle.std.proofs.lemmas.List.Sums.{sum_by-cons}
-use Rattle.pct_model.specs.declared.role.Block.{Block}
+use Rattle.pct_names.proofs.Names.{◌&&◌, ◌+◌, [], and_parts, ap, are_nested, arith, Block, Bool, change_at, cond, count_by, drop, encode}
+use Rattle.pct_names.proofs.Names.{false, false≢true, inside, is_in_push, is_pop, is_push, length, List, map, nat_lt, nil_from_length}
+use Rattle.pct_names.proofs.Names.{none_wrong, not, not-true, open_after as blocks_after, Operand, outside, refl, Role, role_of, slice_get}
+use Rattle.pct_names.proofs.Names.{Some, Stmt, subst, suc, sum_by-cons, sym, syntax_of, take, true, without_first, zero, ◌||◌, ℕ, ◌∙◌, ◌∷◌}
+use Rattle.pct_names.proofs.Names.{◌≡◌}
+use Rattle.std.proofs.lemmas.Bool.{true≢false, ltb-false}
 use Rattle.pct_model.specs.declared.role.Block.TheVariants as block
-use Rattle.pct_model.specs.declared.role.Role.{Role}
-use Rattle.pct_model.specs.declared.statement.Operand.{Operand}
-use Rattle.pct_model.specs.declared.statement.Stmt.{Stmt}
 use Rattle.pct_model.specs.declared.statement.Stmt.TheVariants as statement
-use Rattle.pct_model.specs.Actions.{without_first}
-use Rattle.pct_model.specs.Checks.{none_wrong, is_push, is_pop, is_in_push}
 use Rattle.pct_model.specs.Jumps.{is_end}
-use Rattle.pct_model.specs.LineKinds.{syntax_of}
-use Rattle.pct_model.specs.Nesting.{outside, inside, change_at, open_after as blocks_after, are_nested}
 use Rattle.pct_laws.specs.OpenPushes.{pushes_after, open_pushes}
-use Rattle.pct_model.specs.Statements.{encode, role_of}
 use Rattle.pct_jumps.specs.JumpTable.{opens_block}
 use Rattle.pct_jumps.proofs.NestedBodies.{begins_block}
 use Rattle.pct_ending_laws.proofs.pushes.AfterStatements.{pushes_after-cons, drop-at}

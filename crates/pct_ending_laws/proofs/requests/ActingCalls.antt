@@ -1,28 +1,15 @@
 -- A thread that is to call a function that shall be a cancellation point, with a request to act upon, acts upon it, or the call is a stop.
-use Rattle.std.proofs.Common.{◌≡◌, ℕ, Bool, true, false, not, ◌&&◌, ◌||◌, List, Option, Some, None, refl, sym, ◌∙◌, subst}
-use Rattle.std.proofs.lemmas.Bool.{false≢true, true≢false}
-use Rattle.pct_model.specs.declared.schedule.Alt.{Alt}
+use Rattle.pct_names.proofs.Names.{◌&&◌, acts_on_request, acts_or, Alt, body_at, Bool, called_kind, choices_at, Config, Entry, false}
+use Rattle.pct_names.proofs.Names.{false≢true, Frame, is_allowed_asynchronously, is_deliverable, is_required, List, next_of, NextStatement}
+use Rattle.pct_names.proofs.Names.{None, NoStatement, not, offers, Option, Others, others_of, Process, refl, Run, run, runs, Script}
+use Rattle.pct_names.proofs.Names.{SharedState, Some, StatementIn, Status, Stmt, stop_at, stops_or, subst, sym, Thread, transition_at, true}
+use Rattle.pct_names.proofs.Names.{Why, ◌||◌, ℕ, ◌∙◌, ◌≡◌}
+use Rattle.std.proofs.lemmas.Bool.{true≢false}
 use Rattle.pct_model.specs.declared.schedule.Alt.TheVariants as alt
-use Rattle.pct_model.specs.declared.schedule.Config.{Config}
-use Rattle.pct_model.specs.declared.schedule.Entry.{Entry}
-use Rattle.pct_model.specs.declared.script.Script.{Script}
-use Rattle.pct_model.specs.declared.frame.Frame.{Frame}
-use Rattle.pct_model.specs.declared.state.Status.{Status}
 use Rattle.pct_model.specs.declared.state.Status.TheVariants as status
-use Rattle.pct_model.specs.declared.statement.Stmt.{Stmt}
 use Rattle.pct_model.specs.declared.statement.Stmt.TheVariants as statement
-use Rattle.pct_model.specs.declared.stop.Why.{Why}
-use Rattle.pct_model.specs.Cancelability.{is_deliverable}
-use Rattle.pct_model.specs.CancelCalls.{called_kind, is_required, acts_on_request}
 use Rattle.pct_laws.specs.CancelEvents.{has_to_act}
 use Rattle.pct_laws.specs.CancelLaw.{is_running, calls_required_point, acts_or_stops, acts_at_calls}
-use Rattle.pct_model.specs.ChoiceTable.{choices_at, offers}
-use Rattle.pct_model.specs.NextStatement.{NextStatement, NoStatement, StatementIn, next_of, body_at}
-use Rattle.pct_model.specs.OtherThreads.{Others, others_of}
-use Rattle.pct_model.specs.Run.{Run, run}
-use Rattle.pct_model.specs.StopTable.{is_allowed_asynchronously, stop_at}
-use Rattle.pct_model.specs.TransitionTable.{stops_or, runs, transition_at, acts_or}
-use Rattle.pct_model.specs.World.{Thread, Process, SharedState}
 use Rattle.pct_transition_cases.proofs.CaseOfTransition.{no_stops}
 use Rattle.pct_transition_cases.proofs.OfferedChoices.{is_acting, gone_on_at_required}
 use Rattle.pct_ending_laws.proofs.lift.TakenSteps.{IsTaken}

@@ -1,24 +1,10 @@
 -- A step that acts upon a request begins at a cancellation point, or with asynchronous cancelability, by the events before it.
-use Rattle.std.proofs.Common.{◌≡◌, ℕ, Bool, true, false, not, ◌||◌, List, [], ◌∷◌, Some, refl, ap, ap₂, ◌∙◌}
-use Rattle.std.specs.List.{list_any}
-use Rattle.std.proofs.lemmas.Bool.{or_left, or_right}
-use Rattle.pct_model.specs.declared.event.What.{What}
-use Rattle.pct_model.specs.declared.schedule.Config.{Config}
-use Rattle.pct_model.specs.declared.schedule.Entry.{Entry}
-use Rattle.pct_model.specs.declared.script.Script.{Script}
-use Rattle.pct_model.specs.declared.state.Mode.TheVariants.{Asynchronous}
-use Rattle.pct_model.specs.declared.state.Status.{Status}
-use Rattle.pct_model.specs.declared.statement.Stmt.{Stmt}
-use Rattle.pct_model.specs.declared.transition.Transition.{Transition}
-use Rattle.pct_model.specs.Cancelability.{is_deliverable}
+use Rattle.pct_names.proofs.Names.{[], ap, ap₂, Asynchronous, body_at, Bool, Config, Entry, false, is_at_cancellation_point, is_deliverable}
+use Rattle.pct_names.proofs.Names.{List, list_any, next_of, NextStatement, not, or_left, or_right, Others, others_of, Process, refl, Run}
+use Rattle.pct_names.proofs.Names.{run, Script, SharedState, Some, Status, Stmt, Thread, Transition, true, What, ◌||◌, ℕ, ◌∙◌, ◌∷◌, ◌≡◌}
 use Rattle.pct_laws.specs.CancelEvents.{is_asynchronous_last}
-use Rattle.pct_model.specs.StatusKinds.{is_at_cancellation_point}
 use Rattle.pct_laws.specs.CancelLaw.{is_act, acts_where_it_may}
-use Rattle.pct_model.specs.NextStatement.{NextStatement, next_of, body_at}
-use Rattle.pct_model.specs.OtherThreads.{Others, others_of}
-use Rattle.pct_model.specs.Run.{Run, run}
 use Rattle.pct_laws.specs.ThreadSteps.{ThreadStep}
-use Rattle.pct_model.specs.World.{Thread, Process, SharedState}
 use Rattle.pct_transition_cases.proofs.TransitionCases.{TransitionCase, canceled, canceled_at_point, canceled_in_join, canceled_in_sem_wait, canceled_in_waitpid, canceled_in_wait, canceled_after_wait, signal_handed_on, fork_handler_called}
 use Rattle.pct_ending_laws.proofs.lift.EveryProcess.{moves_of_run}
 use Rattle.pct_ending_laws.proofs.lift.HandlerEvents.{of_each_phase}

@@ -1,23 +1,14 @@
 -- The events of a run tell which threads act upon a request: a thread that has not ended has to act exactly if it has a request and its
 -- cancelability is enabled.
+use Rattle.pct_names.proofs.Names.{◌&&◌, and_parts, ap, ap₂, Asynchronous, Bool, Config, Deferred, Entry, false, false_from_ne_true}
+use Rattle.pct_names.proofs.Names.{has_begun_to_end, is_deliverable, is_ended_status, List, made_process, made_thread, Mode, mode_if, not}
+use Rattle.pct_names.proofs.Names.{not-true, option_and_then, Process, refl, Run, run, Script, Some, State, state_if, sym, Thread}
+use Rattle.pct_names.proofs.Names.{thread_with, true, ◌||◌, ℕ, ◌∙◌, ◌≡◌}
 use mathlib.Core.Bool.{and-true, and-false}
-use Rattle.std.proofs.Common.{◌≡◌, ℕ, Bool, true, false, not, ◌&&◌, ◌||◌, List, Some, option_and_then, refl, sym, ap, ap₂, ◌∙◌}
-use Rattle.std.proofs.lemmas.Bool.{true≢false, and_parts, false_from_ne_true, not-true}
-use Rattle.pct_model.specs.declared.schedule.Config.{Config}
-use Rattle.pct_model.specs.declared.schedule.Entry.{Entry}
-use Rattle.pct_model.specs.declared.script.Script.{Script}
-use Rattle.pct_model.specs.declared.state.Mode.{Mode}
-use Rattle.pct_model.specs.declared.state.Mode.TheVariants.{Deferred, Asynchronous}
-use Rattle.pct_model.specs.declared.state.State.{State}
-use Rattle.pct_model.specs.Cancelability.{is_deliverable}
-use Rattle.pct_model.specs.CancelCalls.{state_if, mode_if}
+use Rattle.std.proofs.lemmas.Bool.{true≢false}
 use Rattle.pct_laws.specs.CancelEvents.{is_requested, is_enabled_last, is_asynchronous_last, has_not_begun, is_enabled_by, has_to_act}
 use Rattle.pct_laws.specs.Kept.{ThreadKept}
-use Rattle.pct_model.specs.Run.{Run, run}
-use Rattle.pct_model.specs.StopTable.{has_begun_to_end}
-use Rattle.pct_model.specs.ThreadSlots.{is_ended_status}
 use Rattle.pct_laws.specs.ThreadSummary.{ThreadSummary, summary_of}
-use Rattle.pct_model.specs.World.{Thread, Process, made_process, thread_with, made_thread}
 use Rattle.pct_ending_laws.proofs.ThreadsOfRun.{threads_kept}
 use Rattle.pct_ending_laws.proofs.joins.JoinTransitions.{moves_alive}
 use Rattle.pct_ending_laws.proofs.lift.EveryProcess.{process_taken, ids_of_run}

@@ -1,22 +1,11 @@
 -- A thread that is suspended in a cancellation point, and has to act upon a request, has a choice to do so.
-use Rattle.std.proofs.Common.{◌≡◌, Bool, true, false, cond, List, [], ◌∷◌, ◌++◌, refl, sym, ap, ◌∙◌}
-use Rattle.std.specs.List.{list_any}
-use Rattle.std.proofs.lemmas.Bool.{false≢true}
-use Rattle.pct_model.specs.declared.schedule.Alt.{Alt}
+use Rattle.pct_names.proofs.Names.{◌++◌, [], act_if, Alt, ap, body_at, Bool, choices_at, cond, Config, false, false≢true, go_if}
+use Rattle.pct_names.proofs.Names.{hand_on_or_act, is_deliverable, is_ended_status, List, list_any, next_of, NextStatement, Others}
+use Rattle.pct_names.proofs.Names.{others_of, refl, Script, SharedState, Status, Stmt, sym, Thread, true, Waiter, ◌∙◌, ◌∷◌, ◌≡◌}
 use Rattle.pct_model.specs.declared.schedule.Alt.TheVariants as alt
-use Rattle.pct_model.specs.declared.schedule.Config.{Config}
-use Rattle.pct_model.specs.declared.script.Script.{Script}
 use Rattle.pct_model.specs.declared.state.Cause.TheVariants as cause
-use Rattle.pct_model.specs.declared.state.Status.{Status}
 use Rattle.pct_model.specs.declared.state.Status.TheVariants as status
-use Rattle.pct_model.specs.declared.statement.Stmt.{Stmt}
-use Rattle.pct_model.specs.Cancelability.{is_deliverable}
 use Rattle.pct_laws.specs.CancelLaw.{is_suspended, is_to_act, Awakened}
-use Rattle.pct_model.specs.ChoiceTable.{go_if, act_if, hand_on_or_act, choices_at}
-use Rattle.pct_model.specs.NextStatement.{NextStatement, next_of, body_at}
-use Rattle.pct_model.specs.OtherThreads.{Waiter, Others, others_of}
-use Rattle.pct_model.specs.ThreadSlots.{is_ended_status}
-use Rattle.pct_model.specs.World.{Thread, SharedState}
 use Rattle.pct_ending_laws.proofs.lift.TakenSteps.{AfterEveryRun}
 use Rattle.pct_ending_laws.proofs.requests.ActingThreads.{acts_by_events}
 

@@ -1,26 +1,12 @@
 -- A thread that has neither begun to end nor begun to exit its process has the cancelability state and type that its events report.
-use Rattle.std.proofs.Common.{◌≡◌, ℕ, Bool, true, false, not, ◌&&◌, cond, List, [], ◌∷◌, reverse, refl, sym, ap, ap₂, ◌∙◌, subst}
-use Rattle.std.proofs.lemmas.Bool.{false≢true, and_parts}
-use Rattle.pct_model.specs.declared.event.Event.{Event}
-use Rattle.pct_model.specs.declared.event.What.{What}
-use Rattle.pct_model.specs.declared.schedule.Config.{Config}
-use Rattle.pct_model.specs.declared.script.Script.{Script}
-use Rattle.pct_model.specs.declared.statement.Stmt.{Stmt}
-use Rattle.pct_model.specs.declared.state.Status.{Status}
-use Rattle.pct_model.specs.declared.transition.Action.{Action}
-use Rattle.pct_model.specs.declared.transition.Transition.{Transition}
-use Rattle.pct_model.specs.Actions.{thread_at, thread_after, named_after, moved}
-use Rattle.pct_model.specs.CancelCalls.{state_if, mode_if}
+use Rattle.pct_names.proofs.Names.{◌&&◌, [], Action, and_parts, ap, ap₂, body_at, Bool, cond, Config, Event, false, false≢true}
+use Rattle.pct_names.proofs.Names.{has_begun_to_end, is_forking, List, mode_if, moved, named_after, next_of, NextStatement, not, Others}
+use Rattle.pct_names.proofs.Names.{others_of, refl, reverse, Script, SharedState, state_if, Status, Stmt, subst, sym, Thread, thread_after}
+use Rattle.pct_names.proofs.Names.{thread_at, Transition, transition_by, true, What, ℕ, ◌∙◌, ◌∷◌, ◌≡◌}
 use Rattle.pct_laws.specs.CancelEvents.{enabled_after, is_enabled_last, asynchronous_after, is_asynchronous_last, has_not_begun}
-use Rattle.pct_model.specs.StatusKinds.{is_forking}
 use Rattle.pct_laws.specs.Kept.{EachThread}
 use Rattle.pct_laws.specs.KnownThreads.{is_own, is_fork_of}
-use Rattle.pct_model.specs.NextStatement.{NextStatement, next_of, body_at}
-use Rattle.pct_model.specs.OtherThreads.{Others, others_of}
-use Rattle.pct_model.specs.StopTable.{has_begun_to_end}
 use Rattle.pct_laws.specs.ThreadSummary.{ThreadSummary, no_events, with_event, summary_of}
-use Rattle.pct_model.specs.TransitionTable.{transition_by}
-use Rattle.pct_model.specs.World.{Thread, SharedState}
 use Rattle.pct_transition_cases.proofs.CaseOfTransition.{case_of}
 use Rattle.pct_transition_cases.proofs.TransitionCases.{TransitionCase, main_returned, start_returned, canceled, canceled_at_point, canceled_in_join, canceled_in_sem_wait, canceled_in_waitpid, ended_in_wait, fork_handler_called, exit_called, state_set, mode_set, last_ended, last_ended_with_keys, process_exited}
 use Rattle.pct_ending_laws.proofs.ThreadsOfRun.{ProcessFits, thread_rule, processes_fit}

@@ -1,45 +1,26 @@
 -- The events of every run keep the law of cancellation: a thread is canceled only by a request that came, with its cancelability enabled,
 -- a thread that has to act upon a request calls no cancellation point, a thread returns from one after its call, and one that has begun to
 -- end does not enable its cancelability.
-use Rattle.std.proofs.Common.{◌≡◌, ℕ, Bool, true, false, not, ◌&&◌, ◌||◌, cond, List, ◌∷◌, ◌++◌, map, reverse, nat_eq, Option, Some, refl, sym, ap, ◌∙◌, subst, eq-eqb, eqb-true}
-use Rattle.std.specs.Option.{option_map_or}
-use Rattle.std.proofs.lemmas.Bool.{false≢true, true≢false, and_parts, and_from, or_left, or_right}
-use Rattle.pct_model.specs.declared.event.Event.{Event}
-use Rattle.pct_model.specs.declared.event.What.{What}
+use Rattle.pct_names.proofs.Names.{◌&&◌, ◌++◌, and_from, and_parts, ap, Bool, Cause, cond, cond_wait_point, Config, Disable, Enable, Entry}
+use Rattle.pct_names.proofs.Names.{Event, event_of, false, false≢true, Frame, has_begun_to_end, has_left_wait, is_deliverable, is_required}
+use Rattle.pct_names.proofs.Names.{List, made_thread, map, moved, nat_eq, next_of, NextStatement, not, Option, option_map_or, or_left}
+use Rattle.pct_names.proofs.Names.{or_right, others_of, point_kind, Process, refl, reverse, Run, run, Script, sem_wait_point, Some}
+use Rattle.pct_names.proofs.Names.{statement_at, StatementIn, Status, Stmt, subst, sym, testcancel_point, Thread, thread_after, thread_at}
+use Rattle.pct_names.proofs.Names.{Transition, transition_by, true, waitpid_point, What, ◌||◌, ℕ, ◌∙◌, ◌∷◌, ◌≡◌}
+use Rattle.std.proofs.Common.{eq-eqb, eqb-true}
+use Rattle.std.proofs.lemmas.Bool.{true≢false}
 use Rattle.pct_model.specs.declared.event.What.TheVariants as what
-use Rattle.pct_model.specs.declared.frame.Frame.{Frame}
-use Rattle.pct_model.specs.declared.schedule.Config.{Config}
-use Rattle.pct_model.specs.declared.schedule.Entry.{Entry}
-use Rattle.pct_model.specs.declared.script.Script.{Script}
-use Rattle.pct_model.specs.declared.state.Cause.{Cause}
 use Rattle.pct_model.specs.declared.state.Cause.TheVariants as cause
-use Rattle.pct_model.specs.declared.state.State.TheVariants.{Enable, Disable}
-use Rattle.pct_model.specs.declared.state.Status.{Status}
 use Rattle.pct_model.specs.declared.state.Status.TheVariants as status
-use Rattle.pct_model.specs.declared.statement.Stmt.{Stmt}
 use Rattle.pct_model.specs.declared.statement.Stmt.TheVariants as statement
-use Rattle.pct_model.specs.declared.transition.Transition.{Transition}
-use Rattle.pct_model.specs.Actions.{thread_at, thread_after, moved}
-use Rattle.pct_model.specs.Cancelability.{is_deliverable}
-use Rattle.pct_model.specs.CancelCalls.{testcancel_point, point_kind, is_required}
 use Rattle.pct_laws.specs.CancelEvents.{is_requested, is_enabled_last, has_to_act}
 use Rattle.pct_laws.specs.Each.{each}
 use Rattle.pct_laws.specs.NewestEvents.{newest_is, calls_point}
 use Rattle.pct_laws.specs.RequestsLaw.{is_in_wait, is_to_return, is_to_end, has_own_return, may_return, allows}
-use Rattle.pct_model.specs.CondCalls.{cond_wait_point}
-use Rattle.pct_model.specs.ForkCalls.{waitpid_point}
-use Rattle.pct_model.specs.StatusKinds.{has_left_wait}
 use Rattle.pct_laws.specs.Kept.{is_call_of, is_leaving, WaitKept}
 use Rattle.pct_laws.specs.KnownThreads.{is_own}
-use Rattle.pct_model.specs.NextStatement.{NextStatement, StatementIn, next_of}
-use Rattle.pct_model.specs.OtherThreads.{others_of}
-use Rattle.pct_model.specs.Run.{Run, event_of, run}
-use Rattle.pct_model.specs.SemCalls.{sem_wait_point}
-use Rattle.pct_model.specs.StopTable.{has_begun_to_end}
 use Rattle.pct_laws.specs.ThreadSummary.{ThreadSummary, summary_of}
-use Rattle.pct_model.specs.TransitionTable.{transition_by}
 use Rattle.pct_laws.specs.WaitStages.{WaitStage, InWait, ToReturn, Leaving, LeavingSignal, stage_after, wait_stage}
-use Rattle.pct_model.specs.World.{Thread, Process, statement_at, made_thread}
 use Rattle.pct_transition_cases.proofs.PlacedStatements.{IsPlaced, is_placed, statement_placed}
 use Rattle.pct_transition_cases.proofs.TransitionCases.{TransitionCase, join_begun, state_set, cancel_tested, point_begun, point_done, point_passed, canceled, canceled_at_point, canceled_in_join, canceled_in_sem_wait, canceled_in_waitpid, wait_begun, wait_ended, canceled_in_wait, canceled_after_wait, signal_handed_on, ended_in_wait, sem_wait_begun, sem_taken, fork_handler_called, waitpid_begun, child_reaped, no_child_found, child_lost}
 use Rattle.pct_ending_laws.proofs.ThreadsOfRun.{thread_rule, processes_fit, threads_fit, threads_kept}

@@ -1,27 +1,13 @@
 -- A thread that acted upon a request in a condition wait, and does not own its mutex yet, has the request pending and its cancelability
 -- enabled.
-use Rattle.std.proofs.Common.{◌≡◌, ℕ, Bool, true, false, not, ◌&&◌, cond, List, refl, sym, ap, ◌∙◌}
-use Rattle.std.proofs.lemmas.Bool.{false≢true}
-use Rattle.pct_model.specs.declared.schedule.Config.{Config}
-use Rattle.pct_model.specs.declared.script.Script.{Script}
-use Rattle.pct_model.specs.declared.state.Cause.{Cause}
+use Rattle.pct_names.proofs.Names.{◌&&◌, Action, ap, body_at, Bool, Cause, cond, Config, false, false≢true, has_left_wait, in_child}
+use Rattle.pct_names.proofs.Names.{is_deliverable, is_live_thread, is_waiting_on, List, moved, named_after, next_of, NextStatement, not}
+use Rattle.pct_names.proofs.Names.{Others, others_of, refl, Script, SharedState, State, Status, Stmt, sym, Thread, thread_after, thread_at}
+use Rattle.pct_names.proofs.Names.{Transition, true, unblocked, ℕ, ◌∙◌, ◌≡◌}
 use Rattle.pct_model.specs.declared.state.Cause.TheVariants as cause
-use Rattle.pct_model.specs.declared.state.State.{State}
-use Rattle.pct_model.specs.declared.state.Status.{Status}
 use Rattle.pct_model.specs.declared.state.Status.TheVariants as status
-use Rattle.pct_model.specs.declared.statement.Stmt.{Stmt}
-use Rattle.pct_model.specs.declared.transition.Action.{Action}
 use Rattle.pct_model.specs.declared.transition.Action.TheVariants as action
-use Rattle.pct_model.specs.declared.transition.Transition.{Transition}
-use Rattle.pct_model.specs.Actions.{thread_at, thread_after, named_after, in_child, moved}
-use Rattle.pct_model.specs.Cancelability.{is_deliverable}
-use Rattle.pct_model.specs.CondCalls.{is_waiting_on, unblocked}
-use Rattle.pct_model.specs.StatusKinds.{has_left_wait}
 use Rattle.pct_laws.specs.Kept.{EachThread}
-use Rattle.pct_model.specs.NextStatement.{NextStatement, next_of, body_at}
-use Rattle.pct_model.specs.OtherThreads.{Others, others_of}
-use Rattle.pct_model.specs.ThreadSlots.{is_live_thread}
-use Rattle.pct_model.specs.World.{Thread, SharedState}
 use Rattle.pct_transition_cases.proofs.CaseOfTransition.{case_of}
 use Rattle.pct_transition_cases.proofs.OfferedChoices.{deliverable_enabled}
 use Rattle.pct_transition_cases.proofs.TransitionCases.{TransitionCase, rests, canceled_in_wait, canceled_after_wait, signal_handed_on}

@@ -1,34 +1,20 @@
 -- A request is pending for a thread that has not ended exactly if the events report one.
+use Rattle.pct_names.proofs.Names.{◌&&◌, [], Action, Alt, and_from, and_left, ap, ap₂, body_at, Bool, changed, cond, Config, Entry, Event}
+use Rattle.pct_names.proofs.Names.{event_of, false, false≢true, find, for_each, holds_slot, inl, inr, is_live_thread, is_waiting_on, List}
+use Rattle.pct_names.proofs.Names.{list_all, list_any, made_process, map, moved, named_after, nat_eq, next_of, NextStatement, None}
+use Rattle.pct_names.proofs.Names.{none-some, not, Option, option_and_then, or_from, others_of, Process, refl, requests, reverse, same_Some}
+use Rattle.pct_names.proofs.Names.{Script, SharedState, Some, Status, Stmt, subst, suc, sym, Thread, thread_after, thread_at, thread_moved}
+use Rattle.pct_names.proofs.Names.{thread_with, Transition, transition_by, true, unblocked, value_of, What, with_id, World, ◌||◌, ℕ, ◌∙◌}
+use Rattle.pct_names.proofs.Names.{◌∷◌, ◌≡◌, ◌⊎◌}
 use mathlib.Core.Bool.{or-false, or_assoc}
-use Rattle.std.proofs.Common.{◌≡◌, ℕ, suc, Bool, true, false, not, ◌&&◌, ◌||◌, cond, List, [], ◌∷◌, map, reverse, find, nat_eq, Option, Some, None, ◌⊎◌, inl, inr, option_and_then, refl, sym, ap, ap₂, ◌∙◌, subst, eqb-true, eq-eqb, ne_eqb}
-use Rattle.std.specs.List.{list_all, list_any}
-use Rattle.std.proofs.lemmas.Bool.{false≢true, true≢false, and_from, and_left, or_from}
-use Rattle.std.proofs.lemmas.Option.{none-some, same_Some}
-use Rattle.pct_model.specs.declared.event.Event.{Event}
-use Rattle.pct_model.specs.declared.event.What.{What}
-use Rattle.pct_model.specs.declared.schedule.Alt.{Alt}
-use Rattle.pct_model.specs.declared.schedule.Config.{Config}
-use Rattle.pct_model.specs.declared.schedule.Entry.{Entry}
-use Rattle.pct_model.specs.declared.script.Script.{Script}
+use Rattle.std.proofs.Common.{eqb-true, eq-eqb, ne_eqb}
+use Rattle.std.proofs.lemmas.Bool.{true≢false}
 use Rattle.pct_model.specs.declared.state.Cause.TheVariants as cause
-use Rattle.pct_model.specs.declared.state.Status.{Status}
 use Rattle.pct_model.specs.declared.state.Status.TheVariants as status
-use Rattle.pct_model.specs.declared.statement.Stmt.{Stmt}
-use Rattle.pct_model.specs.declared.transition.Action.{Action}
 use Rattle.pct_model.specs.declared.transition.Action.TheVariants as action
-use Rattle.pct_model.specs.declared.transition.Transition.{Transition}
-use Rattle.pct_model.specs.Actions.{thread_at, thread_after, named_after, for_each, moved, thread_moved, changed}
-use Rattle.pct_model.specs.CancelCalls.{requests}
 use Rattle.pct_laws.specs.CancelEvents.{requests_id, is_requested}
-use Rattle.pct_model.specs.CondCalls.{is_waiting_on, unblocked}
 use Rattle.pct_laws.specs.Kept.{EachThread}
 use Rattle.pct_laws.specs.KnownThreads.{is_in}
-use Rattle.pct_model.specs.NextStatement.{NextStatement, next_of, body_at}
-use Rattle.pct_model.specs.OtherThreads.{others_of}
-use Rattle.pct_model.specs.Run.{event_of}
-use Rattle.pct_model.specs.ThreadSlots.{holds_slot, is_live_thread, with_id}
-use Rattle.pct_model.specs.TransitionTable.{transition_by}
-use Rattle.pct_model.specs.World.{Thread, SharedState, Process, World, made_process, thread_with, value_of}
 use Rattle.pct_transition_cases.proofs.CaseOfTransition.{case_of}
 use Rattle.pct_transition_cases.proofs.TransitionCases.{TransitionCase, request_sent, fork_handler_called}
 use Rattle.pct_ending_laws.proofs.lift.KeyedLists.{found_passes}

@@ -1,25 +1,11 @@
 -- The newest event of a thread that is suspended at a generic cancellation point, in pthread_join, in sem_wait or in waitpid is that of the
 -- call.
-use Rattle.std.proofs.Common.{◌≡◌, ℕ, true, false, List, reverse, Option, Some, None, refl, sym, ap, ◌∙◌}
-use Rattle.std.proofs.lemmas.Option.{none-some}
-use Rattle.pct_model.specs.declared.event.Event.{Event}
-use Rattle.pct_model.specs.declared.event.What.{What}
-use Rattle.pct_model.specs.declared.event.What.TheVariants.{Called}
-use Rattle.pct_model.specs.declared.schedule.Config.{Config}
-use Rattle.pct_model.specs.declared.script.Script.{Script}
-use Rattle.pct_model.specs.declared.state.Status.{Status}
+use Rattle.pct_names.proofs.Names.{ap, body_at, Called, Config, Event, false, in_child, join_point, List, moved, next_of, NextStatement}
+use Rattle.pct_names.proofs.Names.{None, none-some, Option, Others, others_of, refl, reverse, Script, sem_wait_point, SharedState, Some}
+use Rattle.pct_names.proofs.Names.{Status, Stmt, sym, Thread, thread_after, thread_at, Transition, true, waitpid_point, What, ℕ, ◌∙◌, ◌≡◌}
 use Rattle.pct_model.specs.declared.state.Status.TheVariants as status
-use Rattle.pct_model.specs.declared.statement.Stmt.{Stmt}
-use Rattle.pct_model.specs.declared.transition.Transition.{Transition}
-use Rattle.pct_model.specs.Actions.{thread_at, thread_after, in_child, moved}
-use Rattle.pct_model.specs.ForkCalls.{waitpid_point}
 use Rattle.pct_laws.specs.Kept.{EachThread}
 use Rattle.pct_laws.specs.NewestEvents.{newest_event}
-use Rattle.pct_model.specs.NextStatement.{NextStatement, next_of, body_at}
-use Rattle.pct_model.specs.OtherThreads.{Others, others_of}
-use Rattle.pct_model.specs.SemCalls.{sem_wait_point}
-use Rattle.pct_model.specs.ThreadCalls.{join_point}
-use Rattle.pct_model.specs.World.{Thread, SharedState}
 use Rattle.pct_transition_cases.proofs.CaseOfTransition.{case_of}
 use Rattle.pct_transition_cases.proofs.TransitionCases.{TransitionCase, rests, join_begun, point_begun, sem_wait_begun, waitpid_begun}
 use Rattle.pct_ending_laws.proofs.lift.ChangedThreads.{same_settled, named_keeps}

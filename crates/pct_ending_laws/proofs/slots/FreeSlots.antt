@@ -1,10 +1,9 @@
 -- The id of a new thread is the next one of a free slot, and no thread on that slot holds it.
-use Rattle.std.proofs.Common.{◌≡◌, ℕ, Bool, true, false, not, ◌&&◌, ◌||◌, List, count_by, find, nat_eq, Some, sym, ap, ◌∙◌, eqb-true, eq-eqb, arith}
-use Rattle.std.specs.List.{list_any, position_or_len}
-use Rattle.std.proofs.lemmas.Bool.{true≢false, and_parts, and_from, not-true, not-false, false_from_ne_true}
-use Rattle.std.proofs.lemmas.Map.Keys.{any_passes_from_place}
-use Rattle.pct_model.specs.ThreadSlots.{is_ended_status, was_reclaimed, holds_slot, slot_of, is_on, is_free, next_id, free_ids}
-use Rattle.pct_model.specs.World.{Thread}
+use Rattle.pct_names.proofs.Names.{◌&&◌, and_from, and_parts, any_passes_from_place, ap, arith, Bool, count_by, false, false_from_ne_true}
+use Rattle.pct_names.proofs.Names.{find, free_ids, holds_slot, is_ended_status, is_free, is_on, List, list_any, nat_eq, next_id, not}
+use Rattle.pct_names.proofs.Names.{not-false, not-true, position_or_len, slot_of, Some, sym, Thread, true, was_reclaimed, ◌||◌, ℕ, ◌∙◌, ◌≡◌}
+use Rattle.std.proofs.Common.{eqb-true, eq-eqb}
+use Rattle.std.proofs.lemmas.Bool.{true≢false}
 use Rattle.pct_ending_laws.proofs.lift.KeyedLists.{found_at, found_passes}
 use Rattle.pct_ending_laws.proofs.lift.OfferedNumbers.{IsNumberOf, from_range}
 use Rattle.pct_ending_laws.proofs.lift.ThreadIds.{slot_of_next}

@@ -1,13 +1,7 @@
 -- The id of a new thread is that of no known thread of its process.
-use Rattle.std.proofs.Common.{◌≡◌, ℕ, false, not, List, Option, Some, None, option_and_then, ap, ◌∙◌}
-use Rattle.std.specs.Option.{option_map_or}
-use Rattle.pct_model.specs.declared.script.Script.{Script}
-use Rattle.pct_model.specs.declared.schedule.Config.{Config}
-use Rattle.pct_model.specs.declared.schedule.Entry.{Entry}
-use Rattle.pct_model.specs.declared.transition.NewThread.{NewThread}
+use Rattle.pct_names.proofs.Names.{ap, Config, Entry, false, List, made_process, NewThread, None, not, Option, option_and_then}
+use Rattle.pct_names.proofs.Names.{option_map_or, Process, Run, run, Script, Some, Thread, thread_with, ℕ, ◌∙◌, ◌≡◌}
 use Rattle.pct_laws.specs.KnownThreads.{is_known}
-use Rattle.pct_model.specs.Run.{Run, run}
-use Rattle.pct_model.specs.World.{Thread, Process, made_process, thread_with}
 use Rattle.pct_ending_laws.proofs.lift.KeyedLists.{not_found}
 use Rattle.pct_ending_laws.proofs.lift.ThreadIds.{is_fresh}
 use Rattle.pct_ending_laws.proofs.lift.ThreadsAfter.{created_thread}

@@ -1,11 +1,8 @@
 -- The known ids of a process are those of its known threads.
-use Rattle.std.proofs.Common.{◌≡◌, ℕ, Bool, true, false, ◌&&◌, ◌||◌, cond, List, [], ◌∷◌, nat_eq, refl, ap, ap₂, ◌∙◌, eq-eqb}
-use Rattle.std.specs.List.{list_any, list_all}
-use Rattle.std.proofs.lemmas.Bool.{and_from}
-use Rattle.std.proofs.lemmas.List.Folds.{list_any-append}
+use Rattle.pct_names.proofs.Names.{◌&&◌, [], and_from, ap, ap₂, Bool, cond, Event, false, List, list_all, list_any, list_any-append, nat_eq}
+use Rattle.pct_names.proofs.Names.{refl, true, What, ◌||◌, ℕ, ◌∙◌, ◌∷◌, ◌≡◌}
+use Rattle.std.proofs.Common.{eq-eqb}
 use Rattle.std.proofs.Math.Bool.{or_assoc, or-false}
-use Rattle.pct_model.specs.declared.event.Event.{Event}
-use Rattle.pct_model.specs.declared.event.What.{What}
 use Rattle.pct_model.specs.declared.event.What.TheVariants as what
 use Rattle.pct_laws.specs.KnownThreads.{is_in, makes_process, is_fork_of, creates_id, is_known}
 use Rattle.pct_laws.specs.KnownIds.{created_ids, new_ids, known_ids}

@@ -1,27 +1,16 @@
 -- The law of thread ids and slots holds of the events of every run.
-use Rattle.std.proofs.Common.{◌≡◌, ℕ, true, List, ◌∷◌, ◌++◌, map, reverse, nat_eq, Some, Bool, false, not, ◌||◌, refl, sym, ap, ◌∙◌, eqb-true}
-use Rattle.std.proofs.lemmas.Bool.{and_from}
-use Rattle.pct_model.specs.declared.event.What.{What}
+use Rattle.pct_names.proofs.Names.{◌++◌, and_from, ap, Bool, Config, Entry, event_of, false, List, made_process, map, nat_eq, NewThread}
+use Rattle.pct_names.proofs.Names.{NextStatement, not, others_of, Process, refl, reverse, Run, run, Script, slot_of, Some, Status, Stmt}
+use Rattle.pct_names.proofs.Names.{sym, Thread, thread_with, Transition, true, value_of, What, ◌||◌, ℕ, ◌∙◌, ◌∷◌, ◌≡◌}
+use Rattle.std.proofs.Common.{eqb-true}
 use Rattle.pct_model.specs.declared.event.What.TheVariants as what
-use Rattle.pct_model.specs.declared.schedule.Config.{Config}
-use Rattle.pct_model.specs.declared.schedule.Entry.{Entry}
-use Rattle.pct_model.specs.declared.script.Script.{Script}
-use Rattle.pct_model.specs.declared.state.Status.{Status}
-use Rattle.pct_model.specs.declared.statement.Stmt.{Stmt}
-use Rattle.pct_model.specs.declared.transition.NewThread.{NewThread}
-use Rattle.pct_model.specs.declared.transition.Transition.{Transition}
-use Rattle.pct_model.specs.Run.{Run, event_of, run}
 use Rattle.pct_laws.specs.Each.{each}
 use Rattle.pct_laws.specs.KnownIds.{known_ids}
 use Rattle.pct_laws.specs.SlotLaw.{leaves_slot, may_create, allows}
 use Rattle.pct_laws.specs.KnownThreads.{is_known}
 use Rattle.pct_laws.specs.ThreadSummary.{is_reclaimed}
-use Rattle.pct_model.specs.ThreadSlots.{slot_of}
 use Rattle.pct_ending_laws.proofs.slots.KnownIds.{all_from_members, among_known}
-use Rattle.pct_model.specs.NextStatement.{NextStatement}
-use Rattle.pct_model.specs.OtherThreads.{others_of}
 use Rattle.pct_transition_cases.proofs.TransitionCases.{TransitionCase, thread_made, fork_handler_called}
-use Rattle.pct_model.specs.World.{Thread, Process, made_process, thread_with, value_of}
 use Rattle.pct_ending_laws.proofs.lift.TakenSteps.{IsTaken, AfterEveryRun, every_run}
 use Rattle.pct_ending_laws.proofs.lift.HandlerEvents.{of_each_phase}
 use Rattle.pct_ending_laws.proofs.steps.MovedThreads.{case_of_step}

@@ -1,18 +1,11 @@
 -- A known thread with the status of its end that was joined or is detached: the events report that the lifetime of its id is over.
-use Rattle.std.proofs.Common.{◌≡◌, ℕ, Bool, true, false, not, ◌||◌, List, is_some, Option, Some, None, option_and_then, refl, sym, ap, ◌∙◌}
-use Rattle.std.specs.Option.{option_map_or}
-use Rattle.std.proofs.lemmas.Bool.{false≢true, and_from, not-true}
-use Rattle.pct_model.specs.declared.script.Script.{Script}
-use Rattle.pct_model.specs.declared.schedule.Config.{Config}
-use Rattle.pct_model.specs.declared.schedule.Entry.{Entry}
-use Rattle.pct_model.specs.declared.state.Status.{Status}
+use Rattle.pct_names.proofs.Names.{and_from, ap, Bool, Config, Entry, false, false≢true, is_ended_status, is_some, List, made_process}
+use Rattle.pct_names.proofs.Names.{made_thread, None, not, not-true, Option, option_and_then, option_map_or, Process, refl, Run, run}
+use Rattle.pct_names.proofs.Names.{Script, Some, Status, sym, Thread, thread_with, true, ◌||◌, ℕ, ◌∙◌, ◌≡◌}
 use Rattle.pct_model.specs.declared.state.Status.TheVariants as status
 use Rattle.pct_laws.specs.Kept.{ThreadKept}
 use Rattle.pct_laws.specs.KnownThreads.{is_known, is_detached, is_joined}
-use Rattle.pct_model.specs.Run.{Run, run}
-use Rattle.pct_model.specs.ThreadSlots.{is_ended_status}
 use Rattle.pct_laws.specs.ThreadSummary.{summary_of, thread_ended, is_reclaimed}
-use Rattle.pct_model.specs.World.{Thread, Process, made_process, thread_with, made_thread}
 use Rattle.pct_ending_laws.proofs.ThreadsOfRun.{threads_kept}
 use Rattle.pct_ending_laws.proofs.joins.ReportedFlags.{known_of_run, joined_of_run, detached_of_run}
 

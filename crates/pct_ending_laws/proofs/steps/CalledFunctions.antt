@@ -1,34 +1,18 @@
 -- The law of calls, of a step: each event which says that a function is called comes with its call.
-use Rattle.std.proofs.Common.{◌≡◌, ◌≢◌, ℕ, Bool, true, false, not, cond, List, [], ◌∷◌, nat_eq, is_none, is_some, suc, Option, Some, None, refl, sym, ap, ◌∙◌, subst, eqb-true}
-use Rattle.std.specs.List.{AllByRecursion}
-use Rattle.std.specs.Option.{option_map_or}
-use Rattle.std.proofs.lemmas.Bool.{false≢true, and_parts, not-true, eqb-false}
-use Rattle.std.proofs.lemmas.List.Elements.{All-from_recursion}
-use Rattle.std.proofs.lemmas.Option.{none-some, same_Some}
-use Rattle.pct_model.specs.declared.event.Event.{Event}
-use Rattle.pct_model.specs.declared.event.What.{What}
+use Rattle.pct_names.proofs.Names.{[], All-from_recursion, AllByRecursion, and_parts, ap, at_pc, Bool, changed, cond, Config, Entry}
+use Rattle.pct_names.proofs.Names.{eqb-false, Event, false, false≢true, for_each, Frame, FrameKind, if_number, is_due, is_live_thread}
+use Rattle.pct_names.proofs.Names.{is_none, is_some, Key, key_at, key_place, key_with, KeyPlace, KeyValues, List, moved, named_after}
+use Rattle.pct_names.proofs.Names.{nat_eq, new_frame, next_in, next_of, NextStatement, None, none-some, not, not-true, Option}
+use Rattle.pct_names.proofs.Names.{option_map_or, Others, others_of, Process, process_after, refl, Run, run, same_Some, Script}
+use Rattle.pct_names.proofs.Names.{shared_after, Some, StatementIn, Status, Stmt, subst, suc, sym, Thread, thread_after, thread_at}
+use Rattle.pct_names.proofs.Names.{Transition, transition_by, true, value_at, value_of, What, without_first, ℕ, ◌∙◌, ◌∷◌, ◌≡◌, ◌≢◌}
+use Rattle.std.proofs.Common.{eqb-true}
 use Rattle.pct_model.specs.declared.event.What.TheVariants as what
-use Rattle.pct_model.specs.declared.frame.Frame.{Frame}
-use Rattle.pct_model.specs.declared.schedule.Config.{Config}
-use Rattle.pct_model.specs.declared.schedule.Entry.{Entry}
-use Rattle.pct_model.specs.declared.script.Script.{Script}
-use Rattle.pct_model.specs.declared.state.FrameKind.{FrameKind}
 use Rattle.pct_model.specs.declared.state.FrameKind.TheVariants as kind
-use Rattle.pct_model.specs.declared.state.Status.{Status}
 use Rattle.pct_model.specs.declared.state.Status.TheVariants as status
-use Rattle.pct_model.specs.declared.statement.Stmt.{Stmt}
-use Rattle.pct_model.specs.declared.transition.Transition.{Transition}
-use Rattle.pct_model.specs.Actions.{at_pc, without_first, thread_at, thread_after, named_after, shared_after, process_after, for_each, moved, changed}
 use Rattle.pct_laws.specs.Calls.{IsCall, RunsOnly, RunsAbove, by_exit, by_call, IsCalled, EachIsCalled}
 use Rattle.pct_laws.specs.Kept.{KeysKept}
-use Rattle.pct_model.specs.Keys.{Key, KeyPlace, KeyValues, key_place, key_at, if_number, key_with, value_at, is_due}
-use Rattle.pct_model.specs.NextStatement.{NextStatement, StatementIn, next_in, next_of}
-use Rattle.pct_model.specs.OtherThreads.{Others, others_of}
-use Rattle.pct_model.specs.Run.{Run, run}
-use Rattle.pct_model.specs.ThreadSlots.{is_live_thread}
 use Rattle.pct_laws.specs.ThreadSteps.{ThreadStep}
-use Rattle.pct_model.specs.TransitionTable.{transition_by}
-use Rattle.pct_model.specs.World.{Thread, Process, value_of, new_frame}
 use Rattle.pct_transition_cases.proofs.PlacedStatements.{IsPlaced, on_top, is_placed}
 use Rattle.pct_transition_cases.proofs.TransitionCases.{TransitionCase, fork_handler_called, handler_popped, handler_called, handler_run, destructor_called, key_made, key_deleted, process_ended_now, exit_function_called, process_ended}
 use Rattle.pct_ending_laws.proofs.lift.EveryProcess.{process_taken, moves_of_run}

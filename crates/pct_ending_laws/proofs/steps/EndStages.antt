@@ -1,42 +1,24 @@
 -- The law of the stages of an end, of a step: what each event of an end begins with.
-use Rattle.std.proofs.Common.{◌≡◌, ℕ, suc, Bool, true, false, not, ◌&&◌, ◌||◌, cond, List, [], ◌∷◌, ◌++◌, length, map, filter, nat_eq, slice_get, is_some, Option, Some, None, option_map, option_and_then, unwrap_or, refl, sym, ap, ap₂, ◌∙◌, subst, eq-eqb, arith, nat_le}
-use Rattle.std.specs.List.{list_all, list_any, range_with_len}
-use Rattle.std.specs.Option.{option_map_or}
-use Rattle.std.proofs.lemmas.Bool.{false≢true, and_parts, and_from, or_left, or_right, eq-eqb, lt-ltb, le-leb}
-use Rattle.std.proofs.lemmas.Option.{slice_get-map, unwrap_or-slice_get}
-use Rattle.pct_model.specs.declared.event.What.{What}
+use Rattle.pct_names.proofs.Names.{◌&&◌, ◌++◌, [], Action, acts, acts_on_request, acts_or, Alt, and_from, and_parts, ap, ap₂, arith}
+use Rattle.pct_names.proofs.Names.{body_at, Bool, calls_destructor, cond, Config, due_places, end_value, ends_thread, Entry, false}
+use Rattle.pct_names.proofs.Names.{false≢true, filter, Frame, goes_on_ending, is_due, is_empty, is_last, is_left, is_some, Key, key_at}
+use Rattle.pct_names.proofs.Names.{KeyPlace, KeyValues, left_keys, left_places, length, List, list_all, list_any, map, MAX_KEYS, nat_eq}
+use Rattle.pct_names.proofs.Names.{nat_le, next_of, NextStatement, None, NoStatement, not, number_at, Option, option_and_then, option_map}
+use Rattle.pct_names.proofs.Names.{option_map_or, or_left, or_right, Others, others_of, Process, range_with_len, Reason, refl, Run, run}
+use Rattle.pct_names.proofs.Names.{Script, SharedState, slice_get, slice_get-map, Some, StatementIn, Status, Stmt, subst, suc, sym, Thread}
+use Rattle.pct_names.proofs.Names.{thread_moved, thread_with, Transition, transition_at, transition_by, true, unwrap_or}
+use Rattle.pct_names.proofs.Names.{unwrap_or-slice_get, value_at, was_reclaimed, What, with_pass, without_first, ◌||◌, ℕ, ◌∙◌, ◌∷◌, ◌≡◌}
+use Rattle.std.proofs.Common.{eq-eqb}
+use Rattle.std.proofs.lemmas.Bool.{eq-eqb, lt-ltb, le-leb}
 use Rattle.pct_model.specs.declared.event.What.TheVariants as what
-use Rattle.pct_model.specs.declared.frame.Frame.{Frame}
-use Rattle.pct_model.specs.declared.limits.TheConstants.{MAX_KEYS}
-use Rattle.pct_model.specs.declared.schedule.Alt.{Alt}
 use Rattle.pct_model.specs.declared.schedule.Alt.TheVariants as alt
-use Rattle.pct_model.specs.declared.schedule.Config.{Config}
-use Rattle.pct_model.specs.declared.schedule.Entry.{Entry}
-use Rattle.pct_model.specs.declared.script.Script.{Script}
-use Rattle.pct_model.specs.declared.state.Reason.{Reason}
-use Rattle.pct_model.specs.declared.state.Status.{Status}
 use Rattle.pct_model.specs.declared.state.Status.TheVariants as status
-use Rattle.pct_model.specs.declared.statement.Stmt.{Stmt}
-use Rattle.pct_model.specs.declared.transition.Transition.{Transition}
-use Rattle.pct_model.specs.declared.transition.Action.{Action}
 use Rattle.pct_model.specs.declared.transition.Action.TheVariants as action
-use Rattle.pct_model.specs.Actions.{without_first, thread_moved}
 use Rattle.pct_laws.specs.AfterEnd.{begins_exit_with_0}
-use Rattle.pct_model.specs.CancelCalls.{acts_on_request}
 use Rattle.pct_laws.specs.Ends.{count_due, is_in_pass, none_left, takes_due, reports_left, is_status_ending, is_at_stage, has_run_handlers, others_have_ended, thread_may_end, each_may_begin}
-use Rattle.pct_model.specs.LineParsing.{is_empty}
-use Rattle.pct_model.specs.ThreadSlots.{was_reclaimed}
-use Rattle.pct_model.specs.Keys.{Key, KeyPlace, KeyValues, key_at, number_at, value_at, with_pass, is_due, is_left, due_places, left_places, left_keys}
 use Rattle.pct_laws.specs.KnownThreads.{reports_end}
-use Rattle.pct_model.specs.NextStatement.{NextStatement, NoStatement, StatementIn, next_of, body_at}
-use Rattle.pct_model.specs.OtherThreads.{Others, is_last, others_of}
-use Rattle.pct_model.specs.Run.{Run, run}
-use Rattle.pct_model.specs.ThreadEnds.{end_value, ends_thread, calls_destructor, goes_on_ending}
 use Rattle.pct_laws.specs.ThreadSteps.{ThreadStep}
 use Rattle.pct_laws.specs.ThreadSummary.{ThreadSummary}
-use Rattle.pct_model.specs.Transitions.{acts}
-use Rattle.pct_model.specs.TransitionTable.{acts_or, transition_at, transition_by}
-use Rattle.pct_model.specs.World.{Thread, SharedState, Process, thread_with}
 use Rattle.pct_transition_cases.proofs.TransitionCases.{TransitionCase, fork_handler_called, handler_run, destructor_called, pass_begun, thread_ended, thread_ended_with_keys, last_ended, last_ended_with_keys}
 use Rattle.pct_ending_laws.proofs.ThreadsOfRun.{threads_fit}
 use Rattle.pct_ending_laws.proofs.lift.EveryProcess.{process_taken, moves_of_run}

@@ -1,21 +1,10 @@
 -- The law of calls, of a step: the functions that are registered with atexit change by atexit alone, unless one of them is called.
-use Rattle.std.proofs.Common.{◌≡◌, ℕ, true, false, List, Some, inl, inr, refl, sym, subst}
-use Rattle.std.specs.List.{list_any}
+use Rattle.pct_names.proofs.Names.{body_at, Config, Entry, false, for_each, inl, inr, List, list_any, next_of, NextStatement, Others}
+use Rattle.pct_names.proofs.Names.{others_of, Process, refl, Run, run, Script, shared_after, SharedState, Some, StatementIn, Status, Stmt}
+use Rattle.pct_names.proofs.Names.{subst, sym, Thread, Transition, transition_by, true, ℕ, ◌≡◌}
 use Rattle.std.proofs.lemmas.Bool.{true≢false}
-use Rattle.pct_model.specs.declared.schedule.Config.{Config}
-use Rattle.pct_model.specs.declared.schedule.Entry.{Entry}
-use Rattle.pct_model.specs.declared.script.Script.{Script}
-use Rattle.pct_model.specs.declared.state.Status.{Status}
-use Rattle.pct_model.specs.declared.statement.Stmt.{Stmt}
 use Rattle.pct_model.specs.declared.statement.Stmt.TheVariants as statement
-use Rattle.pct_model.specs.declared.transition.Transition.{Transition}
-use Rattle.pct_model.specs.Actions.{shared_after, for_each}
 use Rattle.pct_laws.specs.Calls.{calls_exit_function, KeepsExits, KeepsExitFunctions}
-use Rattle.pct_model.specs.NextStatement.{NextStatement, StatementIn, next_of, body_at}
-use Rattle.pct_model.specs.OtherThreads.{Others, others_of}
-use Rattle.pct_model.specs.Run.{Run, run}
-use Rattle.pct_model.specs.TransitionTable.{transition_by}
-use Rattle.pct_model.specs.World.{Thread, SharedState, Process}
 use Rattle.pct_transition_cases.proofs.TransitionCases.{TransitionCase, exit_registered, exit_function_called}
 use Rattle.pct_ending_laws.proofs.lift.ChangedThreads.{changed_shared}
 use Rattle.pct_ending_laws.proofs.lift.EveryProcess.{moves_of_run}

@@ -1,22 +1,9 @@
 -- The law of calls, of a step: the key on each place stays, unless an event says that a key on it is made or deleted.
-use Rattle.std.proofs.Common.{◌≡◌, ◌≢◌, ℕ, ◌+◌, true, false, ◌||◌, List, nat_eq, set, slice_get, Option, Some, None, refl, ap, ◌∙◌}
-use Rattle.std.specs.List.{list_any}
-use Rattle.std.specs.Option.{option_map_or}
-use Rattle.std.proofs.lemmas.Bool.{eqb-false, or_parts}
-use Rattle.pct_model.specs.declared.schedule.Config.{Config}
-use Rattle.pct_model.specs.declared.schedule.Entry.{Entry}
-use Rattle.pct_model.specs.declared.script.Script.{Script}
-use Rattle.pct_model.specs.declared.state.Status.{Status}
-use Rattle.pct_model.specs.declared.statement.Stmt.{Stmt}
-use Rattle.pct_model.specs.declared.transition.Transition.{Transition}
-use Rattle.pct_model.specs.Actions.{shared_after, for_each}
+use Rattle.pct_names.proofs.Names.{◌+◌, ap, body_at, Config, Entry, eqb-false, false, for_each, key_at, key_place, KeyPlace, List, list_any}
+use Rattle.pct_names.proofs.Names.{nat_eq, NextStatement, None, on_place, Option, option_map_or, or_parts, Others, others_of, Process, refl}
+use Rattle.pct_names.proofs.Names.{Run, run, Script, set, shared_after, SharedState, slice_get, Some, Status, Stmt, Thread, Transition}
+use Rattle.pct_names.proofs.Names.{transition_by, true, value_of, ◌||◌, ℕ, ◌∙◌, ◌≡◌, ◌≢◌}
 use Rattle.pct_laws.specs.Calls.{changes_key, KeepsKeys}
-use Rattle.pct_model.specs.Keys.{KeyPlace, key_place, key_at, on_place}
-use Rattle.pct_model.specs.NextStatement.{NextStatement, body_at}
-use Rattle.pct_model.specs.OtherThreads.{Others, others_of}
-use Rattle.pct_model.specs.Run.{Run, run}
-use Rattle.pct_model.specs.TransitionTable.{transition_by}
-use Rattle.pct_model.specs.World.{Thread, SharedState, Process, value_of}
 use Rattle.pct_transition_cases.proofs.TransitionCases.{TransitionCase, key_made, key_deleted}
 use Rattle.pct_ending_laws.proofs.keys.KeyEvents.{key_set_other}
 use Rattle.pct_ending_laws.proofs.lift.ChangedThreads.{changed_shared}

@@ -1,25 +1,14 @@
 -- The law of values, of a step: at each place only pthread_setspecific of its key, the call of its destructor and its deletion change the
 -- value of the thread that makes the step; and only the begin of a pass and these two events change whether the place is left in its pass.
-use Rattle.std.proofs.Common.{◌≡◌, ◌≢◌, ℕ, zero, suc, Bool, true, false, cond, List, [], ◌∷◌, nat_eq, set, get_or-set_other, slice_get, Some, refl, sym, ap, ◌∙◌}
-use Rattle.std.specs.List.{list_any}
+use Rattle.pct_names.proofs.Names.{[], Action, ap, Bool, cond, Config, Entry, eqb-false, false, key_place, KeyValues, List, list_any}
+use Rattle.pct_names.proofs.Names.{nat_eq, next_of, NextStatement, Others, Process, refl, Run, run, Script, set, SharedState, slice_get}
+use Rattle.pct_names.proofs.Names.{Some, Status, Stmt, suc, sym, Thread, thread_moved, Transition, transition_by, true, value_at, zero, ℕ}
+use Rattle.pct_names.proofs.Names.{◌∙◌, ◌∷◌, ◌≡◌, ◌≢◌}
+use Rattle.std.proofs.Common.{get_or-set_other}
 use Rattle.std.proofs.Math.Bool.{or-false}
-use Rattle.std.proofs.lemmas.Bool.{true≢false, eqb-false}
-use Rattle.pct_model.specs.declared.schedule.Config.{Config}
-use Rattle.pct_model.specs.declared.schedule.Entry.{Entry}
-use Rattle.pct_model.specs.declared.script.Script.{Script}
-use Rattle.pct_model.specs.declared.state.Status.{Status}
-use Rattle.pct_model.specs.declared.statement.Stmt.{Stmt}
-use Rattle.pct_model.specs.declared.transition.Action.{Action}
+use Rattle.std.proofs.lemmas.Bool.{true≢false}
 use Rattle.pct_model.specs.declared.transition.Action.TheVariants as action
-use Rattle.pct_model.specs.declared.transition.Transition.{Transition}
-use Rattle.pct_model.specs.Actions.{thread_moved}
 use Rattle.pct_laws.specs.Ends.{changes_value, changes_pass, sets_value, KeepsValues}
-use Rattle.pct_model.specs.Keys.{KeyValues, key_place, value_at}
-use Rattle.pct_model.specs.NextStatement.{NextStatement, next_of}
-use Rattle.pct_model.specs.OtherThreads.{Others}
-use Rattle.pct_model.specs.Run.{Run, run}
-use Rattle.pct_model.specs.TransitionTable.{transition_by}
-use Rattle.pct_model.specs.World.{Thread, SharedState, Process}
 use Rattle.pct_transition_cases.proofs.TransitionCases.{TransitionCase, key_deleted, specific_set, destructor_called, pass_begun}
 use Rattle.pct_ending_laws.proofs.keys.KeptKeys.{own_data, named_data}
 use Rattle.pct_ending_laws.proofs.keys.KeyActions.{first_of, key_actions}

@@ -1,27 +1,13 @@
 -- The law of calls, of a step: a frame is made by a statement that calls a function, or in a step with an event that says so.
-use Rattle.std.proofs.Common.{◌≡◌, ℕ, ◌≤◌, Bool, true, false, ◌||◌, cond, List, [], ◌∷◌, length, Option, Some, None, refl, ap, arith, nat_le}
-use Rattle.std.specs.List.{list_all, list_any}
-use Rattle.std.proofs.lemmas.Bool.{false≢true, and_parts, le-leb}
-use Rattle.pct_model.specs.declared.event.What.{What}
-use Rattle.pct_model.specs.declared.frame.Frame.{Frame}
-use Rattle.pct_model.specs.declared.schedule.Config.{Config}
-use Rattle.pct_model.specs.declared.schedule.Entry.{Entry}
-use Rattle.pct_model.specs.declared.script.Script.{Script}
-use Rattle.pct_model.specs.declared.state.Status.{Status}
-use Rattle.pct_model.specs.declared.statement.Dest.{Dest}
+use Rattle.pct_names.proofs.Names.{[], Action, and_parts, ap, arith, at_pc, body_at, Bool, cond, Config, Dest, Entry, false, false≢true}
+use Rattle.pct_names.proofs.Names.{for_each, Frame, frames_written, is_live_thread, length, List, list_all, list_any, moved, named_after}
+use Rattle.pct_names.proofs.Names.{nat_le, next_of, NextStatement, None, Option, Others, others_of, Process, refl, Run, run, Script}
+use Rattle.pct_names.proofs.Names.{SharedState, Some, Status, Stmt, Thread, thread_after, thread_at, thread_moved, Transition}
+use Rattle.pct_names.proofs.Names.{transition_by, true, What, without_first, ◌||◌, ℕ, ◌∷◌, ◌≡◌, ◌≤◌}
+use Rattle.std.proofs.lemmas.Bool.{le-leb}
 use Rattle.pct_model.specs.declared.statement.Dest.TheVariants as destination
-use Rattle.pct_model.specs.declared.statement.Stmt.{Stmt}
-use Rattle.pct_model.specs.declared.transition.Action.{Action}
 use Rattle.pct_model.specs.declared.transition.Action.TheVariants as action
-use Rattle.pct_model.specs.declared.transition.Transition.{Transition}
-use Rattle.pct_model.specs.Actions.{at_pc, without_first, frames_written, thread_at, thread_after, named_after, for_each, moved, thread_moved}
 use Rattle.pct_laws.specs.Calls.{says_call, calls_function, says_calls}
-use Rattle.pct_model.specs.NextStatement.{NextStatement, next_of, body_at}
-use Rattle.pct_model.specs.OtherThreads.{Others, others_of}
-use Rattle.pct_model.specs.Run.{Run, run}
-use Rattle.pct_model.specs.ThreadSlots.{is_live_thread}
-use Rattle.pct_model.specs.TransitionTable.{transition_by}
-use Rattle.pct_model.specs.World.{Thread, SharedState, Process}
 use Rattle.pct_transition_cases.proofs.TransitionCases.{TransitionCase, fork_handler_called}
 use Rattle.pct_ending_laws.proofs.lift.ChangedThreads.{all_keep, named_keeps}
 use Rattle.pct_ending_laws.proofs.lift.EveryProcess.{moves_of_run}

@@ -1,22 +1,9 @@
 -- Each step of a run: the thread that makes it is moved by a transition, the events of which are those of the step.
-use Rattle.std.proofs.Common.{◌≡◌, Bool, true, List, [], ◌∷◌, find, nat_eq, Option, Some, option_map, option_and_then, sym, ap, ◌∙◌, subst}
-use Rattle.std.specs.List.{AllByRecursion, list_all}
-use Rattle.std.specs.Option.{option_or}
-use Rattle.std.proofs.lemmas.Bool.{and_parts}
-use Rattle.std.proofs.lemmas.Option.{same_Some}
-use Rattle.pct_model.specs.declared.event.What.{What}
-use Rattle.pct_model.specs.declared.script.Script.{Script}
-use Rattle.pct_model.specs.declared.schedule.Config.{Config}
-use Rattle.pct_model.specs.declared.schedule.Entry.{Entry}
-use Rattle.pct_model.specs.declared.transition.Transition.{Transition}
-use Rattle.pct_model.specs.Actions.{thread_moved, thread_created, changed, process_moved, after_transition}
-use Rattle.pct_model.specs.NextStatement.{next_of, body_at}
-use Rattle.pct_model.specs.OtherThreads.{others_of}
-use Rattle.pct_model.specs.Run.{Run, run}
-use Rattle.pct_model.specs.Step.{Legal}
+use Rattle.pct_names.proofs.Names.{[], after_transition, AllByRecursion, and_parts, ap, body_at, Bool, changed, Config, Entry, find, Legal}
+use Rattle.pct_names.proofs.Names.{List, list_all, made_process, made_thread, nat_eq, next_of, Option, option_and_then, option_map}
+use Rattle.pct_names.proofs.Names.{option_or, others_of, Process, process_moved, Run, run, same_Some, Script, Some, subst, sym, Thread}
+use Rattle.pct_names.proofs.Names.{thread_created, thread_moved, thread_with, Transition, transition_by, true, What, World, ◌∙◌, ◌∷◌, ◌≡◌}
 use Rattle.pct_laws.specs.ThreadSteps.{ThreadStep, IsThreadStep, EachStep}
-use Rattle.pct_model.specs.TransitionTable.{transition_by}
-use Rattle.pct_model.specs.World.{Thread, Process, World, made_process, thread_with, made_thread}
 use Rattle.pct_transition_cases.proofs.CaseOfTransition.{case_of}
 use Rattle.pct_transition_cases.proofs.TransitionCases.{TransitionCase}
 use Rattle.pct_ending_laws.proofs.lift.TakenSteps.{IsTaken}

@@ -1,36 +1,26 @@
 -- The end of a thread, and the exit of its process.
-use Rattle.std.proofs.Common.{◌≡◌, ℕ, suc, ◌<◌, ◌≤◌, true, false, List, [], ◌∷◌, ◌++◌, length, map, Some, None, refl, sym, ap, ◌∙◌, subst, le_antisymm, arith, Bool, ◌||◌, ◌&&◌, not, is_none, eq-eqb}
+use Rattle.pct_names.proofs.Names.{◌&&◌, ◌++◌, ◌<◌, [], acts, and_from, ap, arith, body_of, Bool, Disable, Enable, end_value, ending_mode}
+use Rattle.pct_names.proofs.Names.{ending_state, false, false≢true, Frame, has_begun_to_end, is_deliverable, is_empty, is_none, key_place}
+use Rattle.pct_names.proofs.Names.{le_antisymm, length, List, map, next_of, None, not, Reason, refl, Script, Some, State, Status, subst}
+use Rattle.pct_names.proofs.Names.{suc, sym, Thread, thread_after, thread_at, true, value_at, with_pass, without_first, ◌||◌, ℕ, ◌∙◌, ◌∷◌}
+use Rattle.pct_names.proofs.Names.{◌≡◌, ◌≤◌}
+use Rattle.std.proofs.Common.{eq-eqb}
 use Rattle.pct_model.specs.declared.event.What.TheVariants as what
-use Rattle.pct_model.specs.declared.frame.Frame.{Frame}
-use Rattle.pct_model.specs.declared.script.Script.{Script}
 use Rattle.pct_model.specs.declared.state.FrameKind.TheVariants as kind
-use Rattle.pct_model.specs.declared.state.Reason.{Reason}
 use Rattle.pct_model.specs.declared.state.Reason.TheVariants as reason
 use Rattle.pct_model.specs.declared.state.Cause.TheVariants as cause
-use Rattle.pct_model.specs.declared.state.Status.{Status}
 use Rattle.pct_model.specs.declared.state.Status.TheVariants as status
 use Rattle.pct_model.specs.declared.transition.Action.TheVariants as action
-use Rattle.pct_model.specs.Actions.{without_first, thread_at, thread_after}
-use Rattle.pct_model.specs.Cancelability.{ending_state, ending_mode, is_deliverable}
 use Rattle.pct_laws.specs.Kept.{AreOpen, open_functions, IsSuspendedAt}
-use Rattle.pct_model.specs.Keys.{key_place, value_at, with_pass}
-use Rattle.pct_model.specs.NextStatement.{next_of}
-use Rattle.pct_model.specs.LineParsing.{is_empty}
 use Rattle.pct_laws.specs.Once.{is_newest, may_come}
 use Rattle.pct_laws.specs.OpenPushes.{open_pushes}
-use Rattle.pct_model.specs.StopTable.{has_begun_to_end}
-use Rattle.pct_model.specs.ThreadEnds.{end_value}
 use Rattle.pct_laws.specs.ThreadSummary.{ThreadSummary, with_ending}
-use Rattle.pct_model.specs.Transitions.{acts}
-use Rattle.pct_model.specs.World.{Thread, body_of}
 use Rattle.pct_ending_laws.proofs.StaticPushes.{PushesMatch}
 use Rattle.pct_ending_laws.proofs.thread.Passes.{is_in, PassesFit, takes_key, begins_pass, has_pass, not_taken}
 use Rattle.pct_ending_laws.proofs.thread.ThreadRule.{AllMayCome, FramesFit, Agrees, Fits, Keeps, HasFrames, ByStatus}
 use Rattle.pct_ending_laws.proofs.thread.GoingOn.{running}
 use Rattle.pct_ending_laws.proofs.thread.Handlers.{same_pair}
-use Rattle.std.proofs.lemmas.Bool.{false≢true, and_from, lt-ltb, le-leb}
-use Rattle.pct_model.specs.declared.state.State.{State}
-use Rattle.pct_model.specs.declared.state.State.TheVariants.{Enable, Disable}
+use Rattle.std.proofs.lemmas.Bool.{lt-ltb, le-leb}
 
 abbrev not_reported : Reason → Bool
 not_reported why = not (has_begun_to_end why) && true

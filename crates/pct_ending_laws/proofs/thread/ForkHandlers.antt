@@ -1,20 +1,11 @@
 -- Fork handlers: a thread in fork calls one, and returns from it.
-use Rattle.std.proofs.Common.{◌≡◌, ℕ, ◌<◌, List, [], ◌∷◌, length, Some, refl}
-use Rattle.pct_model.specs.declared.event.What.{What}
-use Rattle.pct_model.specs.declared.frame.Frame.{Frame}
-use Rattle.pct_model.specs.declared.process.HandlerCall.{HandlerCall}
-use Rattle.pct_model.specs.declared.script.Script.{Script}
-use Rattle.pct_model.specs.declared.state.ForkAt.{ForkAt}
+use Rattle.pct_names.proofs.Names.{◌<◌, [], acts, body_of, ForkAt, Frame, handler_event, HandlerCall, in_fork, length, List, new_frame}
+use Rattle.pct_names.proofs.Names.{refl, Script, Some, statement_at, Stmt, Thread, thread_after, thread_at, Transition, What, while_called}
+use Rattle.pct_names.proofs.Names.{ℕ, ◌∷◌, ◌≡◌}
 use Rattle.pct_model.specs.declared.state.FrameKind.TheVariants as kind
 use Rattle.pct_model.specs.declared.state.Status.TheVariants as status
-use Rattle.pct_model.specs.declared.statement.Stmt.{Stmt}
 use Rattle.pct_model.specs.declared.transition.Action.TheVariants as action
-use Rattle.pct_model.specs.declared.transition.Transition.{Transition}
-use Rattle.pct_model.specs.Actions.{thread_at, thread_after}
-use Rattle.pct_model.specs.ForkCalls.{in_fork, while_called, handler_event}
 use Rattle.pct_laws.specs.ThreadSummary.{ThreadSummary}
-use Rattle.pct_model.specs.Transitions.{acts}
-use Rattle.pct_model.specs.World.{Thread, body_of, statement_at, new_frame}
 use Rattle.pct_transition_cases.proofs.TransitionCases.{Returns}
 use Rattle.pct_ending_laws.proofs.StaticPushes.{PushesMatch}
 use Rattle.pct_ending_laws.proofs.lift.HandlerEvents.{of_each_phase}

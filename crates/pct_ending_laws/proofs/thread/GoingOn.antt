@@ -1,25 +1,12 @@
 -- Statements after which a thread goes on, with the handlers that it had.
-use Rattle.std.proofs.Common.{◌≡◌, ℕ, ◌<◌, Bool, true, false, List, [], ◌∷◌, ◌++◌, length, reverse, sym, subst}
-use Rattle.std.specs.List.{list_all}
-use Rattle.std.proofs.lemmas.Bool.{false≢true}
-use Rattle.pct_model.specs.declared.event.What.{What}
-use Rattle.pct_model.specs.declared.frame.Frame.{Frame}
-use Rattle.pct_model.specs.declared.script.Script.{Script}
-use Rattle.pct_model.specs.declared.state.Status.{Status}
-use Rattle.pct_model.specs.declared.state.Status.TheVariants.{Running}
-use Rattle.pct_model.specs.declared.statement.Dest.{Dest}
-use Rattle.pct_model.specs.declared.statement.Stmt.{Stmt}
+use Rattle.pct_names.proofs.Names.{◌++◌, ◌<◌, [], Action, body_of, Bool, Dest, false, false≢true, for_each, Frame, frames_written, goes_on}
+use Rattle.pct_names.proofs.Names.{key_place, length, List, list_all, reverse, Running, Script, set_local, Status, Stmt, subst, sym, Thread}
+use Rattle.pct_names.proofs.Names.{thread_after, thread_at, Transition, true, What, with_value, ℕ, ◌∷◌, ◌≡◌}
 use Rattle.pct_model.specs.declared.statement.Dest.TheVariants as destination
-use Rattle.pct_model.specs.declared.transition.Action.{Action}
 use Rattle.pct_model.specs.declared.transition.Action.TheVariants as action
-use Rattle.pct_model.specs.declared.transition.Transition.{Transition}
-use Rattle.pct_model.specs.Actions.{set_local, frames_written, thread_at, thread_after, for_each}
 use Rattle.pct_laws.specs.Kept.{AreOpen, open_functions}
-use Rattle.pct_model.specs.Keys.{key_place, with_value}
 use Rattle.pct_laws.specs.OpenPushes.{open_pushes}
 use Rattle.pct_laws.specs.ThreadSummary.{ThreadSummary}
-use Rattle.pct_model.specs.Transitions.{goes_on}
-use Rattle.pct_model.specs.World.{Thread, body_of}
 use Rattle.pct_ending_laws.proofs.lift.ReportedBy.{after_all}
 use Rattle.pct_ending_laws.proofs.thread.ThreadRule.{summary, AllMayCome, Fits, Keeps}
 

@@ -1,22 +1,17 @@
 -- Cleanup handlers that are pushed and popped, and calls of functions.
-use Rattle.std.proofs.Common.{◌≡◌, ℕ, suc, ◌+◌, ◌<◌, Bool, true, false, List, [], ◌∷◌, ◌++◌, length, map, Some, refl, sym, ap, ◌∙◌, subst, arith, length-append, not, ◌&&◌, nat_eq, nat_lt, eq-eqb}
-use Rattle.pct_model.specs.declared.event.What.TheVariants.{Pushed, Popped}
-use Rattle.pct_model.specs.declared.frame.Frame.{Frame}
-use Rattle.pct_model.specs.declared.script.Script.{Script}
-use Rattle.pct_model.specs.declared.state.FrameKind.{FrameKind}
+use Rattle.pct_names.proofs.Names.{◌&&◌, ◌+◌, ◌++◌, ◌<◌, [], and_from, ap, arith, body_of, Bool, false, Frame, FrameKind, goes_on}
+use Rattle.pct_names.proofs.Names.{has_begun_to_end, length, List, map, nat_eq, nat_lt, new_frame, not, Operand, or_right, Popped, Pushed}
+use Rattle.pct_names.proofs.Names.{refl, Script, Some, statement_at, subst, suc, sym, Thread, thread_after, thread_at, true, without_first}
+use Rattle.pct_names.proofs.Names.{ℕ, ◌∙◌, ◌∷◌, ◌≡◌}
+use Rattle.std.proofs.Common.{length-append, eq-eqb}
 use Rattle.pct_model.specs.declared.state.FrameKind.TheVariants as kind
-use Rattle.pct_model.specs.declared.statement.Operand.{Operand}
 use Rattle.pct_model.specs.declared.statement.Stmt.TheVariants as statement
 use Rattle.pct_model.specs.declared.transition.Action.TheVariants as action
-use Rattle.pct_model.specs.Actions.{without_first, thread_at, thread_after}
 use Rattle.pct_laws.specs.Kept.{AreOpen, open_functions}
-use Rattle.pct_model.specs.StopTable.{has_begun_to_end}
-use Rattle.std.proofs.lemmas.Bool.{and_from, lt-ltb, or_right}
+use Rattle.std.proofs.lemmas.Bool.{lt-ltb}
 use Rattle.pct_laws.specs.Once.{is_newest}
 use Rattle.pct_laws.specs.OpenPushes.{open_pushes}
 use Rattle.pct_laws.specs.ThreadSummary.{ThreadSummary, with_event}
-use Rattle.pct_model.specs.Transitions.{goes_on}
-use Rattle.pct_model.specs.World.{Thread, body_of, statement_at, new_frame}
 use Rattle.pct_ending_laws.proofs.StaticPushes.{PushesMatch}
 use Rattle.pct_ending_laws.proofs.thread.ThreadRule.{AllMayCome, FramesFit, Fits, Keeps}
 use Rattle.pct_ending_laws.proofs.thread.GoingOn.{running, at_pc_fits}

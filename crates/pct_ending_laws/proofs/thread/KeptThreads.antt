@@ -1,28 +1,13 @@
 -- What a thread keeps, in the sentences of Kept.antt.
-use Rattle.std.proofs.Common.{◌≡◌, ℕ, Bool, true, false, ◌||◌, List, [], ◌∷◌, None, inl, inr, refl, sym, ap, ◌∙◌, subst}
-use Rattle.std.specs.Prelude.{is_some}
-use Rattle.std.specs.List.{list_any, AllByRecursion}
-use Rattle.std.specs.Option.{option_map_or}
-use Rattle.std.proofs.lemmas.Bool.{false≢true, or_parts, or_cases}
-use Rattle.std.proofs.lemmas.List.Elements.{All-from_recursion}
-use Rattle.std.proofs.lemmas.Option.{get_or_from_slice_get}
-use Rattle.pct_model.specs.declared.frame.Frame.{Frame}
-use Rattle.pct_model.specs.declared.script.Script.{Script}
-use Rattle.pct_model.specs.declared.state.FrameKind.{FrameKind}
+use Rattle.pct_names.proofs.Names.{[], All-from_recursion, AllByRecursion, ap, Bool, false, false≢true, Frame, FrameKind}
+use Rattle.pct_names.proofs.Names.{get_or_from_slice_get, has_begun_to_end, has_left_wait, has_no_frame, inl, inr, is_empty}
+use Rattle.pct_names.proofs.Names.{is_ended_status, is_fork_kind, is_forking, is_some, KeyPlace, List, list_any, next_of, None}
+use Rattle.pct_names.proofs.Names.{option_map_or, or_cases, or_parts, Reason, refl, Script, Status, subst, sym, Thread, true, without_first}
+use Rattle.pct_names.proofs.Names.{◌||◌, ℕ, ◌∙◌, ◌∷◌, ◌≡◌}
 use Rattle.pct_model.specs.declared.state.FrameKind.TheVariants as kind
-use Rattle.pct_model.specs.declared.state.Reason.{Reason}
-use Rattle.pct_model.specs.declared.state.Status.{Status}
 use Rattle.pct_model.specs.declared.state.Status.TheVariants as status
-use Rattle.pct_model.specs.Actions.{without_first}
-use Rattle.pct_model.specs.Keys.{KeyPlace}
-use Rattle.pct_model.specs.StatusKinds.{has_no_frame, is_forking, has_left_wait}
 use Rattle.pct_laws.specs.Kept.{KeysKept, AreOpen, open_functions, HasOneBottom, bottom_kind, is_bottom_kind, is_end_kind, is_exit_kind, is_ending_status, is_exiting, is_in_fork_handler, is_at_fork, IsSuspendedAt, IsPlainFunction, ThreadKept}
-use Rattle.pct_model.specs.LineParsing.{is_empty}
-use Rattle.pct_model.specs.NextStatement.{next_of}
-use Rattle.pct_model.specs.StopTable.{has_begun_to_end, is_fork_kind}
-use Rattle.pct_model.specs.ThreadSlots.{is_ended_status}
 use Rattle.pct_laws.specs.ThreadSummary.{ThreadSummary}
-use Rattle.pct_model.specs.World.{Thread}
 use Rattle.pct_ending_laws.proofs.keys.KeptKeys.{AreEmpty}
 use Rattle.pct_ending_laws.proofs.keys.LeftKeys.{on_own_place}
 use Rattle.pct_ending_laws.proofs.thread.Passes.{is_in, not_taken}

@@ -1,26 +1,11 @@
 -- The functions that a script's statements name are functions of the script.
-use Rattle.std.proofs.Common.{◌≡◌, ℕ, suc, ◌+◌, ◌<◌, Bool, true, false, not, ◌||◌, cond, List, [], ◌∷◌, length, Option, Some, None, refl, subst, arith}
-use Rattle.std.specs.Prelude.{bytes_eq, slice_get, option_and_then}
-use Rattle.std.specs.List.{list_all, list_any, position_or_len}
-use Rattle.std.proofs.lemmas.Bool.{false≢true, and_parts}
-use Rattle.std.proofs.lemmas.List.{length-map}
-use Rattle.std.proofs.lemmas.List.Quantifiers.{position-Some}
-use Rattle.std.proofs.lemmas.Option.{none-some}
-use Rattle.pct_model.specs.declared.frame.Frame.{Frame}
+use Rattle.pct_names.proofs.Names.{◌+◌, ◌<◌, [], and_parts, arith, Bool, bytes_eq, cond, Contents, Dest, encode, false, false≢true, Frame}
+use Rattle.pct_names.proofs.Names.{Func, has_first_word, has_line, has_lines, has_word, have_words, index_among, is_found, keyword_text}
+use Rattle.pct_names.proofs.Names.{length, length-map, List, list_all, list_any, main_of, name_at, names_of, None, none-some, not, Operand}
+use Rattle.pct_names.proofs.Names.{Option, option_and_then, position-Some, position_or_len, refl, Script, slice_get, Some, statement_at}
+use Rattle.pct_names.proofs.Names.{Stmt, subst, suc, syntax_of, true, ◌||◌, ℕ, ◌∷◌, ◌≡◌}
 use Rattle.pct_model.specs.declared.keyword.Keyword.TheVariants as keyword
-use Rattle.pct_model.specs.declared.script.Func.{Func}
-use Rattle.pct_model.specs.declared.script.Script.{Script}
-use Rattle.pct_model.specs.declared.statement.Dest.{Dest}
-use Rattle.pct_model.specs.declared.statement.Operand.{Operand}
-use Rattle.pct_model.specs.declared.statement.Stmt.{Stmt}
 use Rattle.pct_model.specs.declared.statement.Stmt.TheVariants as statement
-use Rattle.pct_model.specs.Contents.{Contents}
-use Rattle.pct_model.specs.Keywords.{keyword_text}
-use Rattle.pct_model.specs.LineKinds.{syntax_of}
-use Rattle.pct_model.specs.Names.{name_at, index_among, main_of, names_of}
-use Rattle.pct_model.specs.Statements.{encode}
-use Rattle.pct_model.specs.Static.{is_found, has_word, have_words, has_first_word, has_line, has_lines}
-use Rattle.pct_model.specs.World.{statement_at}
 use Rattle.pct_model.proofs.StaticFacts.{passes_all, text_parts, lines_of_function}
 use Rattle.pct_jumps.proofs.OpenBlocks.{close_at}
 use Rattle.pct_ending_laws.proofs.lift.KeyedLists.{item_passes}

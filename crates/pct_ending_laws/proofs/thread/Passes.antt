@@ -1,12 +1,9 @@
 -- The passes of a thread over destructors: what its data have of the current one, beside what its events report.
-use Rattle.std.proofs.Common.{◌≡◌, ℕ, zero, suc, ◌<◌, ◌≤◌, Bool, true, false, List, [], ◌∷◌, All, length, nat_eq, get_or, set, replicate, inl, inr, refl, sym, ap, ◌∙◌, subst, le_refl, ne_eqb, eqb-true, arith}
-use Rattle.std.specs.List.{list_any}
-use Rattle.std.proofs.lemmas.Bool.{false≢true, and_parts, and_left, or_cases, cases_lt, false_from_ne_true}
-use Rattle.std.proofs.lemmas.List.{get_or_past}
-use Rattle.std.proofs.lemmas.List.Elements.{All-nil, All-cons, All-replicate, All-set, All-weaker}
-use Rattle.std.proofs.lemmas.List.Folds.{list_any_none}
-use Rattle.pct_model.specs.declared.limits.TheConstants.{MAX_KEYS}
-use Rattle.pct_model.specs.Keys.{key_place}
+use Rattle.pct_names.proofs.Names.{◌<◌, [], All, All-cons, All-nil, All-replicate, All-set, All-weaker, and_left, and_parts, ap, arith}
+use Rattle.pct_names.proofs.Names.{Bool, cases_lt, false, false_from_ne_true, false≢true, get_or, get_or_past, inl, inr, key_place, le_refl}
+use Rattle.pct_names.proofs.Names.{length, List, list_any, list_any_none, MAX_KEYS, nat_eq, or_cases, refl, replicate, set, subst, suc, sym}
+use Rattle.pct_names.proofs.Names.{true, zero, ℕ, ◌∙◌, ◌∷◌, ◌≡◌, ◌≤◌}
+use Rattle.std.proofs.Common.{ne_eqb, eqb-true}
 use Rattle.pct_laws.specs.Once.{is_pair}
 use Rattle.pct_ending_laws.proofs.keys.KeyPlaces.{default_set, default_stays}
 

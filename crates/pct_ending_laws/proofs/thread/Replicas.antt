@@ -1,19 +1,10 @@
 -- The replica of a thread that called fork keeps the rule of the thread, where its events report the handlers that it inherits.
-use Rattle.std.proofs.Common.{◌≡◌, ℕ, true, false, List, refl, subst}
-use Rattle.std.proofs.lemmas.Bool.{false≢true}
-use Rattle.pct_model.specs.declared.frame.Frame.{Frame}
-use Rattle.pct_model.specs.declared.script.Script.{Script}
-use Rattle.pct_model.specs.declared.state.Reason.{Reason}
+use Rattle.pct_names.proofs.Names.{false, false≢true, Frame, has_begun_to_end, in_child, is_forking, List, next_of, Reason, refl}
+use Rattle.pct_names.proofs.Names.{replica_of, Script, Status, subst, Thread, true, ℕ, ◌≡◌}
 use Rattle.pct_model.specs.declared.state.Reason.TheVariants as reason
-use Rattle.pct_model.specs.declared.state.Status.{Status}
 use Rattle.pct_model.specs.declared.state.Status.TheVariants as status
-use Rattle.pct_model.specs.Actions.{in_child, replica_of}
-use Rattle.pct_model.specs.StatusKinds.{is_forking}
 use Rattle.pct_laws.specs.Kept.{AreOpen, open_functions, is_at_fork}
-use Rattle.pct_model.specs.NextStatement.{next_of}
-use Rattle.pct_model.specs.StopTable.{has_begun_to_end}
 use Rattle.pct_laws.specs.ThreadSummary.{ThreadSummary, no_events}
-use Rattle.pct_model.specs.World.{Thread}
 use Rattle.pct_ending_laws.proofs.thread.Ends.{not_begun}
 use Rattle.pct_ending_laws.proofs.thread.Passes.{first_pass}
 use Rattle.pct_ending_laws.proofs.thread.ThreadRule.{FramesFit, HasFrames, ByStatus, ByAnyStatus, outside_exit, FitsAny, in_any}

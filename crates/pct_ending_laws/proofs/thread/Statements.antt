@@ -1,32 +1,18 @@
 -- A running thread at a statement keeps the rule of the thread as it goes on, jumps or returns.
-use Rattle.std.proofs.Common.{◌≡◌, ℕ, suc, ◌<◌, Bool, true, false, ◌&&◌, ◌||◌, List, [], ◌∷◌, length, reverse, Some, ◌⊎◌, inl, inr, refl, sym, ap, ◌∙◌, subst}
-use Rattle.std.specs.List.{list_all}
-use Rattle.std.proofs.lemmas.Bool.{false≢true}
-use Rattle.pct_model.specs.declared.event.What.{What}
+use Rattle.pct_names.proofs.Names.{◌&&◌, ◌<◌, [], Action, acts, ap, body_of, Bool, Dest, Disable, Enable, false, false≢true, Frame}
+use Rattle.pct_names.proofs.Names.{FrameKind, goes_on, has_begun_to_end, inl, inr, is_handler_kind, is_in_handler, length, List, list_all}
+use Rattle.pct_names.proofs.Names.{new_frame, new_thread, Reason, refl, reverse, Script, Some, State, state_if, state_number, statement_at}
+use Rattle.pct_names.proofs.Names.{Status, Stmt, subst, suc, sym, Thread, thread_after, thread_at, true, value_of, What, ◌||◌, ℕ, ◌∙◌, ◌∷◌}
+use Rattle.pct_names.proofs.Names.{◌≡◌, ◌⊎◌}
 use Rattle.pct_model.specs.declared.event.What.TheVariants as what
-use Rattle.pct_model.specs.declared.frame.Frame.{Frame}
-use Rattle.pct_model.specs.declared.script.Script.{Script}
-use Rattle.pct_model.specs.declared.state.FrameKind.{FrameKind}
 use Rattle.pct_model.specs.declared.state.FrameKind.TheVariants as kind
-use Rattle.pct_model.specs.declared.state.Reason.{Reason}
 use Rattle.pct_model.specs.declared.state.Reason.TheVariants as reason
-use Rattle.pct_model.specs.declared.state.State.{State}
-use Rattle.pct_model.specs.declared.state.State.TheVariants.{Enable, Disable}
-use Rattle.pct_model.specs.declared.state.Status.{Status}
 use Rattle.pct_model.specs.declared.state.Status.TheVariants as status
-use Rattle.pct_model.specs.declared.statement.Dest.{Dest}
-use Rattle.pct_model.specs.declared.statement.Stmt.{Stmt}
 use Rattle.pct_model.specs.declared.statement.Stmt.TheVariants as statement
-use Rattle.pct_model.specs.declared.transition.Action.{Action}
 use Rattle.pct_model.specs.declared.transition.Action.TheVariants as action
-use Rattle.pct_model.specs.Actions.{thread_at, thread_after}
-use Rattle.pct_model.specs.CancelCalls.{state_number, state_if}
 use Rattle.pct_model.specs.Jumps.{is_end}
 use Rattle.pct_laws.specs.OpenPushes.{pushes_after, open_pushes}
-use Rattle.pct_model.specs.StopTable.{has_begun_to_end, is_handler_kind, is_in_handler}
 use Rattle.pct_laws.specs.ThreadSummary.{ThreadSummary, no_events}
-use Rattle.pct_model.specs.Transitions.{goes_on, acts}
-use Rattle.pct_model.specs.World.{Thread, body_of, statement_at, value_of, new_frame, new_thread}
 use Rattle.pct_transition_cases.proofs.TransitionCases.{Leads, past_nop, past_if, past_while, past_else, past_end, Returns, by_return, by_end}
 use Rattle.pct_ending_laws.proofs.StaticPushes.{PushesMatch}
 use Rattle.pct_ending_laws.proofs.lift.ReportedBy.{after_all}

@@ -1,29 +1,14 @@
 -- What each thread keeps, beside what the events report of it: the facts of Kept.antt, arranged by the status of the thread.
-use Rattle.std.proofs.Common.{◌≡◌, ℕ, ◌<◌, Bool, true, false, ◌||◌, List, [], ◌∷◌, length, reverse, Some, None, ◌⊎◌, inl, inr}
-use Rattle.std.specs.Prelude.{is_some, ◌≡◌, ℕ, true, List, [], ◌∷◌, refl}
-use Rattle.std.specs.List.{AllByRecursion}
-use Rattle.pct_model.specs.declared.frame.Frame.{Frame}
-use Rattle.pct_model.specs.declared.script.Script.{Script}
-use Rattle.pct_model.specs.declared.state.FrameKind.{FrameKind}
+use Rattle.pct_names.proofs.Names.{◌<◌, [], AllByRecursion, body_of, Bool, Disable, Event, false, Frame, FrameKind, has_begun_to_end}
+use Rattle.pct_names.proofs.Names.{has_left_wait, inl, inr, is_some, length, List, moved, next_of, None, Reason, refl, reverse, Script}
+use Rattle.pct_names.proofs.Names.{Some, State, Status, Thread, Transition, true, What, ◌||◌, ℕ, ◌∷◌, ◌≡◌, ◌⊎◌}
 use Rattle.pct_model.specs.declared.state.FrameKind.TheVariants as kind
-use Rattle.pct_model.specs.declared.state.Reason.{Reason}
 use Rattle.pct_model.specs.declared.state.Reason.TheVariants as reason
-use Rattle.pct_model.specs.declared.state.State.{State}
-use Rattle.pct_model.specs.declared.state.State.TheVariants.{Disable}
-use Rattle.pct_model.specs.declared.state.Status.{Status}
 use Rattle.pct_model.specs.declared.state.Status.TheVariants as status
-use Rattle.pct_model.specs.declared.transition.Transition.{Transition}
 use Rattle.std.proofs.lemmas.Bool.{true≢false}
-use Rattle.pct_model.specs.declared.event.Event.{Event}
-use Rattle.pct_model.specs.declared.event.What.{What}
 use Rattle.pct_model.specs.declared.event.What.TheVariants as what
-use Rattle.pct_model.specs.Actions.{moved}
-use Rattle.pct_model.specs.StatusKinds.{has_left_wait}
 use Rattle.pct_laws.specs.Kept.{AreOpen, open_functions, is_join, is_call_of, is_at_fork, IsSuspendedAt, IsPlainFunction}
-use Rattle.pct_model.specs.NextStatement.{next_of}
-use Rattle.pct_model.specs.StopTable.{has_begun_to_end}
 use Rattle.pct_laws.specs.ThreadSummary.{ThreadSummary, no_events, with_event, summary_of}
-use Rattle.pct_model.specs.World.{Thread, body_of}
 use Rattle.pct_laws.specs.CancelLaw.{is_running}
 use Rattle.pct_laws.specs.Once.{may_come}
 use Rattle.pct_ending_laws.proofs.lift.EachAllowed.{all_may}

@@ -1,37 +1,20 @@
 -- Each transition of a thread keeps the rule of the thread.
-use Rattle.std.proofs.Common.{◌≡◌, ℕ, Bool, true, false, List, [], ◌∷◌, length, nat_eq, eq-eqb, Option, Some, inl, inr, refl, sym, ap, ◌∙◌, subst}
-use Rattle.std.proofs.lemmas.Bool.{and_from}
-use Rattle.std.proofs.lemmas.Option.{none-some, same_Some}
+use Rattle.pct_names.proofs.Names.{[], Alt, and_from, ap, body_at, Bool, choices_of, cond_wait_point, Config, end_value, false, Frame}
+use Rattle.pct_names.proofs.Names.{in_fork, inl, inr, is_required, length, List, mode_if, mode_number, nat_eq, new_frame, new_thread}
+use Rattle.pct_names.proofs.Names.{NewThread, next_in, next_of, NextStatement, none-some, offers, Operand, Option, Others, others_of}
+use Rattle.pct_names.proofs.Names.{Parent, point_kind, Prepare, Process, refl, same_Some, Script, SharedState, Some, Status, Stmt, subst}
+use Rattle.pct_names.proofs.Names.{sym, testcancel_point, Thread, thread_after, thread_at, Transition, transition_by, true, value_of, What}
+use Rattle.pct_names.proofs.Names.{World, ℕ, ◌∙◌, ◌∷◌, ◌≡◌}
+use Rattle.std.proofs.Common.{eq-eqb}
 use Rattle.pct_model.specs.declared.event.Caller.TheVariants as caller
-use Rattle.pct_model.specs.declared.event.What.{What}
 use Rattle.pct_model.specs.declared.event.What.TheVariants as what
-use Rattle.pct_model.specs.declared.frame.Frame.{Frame}
-use Rattle.pct_model.specs.declared.schedule.Alt.{Alt}
-use Rattle.pct_model.specs.declared.schedule.Config.{Config}
-use Rattle.pct_model.specs.declared.script.Script.{Script}
 use Rattle.pct_model.specs.declared.state.Cause.TheVariants as cause
 use Rattle.pct_model.specs.declared.state.FrameKind.TheVariants as kind
-use Rattle.pct_model.specs.declared.state.Phase.TheVariants.{Prepare, Parent}
-use Rattle.pct_model.specs.declared.state.Status.{Status}
 use Rattle.pct_model.specs.declared.state.Status.TheVariants as status
-use Rattle.pct_model.specs.declared.statement.Operand.{Operand}
-use Rattle.pct_model.specs.declared.statement.Stmt.{Stmt}
 use Rattle.pct_model.specs.declared.statement.Stmt.TheVariants as statement
 use Rattle.pct_model.specs.declared.transition.Action.TheVariants as action
-use Rattle.pct_model.specs.declared.transition.NewThread.{NewThread}
-use Rattle.pct_model.specs.declared.transition.Transition.{Transition}
-use Rattle.pct_model.specs.Actions.{thread_at, thread_after}
-use Rattle.pct_model.specs.CancelCalls.{mode_number, mode_if, testcancel_point, point_kind, is_required}
-use Rattle.pct_model.specs.ChoiceTable.{choices_of, offers}
-use Rattle.pct_model.specs.CondCalls.{cond_wait_point}
-use Rattle.pct_model.specs.ForkCalls.{in_fork}
 use Rattle.pct_laws.specs.Kept.{is_join, is_call_of, is_sem_wait_of, is_at_fork, is_at_waitpid, is_cond_wait_of, KeysKept, IsPlainFunction}
-use Rattle.pct_model.specs.NextStatement.{NextStatement, next_in, next_of, body_at}
-use Rattle.pct_model.specs.OtherThreads.{Others, others_of}
-use Rattle.pct_model.specs.ThreadEnds.{end_value}
 use Rattle.pct_laws.specs.ThreadSummary.{ThreadSummary, no_events}
-use Rattle.pct_model.specs.TransitionTable.{transition_by}
-use Rattle.pct_model.specs.World.{Thread, SharedState, Process, World, value_of, new_frame, new_thread}
 use Rattle.pct_transition_cases.proofs.CaseOfTransition.{case_of}
 use Rattle.pct_transition_cases.proofs.OfferedChoices.{deliverable_enabled}
 use Rattle.pct_transition_cases.proofs.PlacedStatements.{IsPlaced, on_top, is_placed, statement_placed}

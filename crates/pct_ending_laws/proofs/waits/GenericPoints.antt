@@ -1,20 +1,11 @@
 -- A statement that calls a generic cancellation point does not call pthread_cond_wait, pthread_testcancel, pthread_join, sem_wait or
 -- waitpid, which have statements of their own.
-use Rattle.std.proofs.Common.{◌≡◌, ℕ, Bool, true, false, ◌||◌, List, Some, nat_eq, refl, sym, ap, ◌∙◌, eqb-true}
-use Rattle.pct_model.specs.declared.frame.Frame.{Frame}
-use Rattle.pct_model.specs.declared.script.Script.{Script}
+use Rattle.pct_names.proofs.Names.{ap, Bool, cond_wait_point, encode, false, Frame, has_first_word, has_line, join_point, List, nat_eq}
+use Rattle.pct_names.proofs.Names.{point_name, point_of, point_statement, points, refl, Script, sem_wait_point, Some, statement_at, sym}
+use Rattle.pct_names.proofs.Names.{testcancel_point, true, waitpid_point, ◌||◌, ℕ, ◌∙◌, ◌≡◌}
+use Rattle.std.proofs.Common.{eqb-true}
 use Rattle.pct_model.specs.declared.statement.Stmt.TheVariants as statement
-use Rattle.pct_model.specs.CancelCalls.{testcancel_point}
 use Rattle.pct_laws.specs.RequestsLaw.{has_own_return}
-use Rattle.pct_model.specs.CondCalls.{cond_wait_point}
-use Rattle.pct_model.specs.ForkCalls.{waitpid_point}
-use Rattle.pct_model.specs.LineKinds.{point_statement}
-use Rattle.pct_model.specs.Points.{points, point_name, point_of}
-use Rattle.pct_model.specs.SemCalls.{sem_wait_point}
-use Rattle.pct_model.specs.Statements.{encode}
-use Rattle.pct_model.specs.Static.{has_first_word, has_line}
-use Rattle.pct_model.specs.ThreadCalls.{join_point}
-use Rattle.pct_model.specs.World.{statement_at}
 use Rattle.pct_ending_laws.proofs.thread.NamedFunctions.{contents, line_of}
 
 module _ (script : Script) where

@@ -1,25 +1,12 @@
 -- Events that directly follow each other: each call of pthread_cond_wait is followed by a release of the same thread, and each signal that is
 -- handed on follows the event that its thread leaves its wait. Both are events of one step.
-use Rattle.std.proofs.Common.{◌≡◌, ℕ, true, false, not, List, [], ◌∷◌, ◌++◌, map, reverse, refl, ap, eq-eqb}
-use Rattle.std.proofs.lemmas.Bool.{false≢true, and_from}
-use Rattle.pct_model.specs.declared.event.Event.{Event}
-use Rattle.pct_model.specs.declared.event.What.{What}
-use Rattle.pct_model.specs.declared.schedule.Alt.{Alt}
-use Rattle.pct_model.specs.declared.schedule.Config.{Config}
-use Rattle.pct_model.specs.declared.schedule.Entry.{Entry}
-use Rattle.pct_model.specs.declared.script.Script.{Script}
-use Rattle.pct_model.specs.declared.frame.Frame.{Frame}
-use Rattle.pct_model.specs.declared.state.Status.{Status}
-use Rattle.pct_model.specs.declared.statement.Stmt.{Stmt}
-use Rattle.pct_model.specs.declared.transition.Transition.{Transition}
+use Rattle.pct_names.proofs.Names.{◌++◌, [], Alt, and_from, ap, body_at, Config, Entry, Event, event_of, false, false≢true, Frame, List}
+use Rattle.pct_names.proofs.Names.{map, next_of, NextStatement, not, Others, others_of, Process, refl, reverse, Script, SharedState, Status}
+use Rattle.pct_names.proofs.Names.{Stmt, Thread, Transition, transition_by, true, What, World, ℕ, ◌∷◌, ◌≡◌}
+use Rattle.std.proofs.Common.{eq-eqb}
 use Rattle.pct_laws.specs.Each.{each}
 use Rattle.pct_laws.specs.CondLaw.{hand_ons_allow}
 use Rattle.pct_laws.specs.Kept.{is_wait_call, is_release}
-use Rattle.pct_model.specs.NextStatement.{NextStatement, next_of, body_at}
-use Rattle.pct_model.specs.OtherThreads.{Others, others_of}
-use Rattle.pct_model.specs.Run.{event_of}
-use Rattle.pct_model.specs.TransitionTable.{transition_by}
-use Rattle.pct_model.specs.World.{Thread, SharedState, Process, World}
 use Rattle.pct_transition_cases.proofs.CaseOfTransition.{case_of}
 use Rattle.pct_transition_cases.proofs.PlacedStatements.{IsPlaced, is_placed, statement_placed}
 use Rattle.pct_transition_cases.proofs.TransitionCases.{TransitionCase, point_begun, signal_handed_on, fork_handler_called}

@@ -1,34 +1,18 @@
 -- A transition of a thread, and the condition wait of the thread: its events follow in the wait, and the wait is unfinished after it exactly
 -- if the thread is in it then.
-use Rattle.std.proofs.Common.{◌≡◌, ℕ, Bool, true, false, not, ◌&&◌, ◌||◌, cond, List, [], ◌∷◌, reverse, nat_eq, refl, sym, ap, ap₂, ◌∙◌, subst, subst₂, eq-eqb, eqb-true}
-use Rattle.std.proofs.lemmas.Bool.{false≢true, and_parts, and_from}
-use Rattle.pct_model.specs.declared.event.What.{What}
+use Rattle.pct_names.proofs.Names.{◌&&◌, [], Action, acts, Alt, and_from, and_parts, ap, ap₂, body_at, Bool, Cause, cond, Config, false}
+use Rattle.pct_names.proofs.Names.{false≢true, Frame, has_left_wait, in_fork, is_live_thread, is_waiting_on, List, moved, named_after}
+use Rattle.pct_names.proofs.Names.{nat_eq, next_of, NextStatement, not, Others, others_of, Process, refl, reverse, Script, SharedState}
+use Rattle.pct_names.proofs.Names.{Status, Stmt, subst, subst₂, sym, Thread, thread_after, thread_at, Transition, transition_by, true}
+use Rattle.pct_names.proofs.Names.{unblocked, What, while_called, World, ◌||◌, ℕ, ◌∙◌, ◌∷◌, ◌≡◌}
+use Rattle.std.proofs.Common.{eq-eqb, eqb-true}
 use Rattle.pct_model.specs.declared.event.What.TheVariants as what
-use Rattle.pct_model.specs.declared.frame.Frame.{Frame}
-use Rattle.pct_model.specs.declared.schedule.Alt.{Alt}
-use Rattle.pct_model.specs.declared.schedule.Config.{Config}
-use Rattle.pct_model.specs.declared.script.Script.{Script}
-use Rattle.pct_model.specs.declared.state.Cause.{Cause}
 use Rattle.pct_model.specs.declared.state.Cause.TheVariants as cause
 use Rattle.pct_model.specs.declared.state.FrameKind.TheVariants as kind
-use Rattle.pct_model.specs.declared.state.Status.{Status}
 use Rattle.pct_model.specs.declared.state.Status.TheVariants as status
-use Rattle.pct_model.specs.declared.statement.Stmt.{Stmt}
-use Rattle.pct_model.specs.declared.transition.Action.{Action}
 use Rattle.pct_model.specs.declared.transition.Action.TheVariants as action
-use Rattle.pct_model.specs.declared.transition.Transition.{Transition}
-use Rattle.pct_model.specs.Actions.{thread_at, thread_after, named_after, moved}
-use Rattle.pct_model.specs.CondCalls.{is_waiting_on, unblocked}
-use Rattle.pct_model.specs.ForkCalls.{in_fork, while_called}
-use Rattle.pct_model.specs.StatusKinds.{has_left_wait}
 use Rattle.pct_laws.specs.Kept.{WaitKept, is_leaving}
-use Rattle.pct_model.specs.NextStatement.{NextStatement, next_of, body_at}
-use Rattle.pct_model.specs.OtherThreads.{Others, others_of}
-use Rattle.pct_model.specs.ThreadSlots.{is_live_thread}
-use Rattle.pct_model.specs.Transitions.{acts}
-use Rattle.pct_model.specs.TransitionTable.{transition_by}
 use Rattle.pct_laws.specs.WaitStages.{WaitStage, NoWait, AtCall, InWait, Leaving, LeavingSignal, stage_after, wait_stage, may_follow}
-use Rattle.pct_model.specs.World.{Thread, SharedState, Process, World}
 use Rattle.pct_transition_cases.proofs.CaseOfTransition.{case_of}
 use Rattle.pct_transition_cases.proofs.PlacedStatements.{IsPlaced, is_placed, statement_placed}
 use Rattle.pct_transition_cases.proofs.TransitionCases.{TransitionCase, rests, point_begun, wait_ended, canceled_in_wait, canceled_after_wait, signal_handed_on, ended_in_wait, fork_handler_called}

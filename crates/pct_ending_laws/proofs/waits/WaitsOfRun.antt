@@ -1,19 +1,12 @@
 -- Every run keeps the laws of condition waits and of signals that are handed on, and ends in a state whose threads are in the waits that
 -- their events report.
-use Rattle.std.proofs.Common.{◌≡◌, ℕ, true, false, List, reverse, Some, option_and_then, refl, sym, ap, ◌∙◌, subst}
-use Rattle.pct_model.specs.declared.schedule.Config.{Config}
-use Rattle.pct_model.specs.declared.schedule.Entry.{Entry}
-use Rattle.pct_model.specs.declared.script.Script.{Script}
+use Rattle.pct_names.proofs.Names.{ap, Config, Entry, false, in_child, List, made_thread, option_and_then, Process, refl, reverse, Run, run}
+use Rattle.pct_names.proofs.Names.{Script, Some, Status, subst, sym, Thread, thread_with, transition_by, true, ℕ, ◌∙◌, ◌≡◌}
 use Rattle.pct_laws.specs.Each.{each}
 use Rattle.pct_laws.specs.CondLaw.{waits_allow, hand_ons_allow}
-use Rattle.pct_model.specs.declared.state.Status.{Status}
-use Rattle.pct_model.specs.Actions.{in_child}
 use Rattle.pct_laws.specs.Kept.{WaitKept, is_wait_call, is_release}
 use Rattle.pct_laws.specs.FollowedEvents.{are_followed}
-use Rattle.pct_model.specs.Run.{Run, run}
-use Rattle.pct_model.specs.TransitionTable.{transition_by}
 use Rattle.pct_laws.specs.WaitStages.{WaitStage, NoWait, wait_stage, may_follow}
-use Rattle.pct_model.specs.World.{Thread, Process, made_thread, thread_with}
 use Rattle.pct_ending_laws.proofs.lift.TakenSteps.{IsTaken, with_step, AfterEveryRun, every_run}
 use Rattle.pct_ending_laws.proofs.lift.ThreadsAfter.{Moves, mover}
 use Rattle.pct_ending_laws.proofs.lift.EveryProcess.{process_taken, moves_of_run}

@@ -1,7 +1,4 @@
-use Rattle.std.proofs.Common.{rules, Option, Some, sym, ap, ◌∙◌, ◌<◌, subst}
-use Rattle.std.specs.Prelude.{slice_set}
-use Rattle.pct_model.specs.declared.transition.NewThread.{NewThread}
-use Rattle.pct_model.specs.Keys.{no_values}
+use Rattle.pct_names.proofs.Names.{◌<◌, ap, NewThread, no_values, Option, rules, slice_set, Some, subst, sym, ◌∙◌}
 use Rattle.pct_process.specs.ProcessViews.{slots_of, shared_of, ProcessData}
 use Rattle.pct_actions.specs.ProcessParts.{created_made, NewFits}
 use Rattle.pct_actions.proofs.NewThreads.{is_next, slots_created}

@@ -1,6 +1,4 @@
-use Rattle.std.proofs.Common.{ℕ, map, sym, ap, ◌∙◌, subst}
-use Rattle.std.proofs.lemmas.List.{length-map}
-use Rattle.pct_model.specs.Actions.{shared_after, for_each, thread_moved}
+use Rattle.pct_names.proofs.Names.{ap, for_each, length-map, map, shared_after, subst, sym, thread_moved, ℕ, ◌∙◌}
 use Rattle.pct_engine_laws.specs.Seen.{slot_after, with_created}
 use Rattle.pct_actions.specs.ProcessParts.{action_made, created_made, ActionsFit, NewFits}
 use Rattle.pct_actions.proofs.ChangedSlots.{new_stays}

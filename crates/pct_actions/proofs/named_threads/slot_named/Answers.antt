@@ -1,5 +1,4 @@
-use Rattle.std.proofs.Common.{sym, ◌∙◌}
-use Rattle.std.specs.Prelude.{nat_eq}
+use Rattle.pct_names.proofs.Names.{nat_eq, sym, ◌∙◌}
 use Rattle.pct_threads.specs.Tables.{held_at}
 use Rattle.pct_threads.proofs.TableLemmas.{occupied-test}
 use Rattle.pct_actions.proofs.named_threads.slot_named.Goals as goal

@@ -1,5 +1,4 @@
-use Rattle.std.proofs.Common.{ℕ, false, List, [], refl, sym, ap, ◌∙◌, subst, arith}
-use Rattle.std.proofs.lemmas.Bool.{false≢true}
+use Rattle.pct_names.proofs.Names.{[], ap, arith, false, false≢true, List, refl, subst, sym, ℕ, ◌∙◌}
 use Rattle.pct_set.specs.Slots.{has_slot}
 use Rattle.pct_set.proofs.SlotLemmas.{has_where}
 use Rattle.pct_set.proofs.SlotScans.{scan_begun, scan_fewer, scan_more}

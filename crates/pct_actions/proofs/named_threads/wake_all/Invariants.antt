@@ -1,4 +1,4 @@
-use Rattle.std.proofs.Common.{◌≡◌, false, [], length}
+use Rattle.pct_names.proofs.Names.{[], false, length, ◌≡◌}
 use Rattle.pct_set.proofs.SlotScans.{Scans}
 use Rattle.pct_threads.specs.Tables.{is_occupied_at}
 use Rattle.pct_actions.specs.SharedChanges.{woken_from}

@@ -1,7 +1,5 @@
-use Rattle.std.proofs.Common.{◌≡◌, refl}
-use Rattle.pct_model.specs.declared.transition.Action.{Action}
+use Rattle.pct_names.proofs.Names.{Action, refl, thread_after, ◌≡◌}
 use Rattle.pct_model.specs.declared.transition.Action.TheVariants as action
-use Rattle.pct_model.specs.Actions.{thread_after}
 use Rattle.pct_actions.specs.OwnChanges.{on_own}
 use Rattle.pct_actions.proofs.TwoChanges.{own_same}
 use Rattle.pct_actions.proofs.own_actions.act.Goals as goal

@@ -1,6 +1,4 @@
-use Rattle.std.proofs.Common.{◌≡◌, ◌+◌, List, [], ◌∷◌, drop, length, refl, ap, sym, ◌∙◌, subst, arith}
-use Rattle.pct_model.specs.declared.transition.Action.{Action}
-use Rattle.pct_model.specs.Actions.{thread_after, for_each}
+use Rattle.pct_names.proofs.Names.{◌+◌, [], Action, ap, arith, drop, for_each, length, List, refl, subst, sym, thread_after, ◌∙◌, ◌∷◌, ◌≡◌}
 use Rattle.pct_engine_laws.specs.Seen.{SeenSlot}
 use Rattle.pct_actions.specs.ProcessParts.{on_threads, with_slot, OwnFits}
 use Rattle.pct_actions.proofs.ChangedSlots.{then_here, same_here}

@@ -1,4 +1,4 @@
-use Rattle.std.proofs.Common.{◌<◌, ◌∷◌, [], sym, ap, ◌∙◌, subst}
+use Rattle.pct_names.proofs.Names.{◌<◌, [], ap, subst, sym, ◌∙◌, ◌∷◌}
 use Rattle.pct_process.specs.ProcessViews.{slots_of, shared_of}
 use Rattle.pct_actions.proofs.OwnThread.{occupied, inside, room, keys_fit, after_action}
 use Rattle.pct_actions.proofs.own_thread.act.Goals as goal

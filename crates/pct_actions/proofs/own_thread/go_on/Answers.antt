@@ -1,4 +1,4 @@
-use Rattle.std.proofs.Common.{[]}
+use Rattle.pct_names.proofs.Names.{[]}
 use Rattle.pct_actions.proofs.OwnThread.{occupied, after_next}
 use Rattle.pct_actions.proofs.own_thread.go_on.Goals as goal
 

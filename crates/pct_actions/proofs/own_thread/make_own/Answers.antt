@@ -1,5 +1,4 @@
-use Rattle.std.proofs.Common.{[], sym, ap, ◌∙◌, subst}
-use Rattle.pct_model.specs.Actions.{thread_at, thread_after, for_each}
+use Rattle.pct_names.proofs.Names.{[], ap, for_each, subst, sym, thread_after, thread_at, ◌∙◌}
 use Rattle.pct_actions.specs.ProcessParts.{on_threads, settled, with_slot, OwnFits}
 use Rattle.pct_actions.proofs.OwnThread.{own_changed, next_actions, own_parts}
 use Rattle.pct_actions.proofs.own_thread.make_own.Goals as goal

@@ -1,5 +1,4 @@
-use Rattle.std.proofs.Common.{◌≡◌, ◌+◌, List, ◌∷◌, drop, length, ap, sym, subst, arith}
-use Rattle.pct_model.specs.declared.transition.Action.{Action}
+use Rattle.pct_names.proofs.Names.{◌+◌, Action, ap, arith, drop, length, List, subst, sym, ◌∷◌, ◌≡◌}
 use Rattle.pct_actions.specs.ProcessParts.{ActionsFit}
 use Rattle.pct_actions.proofs.FittingActions.{first_fits, rest_fit}
 use Rattle.pct_actions.proofs.RestItems.{drop_item}

@@ -1,4 +1,4 @@
-use Rattle.std.proofs.Common.{drop, length}
+use Rattle.pct_names.proofs.Names.{drop, length}
 use Rattle.pct_actions.proofs.shared_actions.+act_all.Given as goal
 
 abbrev pub decreases-act_all : goal.decreases-act_all

@@ -1,4 +1,4 @@
-use Rattle.std.proofs.Common.{sym, ap, ◌∙◌}
+use Rattle.pct_names.proofs.Names.{ap, sym, ◌∙◌}
 use Rattle.pct_process.specs.ProcessViews.{slots_of, ProcessData}
 use Rattle.pct_actions.proofs.NamedThreads.{name_fits, named_is}
 use Rattle.pct_actions.proofs.shared_actions.act.Goals as goal

@@ -1,5 +1,4 @@
-use Rattle.std.proofs.Common.{map, ap, ◌∙◌}
-use Rattle.pct_model.specs.Keys.{key_place, without_key, without_value}
+use Rattle.pct_names.proofs.Names.{ap, key_place, map, without_key, without_value, ◌∙◌}
 use Rattle.pct_keys.specs.Tables.{Table, with_deleted}
 use Rattle.pct_process.specs.ProcessViews.{slots_of, shared_of, ProcessData}
 use Rattle.pct_actions.specs.ProcessParts.{on_threads}

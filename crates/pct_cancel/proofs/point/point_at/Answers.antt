@@ -1,4 +1,4 @@
-use Rattle.std.proofs.Common.{arith}
+use Rattle.pct_names.proofs.Names.{arith}
 use Rattle.pct_cancel.proofs.Table.{point_in_row, no_point_past}
 use Rattle.pct_cancel.proofs.point.point_at.Goals as goal
 

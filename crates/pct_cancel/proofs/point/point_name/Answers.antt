@@ -1,4 +1,4 @@
-use Rattle.std.proofs.Common.{arith}
+use Rattle.pct_names.proofs.Names.{arith}
 use Rattle.pct_cancel.proofs.Table.{name_in_row, past_the_table}
 use Rattle.pct_cancel.proofs.point.point_name.Goals as goal
 

@@ -1,4 +1,4 @@
-use Rattle.std.proofs.Common.{◌∙◌, arith}
+use Rattle.pct_names.proofs.Names.{arith, ◌∙◌}
 use Rattle.pct_cancel.proofs.Table.{found, not_found, found_within}
 use Rattle.pct_cancel.proofs.point.point_of.Goals as goal
 

@@ -1,4 +1,4 @@
-use Rattle.std.proofs.Common.{arith}
+use Rattle.pct_names.proofs.Names.{arith}
 use Rattle.pct_cancel.proofs.Table.{rows_count, row_in}
 use Rattle.pct_cancel.proofs.point.row_at.Goals as goal
 

@@ -1,5 +1,4 @@
-use Rattle.std.proofs.Common.{refl}
-use Rattle.pct_model.specs.Points.{points}
+use Rattle.pct_names.proofs.Names.{points, refl}
 use Rattle.pct_cancel.proofs.point.table.Goals as goal
 
 pub returns : goal.returns

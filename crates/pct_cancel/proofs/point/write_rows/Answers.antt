@@ -1,8 +1,5 @@
-use Rattle.std.proofs.Common.{arith}
-use Rattle.std.proofs.lemmas.Result.{err_from_is_err_and}
+use Rattle.pct_names.proofs.Names.{arith, err_from_is_err_and, line_text, row_words}
 use Rattle.pct_io.proofs.WritesInTurn.{Writes-last, Writes-next, Writes-next_fails}
-use Rattle.pct_model.specs.Keywords.{line_text}
-use Rattle.pct_model.specs.Points.{row_words}
 use Rattle.pct_cancel.specs.Rows.{as_row}
 use Rattle.pct_cancel.proofs.point.write_rows.Goals as goal
 

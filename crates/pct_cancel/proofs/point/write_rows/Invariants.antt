@@ -1,9 +1,7 @@
-use Rattle.std.proofs.Common.{Result, drop}
+use Rattle.pct_names.proofs.Names.{drop, line_text, Result, row_words}
 use Rattle.std.specs.List.{flat_map}
 use Rattle.pct_io.specs.declared.failed.Failed.{Failed}
 use Rattle.pct_io.specs.Writes.{Writes}
-use Rattle.pct_model.specs.Keywords.{line_text}
-use Rattle.pct_model.specs.Points.{row_words}
 use Rattle.pct_cancel.specs.Rows.{as_row}
 use Rattle.pct_cancel.proofs.point.write_rows.Given as goal
 

@@ -1,5 +1,4 @@
-use Rattle.std.proofs.Common.{take, refl, subst}
-use Rattle.pct_model.specs.Checks.{FirstFault}
+use Rattle.pct_names.proofs.Names.{FirstFault, refl, subst, take}
 use Rattle.pct_command.proofs.AskedWords.{job_needs_input, is_part}
 use Rattle.pct_command.proofs.Scripts.{has-parts}
 use Rattle.pct_command.proofs.Outcomes.{script-answer}

@@ -1,4 +1,4 @@
-use Rattle.pct_model.specs.Outcome.{schedule_part}
+use Rattle.pct_names.proofs.Names.{schedule_part}
 use Rattle.pct_command.proofs.Outcomes.{check-answer}
 use Rattle.pct_command.proofs.answering.answer_script.Goals as goal
 

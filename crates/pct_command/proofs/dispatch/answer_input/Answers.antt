@@ -1,4 +1,4 @@
-use Rattle.std.proofs.Common.{refl, arith}
+use Rattle.pct_names.proofs.Names.{arith, refl}
 use Rattle.pct_command.proofs.AskedWords.{job_needs_input}
 use Rattle.pct_command.proofs.Outcomes.{input-answer}
 use Rattle.pct_command.proofs.CompleteOutcomes.{front_length}

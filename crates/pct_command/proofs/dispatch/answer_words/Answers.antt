@@ -1,10 +1,7 @@
-use Rattle.std.proofs.Common.{◌≡◌, ℕ, Bool, true, false, ◌||◌, List, [], Some, refl, sym, ap, ◌∙◌, map, rules}
-use Rattle.std.specs.Prelude.{string_bytes}
-use Rattle.std.proofs.lemmas.Bool.{false≢true, true≢false}
-use Rattle.std.proofs.KnownBytes.{Consumes-nil}
+use Rattle.pct_names.proofs.Names.{[], ap, asks_demo, Bool, Consumes-nil, demo_number, false, false≢true, is_accepted, is_asked, List, map}
+use Rattle.pct_names.proofs.Names.{needs_input, refl, rules, Some, string_bytes, sym, true, ◌||◌, ℕ, ◌∙◌, ◌≡◌}
+use Rattle.std.proofs.lemmas.Bool.{true≢false}
 use Rattle.pct_model.specs.declared.keyword.Keyword.TheVariants as keyword
-use Rattle.pct_model.specs.Demo.{demo_number}
-use Rattle.pct_model.specs.Outcome.{asks_demo, is_asked, is_accepted, needs_input}
 use Rattle.pct_command.specs.declared.words.Job.{Job}
 use Rattle.pct_command.specs.Words.{Asks}
 use Rattle.pct_command.proofs.AskedWords.{NeedsInput, has_input, job_needs_input, points_need_none, points_are_no_demo, demo_needs_none, demo_is_no_points, input_is_no_demo, none_asked}

@@ -1,7 +1,5 @@
-use Rattle.std.proofs.Common.{◌≡◌, inl, inr, refl, ◌∙◌, map}
-use Rattle.std.specs.Prelude.{string_bytes}
+use Rattle.pct_names.proofs.Names.{inl, inr, map, needs_input, refl, string_bytes, ◌∙◌, ◌≡◌}
 use Rattle.pct_io.proofs.Unchanged.{KeepsInners-refl}
-use Rattle.pct_model.specs.Outcome.{needs_input}
 use Rattle.pct_command.specs.Command.{Outside, IsAnswer, Decides}
 use Rattle.pct_command.specs.Words.{takes_memory}
 use Rattle.pct_command.specs.declared.answers.Answer.{Answer}

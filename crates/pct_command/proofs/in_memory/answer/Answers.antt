@@ -1,5 +1,4 @@
-use Rattle.std.proofs.Common.{map}
-use Rattle.std.specs.Prelude.{string_bytes}
+use Rattle.pct_names.proofs.Names.{map, string_bytes}
 use Rattle.pct_command.proofs.CompleteOutcomes.{not_refused}
 use Rattle.pct_command.proofs.in_memory.answer.Goals as goal
 

@@ -1,8 +1,5 @@
-use Rattle.std.proofs.Common.{◌≡◌, true, map, rules}
-use Rattle.std.specs.Prelude.{string_bytes}
-use Rattle.std.proofs.lemmas.Bool.{false≢true, false_from_ne_true}
+use Rattle.pct_names.proofs.Names.{false_from_ne_true, false≢true, is_accepted, is_asked, map, rules, string_bytes, true, ◌≡◌}
 use Rattle.pct_model.specs.declared.keyword.Keyword.TheVariants as keyword
-use Rattle.pct_model.specs.Outcome.{is_asked, is_accepted}
 use Rattle.pct_command.proofs.AskedWords.{NeedsInput, has_input}
 use Rattle.pct_command.proofs.Outcomes.{words-answer, points-answer}
 use Rattle.pct_command.proofs.in_memory.answer_bytes.Goals as goal

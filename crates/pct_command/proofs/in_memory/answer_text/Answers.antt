@@ -1,4 +1,4 @@
-use Rattle.std.proofs.Common.{arith}
+use Rattle.pct_names.proofs.Names.{arith}
 use Rattle.pct_command.proofs.AskedWords.{job_needs_input}
 use Rattle.pct_command.proofs.Outcomes.{input-answer}
 use Rattle.pct_command.proofs.in_memory.answer_text.Goals as goal

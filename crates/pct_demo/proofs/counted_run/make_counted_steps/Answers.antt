@@ -1,5 +1,5 @@
-use Rattle.std.proofs.Common.{◌≡◌, ◌+◌, ◌≤◌, ◌++◌, ◌∷◌, [], List, refl, sym, ap, ◌∙◌, arith, length, length-append}
-use Rattle.pct_model.specs.declared.schedule.Entry.{Entry}
+use Rattle.pct_names.proofs.Names.{◌+◌, ◌++◌, [], ap, arith, Entry, length, List, refl, sym, ◌∙◌, ◌∷◌, ◌≡◌, ◌≤◌}
+use Rattle.std.proofs.Common.{length-append}
 use Rattle.pct_engine.specs.EngineStates.{EngineValue}
 use Rattle.pct_demo.specs.CountedRuns.{IsCountedSoFar}
 use Rattle.pct_demo.proofs.CountedRuns.{counted-none, counted-next, counted-within, counted-few, counted-all}

@@ -1,4 +1,4 @@
-use Rattle.std.proofs.Common.{◌≡◌, ◌-◌, length}
+use Rattle.pct_names.proofs.Names.{◌-◌, length, ◌≡◌}
 use Rattle.pct_demo.specs.CountedRuns.{IsCountedSoFar}
 use Rattle.pct_demo.proofs.counted_run.make_counted_steps.Given as goal
 

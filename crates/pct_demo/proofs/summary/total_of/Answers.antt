@@ -1,8 +1,5 @@
-use Rattle.std.proofs.Common.{refl, sym, ap, ◌∙◌, get_or}
-use Rattle.std.specs.Option.{option_map_or}
-use Rattle.pct_model.specs.declared.event.Event.{Event}
+use Rattle.pct_names.proofs.Names.{ap, emitted, Event, get_or, option_map_or, refl, sym, total_of, ◌∙◌}
 use Rattle.pct_model.specs.declared.event.What.TheVariants as what
-use Rattle.pct_model.specs.Demo.{emitted, total_of}
 use Rattle.pct_demo.proofs.Summaries.{total-more}
 use Rattle.pct_demo.proofs.summary.total_of.Goals as goal
 

@@ -1,6 +1,4 @@
-use Rattle.std.proofs.Common.{◌≡◌, take}
-use Rattle.std.specs.Prelude.{reverse}
-use Rattle.pct_model.specs.Demo.{total_of}
+use Rattle.pct_names.proofs.Names.{reverse, take, total_of, ◌≡◌}
 use Rattle.pct_demo.proofs.summary.total_of.Given as goal
 
 -- the total of the events so far

@@ -1,5 +1,4 @@
-use Rattle.std.proofs.Common.{rules}
-use Rattle.std.proofs.lemmas.Result.{err_from_is_err_and}
+use Rattle.pct_names.proofs.Names.{err_from_is_err_and, rules}
 use Rattle.pct_io.proofs.BufferedWrites.{Writes-kept, Writes-through}
 use Rattle.pct_demo.proofs.summary.write_lines.Goals as goal
 

@@ -1,6 +1,5 @@
-use Rattle.std.proofs.lemmas.Result.{err_from_is_err_and}
+use Rattle.pct_names.proofs.Names.{err_from_is_err_and, summary_lines}
 use Rattle.pct_io.proofs.WritesInTurn.{Writes-then, Writes-fails}
-use Rattle.pct_model.specs.Demo.{summary_lines}
 use Rattle.pct_demo.proofs.Summaries.{summary-text}
 use Rattle.pct_demo.proofs.summary.write_parts.Goals as goal
 

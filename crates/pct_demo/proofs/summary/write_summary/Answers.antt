@@ -1,8 +1,4 @@
-use Rattle.std.proofs.Common.{◌≡◌, List, ap, ◌∙◌}
-use Rattle.std.specs.Prelude.{reverse}
-use Rattle.std.proofs.lemmas.List.{reverse-reverse}
-use Rattle.pct_model.specs.declared.event.Event.{Event}
-use Rattle.pct_model.specs.Demo.{total_of}
+use Rattle.pct_names.proofs.Names.{ap, Event, List, reverse, reverse-reverse, total_of, ◌∙◌, ◌≡◌}
 use Rattle.pct_demo.proofs.summary.write_summary.Goals as goal
 
 pub returns-clause-summary : goal.returns-clause-summary

@@ -1,7 +1,6 @@
-use Rattle.std.proofs.Common.{◌<◌, ◌≤◌, [], ◌∷◌, ◌++◌, length, map, refl, sym, ap, ◌∙◌, subst}
-use Rattle.std.specs.Prelude.{is_some, option_map}
-use Rattle.std.proofs.lemmas.Bool.{false≢true, ltb-true, ltb-false}
-use Rattle.pct_model.specs.Run.{event_of}
+use Rattle.pct_names.proofs.Names.{◌++◌, ◌<◌, [], ap, event_of, false≢true, is_some, length, map, option_map, refl, subst, sym, ◌∙◌, ◌∷◌}
+use Rattle.pct_names.proofs.Names.{◌≤◌}
+use Rattle.std.proofs.lemmas.Bool.{ltb-true, ltb-false}
 use Rattle.pct_engine_laws.specs.Seen.{Seen}
 use Rattle.pct_engine_laws.proofs.LongerRuns.{run_full}
 use Rattle.pct_engine.specs.Traces.{TraceValue}

@@ -1,7 +1,5 @@
-use Rattle.std.proofs.Common.{List, ◌++◌, map, ap, sym, ◌∙◌}
+use Rattle.pct_names.proofs.Names.{◌++◌, ap, event_of, List, map, sym, What, ◌∙◌}
 use Rattle.std.proofs.lemmas.List.{append-nil}
-use Rattle.pct_model.specs.declared.event.What.{What}
-use Rattle.pct_model.specs.Run.{event_of}
 use Rattle.pct_actions.proofs.RestItems.{drop_none}
 use Rattle.pct_engine.proofs.trace.+record_events.Goals as goal
 

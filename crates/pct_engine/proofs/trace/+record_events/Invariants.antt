@@ -1,4 +1,4 @@
-use Rattle.std.proofs.Common.{drop, length}
+use Rattle.pct_names.proofs.Names.{drop, length}
 use Rattle.pct_engine.proofs.trace.+record_events.Given as goal
 
 abbrev pub decreases-record_events : goal.decreases-record_events

@@ -1,8 +1,5 @@
-use Rattle.std.proofs.Common.{ℕ, ◌+◌, ap, ◌∙◌, arith}
-use Rattle.std.specs.Prelude.{is_some}
-use Rattle.std.proofs.lemmas.Bool.{false≢true}
+use Rattle.pct_names.proofs.Names.{◌+◌, ap, arith, false≢true, is_some, run, ℕ, ◌∙◌}
 use Rattle.pct_engine_laws.proofs.LongerRuns.{run_none}
-use Rattle.pct_model.specs.Run.{run}
 use Rattle.pct_engine.specs.EngineStates.{EngineValue}
 use Rattle.pct_history.proofs.IllegalEntries.{has_value, illegal-at, follows-until, follows-all}
 use Rattle.pct_history.proofs.replaying.make_steps.Goals as goal

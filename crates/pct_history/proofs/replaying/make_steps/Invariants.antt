@@ -1,6 +1,4 @@
-use Rattle.std.proofs.Common.{◌≡◌, ◌≤◌, true, length, take}
-use Rattle.std.specs.Prelude.{is_some}
-use Rattle.pct_model.specs.Run.{run}
+use Rattle.pct_names.proofs.Names.{is_some, length, run, take, true, ◌≡◌, ◌≤◌}
 use Rattle.pct_history.proofs.replaying.make_steps.Given as goal
 
 -- the steps of the entries so far were made

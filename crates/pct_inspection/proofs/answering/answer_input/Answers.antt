@@ -1,5 +1,4 @@
-use Rattle.std.proofs.Common.{take, Some, refl, ap, ◌∙◌, subst}
-use Rattle.pct_model.specs.Checks.{FirstFault}
+use Rattle.pct_names.proofs.Names.{ap, FirstFault, refl, Some, subst, take, ◌∙◌}
 use Rattle.pct_command.proofs.NonEmptyTexts.{needs_bytes, faultless_bytes, some_of_prefix}
 use Rattle.pct_inspection.proofs.Inputs.{is_script, has-parts}
 use Rattle.pct_inspection.proofs.Outcomes.{script-answer}

@@ -1,4 +1,4 @@
-use Rattle.std.proofs.Common.{refl, arith}
+use Rattle.pct_names.proofs.Names.{arith, refl}
 use Rattle.pct_command.proofs.CompleteOutcomes.{front_length}
 use Rattle.pct_inspection.proofs.Outcomes.{input-answer}
 use Rattle.pct_inspection.proofs.inspecting.answer_read.Goals as goal

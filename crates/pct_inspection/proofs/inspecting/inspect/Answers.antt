@@ -1,5 +1,4 @@
-use Rattle.std.proofs.Common.{map}
-use Rattle.std.specs.Prelude.{string_bytes}
+use Rattle.pct_names.proofs.Names.{map, string_bytes}
 use Rattle.pct_io.proofs.Unchanged.{KeepsInners-refl}
 use Rattle.pct_command.specs.Command.{Outside, Decides}
 use Rattle.pct_command.proofs.CompleteOutcomes.{decides}

@@ -1,4 +1,4 @@
-use Rattle.std.proofs.Common.{◌≡◌, ◌-◌, ◌+◌, true, false, sym, ◌∙◌, arith}
+use Rattle.pct_names.proofs.Names.{◌+◌, ◌-◌, arith, false, sym, true, ◌∙◌, ◌≡◌}
 use Rattle.pct_inspection.specs.Selections.{is_thread}
 use Rattle.pct_inspection.proofs.Selections.{last_thread, next_thread, no_threads}
 use Rattle.pct_inspection.proofs.selecting.are_threads.Goals as goal

@@ -1,4 +1,4 @@
-use Rattle.std.proofs.Common.{◌≡◌, ◌-◌}
+use Rattle.pct_names.proofs.Names.{◌-◌, ◌≡◌}
 use Rattle.pct_inspection.specs.Selections.{are_threads}
 use Rattle.pct_inspection.proofs.selecting.are_threads.Given as goal
 

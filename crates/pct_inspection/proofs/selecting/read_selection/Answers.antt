@@ -1,5 +1,4 @@
-use Rattle.std.proofs.Common.{Option, Some, None, sym, ap, ◌∙◌, map, option_map, arith}
-use Rattle.std.specs.Prelude.{if◌then◌else◌, is_some, string_bytes}
+use Rattle.pct_names.proofs.Names.{ap, arith, if◌then◌else◌, is_some, map, None, Option, option_map, Some, string_bytes, sym, ◌∙◌}
 use Rattle.pct_inspection.specs.declared.selecting.SelectionOption.{SelectionOption}
 use Rattle.pct_inspection.specs.SelectionValues.{begun_value, selection_value}
 use Rattle.pct_inspection.proofs.Selections.{after_last_word, asked_by, with_next_word}

@@ -1,5 +1,4 @@
-use Rattle.std.proofs.Common.{◌≡◌, drop, map}
-use Rattle.std.specs.Prelude.{string_bytes}
+use Rattle.pct_names.proofs.Names.{drop, map, string_bytes, ◌≡◌}
 use Rattle.pct_inspection.specs.Selections.{all_selected, begun_after, with_part}
 use Rattle.pct_inspection.specs.SelectionValues.{begun_value}
 use Rattle.pct_inspection.proofs.selecting.read_selection.Given as goal

@@ -1,5 +1,4 @@
-use Rattle.std.proofs.Common.{ℕ, List, Option, sym, ap, ◌∙◌, subst}
-use Rattle.pct_model.specs.declared.schedule.Entry.{Entry}
+use Rattle.pct_names.proofs.Names.{ap, Entry, List, Option, subst, sym, ℕ, ◌∙◌}
 use Rattle.pct_script.specs.StatementLines.{statement_lines}
 use Rattle.pct_command.specs.Answer.{status_of_verdict}
 use Rattle.pct_command.specs.Status.{code_of}

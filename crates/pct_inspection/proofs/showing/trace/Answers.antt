@@ -1,4 +1,4 @@
-use Rattle.std.proofs.Common.{List, ℕ, ◌++◌, ap, ◌∙◌}
+use Rattle.pct_names.proofs.Names.{◌++◌, ap, List, ℕ, ◌∙◌}
 use Rattle.pct_engine.specs.EngineStates.{EngineValue}
 use Rattle.pct_view_texts.specs.Trace.{trace_text}
 use Rattle.pct_inspection.specs.Inspection.{notice}

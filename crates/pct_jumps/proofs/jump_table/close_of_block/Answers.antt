@@ -1,5 +1,5 @@
-use Rattle.std.proofs.Common.{◌||◌, length, sym, ◌∙◌, arith}
-use Rattle.pct_model.specs.Jumps.{is_if, is_while, is_end, closes}
+use Rattle.pct_names.proofs.Names.{arith, closes, is_if, is_while, length, sym, ◌||◌, ◌∙◌}
+use Rattle.pct_model.specs.Jumps.{is_end}
 use Rattle.pct_jumps.proofs.Closing.{find-next, find-here, tallied, closes-at}
 use Rattle.pct_jumps.proofs.jump_table.close_of_block.Goals as goal
 

@@ -1,7 +1,6 @@
-use Rattle.std.proofs.Common.{◌≡◌, ◌<◌, ◌≤◌, ◌||◌, length}
-use Rattle.std.specs.Prelude.{slice_range}
+use Rattle.pct_names.proofs.Names.{◌<◌, closes, first_later, is_if, is_while, length, slice_range, ◌||◌, ◌≡◌, ◌≤◌}
 use Rattle.std.specs.List.{count_by}
-use Rattle.pct_model.specs.Jumps.{is_if, is_while, is_end, first_later, closes}
+use Rattle.pct_model.specs.Jumps.{is_end}
 use Rattle.pct_jumps.proofs.Closing.{find_from}
 use Rattle.pct_jumps.proofs.jump_table.close_of_block.Given as goal
 

@@ -1,6 +1,6 @@
-use Rattle.std.proofs.Common.{◌||◌, suc, length, sym, ◌∙◌, arith}
+use Rattle.pct_names.proofs.Names.{arith, closes_else, is_if, is_while, length, suc, sym, ◌||◌, ◌∙◌}
 use Rattle.std.proofs.lemmas.Bool.{eq-eqb, ne_eqb}
-use Rattle.pct_model.specs.Jumps.{is_if, is_while, is_end, closes_else}
+use Rattle.pct_model.specs.Jumps.{is_end}
 use Rattle.pct_jumps.proofs.Closing.{find-next, find-here, tallied, closes_else-at}
 use Rattle.pct_jumps.proofs.jump_table.close_of_else.Goals as goal
 

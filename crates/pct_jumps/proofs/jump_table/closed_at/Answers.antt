@@ -1,5 +1,4 @@
-use Rattle.std.proofs.Common.{ℕ, Bool, false, length, nat_eq, slice_index_or, None, sym, ◌∙◌}
-use Rattle.std.specs.Option.{option_map_or}
+use Rattle.pct_names.proofs.Names.{Bool, false, length, nat_eq, None, option_map_or, slice_index_or, sym, ℕ, ◌∙◌}
 use Rattle.pct_jumps.proofs.Closing.{find-next, eq-pc}
 use Rattle.pct_jumps.proofs.jump_table.closed_at.Goals as goal
 

@@ -1,5 +1,4 @@
-use Rattle.std.proofs.Common.{◌≡◌, false, length, nat_eq, slice_index_or, None}
-use Rattle.std.specs.Option.{option_map_or}
+use Rattle.pct_names.proofs.Names.{false, length, nat_eq, None, option_map_or, slice_index_or, ◌≡◌}
 use Rattle.pct_jumps.proofs.Closing.{find_from}
 use Rattle.pct_jumps.proofs.jump_table.closed_at.Given as goal
 

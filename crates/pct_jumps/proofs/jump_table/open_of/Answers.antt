@@ -1,6 +1,4 @@
-use Rattle.std.proofs.Common.{length, sym, ◌∙◌, ap, arith}
-use Rattle.std.proofs.lemmas.List.FromFn.{length-map-range_with_len}
-use Rattle.pct_model.specs.Jumps.{close_of}
+use Rattle.pct_names.proofs.Names.{ap, arith, close_of, length, length-map-range_with_len, sym, ◌∙◌}
 use Rattle.pct_jumps.proofs.Closing.{opens-at, opens-not}
 use Rattle.pct_jumps.proofs.jump_table.open_of.Goals as goal
 

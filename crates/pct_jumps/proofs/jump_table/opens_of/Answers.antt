@@ -1,4 +1,4 @@
-use Rattle.pct_model.specs.Jumps.{open_of}
+use Rattle.pct_names.proofs.Names.{open_of}
 use Rattle.pct_jumps.proofs.Closing.{one_more}
 use Rattle.pct_jumps.proofs.jump_table.opens_of.Goals as goal
 

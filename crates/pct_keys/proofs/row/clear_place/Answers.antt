@@ -1,5 +1,4 @@
-use Rattle.std.proofs.lemmas.List.Edits.{map_over_more}
-use Rattle.pct_model.specs.Keys.{without_value}
+use Rattle.pct_names.proofs.Names.{map_over_more, without_value}
 use Rattle.pct_keys.proofs.row.clear_place.Goals as goal
 
 pub loop-row-preserved : goal.loop-row-preserved

@@ -1,5 +1,4 @@
-use Rattle.std.proofs.Common.{◌≡◌, ◌++◌, take, drop, map}
-use Rattle.pct_model.specs.Keys.{without_value}
+use Rattle.pct_names.proofs.Names.{◌++◌, drop, map, take, without_value, ◌≡◌}
 use Rattle.pct_keys.proofs.row.clear_place.Given as goal
 
 abbrev pub invariant-loop-row : goal.invariant-loop-row

@@ -1,8 +1,6 @@
-use Rattle.std.proofs.Common.{◌∙◌, ap, refl, sym, List, ◌++◌, length, map, take, arith}
-use Rattle.std.proofs.lemmas.List.{take_all, drop_all, append-nil}
-use Rattle.std.proofs.lemmas.List.Edits.{map_over_more}
-use Rattle.std.proofs.lemmas.Simd.{splat_is_map}
-use Rattle.pct_model.specs.Keys.{KeyValues, no_values}
+use Rattle.pct_names.proofs.Names.{◌++◌, ap, arith, drop_all, KeyValues, length, List, map, map_over_more, no_values, refl, splat_is_map}
+use Rattle.pct_names.proofs.Names.{sym, take, take_all, ◌∙◌}
+use Rattle.std.proofs.lemmas.List.{append-nil}
 use Rattle.pct_keys.proofs.row.clear_rows.Goals as goal
 
 pub loop-row-preserved : goal.loop-row-preserved

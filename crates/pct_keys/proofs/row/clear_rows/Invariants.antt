@@ -1,5 +1,4 @@
-use Rattle.std.proofs.Common.{◌≡◌, ◌++◌, take, drop, map}
-use Rattle.pct_model.specs.Keys.{no_values}
+use Rattle.pct_names.proofs.Names.{◌++◌, drop, map, no_values, take, ◌≡◌}
 use Rattle.pct_keys.proofs.row.clear_rows.Given as goal
 
 abbrev pub invariant-loop-row : goal.invariant-loop-row

@@ -1,8 +1,5 @@
-use Rattle.std.proofs.Common.{suc, List, Some, None, length, refl, sym, ap, ◌∙◌, subst, arith}
-use Rattle.std.specs.Prelude.{option_and_then}
-use Rattle.std.proofs.lemmas.List.{nil_from_length}
-use Rattle.pct_model.specs.World.{Thread}
-use Rattle.pct_model.specs.Chosen.{entry_for}
+use Rattle.pct_names.proofs.Names.{ap, arith, entry_for, length, List, nil_from_length, None, option_and_then, refl, Some, subst, suc, sym}
+use Rattle.pct_names.proofs.Names.{Thread, ◌∙◌}
 use Rattle.pct_engine_laws.specs.Seen.{SeenProcess}
 use Rattle.pct_engine_laws.specs.SeenSteps.{candidate_in}
 use Rattle.pct_process.specs.ProcessViews.{thread_on_slot}

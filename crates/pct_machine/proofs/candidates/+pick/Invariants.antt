@@ -1,4 +1,4 @@
-use Rattle.std.proofs.Common.{length}
+use Rattle.pct_names.proofs.Names.{length}
 use Rattle.pct_machine.proofs.candidates.+pick.Given as goal
 
 abbrev pub decreases-pick : goal.decreases-pick

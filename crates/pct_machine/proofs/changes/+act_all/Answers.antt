@@ -1,7 +1,5 @@
-use Rattle.std.proofs.Common.{◌≡◌, ◌<◌, ◌+◌, List, ◌∷◌, drop, length, ap, sym, ◌∙◌, arith}
-use Rattle.std.proofs.lemmas.Option.{slice_get_within}
-use Rattle.pct_model.specs.declared.transition.Action.{Action}
-use Rattle.pct_model.specs.Actions.{for_each, stop_after}
+use Rattle.pct_names.proofs.Names.{◌+◌, ◌<◌, Action, ap, arith, drop, for_each, length, List, slice_get_within, stop_after, sym, ◌∙◌, ◌∷◌}
+use Rattle.pct_names.proofs.Names.{◌≡◌}
 use Rattle.pct_actions.proofs.RestItems.{drop_item, drop_none}
 use Rattle.pct_machine.specs.ListChanges.{change_after}
 use Rattle.pct_machine.proofs.changes.+act_all.Goals as goal

@@ -1,5 +1,4 @@
-use Rattle.std.proofs.Common.{◌≡◌, [], ◌∷◌, length, take}
-use Rattle.pct_model.specs.World.{first_process}
+use Rattle.pct_names.proofs.Names.{[], first_process, length, take, ◌∷◌, ◌≡◌}
 use Rattle.pct_engine_laws.specs.Seen.{seen_process}
 use Rattle.pct_machine.proofs.processes.first_places.Given as goal
 

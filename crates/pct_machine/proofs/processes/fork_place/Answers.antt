@@ -1,5 +1,4 @@
-use Rattle.std.proofs.Common.{◌∷◌, [], ◌++◌, take, get_or, sym, ap, ◌∙◌}
-use Rattle.std.proofs.lemmas.Option.{same_Some}
+use Rattle.pct_names.proofs.Names.{◌++◌, [], ap, get_or, same_Some, sym, take, ◌∙◌, ◌∷◌}
 use Rattle.pct_engine_laws.specs.Seen.{SeenProcess, child_seen}
 use Rattle.pct_machine.proofs.ForkedPlaces.{first_free, place_before}
 use Rattle.pct_machine.proofs.processes.fork_place.Goals as goal

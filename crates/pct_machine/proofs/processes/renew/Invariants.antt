@@ -1,4 +1,4 @@
-use Rattle.std.proofs.Common.{◌≡◌, map, take}
+use Rattle.pct_names.proofs.Names.{map, take, ◌≡◌}
 use Rattle.pct_engine_laws.specs.Seen.{relative_in}
 use Rattle.pct_machine.proofs.processes.renew.Given as goal
 

@@ -1,5 +1,4 @@
-use Rattle.std.proofs.Common.{Bool, true, false, length, map, sym, ap, ◌∙◌, arith}
-use Rattle.pct_model.specs.World.{Thread}
+use Rattle.pct_names.proofs.Names.{ap, arith, Bool, false, length, map, sym, Thread, true, ◌∙◌}
 use Rattle.pct_set.proofs.SlotScans.{scan_begun, scan_there, scan_fewer, scan_more, scan_ended}
 use Rattle.pct_engine_laws.specs.SeenSteps.{is_ready_in}
 use Rattle.pct_process.specs.FamilyViews.{other_processes}

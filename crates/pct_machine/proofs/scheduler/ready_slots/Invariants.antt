@@ -1,5 +1,4 @@
-use Rattle.std.proofs.Common.{length}
-use Rattle.std.specs.Prelude.{is_some}
+use Rattle.pct_names.proofs.Names.{is_some, length}
 use Rattle.pct_set.proofs.SlotScans.{Scans}
 use Rattle.pct_engine_laws.specs.SeenSteps.{is_ready_in}
 use Rattle.pct_process.specs.FamilyViews.{other_processes}

@@ -1,5 +1,4 @@
-use Rattle.std.proofs.Common.{◌≡◌, drop, find}
-use Rattle.pct_model.specs.RunOptions.{all_options, is_named}
+use Rattle.pct_names.proofs.Names.{all_options, drop, find, is_named, ◌≡◌}
 use Rattle.pct_options.proofs.option_text.option_named.Given as goal
 
 -- none of the options so far has the name

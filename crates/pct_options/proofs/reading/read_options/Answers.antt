@@ -1,7 +1,4 @@
-use Rattle.std.proofs.Common.{◌≡◌, None, Some, sym, ap, ◌∙◌, map}
-use Rattle.std.specs.Prelude.{option_and_then, string_bytes}
-use Rattle.pct_model.specs.declared.run_options.RunOptions.{RunOptions}
-use Rattle.pct_model.specs.RunOptions.{given_after}
+use Rattle.pct_names.proofs.Names.{ap, given_after, map, None, option_and_then, RunOptions, Some, string_bytes, sym, ◌∙◌, ◌≡◌}
 use Rattle.pct_options.specs.declared.given_values.GivenValues.{GivenValues}
 use Rattle.pct_options.proofs.Configs.{options_have_workers}
 use Rattle.pct_options.proofs.GivenOptions.{run_with, run_begins, run_goes_on, run_stops}

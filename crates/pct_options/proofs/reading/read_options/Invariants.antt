@@ -1,5 +1,4 @@
-use Rattle.std.proofs.Common.{◌≡◌, length, map}
-use Rattle.std.specs.Prelude.{string_bytes}
+use Rattle.pct_names.proofs.Names.{length, map, string_bytes, ◌≡◌}
 use Rattle.pct_options.specs.GivenValues.{none_given}
 use Rattle.pct_options.proofs.GivenOptions.{run_with}
 use Rattle.pct_options.proofs.reading.read_options.Given as goal

@@ -1,5 +1,4 @@
-use Rattle.std.proofs.Common.{arith}
-use Rattle.std.proofs.lemmas.Str.Pattern.{split_once_first}
+use Rattle.pct_names.proofs.Names.{arith, split_once_first}
 use Rattle.pct_options.proofs.FirstOptions.{split_as_read}
 use Rattle.pct_options.proofs.reading.split_name.Goals as goal
 

@@ -1,8 +1,5 @@
-use Rattle.std.proofs.Common.{Ok, length, drop, ap, arith}
-use Rattle.std.proofs.lemmas.Result.{err_from_is_err_and}
+use Rattle.pct_names.proofs.Names.{ap, arith, contents_of, drop, err_from_is_err_and, length, Ok, syntax_of}
 use Rattle.pct_io.proofs.WritesInTurn.{Writes-nothing, Writes-then, Writes-fails}
-use Rattle.pct_model.specs.LineKinds.{syntax_of}
-use Rattle.pct_model.specs.Spells.{contents_of}
 use Rattle.pct_printer.proofs.Printed.{argument_next, no_more_kinds, no_more_arguments}
 use Rattle.pct_printer.proofs.Writings.{Writes-as}
 use Rattle.pct_printer.proofs.printer.write_arguments.Goals as goal

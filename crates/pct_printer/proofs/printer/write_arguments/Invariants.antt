@@ -1,8 +1,6 @@
-use Rattle.std.proofs.Common.{◌+◌, ◌≤◌, Result, length, drop}
+use Rattle.pct_names.proofs.Names.{◌+◌, contents_of, drop, length, Result, syntax_of, ◌≤◌}
 use Rattle.pct_io.specs.declared.failed.Failed.{Failed}
 use Rattle.pct_io.specs.Writes.{Writes}
-use Rattle.pct_model.specs.LineKinds.{syntax_of}
-use Rattle.pct_model.specs.Spells.{contents_of}
 use Rattle.pct_printer.specs.Printing.{arguments_text}
 use Rattle.pct_printer.proofs.printer.write_arguments.Given as goal
 

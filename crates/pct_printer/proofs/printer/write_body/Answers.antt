@@ -1,8 +1,4 @@
-use Rattle.std.proofs.Common.{arith}
-use Rattle.std.proofs.lemmas.Result.{err_from_is_err_and}
-use Rattle.pct_model.specs.Keywords.{line_text}
-use Rattle.pct_model.specs.Spells.{contents_of}
-use Rattle.pct_model.specs.Canon.{statement_words}
+use Rattle.pct_names.proofs.Names.{arith, contents_of, err_from_is_err_and, line_text, statement_words}
 use Rattle.pct_io.proofs.WritesInTurn.{Writes-last, Writes-next, Writes-next_fails}
 use Rattle.pct_printer.proofs.printer.write_body.Goals as goal
 

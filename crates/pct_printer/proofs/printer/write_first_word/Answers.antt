@@ -1,6 +1,4 @@
-use Rattle.std.proofs.Common.{ap, sym}
-use Rattle.pct_model.specs.declared.line_kind.LineKind.{LineKind}
-use Rattle.pct_model.specs.LineKinds.{syntax_of}
+use Rattle.pct_names.proofs.Names.{ap, LineKind, sym, syntax_of}
 use Rattle.pct_printer.proofs.Writings.{Writes-as}
 use Rattle.pct_printer.proofs.printer.write_first_word.Goals as goal
 

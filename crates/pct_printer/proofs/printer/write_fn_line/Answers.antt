@@ -1,5 +1,4 @@
-use Rattle.std.proofs.Common.{[], ◌∷◌, sym}
-use Rattle.std.proofs.lemmas.Result.{err_from_is_err_and}
+use Rattle.pct_names.proofs.Names.{[], err_from_is_err_and, sym, ◌∷◌}
 use Rattle.pct_io.proofs.WritesInTurn.{Writes-then, Writes-fails}
 use Rattle.pct_printer.proofs.Writings.{Writes-as}
 use Rattle.pct_printer.proofs.Printed.{line_of_two}

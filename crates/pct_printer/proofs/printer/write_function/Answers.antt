@@ -1,8 +1,6 @@
-use Rattle.std.proofs.Common.{sym}
-use Rattle.std.proofs.lemmas.Result.{err_from_is_err_and}
+use Rattle.pct_names.proofs.Names.{contents_of, err_from_is_err_and, sym}
 use Rattle.pct_io.proofs.WritesInTurn.{Writes-then, Writes-fails}
 use Rattle.pct_printer.proofs.Writings.{Writes-as}
-use Rattle.pct_model.specs.Spells.{contents_of}
 use Rattle.pct_printer.proofs.Printed.{function_is}
 use Rattle.pct_printer.proofs.printer.write_function.Goals as goal
 

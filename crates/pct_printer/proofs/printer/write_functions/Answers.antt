@@ -1,8 +1,4 @@
-use Rattle.std.proofs.Common.{arith}
-use Rattle.std.proofs.lemmas.Result.{err_from_is_err_and}
-use Rattle.pct_model.specs.Keywords.{text_of}
-use Rattle.pct_model.specs.Spells.{contents_of}
-use Rattle.pct_model.specs.Canon.{function_lines}
+use Rattle.pct_names.proofs.Names.{arith, contents_of, err_from_is_err_and, function_lines, text_of}
 use Rattle.pct_io.proofs.WritesInTurn.{Writes-last}
 use Rattle.pct_printer.proofs.Writings.{Writes-item, Writes-item_fails}
 use Rattle.pct_printer.proofs.printer.write_functions.Goals as goal

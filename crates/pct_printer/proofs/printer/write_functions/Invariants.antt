@@ -1,7 +1,6 @@
-use Rattle.std.proofs.Common.{Result, drop}
+use Rattle.pct_names.proofs.Names.{contents_of, drop, Result}
 use Rattle.pct_io.specs.declared.failed.Failed.{Failed}
 use Rattle.pct_io.specs.Writes.{Writes}
-use Rattle.pct_model.specs.Spells.{contents_of}
 use Rattle.pct_printer.specs.Printing.{functions_text}
 use Rattle.pct_printer.proofs.printer.write_functions.Given as goal
 

@@ -1,4 +1,4 @@
-use Rattle.std.proofs.Common.{arith}
+use Rattle.pct_names.proofs.Names.{arith}
 use Rattle.pct_io.proofs.WritesInTurn.{Writes-nothing}
 use Rattle.pct_printer.proofs.Printed.{no_point}
 use Rattle.pct_printer.proofs.printer.write_name_of_point.Goals as goal

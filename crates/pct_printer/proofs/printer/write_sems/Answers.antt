@@ -1,8 +1,5 @@
-use Rattle.std.proofs.Common.{[], ◌∷◌, decimal, arith}
-use Rattle.std.proofs.lemmas.Result.{err_from_is_err_and}
+use Rattle.pct_names.proofs.Names.{[], arith, decimal, declaration_line, err_from_is_err_and, line_text, ◌∷◌}
 use Rattle.pct_model.specs.declared.line_kind.SymbolKind.TheVariants as kind
-use Rattle.pct_model.specs.Keywords.{line_text}
-use Rattle.pct_model.specs.Canon.{declaration_line}
 use Rattle.pct_io.proofs.WritesInTurn.{Writes-last}
 use Rattle.pct_printer.proofs.Writings.{Writes-item, Writes-item_fails}
 use Rattle.pct_printer.proofs.printer.write_sems.Goals as goal

@@ -1,4 +1,4 @@
-use Rattle.std.proofs.Common.{Result, drop}
+use Rattle.pct_names.proofs.Names.{drop, Result}
 use Rattle.pct_io.specs.declared.failed.Failed.{Failed}
 use Rattle.pct_io.specs.Writes.{Writes}
 use Rattle.pct_printer.specs.Printing.{sems_text}

@@ -1,5 +1,4 @@
-use Rattle.std.proofs.Common.{◌∷◌, arith}
-use Rattle.std.proofs.lemmas.Result.{err_from_is_err_and}
+use Rattle.pct_names.proofs.Names.{arith, err_from_is_err_and, ◌∷◌}
 use Rattle.pct_io.proofs.WritesInTurn.{Writes-last}
 use Rattle.pct_printer.proofs.Writings.{Writes-item, Writes-item_fails}
 use Rattle.pct_printer.proofs.printer.write_spaced_names.Goals as goal

@@ -1,5 +1,4 @@
-use Rattle.std.proofs.Common.{[], ◌∷◌}
-use Rattle.std.proofs.lemmas.Result.{err_from_is_err_and}
+use Rattle.pct_names.proofs.Names.{[], err_from_is_err_and, ◌∷◌}
 use Rattle.pct_io.proofs.WritesInTurn.{Writes-then, Writes-fails}
 use Rattle.pct_printer.proofs.printer.write_statement.Goals as goal
 

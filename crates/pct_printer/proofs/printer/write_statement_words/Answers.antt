@@ -1,5 +1,4 @@
-use Rattle.std.proofs.Common.{sym}
-use Rattle.pct_model.specs.Canon.{statement_words}
+use Rattle.pct_names.proofs.Names.{statement_words, sym}
 use Rattle.pct_printer.proofs.Printed.{joined}
 use Rattle.pct_printer.proofs.Writings.{Writes-as}
 use Rattle.pct_printer.proofs.printer.write_statement_words.Goals as goal

@@ -1,5 +1,4 @@
-use Rattle.std.proofs.Common.{◌≡◌, true, take}
-use Rattle.std.specs.List.{list_all}
+use Rattle.pct_names.proofs.Names.{list_all, take, true, ◌≡◌}
 use Rattle.pct_process.specs.ThreadViews.{has_no_other}
 use Rattle.pct_process.proofs.process_state.is_last.Given as goal
 

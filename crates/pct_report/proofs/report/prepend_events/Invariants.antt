@@ -1,7 +1,5 @@
-use Rattle.std.proofs.Common.{◌≡◌, ◌≤◌, ◌++◌, length, take, drop}
+use Rattle.pct_names.proofs.Names.{◌++◌, drop, event_line, length, line_text, take, ◌≡◌, ◌≤◌}
 use Rattle.std.specs.List.{flat_map}
-use Rattle.pct_model.specs.Keywords.{line_text}
-use Rattle.pct_model.specs.Report.{event_line}
 use Rattle.pct_report.proofs.report.prepend_events.Given as goal
 
 -- the lines of the events from this index on precede the old content of the buffer

@@ -1,8 +1,5 @@
-use Rattle.std.proofs.Common.{length, sym, ◌∙◌, arith}
+use Rattle.pct_names.proofs.Names.{arith, err_from_is_err_and, event_line, length, line_text, sym, ◌∙◌}
 use Rattle.std.proofs.lemmas.Bool.{eqb-true}
-use Rattle.std.proofs.lemmas.Result.{err_from_is_err_and}
-use Rattle.pct_model.specs.Keywords.{line_text}
-use Rattle.pct_model.specs.Report.{event_line}
 use Rattle.pct_io.proofs.WritesInTurn.{Writes-last, Writes-first, Writes-first_fails}
 use Rattle.pct_report.proofs.report.write_events.Goals as goal
 

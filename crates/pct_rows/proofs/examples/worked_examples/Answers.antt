@@ -1,4 +1,4 @@
-use Rattle.pct_model.specs.Outcome.{Ran}
+use Rattle.pct_names.proofs.Names.{Ran}
 use Rattle.pct_rows.proofs.Outcomes.{smallest_runs, cleanup_runs}
 use Rattle.pct_rows.proofs.examples.worked_examples.Goals as goal
 

@@ -1,4 +1,4 @@
-use Rattle.std.proofs.Common.{ap, ◌∙◌}
+use Rattle.pct_names.proofs.Names.{ap, ◌∙◌}
 use Rattle.pct_model.specs.Schedule.{begins}
 use Rattle.pct_schedule.proofs.BySplits.{begins_after_word, begins_otherwise}
 use Rattle.pct_schedule.proofs.line.begins_with.Goals as goal

@@ -1,4 +1,4 @@
-use Rattle.std.proofs.Common.{sym, ◌∙◌}
+use Rattle.pct_names.proofs.Names.{sym, ◌∙◌}
 use Rattle.pct_schedule.proofs.LineLoops.{is_last, is_not_last}
 use Rattle.pct_schedule.proofs.reader.end_at.Goals as goal
 

@@ -1,4 +1,4 @@
-use Rattle.std.proofs.Common.{sym, arith}
+use Rattle.pct_names.proofs.Names.{arith, sym}
 use Rattle.pct_schedule.proofs.LineLoops.{reads_line, header_found, header_later, no_header}
 use Rattle.pct_schedule.proofs.reader.find_header.Goals as goal
 

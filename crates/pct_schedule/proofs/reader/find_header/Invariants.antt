@@ -1,5 +1,4 @@
-use Rattle.std.proofs.Common.{◌≡◌, ◌+◌, ◌≤◌, length}
-use Rattle.pct_model.specs.Lines.{lines_of}
+use Rattle.pct_names.proofs.Names.{◌+◌, length, lines_of, ◌≡◌, ◌≤◌}
 use Rattle.pct_schedule.specs.Memory.{header_line}
 use Rattle.pct_schedule.proofs.reader.find_header.Given as goal
 

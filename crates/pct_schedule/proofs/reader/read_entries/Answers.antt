@@ -1,6 +1,5 @@
-use Rattle.std.proofs.Common.{◌≡◌, [], ◌∷◌, length, refl, sym, ap, ◌∙◌, arith, length-append}
-use Rattle.std.proofs.lemmas.Result.{err_from_is_err_and}
-use Rattle.pct_model.specs.Lines.{lines_of}
+use Rattle.pct_names.proofs.Names.{[], ap, arith, err_from_is_err_and, length, lines_of, refl, sym, ◌∙◌, ◌∷◌, ◌≡◌}
+use Rattle.std.proofs.Common.{length-append}
 use Rattle.pct_schedule.proofs.LineByLine.{entries_in_to, unended}
 use Rattle.pct_schedule.proofs.ByEntries.{from_first}
 use Rattle.pct_schedule.proofs.LineLoops.{reads_line, at_last_line, at_entry_line, no_end, goes_on, stays_failed, first_is_entry, first_stays}

@@ -1,6 +1,4 @@
-use Rattle.std.proofs.Common.{◌≡◌, ◌+◌, ◌<◌, ◌≤◌, true, length, map}
-use Rattle.pct_model.specs.Lines.{lines_of, strip_cr}
-use Rattle.pct_model.specs.Schedule.{with_config}
+use Rattle.pct_names.proofs.Names.{◌+◌, ◌<◌, length, lines_of, map, strip_cr, true, with_config, ◌≡◌, ◌≤◌}
 use Rattle.pct_schedule.specs.Ends.{entries_to}
 use Rattle.pct_schedule.specs.Memory.{entry_is_first}
 use Rattle.pct_schedule.proofs.LineByLine.{entries_in_to}

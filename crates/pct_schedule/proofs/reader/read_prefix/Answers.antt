@@ -1,4 +1,4 @@
-use Rattle.std.proofs.Common.{sym, ◌∙◌}
+use Rattle.pct_names.proofs.Names.{sym, ◌∙◌}
 use Rattle.pct_schedule.proofs.Prefixes.{prefix_of_none, prefix_of_some}
 use Rattle.pct_schedule.proofs.reader.read_prefix.Goals as goal
 

@@ -1,9 +1,5 @@
-use Rattle.std.proofs.Common.{◌≡◌, ℕ, true, List, Option, Some, None, Result, Err, sym, ap, ◌∙◌}
-use Rattle.std.specs.Prelude.{is_some}
-use Rattle.std.proofs.lemmas.Result.{err_from_is_err_and}
-use Rattle.pct_model.specs.declared.schedule.Config.{Config}
-use Rattle.pct_model.specs.Lines.{lines_of}
-use Rattle.pct_model.specs.Schedule.{header_of}
+use Rattle.pct_names.proofs.Names.{ap, Config, Err, err_from_is_err_and, header_of, is_some, lines_of, List, None, Option, Result, Some}
+use Rattle.pct_names.proofs.Names.{sym, true, ℕ, ◌∙◌, ◌≡◌}
 use Rattle.pct_schedule.specs.declared.reader.End.{End}
 use Rattle.pct_schedule.specs.Ends.{schedule_to}
 use Rattle.pct_schedule.specs.Memory.{header_line}

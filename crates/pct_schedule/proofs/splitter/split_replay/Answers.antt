@@ -1,7 +1,5 @@
-use Rattle.std.proofs.Common.{◌≡◌, ℕ, ◌-◌, Bool, true, false, List, length, sym, ap, ◌∙◌, arith, bytes_eq}
-use Rattle.std.specs.Prelude.{codes}
-use Rattle.pct_model.specs.Lines.{lines_of}
-use Rattle.pct_model.specs.Schedule.{marker_in, split_at_marker, replay_parts}
+use Rattle.pct_names.proofs.Names.{◌-◌, ap, arith, Bool, bytes_eq, codes, false, length, lines_of, List, marker_in, replay_parts}
+use Rattle.pct_names.proofs.Names.{split_at_marker, sym, true, ℕ, ◌∙◌, ◌≡◌}
 use Rattle.pct_schedule.proofs.LineLoops.{reads_line}
 use Rattle.pct_schedule.proofs.Markers.{split_here, split_later, not_split}
 use Rattle.pct_schedule.proofs.splitter.split_replay.Goals as goal

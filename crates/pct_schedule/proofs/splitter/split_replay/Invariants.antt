@@ -1,6 +1,4 @@
-use Rattle.std.proofs.Common.{◌≡◌, ◌-◌, ◌≤◌, length}
-use Rattle.pct_model.specs.Lines.{lines_of}
-use Rattle.pct_model.specs.Schedule.{marker_in, split_at_marker, replay_parts}
+use Rattle.pct_names.proofs.Names.{◌-◌, length, lines_of, marker_in, replay_parts, split_at_marker, ◌≡◌, ◌≤◌}
 use Rattle.pct_schedule.proofs.splitter.split_replay.Given as goal
 
 abbrev pub invariant-loop-raw : goal.invariant-loop-raw

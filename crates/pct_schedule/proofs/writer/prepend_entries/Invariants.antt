@@ -1,7 +1,5 @@
-use Rattle.std.proofs.Common.{◌≡◌, ◌≤◌, ◌++◌, length, take, drop}
+use Rattle.pct_names.proofs.Names.{◌++◌, drop, entry_line, length, line_text, take, ◌≡◌, ◌≤◌}
 use Rattle.std.specs.List.{flat_map}
-use Rattle.pct_model.specs.Keywords.{line_text}
-use Rattle.pct_model.specs.Report.{entry_line}
 use Rattle.pct_schedule.proofs.writer.prepend_entries.Given as goal
 
 -- the lines of the entries from this index on precede the old content of the buffer

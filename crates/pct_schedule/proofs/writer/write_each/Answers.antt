@@ -1,7 +1,4 @@
-use Rattle.std.proofs.Common.{arith}
-use Rattle.std.proofs.lemmas.Result.{err_from_is_err_and}
-use Rattle.pct_model.specs.Keywords.{line_text}
-use Rattle.pct_model.specs.Report.{entry_line}
+use Rattle.pct_names.proofs.Names.{arith, entry_line, err_from_is_err_and, line_text}
 use Rattle.pct_io.proofs.WritesInTurn.{Writes-last, Writes-next, Writes-next_fails}
 use Rattle.pct_schedule.proofs.writer.write_each.Goals as goal
 

@@ -1,9 +1,7 @@
-use Rattle.std.proofs.Common.{Result, length}
+use Rattle.pct_names.proofs.Names.{entry_line, length, line_text, Result}
 use Rattle.std.specs.List.{flat_map}
 use Rattle.pct_io.specs.declared.failed.Failed.{Failed}
 use Rattle.pct_io.specs.Writes.{Writes}
-use Rattle.pct_model.specs.Keywords.{line_text}
-use Rattle.pct_model.specs.Report.{entry_line}
 use Rattle.pct_schedule.proofs.writer.write_entries.Given as goal
 
 -- what completes the rest completes all

@@ -1,4 +1,4 @@
-use Rattle.std.proofs.lemmas.Result.{err_from_is_err_and}
+use Rattle.pct_names.proofs.Names.{err_from_is_err_and}
 use Rattle.pct_io.proofs.WritesInTurn.{Writes-then, Writes-fails}
 use Rattle.pct_schedule.proofs.ScheduleTexts.{schedule-text}
 use Rattle.pct_schedule.proofs.writer.write_schedule.Goals as goal

@@ -1,6 +1,4 @@
-use Rattle.std.proofs.Common.{sym, ap, ◌∙◌, arith, drop, ◌+◌, Some}
-use Rattle.pct_model.specs.LineKinds.{syntax_of}
-use Rattle.pct_model.specs.LineParsing.{words_in, tokens_at}
+use Rattle.pct_names.proofs.Names.{◌+◌, ap, arith, drop, Some, sym, syntax_of, tokens_at, words_in, ◌∙◌}
 use Rattle.pct_script.proofs.ResolvingTokens.{onto}
 use Rattle.pct_script.proofs.TokensOfWords.{words_past, word_wrong, word_right, words_end, words_missing}
 use Rattle.pct_script.proofs.arguments.tokens_at.Goals as goal

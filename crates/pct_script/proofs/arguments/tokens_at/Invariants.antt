@@ -1,6 +1,4 @@
-use Rattle.std.proofs.Common.{◌≡◌, ◌+◌, ◌≤◌, length, drop}
-use Rattle.pct_model.specs.LineKinds.{syntax_of}
-use Rattle.pct_model.specs.LineParsing.{tokens_at, words_in}
+use Rattle.pct_names.proofs.Names.{◌+◌, drop, length, syntax_of, tokens_at, words_in, ◌≡◌, ◌≤◌}
 use Rattle.pct_script.proofs.ResolvingTokens.{onto}
 use Rattle.pct_script.proofs.arguments.tokens_at.Given as goal
 

@@ -1,10 +1,6 @@
-use Rattle.std.proofs.Common.{◌≡◌, length}
-use Rattle.std.specs.Prelude.{bytes_eq}
-use Rattle.std.specs.List.{list_any}
+use Rattle.pct_names.proofs.Names.{bytes_eq, keyword_text, length, list_any, names_declared, ◌≡◌}
 use Rattle.pct_model.specs.declared.line_kind.SymbolKind.TheVariants as kind
 use Rattle.pct_model.specs.declared.keyword.Keyword.TheVariants as keyword
-use Rattle.pct_model.specs.Keywords.{keyword_text}
-use Rattle.pct_model.specs.Sections.{names_declared}
 use Rattle.pct_script.proofs.checks.no_main.Given as goal
 
 abbrev pub invariant-loop-name : goal.invariant-loop-name

@@ -1,4 +1,4 @@
-use Rattle.std.proofs.lemmas.Result.{err_from_is_err_and}
+use Rattle.pct_names.proofs.Names.{err_from_is_err_and}
 use Rattle.pct_script.proofs.TextChecks.{nests_wrong, passes_a_limit, passes_all_three}
 use Rattle.pct_script.proofs.checks.read_text.Goals as goal
 

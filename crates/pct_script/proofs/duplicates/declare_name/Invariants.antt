@@ -1,4 +1,4 @@
-use Rattle.std.proofs.Common.{◌≡◌, length}
+use Rattle.pct_names.proofs.Names.{length, ◌≡◌}
 use Rattle.pct_script.specs.DeclaredBefore.{declare_name}
 use Rattle.pct_script.proofs.duplicates.declare_name.Given as goal
 

@@ -1,7 +1,5 @@
-use Rattle.std.proofs.Common.{◌≡◌, true, false, List, ◌∷◌, length, refl, sym, ap, ◌∙◌, arith, take, drop}
-use Rattle.pct_model.specs.declared.refusal.ParseWhy.TheVariants.{NameTwice}
-use Rattle.pct_model.specs.Sections.{Line}
-use Rattle.pct_model.specs.Checks.{fault_at_line}
+use Rattle.pct_names.proofs.Names.{ap, arith, drop, false, fault_at_line, length, Line, List, NameTwice, refl, sym, take, true, ◌∙◌, ◌∷◌}
+use Rattle.pct_names.proofs.Names.{◌≡◌}
 use Rattle.pct_script.specs.DeclaredBefore.{is_wrong, first_twice}
 use Rattle.pct_script.proofs.DeclaredBefore.{twice_is, take_next, drop_next, first_here, first_after, first_none}
 use Rattle.pct_script.proofs.duplicates.name_twice.Goals as goal

@@ -1,7 +1,4 @@
-use Rattle.std.proofs.Common.{◌≡◌, length}
-use Rattle.std.proofs.Common.{◌+◌, ◌≤◌, take, drop}
-use Rattle.pct_model.specs.declared.refusal.ParseWhy.TheVariants.{NameTwice}
-use Rattle.pct_model.specs.Checks.{fault_at_line, name_twice}
+use Rattle.pct_names.proofs.Names.{◌+◌, drop, fault_at_line, length, name_twice, NameTwice, take, ◌≡◌, ◌≤◌}
 use Rattle.pct_script.specs.DeclaredBefore.{first_twice}
 use Rattle.pct_script.proofs.duplicates.name_twice.Given as goal
 

@@ -1,6 +1,4 @@
-use Rattle.std.proofs.Common.{sym, ap, ◌∙◌}
-use Rattle.pct_model.specs.declared.refusal.ParseWhy.TheVariants.{TooMany}
-use Rattle.pct_model.specs.Checks.{fault_at_line}
+use Rattle.pct_names.proofs.Names.{ap, fault_at_line, sym, TooMany, ◌∙◌}
 use Rattle.pct_script.specs.LineCounts.{limit_in}
 use Rattle.pct_script.proofs.LineLimits.{limit_stops, limit_goes_on, limit_none}
 use Rattle.pct_script.proofs.limits.check_limits.Goals as goal

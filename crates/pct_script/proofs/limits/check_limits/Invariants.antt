@@ -1,4 +1,4 @@
-use Rattle.std.proofs.Common.{◌≡◌, length}
+use Rattle.pct_names.proofs.Names.{length, ◌≡◌}
 use Rattle.pct_script.specs.Outlines.{outlines_of}
 use Rattle.pct_script.specs.LineCounts.{none_yet, limit_in}
 use Rattle.pct_script.proofs.limits.check_limits.Given as goal

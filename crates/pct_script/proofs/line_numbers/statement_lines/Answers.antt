@@ -1,6 +1,5 @@
-use Rattle.std.proofs.Common.{◌≡◌, ◌∷◌, filter_map, sym, ap, ◌∙◌}
-use Rattle.std.proofs.lemmas.Option.{MatchOption-at_none, MatchOption-at_some}
-use Rattle.pct_model.specs.Sections.{Line, parsed_numbered, parsed_lines}
+use Rattle.pct_names.proofs.Names.{ap, filter_map, Line, MatchOption-at_none, MatchOption-at_some, parsed_lines, parsed_numbered, sym, ◌∙◌}
+use Rattle.pct_names.proofs.Names.{◌∷◌, ◌≡◌}
 use Rattle.pct_script.proofs.FunctionLines.{continued, before_lines, after_lines, statement_in_function, statement_outside, function_begins, function_ends}
 use Rattle.pct_script.proofs.line_numbers.statement_lines.Goals as goal
 use Rattle.pct_script.proofs.line_numbers.statement_lines.Goals.{then-is_statement+then-in_function+in_ok-push_number, then-is_statement+else-in_function, else-is_statement+then-in_function-2+in_ok-push_function, else-is_statement+else-in_function-2}

@@ -1,5 +1,4 @@
-use Rattle.std.proofs.Common.{◌≡◌, filter_map, length}
-use Rattle.pct_model.specs.Sections.{parsed_numbered}
+use Rattle.pct_names.proofs.Names.{filter_map, length, parsed_numbered, ◌≡◌}
 use Rattle.pct_script.specs.StatementLines.{statement_lines}
 use Rattle.pct_script.proofs.FunctionLines.{continued}
 use Rattle.pct_script.proofs.line_numbers.statement_lines.Given as goal

@@ -1,5 +1,4 @@
-use Rattle.std.proofs.Common.{sym, ap, ◌∙◌}
-use Rattle.pct_model.specs.Nesting.{change_at, kinds_of, nesting_in}
+use Rattle.pct_names.proofs.Names.{ap, change_at, kinds_of, nesting_in, sym, ◌∙◌}
 use Rattle.pct_script.specs.Outlines.{outline_roles}
 use Rattle.pct_script.proofs.LineOutlines.{nesting_of_outlines, nesting_stops, nesting_goes_on, nesting_unclosed, nesting_closed}
 use Rattle.pct_script.proofs.nesting.check_nesting.Goals as goal

@@ -1,5 +1,4 @@
-use Rattle.std.proofs.Common.{◌≡◌, length}
-use Rattle.pct_model.specs.Nesting.{nesting, nesting_in}
+use Rattle.pct_names.proofs.Names.{length, nesting, nesting_in, ◌≡◌}
 use Rattle.pct_script.specs.Outlines.{outlines_of, outline_roles}
 use Rattle.pct_script.proofs.nesting.check_nesting.Given as goal
 

@@ -1,7 +1,4 @@
-use Rattle.std.proofs.Common.{sym, ap, ◌∙◌, length, arith}
-use Rattle.std.specs.List.{list_all}
-use Rattle.std.proofs.lemmas.Option.{same_Some}
-use Rattle.pct_model.specs.Sections.{parsed_lines, are_in_functions}
+use Rattle.pct_names.proofs.Names.{ap, are_in_functions, arith, length, list_all, parsed_lines, same_Some, sym, ◌∙◌}
 use Rattle.pct_script.specs.SectionSteps.{is_ready}
 use Rattle.pct_script.proofs.CheckOrder.{is_checked}
 use Rattle.pct_script.proofs.LimitsMakeReady.{few_lines}

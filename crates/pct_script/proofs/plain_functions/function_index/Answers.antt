@@ -1,8 +1,5 @@
-use Rattle.std.proofs.Common.{ℕ, List, sym, arith}
-use Rattle.std.specs.Prelude.{bytes_eq}
-use Rattle.std.proofs.lemmas.Iterator.Adapters.{position_from-zero}
+use Rattle.pct_names.proofs.Names.{arith, bytes_eq, List, names_declared, position_from-zero, sym, ℕ}
 use Rattle.pct_model.specs.declared.line_kind.SymbolKind.TheVariants.{Function}
-use Rattle.pct_model.specs.Sections.{names_declared}
 use Rattle.pct_script.proofs.plain_functions.function_index.Goals as goal
 
 pub loop-declared-init : goal.loop-declared-init

@@ -1,10 +1,5 @@
-use Rattle.std.proofs.Common.{◌≡◌, length}
-use Rattle.std.proofs.Common.{◌+◌, ◌≤◌}
-use Rattle.std.specs.Prelude.{bytes_eq}
-use Rattle.std.specs.List.{position_from}
+use Rattle.pct_names.proofs.Names.{◌+◌, bytes_eq, index_among, length, names_declared, position_from, ◌≡◌, ◌≤◌}
 use Rattle.pct_model.specs.declared.line_kind.SymbolKind.TheVariants.{Function}
-use Rattle.pct_model.specs.Names.{index_among}
-use Rattle.pct_model.specs.Sections.{names_declared}
 use Rattle.pct_script.proofs.plain_functions.function_index.Given as goal
 
 abbrev pub invariant-loop-declared : goal.invariant-loop-declared

@@ -1,9 +1,4 @@
-use Rattle.std.proofs.Common.{◌≡◌, length}
-use Rattle.std.proofs.Common.{[], false}
-use Rattle.std.specs.Prelude.{slice_get}
-use Rattle.std.specs.Option.{option_map_or}
-use Rattle.pct_model.specs.Sections.{split_sections, functions_in}
-use Rattle.pct_model.specs.Checks.{is_plain_section}
+use Rattle.pct_names.proofs.Names.{[], false, functions_in, is_plain_section, length, option_map_or, slice_get, split_sections, ◌≡◌}
 use Rattle.pct_script.proofs.plain_functions.is_plain_at.Given as goal
 
 abbrev pub invariant-loop-body : goal.invariant-loop-body

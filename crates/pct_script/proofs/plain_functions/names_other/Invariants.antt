@@ -1,8 +1,4 @@
-use Rattle.std.proofs.Common.{◌≡◌, length}
-use Rattle.std.proofs.Common.{◌+◌, ◌≤◌, drop}
-use Rattle.std.specs.List.{list_all}
-use Rattle.pct_model.specs.Sections.{argument_kinds_in}
-use Rattle.pct_model.specs.Checks.{is_plain_function, plain_names}
+use Rattle.pct_names.proofs.Names.{◌+◌, argument_kinds_in, drop, is_plain_function, length, list_all, plain_names, ◌≡◌, ◌≤◌}
 use Rattle.pct_script.proofs.plain_functions.names_other.Given as goal
 
 abbrev pub invariant-loop-word : goal.invariant-loop-word

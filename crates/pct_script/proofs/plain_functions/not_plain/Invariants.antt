@@ -1,8 +1,4 @@
-use Rattle.std.proofs.Common.{◌≡◌, length}
-use Rattle.std.proofs.Common.{[]}
-use Rattle.pct_model.specs.declared.refusal.ParseWhy.TheVariants.{NotPlain}
-use Rattle.pct_model.specs.Sections.{split_sections}
-use Rattle.pct_model.specs.Checks.{first_in, first_that, names_other, not_plain}
+use Rattle.pct_names.proofs.Names.{[], first_in, first_that, length, names_other, not_plain, NotPlain, split_sections, ◌≡◌}
 use Rattle.pct_script.proofs.plain_functions.not_plain.Given as goal
 
 abbrev pub invariant-loop-body : goal.invariant-loop-body

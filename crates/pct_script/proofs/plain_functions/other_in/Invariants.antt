@@ -1,5 +1,4 @@
-use Rattle.std.proofs.Common.{◌≡◌, length}
-use Rattle.pct_model.specs.Checks.{first_that, names_other}
+use Rattle.pct_names.proofs.Names.{first_that, length, names_other, ◌≡◌}
 use Rattle.pct_script.proofs.plain_functions.other_in.Given as goal
 
 abbrev pub invariant-loop-line : goal.invariant-loop-line

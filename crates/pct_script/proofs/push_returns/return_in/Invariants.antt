@@ -1,6 +1,4 @@
-use Rattle.std.proofs.Common.{◌≡◌, length}
-use Rattle.std.proofs.Common.{◌+◌, ◌≤◌, []}
-use Rattle.pct_model.specs.Checks.{first_wrong, roles, is_in_push}
+use Rattle.pct_names.proofs.Names.{◌+◌, [], first_wrong, is_in_push, length, roles, ◌≡◌, ◌≤◌}
 use Rattle.pct_script.specs.PushCounts.{return_after}
 use Rattle.pct_script.proofs.push_returns.return_in.Given as goal
 

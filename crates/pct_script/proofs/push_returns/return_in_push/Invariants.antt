@@ -1,7 +1,4 @@
-use Rattle.std.proofs.Common.{◌≡◌, length}
-use Rattle.std.proofs.Common.{[]}
-use Rattle.pct_model.specs.Sections.{split_sections}
-use Rattle.pct_model.specs.Checks.{return_in_push}
+use Rattle.pct_names.proofs.Names.{[], length, return_in_push, split_sections, ◌≡◌}
 use Rattle.pct_script.proofs.push_returns.return_in_push.Given as goal
 
 abbrev pub invariant-loop-body : goal.invariant-loop-body

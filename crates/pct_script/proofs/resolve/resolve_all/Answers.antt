@@ -1,7 +1,4 @@
-use Rattle.std.proofs.Common.{◌≡◌, length, Some, None, sym, ap, ◌∙◌, arith, option_map}
-use Rattle.std.specs.Prelude.{slice_get}
-use Rattle.std.proofs.lemmas.List.{nil_from_length}
-use Rattle.pct_model.specs.Sections.{argument_kinds_in}
+use Rattle.pct_names.proofs.Names.{ap, argument_kinds_in, arith, length, nil_from_length, None, option_map, slice_get, Some, sym, ◌∙◌, ◌≡◌}
 use Rattle.pct_script.specs.Symbols.{symbols_of}
 use Rattle.pct_script.proofs.ResolvingTokens.{the_argument_kind, room_left, word_replaced, word_unknown, word_without_kind, words_end}
 use Rattle.pct_script.proofs.resolve.resolve_all.Goals as goal

@@ -1,6 +1,4 @@
-use Rattle.std.proofs.Common.{◌≡◌, length}
-use Rattle.pct_model.specs.Contents.{resolve_all}
-use Rattle.pct_model.specs.Sections.{argument_kinds_in}
+use Rattle.pct_names.proofs.Names.{argument_kinds_in, length, resolve_all, ◌≡◌}
 use Rattle.pct_script.specs.Symbols.{symbols_of}
 use Rattle.pct_script.proofs.ResolvingTokens.{replaced_from}
 use Rattle.pct_script.proofs.resolve.resolve_all.Given as goal

@@ -1,5 +1,4 @@
-use Rattle.std.proofs.Common.{◌≡◌, sym, ap, ◌∙◌, Some}
-use Rattle.std.proofs.lemmas.List.{nil_from_length}
+use Rattle.pct_names.proofs.Names.{ap, nil_from_length, Some, sym, ◌∙◌, ◌≡◌}
 use Rattle.pct_script.specs.Symbols.{symbols_of}
 use Rattle.pct_grammar.specs.Resolving.{resolve_statement}
 use Rattle.pct_script.proofs.ResolvingSteps.{body_goes_on, body_ends, known_line, unknown_line, statements_after, none_unknown}

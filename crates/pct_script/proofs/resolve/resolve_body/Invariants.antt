@@ -1,6 +1,4 @@
-use Rattle.std.proofs.Common.{◌≡◌, true, length}
-use Rattle.std.specs.List.{list_all}
-use Rattle.pct_model.specs.Sections.{is_statement}
+use Rattle.pct_names.proofs.Names.{is_statement, length, list_all, true, ◌≡◌}
 use Rattle.pct_script.specs.Symbols.{symbols_of}
 use Rattle.pct_grammar.specs.Resolving.{resolve_body}
 use Rattle.pct_script.specs.UnknownNames.{unknown_in_body}

@@ -1,7 +1,4 @@
-use Rattle.std.proofs.Common.{sym, ◌∙◌}
-use Rattle.std.proofs.lemmas.Result.{err_from_is_err_and}
-use Rattle.pct_model.specs.Checks.{unknown_name}
-use Rattle.pct_model.specs.Sections.{functions_in}
+use Rattle.pct_names.proofs.Names.{err_from_is_err_and, functions_in, sym, unknown_name, ◌∙◌}
 use Rattle.pct_script.specs.UnknownNames.{unknown_in_sections}
 use Rattle.pct_script.specs.Symbols.{symbols_of}
 use Rattle.pct_script.proofs.ContentsSteps.{unknown_is, contents_are_read}

@@ -1,4 +1,4 @@
-use Rattle.std.proofs.Common.{ap, ◌∙◌}
+use Rattle.pct_names.proofs.Names.{ap, ◌∙◌}
 use Rattle.pct_script.specs.Symbols.{symbols_of}
 use Rattle.pct_grammar.specs.Resolving.{first_name}
 use Rattle.pct_script.proofs.ResolvingSteps.{function_is}

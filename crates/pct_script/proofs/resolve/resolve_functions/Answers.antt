@@ -1,5 +1,4 @@
-use Rattle.std.proofs.Common.{sym, ap, ◌∙◌, Some}
-use Rattle.pct_model.specs.Sections.{Section, functions_in}
+use Rattle.pct_names.proofs.Names.{ap, functions_in, Section, Some, sym, ◌∙◌}
 use Rattle.pct_script.specs.Symbols.{symbols_of}
 use Rattle.pct_script.proofs.ResolvingSteps.{functions_take, no_functions, section_statements, ready_after, functions_go_on, functions_end, known_section, no_section_unknown}
 use Rattle.pct_script.proofs.resolve.resolve_functions.Goals as goal

@@ -1,6 +1,4 @@
-use Rattle.std.proofs.Common.{◌≡◌, true, [], length}
-use Rattle.std.specs.List.{list_all}
-use Rattle.pct_model.specs.Sections.{split_sections, functions_in}
+use Rattle.pct_names.proofs.Names.{[], functions_in, length, list_all, split_sections, true, ◌≡◌}
 use Rattle.pct_script.specs.Symbols.{symbols_of}
 use Rattle.pct_script.specs.SectionSteps.{is_ready}
 use Rattle.pct_grammar.specs.Resolving.{resolve_functions}

@@ -1,5 +1,4 @@
-use Rattle.std.proofs.Common.{sym, ap, ◌∙◌}
-use Rattle.pct_model.specs.Spelling.{spelling}
+use Rattle.pct_names.proofs.Names.{ap, spelling, sym, ◌∙◌}
 use Rattle.pct_script.proofs.SpelledLines.{misspelled_first, spelled_right, none_misspelled}
 use Rattle.pct_script.proofs.scan.first_misspelled.Goals as goal
 

@@ -1,5 +1,4 @@
-use Rattle.std.proofs.Common.{◌≡◌, length}
-use Rattle.pct_model.specs.Spelling.{spelling}
+use Rattle.pct_names.proofs.Names.{length, spelling, ◌≡◌}
 use Rattle.pct_script.proofs.scan.first_misspelled.Given as goal
 
 abbrev pub invariant-loop-number : goal.invariant-loop-number

@@ -1,4 +1,4 @@
-use Rattle.std.proofs.Common.{sym, ap, ◌∙◌}
+use Rattle.pct_names.proofs.Names.{ap, sym, ◌∙◌}
 use Rattle.pct_script.specs.Outlines.{outlines_in}
 use Rattle.pct_script.proofs.LineOutlines.{no_outlines, outline_first, outline_later}
 use Rattle.pct_script.proofs.scan.next_outline.Goals as goal

@@ -1,4 +1,4 @@
-use Rattle.std.proofs.Common.{◌≡◌, length}
+use Rattle.pct_names.proofs.Names.{length, ◌≡◌}
 use Rattle.pct_script.specs.Outlines.{outlines_in}
 use Rattle.pct_script.proofs.scan.next_outline.Given as goal
 

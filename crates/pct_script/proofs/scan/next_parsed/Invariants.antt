@@ -1,5 +1,4 @@
-use Rattle.std.proofs.Common.{◌≡◌, filter_map, length}
-use Rattle.pct_model.specs.Sections.{parsed_numbered}
+use Rattle.pct_names.proofs.Names.{filter_map, length, parsed_numbered, ◌≡◌}
 use Rattle.pct_script.proofs.scan.next_parsed.Given as goal
 
 abbrev pub invariant-loop-number : goal.invariant-loop-number

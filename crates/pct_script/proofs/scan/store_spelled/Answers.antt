@@ -1,5 +1,4 @@
-use Rattle.std.proofs.Common.{option_map, sym, ap, ◌∙◌}
-use Rattle.pct_model.specs.Spelling.{Fault}
+use Rattle.pct_names.proofs.Names.{ap, Fault, option_map, sym, ◌∙◌}
 use Rattle.pct_grammar.proofs.Misspelled.{not_misspelled}
 use Rattle.pct_script.proofs.scan.store_spelled.Goals as goal
 

@@ -1,6 +1,4 @@
-use Rattle.std.proofs.Common.{sym, ap, subst, ◌∙◌}
-use Rattle.std.proofs.lemmas.Result.{err_from_is_err_and}
-use Rattle.pct_model.specs.Spelling.{spelling}
+use Rattle.pct_names.proofs.Names.{ap, err_from_is_err_and, spelling, subst, sym, ◌∙◌}
 use Rattle.pct_script.proofs.TextChecks.{IsStored, none_stored, one_stored, found_in_line, left_are_parsed}
 use Rattle.pct_script.proofs.scan.stored_lines.Goals as goal
 

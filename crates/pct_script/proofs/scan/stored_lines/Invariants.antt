@@ -1,4 +1,4 @@
-use Rattle.std.proofs.Common.{length}
+use Rattle.pct_names.proofs.Names.{length}
 use Rattle.pct_script.proofs.TextChecks.{IsStored}
 use Rattle.pct_script.proofs.scan.stored_lines.Given as goal
 

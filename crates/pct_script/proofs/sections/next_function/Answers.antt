@@ -1,5 +1,4 @@
-use Rattle.std.proofs.Common.{sym, ap, ◌∙◌}
-use Rattle.pct_model.specs.Sections.{functions_in}
+use Rattle.pct_names.proofs.Names.{ap, functions_in, sym, ◌∙◌}
 use Rattle.pct_script.proofs.FunctionSteps.{no_functions}
 use Rattle.pct_script.proofs.sections.next_function.Goals as goal
 

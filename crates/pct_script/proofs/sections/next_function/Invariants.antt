@@ -1,6 +1,4 @@
-use Rattle.std.proofs.Common.{◌≡◌, length}
-use Rattle.std.proofs.Common.{◌≤◌, []}
-use Rattle.pct_model.specs.Sections.{split_sections, functions_in}
+use Rattle.pct_names.proofs.Names.{[], functions_in, length, split_sections, ◌≡◌, ◌≤◌}
 use Rattle.pct_script.proofs.sections.next_function.Given as goal
 
 abbrev pub invariant-loop-header : goal.invariant-loop-header

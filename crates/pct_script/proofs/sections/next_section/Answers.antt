@@ -1,5 +1,4 @@
-use Rattle.std.proofs.Common.{ap, ◌∙◌, length}
-use Rattle.std.specs.Prelude.{unwrap_or}
+use Rattle.pct_names.proofs.Names.{ap, length, unwrap_or, ◌∙◌}
 use Rattle.pct_script.proofs.SectionSteps.{first_section}
 use Rattle.pct_script.proofs.sections.next_section.Goals as goal
 

@@ -1,7 +1,4 @@
-use Rattle.std.proofs.Common.{List, ℕ, Some, sym, ap, ◌∙◌, arith, drop}
-use Rattle.pct_model.specs.LineKinds.{syntax_of}
-use Rattle.pct_model.specs.LineParsing.{words_in}
-use Rattle.pct_model.specs.Spelling.{faulty_word}
+use Rattle.pct_names.proofs.Names.{ap, arith, drop, faulty_word, List, Some, sym, syntax_of, words_in, ℕ, ◌∙◌}
 use Rattle.pct_script.proofs.FaultyWords.{faulty_word-nil, fault_after, fault_here, no_argument_kind}
 use Rattle.pct_script.proofs.spelling.faulty_word.Goals as goal
 

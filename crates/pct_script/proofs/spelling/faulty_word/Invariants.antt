@@ -1,7 +1,4 @@
-use Rattle.std.proofs.Common.{◌≡◌, ◌+◌, ◌≤◌, length, drop}
-use Rattle.pct_model.specs.LineKinds.{syntax_of}
-use Rattle.pct_model.specs.LineParsing.{words_in}
-use Rattle.pct_model.specs.Spelling.{faulty_word}
+use Rattle.pct_names.proofs.Names.{◌+◌, drop, faulty_word, length, syntax_of, words_in, ◌≡◌, ◌≤◌}
 use Rattle.pct_script.proofs.spelling.faulty_word.Given as goal
 
 abbrev pub invariant-loop-word : goal.invariant-loop-word

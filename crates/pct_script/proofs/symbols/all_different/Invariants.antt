@@ -1,6 +1,4 @@
-use Rattle.std.proofs.Common.{◌≡◌, length}
-use Rattle.pct_model.specs.Names.{all_different}
-use Rattle.pct_model.specs.Sections.{names_in}
+use Rattle.pct_names.proofs.Names.{all_different, length, names_in, ◌≡◌}
 use Rattle.pct_script.proofs.symbols.all_different.Given as goal
 
 abbrev pub invariant-loop-name : goal.invariant-loop-name

@@ -1,7 +1,4 @@
-use Rattle.std.proofs.Common.{◌≡◌, length}
-use Rattle.std.specs.Prelude.{bytes_eq}
-use Rattle.std.specs.List.{list_any}
-use Rattle.pct_model.specs.Sections.{names_in}
+use Rattle.pct_names.proofs.Names.{bytes_eq, length, list_any, names_in, ◌≡◌}
 use Rattle.pct_script.proofs.symbols.is_among.Given as goal
 
 abbrev pub invariant-loop-other : goal.invariant-loop-other

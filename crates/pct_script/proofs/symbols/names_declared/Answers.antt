@@ -1,5 +1,5 @@
-use Rattle.std.proofs.Common.{◌≡◌, ◌++◌, length, sym, ap, ◌∙◌, arith, append-nil}
-use Rattle.pct_model.specs.Sections.{names_declared}
+use Rattle.pct_names.proofs.Names.{◌++◌, ap, arith, length, names_declared, sym, ◌∙◌, ◌≡◌}
+use Rattle.std.proofs.Common.{append-nil}
 use Rattle.pct_script.proofs.DeclaredByLines.{few_declared}
 use Rattle.pct_script.proofs.symbols.names_declared.Goals as goal
 

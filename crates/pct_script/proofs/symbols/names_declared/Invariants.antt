@@ -1,5 +1,4 @@
-use Rattle.std.proofs.Common.{◌≡◌, ◌++◌, length}
-use Rattle.pct_model.specs.Sections.{names_declared}
+use Rattle.pct_names.proofs.Names.{◌++◌, length, names_declared, ◌≡◌}
 use Rattle.pct_script.proofs.symbols.names_declared.Given as goal
 
 abbrev pub invariant-loop-name : goal.invariant-loop-name

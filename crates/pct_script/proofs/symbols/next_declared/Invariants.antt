@@ -1,6 +1,4 @@
-use Rattle.std.proofs.Common.{◌≡◌, length}
-use Rattle.std.proofs.Common.{◌≤◌}
-use Rattle.pct_model.specs.Sections.{names_declared}
+use Rattle.pct_names.proofs.Names.{length, names_declared, ◌≡◌, ◌≤◌}
 use Rattle.pct_script.proofs.symbols.next_declared.Given as goal
 
 abbrev pub invariant-loop-line : goal.invariant-loop-line

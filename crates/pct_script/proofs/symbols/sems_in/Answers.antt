@@ -1,5 +1,4 @@
-use Rattle.std.proofs.Common.{◌∙◌}
-use Rattle.std.proofs.lemmas.List.{nil_from_length}
+use Rattle.pct_names.proofs.Names.{nil_from_length, ◌∙◌}
 use Rattle.pct_script.proofs.DeclaredByLines.{sems_go_on, sems_end}
 use Rattle.pct_script.proofs.symbols.sems_in.Goals as goal
 

@@ -1,4 +1,4 @@
-use Rattle.std.proofs.Common.{◌≡◌, ◌++◌, length}
+use Rattle.pct_names.proofs.Names.{◌++◌, length, ◌≡◌}
 use Rattle.pct_grammar.specs.Resolving.{sems_in}
 use Rattle.pct_script.proofs.symbols.sems_in.Given as goal
 

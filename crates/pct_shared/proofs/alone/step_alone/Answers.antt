@@ -1,4 +1,5 @@
-use Rattle.std.proofs.Common.{◌≡◌, ◌+◌, ◌≤◌, ◌++◌, ◌∷◌, [], refl, sym, ap, ◌∙◌, subst, arith, length, length-append}
+use Rattle.pct_names.proofs.Names.{◌+◌, ◌++◌, [], ap, arith, length, refl, subst, sym, ◌∙◌, ◌∷◌, ◌≡◌, ◌≤◌}
+use Rattle.std.proofs.Common.{length-append}
 use Rattle.pct_engine.specs.EngineStates.{EngineValue}
 use Rattle.pct_shared.specs.Streams.{IsContinuedBy}
 use Rattle.pct_engine.proofs.ChosenEntries.{chosen-legal}

@@ -1,4 +1,4 @@
-use Rattle.std.proofs.Common.{◌≡◌, ◌-◌, length}
+use Rattle.pct_names.proofs.Names.{◌-◌, length, ◌≡◌}
 use Rattle.pct_shared.proofs.ChosenRuns.{IsChosenSoFar}
 use Rattle.pct_shared.proofs.alone.step_alone.Given as goal
 

@@ -1,5 +1,4 @@
-use Rattle.std.proofs.Common.{◌≡◌, ◌<◌, ◌∙◌, ℕ, All, List, sym, ap, subst, length, slice_index_or}
-use Rattle.std.proofs.lemmas.List.{with_items_is}
+use Rattle.pct_names.proofs.Names.{◌<◌, All, ap, length, List, slice_index_or, subst, sym, with_items_is, ℕ, ◌∙◌, ◌≡◌}
 use Rattle.rand_pcg.specs.Lcg.{Lcg}
 use Rattle.pct_shared.specs.declared.workers.Worker.{Worker}
 use Rattle.pct_shared.specs.Hosts.{AreAllWorkers, IsClosing, Worked}

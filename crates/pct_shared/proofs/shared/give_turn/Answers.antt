@@ -1,5 +1,4 @@
-use Rattle.std.proofs.Common.{◌≡◌, [], ◌∷◌, Some, None, refl, sym, ap, ◌∙◌, subst, arith}
-use Rattle.std.specs.Prelude.{option_map}
+use Rattle.pct_names.proofs.Names.{[], ap, arith, None, option_map, refl, Some, subst, sym, ◌∙◌, ◌∷◌, ◌≡◌}
 use Rattle.atomic_table.specs.Table.{Me, Allows, rest}
 use Rattle.pct_shared.specs.TurnRule.{KeepsTurn, SeatView, Slot}
 use Rattle.pct_shared.specs.TurnSteps.{Gave, gave_view, given_history}

@@ -1,5 +1,4 @@
-use Rattle.std.proofs.Common.{◌≡◌, List, ◌++◌, map, length}
-use Rattle.std.specs.Prelude.{All}
+use Rattle.pct_names.proofs.Names.{◌++◌, All, length, List, map, ◌≡◌}
 use Rattle.pct_shared.specs.declared.view.View.{View}
 use Rattle.pct_shared.specs.TurnSteps.{IsSeatOf}
 use Rattle.pct_shared.specs.declared.workers.Worker.{Worker}

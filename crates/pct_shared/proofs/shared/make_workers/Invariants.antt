@@ -1,5 +1,4 @@
-use Rattle.std.proofs.Common.{◌≡◌, ℕ, suc, ◌<◌, ◌≤◌, ◌-◌, [], Some, length}
-use Rattle.std.specs.Prelude.{slice_get, vec_capacity}
+use Rattle.pct_names.proofs.Names.{◌-◌, ◌<◌, [], length, slice_get, Some, suc, vec_capacity, ℕ, ◌≡◌, ◌≤◌}
 use Rattle.pct_shared.specs.declared.workers.Worker.{Worker}
 use Rattle.pct_shared.specs.Hosts.{IsNewWorker}
 use Rattle.pct_shared.specs.Views.{new_view}

@@ -1,4 +1,4 @@
-use Rattle.std.proofs.Common.{◌≡◌, [], ◌∷◌, ◌++◌, List, Some, sym, ap, ◌∙◌, subst}
+use Rattle.pct_names.proofs.Names.{◌++◌, [], ap, List, Some, subst, sym, ◌∙◌, ◌∷◌, ◌≡◌}
 use Rattle.atomic_table.specs.Table.{opening}
 use Rattle.pct_shared.specs.TurnRule.{KeepsTurn, Slot}
 use Rattle.pct_shared.specs.Views.{first_view}

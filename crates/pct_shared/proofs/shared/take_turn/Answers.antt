@@ -1,8 +1,5 @@
-use Rattle.std.proofs.Common.{◌≡◌, ℕ, [], ◌∷◌, Some, refl, sym, ap, ◌∙◌, subst, arith, eqb, List}
+use Rattle.pct_names.proofs.Names.{[], ap, arith, Box, eqb, IsSome, List, refl, same_Some, Some, subst, sym, ℕ, ◌∙◌, ◌∷◌, ◌≡◌}
 use prog.Atomic.{either}
-use Rattle.std.specs.Option.{IsSome}
-use Rattle.std.specs.Global.{Box}
-use Rattle.std.proofs.lemmas.Option.{same_Some}
 use Rattle.pct_engine.specs.EngineStates.{EngineValue}
 use Rattle.atomic_table.specs.Table.{Me, Allows, rest}
 use Rattle.pct_shared.specs.TurnRule.{KeepsTurn, SeatView, Slot}

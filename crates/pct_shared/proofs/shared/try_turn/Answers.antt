@@ -1,5 +1,4 @@
-use Rattle.std.proofs.Common.{sym, ap, ◌∙◌}
-use Rattle.std.proofs.lemmas.Option.{same_Some}
+use Rattle.pct_names.proofs.Names.{ap, same_Some, sym, ◌∙◌}
 use Rattle.atomic_table.specs.Table.{Me}
 use Rattle.pct_shared.specs.declared.view.View.{View}
 use Rattle.pct_shared.specs.TurnRule.{SeatView, Slot}

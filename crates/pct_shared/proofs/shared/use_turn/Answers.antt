@@ -1,6 +1,4 @@
-use Rattle.std.proofs.Common.{◌≡◌, ℕ, [], ◌∷◌, ◌++◌, Option, Some, None, refl, sym, ap, ◌∙◌, subst}
-use Rattle.pct_model.specs.declared.schedule.Entry.{Entry}
-use Rattle.pct_model.specs.Run.{Run}
+use Rattle.pct_names.proofs.Names.{◌++◌, [], ap, Entry, None, Option, refl, Run, Some, subst, sym, ℕ, ◌∙◌, ◌∷◌, ◌≡◌}
 use Rattle.pct_engine.specs.EngineStates.{EngineValue, IsChoice, IsRunOf}
 use Rattle.pct_engine.proofs.ChosenEntries.{chosen-legal}
 use Rattle.pct_shared.proofs.TurnUsed.{lifted_number, may_give, may_return, turn_made, turn_over}

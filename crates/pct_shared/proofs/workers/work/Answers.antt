@@ -1,4 +1,4 @@
-use Rattle.std.proofs.Common.{arith}
+use Rattle.pct_names.proofs.Names.{arith}
 use Rattle.pct_shared.proofs.Working.{so_far_next, so_far_none, worked_all, worked_over}
 use Rattle.pct_shared.proofs.workers.work.Goals as goal
 

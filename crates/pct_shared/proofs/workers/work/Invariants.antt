@@ -1,4 +1,4 @@
-use Rattle.std.proofs.Common.{◌-◌, ◌≤◌}
+use Rattle.pct_names.proofs.Names.{◌-◌, ◌≤◌}
 use Rattle.pct_shared.proofs.Working.{WorkedSoFar}
 use Rattle.pct_shared.proofs.workers.work.Given as goal
 

@@ -1,5 +1,4 @@
-use Rattle.std.proofs.Common.{sym, subst, ◌∙◌}
-use Rattle.std.proofs.lemmas.List.{nil_from_length}
+use Rattle.pct_names.proofs.Names.{nil_from_length, subst, sym, ◌∙◌}
 use Rattle.memchr.specs.Find.{IsFirstByte, is_byte}
 use Rattle.pct_text.proofs.FirstLines.{empty_first, end_found, no_end_found}
 use Rattle.pct_text.proofs.line.first_line.Goals as goal

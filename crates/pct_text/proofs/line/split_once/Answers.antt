@@ -1,4 +1,4 @@
-use Rattle.std.proofs.Common.{sym, ◌∙◌}
+use Rattle.pct_names.proofs.Names.{sym, ◌∙◌}
 use Rattle.pct_text.proofs.SplitOnce.{split_nowhere, split_at_index}
 use Rattle.pct_text.proofs.line.split_once.Goals as goal
 

@@ -1,6 +1,4 @@
-use Rattle.std.proofs.Common.{◌≡◌, ◌≢◌, ℕ, List, [], ◌∷◌, ◌++◌, sym, ap, ◌∙◌}
-use Rattle.std.proofs.lemmas.List.{nil_from_length}
-use Rattle.pct_model.specs.Lines.{strip_cr}
+use Rattle.pct_names.proofs.Names.{◌++◌, [], ap, List, nil_from_length, strip_cr, sym, ℕ, ◌∙◌, ◌∷◌, ◌≡◌, ◌≢◌}
 use Rattle.pct_text.proofs.Lines.{strip_cr-drops, strip_cr-keeps}
 use Rattle.pct_text.proofs.line.strip_cr.Goals as goal
 

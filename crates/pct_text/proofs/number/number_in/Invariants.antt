@@ -1,4 +1,4 @@
-use Rattle.std.proofs.Common.{◌≡◌, drop}
+use Rattle.pct_names.proofs.Names.{drop, ◌≡◌}
 use Rattle.pct_text.specs.Digits.{number_from, number_in}
 use Rattle.pct_text.proofs.number.number_in.Given as goal
 

@@ -1,4 +1,4 @@
-use Rattle.std.proofs.Common.{◌≡◌, length}
+use Rattle.pct_names.proofs.Names.{length, ◌≡◌}
 use Rattle.pct_text.specs.Digits.{number_until, split_number_in}
 use Rattle.pct_text.proofs.number.split_number_in.Given as goal
 

@@ -1,4 +1,4 @@
-use Rattle.std.proofs.Common.{◌≡◌, drop}
+use Rattle.pct_names.proofs.Names.{drop, ◌≡◌}
 use Rattle.pct_text.specs.Digits.{value_from}
 use Rattle.pct_text.proofs.number.value_of.Given as goal
 

@@ -1,5 +1,4 @@
-use Rattle.std.proofs.Common.{◌≡◌, ◌+◌, ◌≤◌, length}
-use Rattle.pct_model.specs.LineParsing.{words_in}
+use Rattle.pct_names.proofs.Names.{◌+◌, length, words_in, ◌≡◌, ◌≤◌}
 use Rattle.pct_text.proofs.tokens.count_words.Given as goal
 
 abbrev pub invariant-loop-after : goal.invariant-loop-after

@@ -1,5 +1,4 @@
-use Rattle.std.proofs.Common.{sym, ap, ◌∙◌, length}
-use Rattle.std.specs.Prelude.{unwrap_or}
+use Rattle.pct_names.proofs.Names.{ap, length, sym, unwrap_or, ◌∙◌}
 use Rattle.pct_text.proofs.WordsIn.{no_word, found_word, fewer_after}
 use Rattle.pct_text.proofs.tokens.next_word.Goals as goal
 

@@ -1,6 +1,4 @@
-use Rattle.std.proofs.Common.{◌≡◌, ◌≤◌, length, take, map}
-use Rattle.std.specs.Prelude.{vec_capacity}
-use Rattle.pct_model.specs.declared.limits.TheConstants.{MAX_SLOTS}
+use Rattle.pct_names.proofs.Names.{length, map, MAX_SLOTS, take, vec_capacity, ◌≡◌, ◌≤◌}
 use Rattle.pct_threads.specs.Slots.{freed}
 use Rattle.pct_threads.proofs.threads.free_as.Given as goal
 

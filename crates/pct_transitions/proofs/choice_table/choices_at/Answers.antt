@@ -1,6 +1,4 @@
-use Rattle.std.proofs.Common.{sym, ◌∙◌}
-use Rattle.pct_model.specs.ChoiceTable.{choices_at}
-use Rattle.pct_model.specs.NextStatement.{body_at}
+use Rattle.pct_names.proofs.Names.{body_at, choices_at, sym, ◌∙◌}
 use Rattle.pct_transitions.proofs.choice_table.choices_at.Goals as goal
 
 pub returns-in-Reacquire-clause-value : goal.returns-in-Reacquire-clause-value

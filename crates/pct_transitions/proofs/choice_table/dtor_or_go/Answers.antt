@@ -1,7 +1,5 @@
-use Rattle.std.proofs.Common.{not, refl, ap, ◌∙◌}
+use Rattle.pct_names.proofs.Names.{ap, dtor_or_go, left_places, not, number_at, refl, ◌∙◌}
 use Rattle.pct_model.specs.declared.schedule.Alt.TheVariants as alt
-use Rattle.pct_model.specs.ChoiceTable.{dtor_or_go}
-use Rattle.pct_model.specs.Keys.{number_at, left_places}
 use Rattle.pct_keys.specs.Tables.{row_at}
 use Rattle.pct_transitions.proofs.KeyChoices.{none_there, some_there}
 use Rattle.pct_transitions.proofs.choice_table.dtor_or_go.Goals as goal

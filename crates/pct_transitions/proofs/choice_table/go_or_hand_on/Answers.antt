@@ -1,7 +1,5 @@
-use Rattle.std.proofs.Common.{◌++◌, ◌∷◌, List, refl, sym, ap, ◌∙◌, arith}
-use Rattle.pct_model.specs.declared.schedule.Alt.{Alt}
+use Rattle.pct_names.proofs.Names.{◌++◌, Alt, ap, arith, go_if, hand_on_or_act, List, refl, sym, ◌∙◌, ◌∷◌}
 use Rattle.pct_model.specs.declared.schedule.Alt.TheVariants as alt
-use Rattle.pct_model.specs.ChoiceTable.{go_if, hand_on_or_act}
 use Rattle.pct_transitions.proofs.WaiterChoices.{some_wait}
 use Rattle.pct_transitions.proofs.choice_table.go_or_hand_on.Goals as goal
 

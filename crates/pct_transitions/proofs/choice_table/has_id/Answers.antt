@@ -1,4 +1,4 @@
-use Rattle.std.proofs.Common.{sym, ◌∙◌, arith}
+use Rattle.pct_names.proofs.Names.{arith, sym, ◌∙◌}
 use Rattle.pct_transitions.proofs.WaiterChoices.{id_among, id_not_among}
 use Rattle.pct_transitions.proofs.choice_table.has_id.Goals as goal
 

@@ -1,4 +1,4 @@
-use Rattle.std.proofs.Common.{◌≡◌, ◌<◌, ℕ, false, ◌&&◌}
+use Rattle.pct_names.proofs.Names.{◌&&◌, ◌<◌, false, ℕ, ◌≡◌}
 use Rattle.pct_set.specs.Slots.{has_slot}
 use Rattle.pct_threads.specs.Slots.{has_id}
 use Rattle.pct_threads.specs.Tables.{slot_at}

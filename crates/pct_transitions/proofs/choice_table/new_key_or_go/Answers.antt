@@ -1,7 +1,5 @@
-use Rattle.std.proofs.Common.{not, refl, ap, ◌∙◌}
+use Rattle.pct_names.proofs.Names.{ap, free_places, new_or_go, next_key, not, refl, ◌∙◌}
 use Rattle.pct_model.specs.declared.schedule.Alt.TheVariants as alt
-use Rattle.pct_model.specs.ChoiceTable.{new_or_go}
-use Rattle.pct_model.specs.Keys.{next_key, free_places}
 use Rattle.pct_transitions.proofs.KeyChoices.{none_there, some_there}
 use Rattle.pct_transitions.proofs.choice_table.new_key_or_go.Goals as goal
 

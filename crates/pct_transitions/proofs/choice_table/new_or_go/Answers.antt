@@ -1,4 +1,4 @@
-use Rattle.std.proofs.Common.{arith}
+use Rattle.pct_names.proofs.Names.{arith}
 use Rattle.pct_transitions.proofs.ListedChoices.{news_listed}
 use Rattle.pct_transitions.proofs.choice_table.new_or_go.Goals as goal
 

@@ -1,7 +1,5 @@
-use Rattle.std.proofs.Common.{sym, ap, ◌∙◌}
-use Rattle.std.specs.Prelude.{ℕ, Some, option_map}
+use Rattle.pct_names.proofs.Names.{ap, is_left, left_places, number_at, option_map, Some, sym, ℕ, ◌∙◌}
 use Rattle.pct_model.specs.declared.schedule.Alt.TheVariants as alt
-use Rattle.pct_model.specs.Keys.{number_at, is_left, left_places}
 use Rattle.pct_keys.specs.Tables.{row_at}
 use Rattle.pct_transitions.proofs.KeyChoices.{choice_at, none_past}
 use Rattle.pct_transitions.proofs.choice_table.nth_dtor.Goals as goal

@@ -1,7 +1,5 @@
-use Rattle.std.proofs.Common.{sym, ap, ◌∙◌}
-use Rattle.std.specs.Prelude.{ℕ, Some, is_none, option_map}
+use Rattle.pct_names.proofs.Names.{ap, free_places, is_none, key_at, next_key, option_map, Some, sym, ℕ, ◌∙◌}
 use Rattle.pct_model.specs.declared.schedule.Alt.TheVariants as alt
-use Rattle.pct_model.specs.Keys.{key_at, next_key, free_places}
 use Rattle.pct_transitions.proofs.KeyChoices.{choice_at, none_past}
 use Rattle.pct_transitions.proofs.choice_table.nth_new_key.Goals as goal
 

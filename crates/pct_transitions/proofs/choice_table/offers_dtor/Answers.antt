@@ -1,4 +1,4 @@
-use Rattle.std.proofs.Common.{sym, ◌∙◌}
+use Rattle.pct_names.proofs.Names.{sym, ◌∙◌}
 use Rattle.pct_keys.specs.Tables.{row_at}
 use Rattle.pct_transitions.proofs.KeyChoices.{on_places, none_by_key, left_by_found}
 use Rattle.pct_transitions.proofs.choice_table.offers_dtor.Goals as goal

@@ -1,4 +1,4 @@
-use Rattle.std.proofs.Common.{◌-◌, ◌%◌, sym, ap, ◌∙◌}
+use Rattle.pct_names.proofs.Names.{◌%◌, ◌-◌, ap, sym, ◌∙◌}
 use Rattle.pct_transitions.proofs.ListedChoices.{id_on_free, id_on_held, zero_offered}
 use Rattle.pct_transitions.proofs.choice_table.offers_id.Goals as goal
 

@@ -1,4 +1,4 @@
-use Rattle.std.proofs.Common.{not, sym, ap, ◌∙◌}
+use Rattle.pct_names.proofs.Names.{ap, not, sym, ◌∙◌}
 use Rattle.pct_transitions.proofs.KeyChoices.{new_by_place, live_not_offered}
 use Rattle.pct_transitions.proofs.choice_table.offers_new_key.Goals as goal
 

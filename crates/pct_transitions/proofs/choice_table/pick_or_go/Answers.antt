@@ -1,6 +1,5 @@
-use Rattle.std.proofs.Common.{refl, arith}
+use Rattle.pct_names.proofs.Names.{arith, pick_or_go, refl}
 use Rattle.pct_model.specs.declared.schedule.Alt.TheVariants as alt
-use Rattle.pct_model.specs.ChoiceTable.{pick_or_go}
 use Rattle.pct_transitions.proofs.WaiterChoices.{some_wait}
 use Rattle.pct_transitions.proofs.choice_table.pick_or_go.Goals as goal
 

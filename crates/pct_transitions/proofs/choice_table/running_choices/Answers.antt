@@ -1,8 +1,5 @@
-use Rattle.std.proofs.Common.{◌≡◌, Bool, true, false, ◌++◌, sym, ap, ◌∙◌}
-use Rattle.pct_model.specs.Cancelability.{is_deliverable, is_asynchronous}
-use Rattle.pct_model.specs.ChoiceTable.{go_if, act_if}
-use Rattle.pct_model.specs.StopTable.{is_forbidden_in_child}
-use Rattle.pct_model.specs.World.{body_of}
+use Rattle.pct_names.proofs.Names.{◌++◌, act_if, ap, body_of, Bool, false, go_if, is_asynchronous, is_deliverable, is_forbidden_in_child}
+use Rattle.pct_names.proofs.Names.{sym, true, ◌∙◌, ◌≡◌}
 use Rattle.pct_transitions.proofs.CancelRows.{forbidden_row, asynchronous_row, requested_row, statement_row}
 use Rattle.pct_transitions.proofs.choice_table.running_choices.Goals as goal
 

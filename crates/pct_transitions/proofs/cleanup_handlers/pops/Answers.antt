@@ -1,7 +1,4 @@
-use Rattle.std.proofs.Common.{◌≡◌, ℕ, List, [], ◌∷◌, Some, sym, ap, ◌∙◌}
-use Rattle.std.specs.Prelude.{slice_get}
-use Rattle.pct_model.specs.declared.transition.Transition.{Transition}
-use Rattle.pct_model.specs.CleanupHandlers.{pops}
+use Rattle.pct_names.proofs.Names.{[], ap, List, pops, slice_get, Some, sym, Transition, ℕ, ◌∙◌, ◌∷◌, ◌≡◌}
 use Rattle.pct_transitions.proofs.cleanup_handlers.pops.Goals as goal
 
 -- a pop depends on the newest handler alone

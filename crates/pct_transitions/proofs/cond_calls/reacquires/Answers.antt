@@ -1,6 +1,4 @@
-use Rattle.std.proofs.Common.{inl, inr, sym, ap, ◌∙◌}
-use Rattle.pct_model.specs.declared.state.Cause.{Cause}
-use Rattle.pct_model.specs.CondCalls.{reacquires}
+use Rattle.pct_names.proofs.Names.{ap, Cause, inl, inr, reacquires, sym, ◌∙◌}
 use Rattle.pct_transitions.specs.Positions.{next_at}
 use Rattle.pct_transitions.proofs.cond_calls.reacquires.Goals as goal
 

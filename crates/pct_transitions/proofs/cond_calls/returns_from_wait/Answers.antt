@@ -1,6 +1,5 @@
-use Rattle.std.proofs.Common.{Option, sym, ap, ◌∙◌}
+use Rattle.pct_names.proofs.Names.{ap, Option, reacquires, sym, ◌∙◌}
 use Rattle.pct_model.specs.declared.state.Cause.TheVariants as cause
-use Rattle.pct_model.specs.CondCalls.{reacquires}
 use Rattle.pct_transitions.specs.declared.current.At.{At}
 use Rattle.pct_transitions.specs.Positions.{next_at}
 use Rattle.pct_transitions.proofs.cond_calls.returns_from_wait.Goals as goal

@@ -1,4 +1,4 @@
-use Rattle.std.proofs.Common.{arith}
+use Rattle.pct_names.proofs.Names.{arith}
 use Rattle.pct_jumps.proofs.JumpTableFacts.{few_in}
 use Rattle.pct_transitions.proofs.current.statement_at.Goals as goal
 

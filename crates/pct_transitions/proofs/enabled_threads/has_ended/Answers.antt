@@ -1,6 +1,4 @@
-use Rattle.std.proofs.Common.{◌≡◌, ℕ, length, Option, refl, sym, ap, ◌∙◌, subst}
-use Rattle.std.specs.Prelude.{is_some}
-use Rattle.pct_model.specs.OtherThreads.{is_ended_thread}
+use Rattle.pct_names.proofs.Names.{ap, is_ended_thread, is_some, length, Option, refl, subst, sym, ℕ, ◌∙◌, ◌≡◌}
 use Rattle.pct_engine_laws.specs.SeenSteps.{others_in}
 use Rattle.pct_process.specs.ProcessViews.{ProcessData}
 use Rattle.pct_transitions.proofs.OthersRead.{has_ended, none_ended}

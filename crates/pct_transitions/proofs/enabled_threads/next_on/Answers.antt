@@ -1,7 +1,4 @@
-use Rattle.std.proofs.Common.{◌≡◌, true, List, Some, sym, ap, ◌∙◌, subst}
-use Rattle.std.specs.Prelude.{is_some, slice_get}
-use Rattle.pct_model.specs.declared.frame.Frame.{Frame}
-use Rattle.pct_model.specs.NextStatement.{next_of}
+use Rattle.pct_names.proofs.Names.{ap, Frame, is_some, List, next_of, slice_get, Some, subst, sym, true, ◌∙◌, ◌≡◌}
 use Rattle.pct_process.specs.ProcessViews.{thread_on_slot, ProcessData}
 use Rattle.pct_transitions.specs.Programs.{ProgramValue}
 use Rattle.pct_transitions.proofs.ProcessReads.{occupied_by, frames_read}

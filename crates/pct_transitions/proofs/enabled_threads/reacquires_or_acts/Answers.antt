@@ -1,6 +1,4 @@
-use Rattle.std.proofs.Common.{Bool, ◌&&◌, ◌||◌, ap, ◌∙◌}
-use Rattle.pct_model.specs.Cancelability.{is_deliverable}
-use Rattle.pct_model.specs.ChoiceTable.{unblocked_acts, is_enabled}
+use Rattle.pct_names.proofs.Names.{◌&&◌, ap, Bool, is_deliverable, is_enabled, unblocked_acts, ◌||◌, ◌∙◌}
 use Rattle.pct_transitions.proofs.EnabledThreads.{or_first, or_second, reacquire_enabled}
 use Rattle.pct_transitions.proofs.enabled_threads.reacquires_or_acts.Goals as goal
 

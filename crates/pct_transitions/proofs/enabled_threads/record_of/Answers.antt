@@ -1,5 +1,4 @@
-use Rattle.std.proofs.Common.{◌≡◌, true, Some, sym, subst}
-use Rattle.std.specs.Prelude.{is_some}
+use Rattle.pct_names.proofs.Names.{is_some, Some, subst, sym, true, ◌≡◌}
 use Rattle.pct_process.specs.ProcessViews.{thread_on_slot, ProcessData}
 use Rattle.pct_transitions.proofs.ProcessReads.{occupied_by, record_read}
 use Rattle.pct_transitions.proofs.enabled_threads.record_of.Goals as goal

@@ -1,8 +1,4 @@
-use Rattle.std.proofs.Common.{Bool, not, ◌&&◌, ◌||◌, sym, ap, ◌∙◌}
-use Rattle.pct_model.specs.declared.statement.Stmt.{Stmt}
-use Rattle.pct_model.specs.Cancelability.{is_asynchronous}
-use Rattle.pct_model.specs.ChoiceTable.{running_choices, is_enabled}
-use Rattle.pct_model.specs.StopTable.{is_fork_kind}
+use Rattle.pct_names.proofs.Names.{◌&&◌, ap, Bool, is_asynchronous, is_enabled, is_fork_kind, not, running_choices, Stmt, sym, ◌||◌, ◌∙◌}
 use Rattle.pct_transitions.proofs.EnabledThreads.{or_first, or_second, lock_enabled, running_enabled}
 use Rattle.pct_transitions.proofs.enabled_threads.runs_at.Goals as goal
 

@@ -1,7 +1,5 @@
-use Rattle.std.proofs.Common.{sym, ap, ◌∙◌}
+use Rattle.pct_names.proofs.Names.{ap, choices_at, is_enabled, NextStatement, sym, ◌∙◌}
 use Rattle.pct_model.specs.declared.state.Status.TheVariants as status
-use Rattle.pct_model.specs.ChoiceTable.{choices_at, is_enabled}
-use Rattle.pct_model.specs.NextStatement.{NextStatement}
 use Rattle.pct_transitions.specs.Positions.{next_at}
 use Rattle.pct_transitions.proofs.enabled_threads.runs_on.Goals as goal
 

@@ -1,5 +1,4 @@
-use Rattle.std.proofs.Common.{refl, sym, ◌∙◌}
-use Rattle.pct_model.specs.ForkCalls.{goes_on_after_handlers}
+use Rattle.pct_names.proofs.Names.{goes_on_after_handlers, refl, sym, ◌∙◌}
 use Rattle.pct_transitions.specs.Positions.{next_at}
 use Rattle.pct_transitions.proofs.fork_calls.goes_on_after_handlers.Goals as goal
 

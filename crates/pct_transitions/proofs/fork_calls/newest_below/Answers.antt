@@ -1,6 +1,4 @@
-use Rattle.std.proofs.Common.{◌-◌, List, ℕ, sym, ap, ◌∙◌, arith, reverse}
-use Rattle.std.specs.List.{range_with_len}
-use Rattle.pct_model.specs.declared.state.Phase.TheVariants.{Prepare}
+use Rattle.pct_names.proofs.Names.{◌-◌, ap, arith, List, Prepare, range_with_len, reverse, sym, ℕ, ◌∙◌}
 use Rattle.pct_transitions.proofs.HandlerScans.{downwards, first_handler, passes_over, finds}
 use Rattle.pct_transitions.proofs.fork_calls.newest_below.Goals as goal
 

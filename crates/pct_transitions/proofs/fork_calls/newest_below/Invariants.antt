@@ -1,8 +1,4 @@
-use Rattle.std.proofs.Common.{◌≡◌, reverse}
-use Rattle.std.specs.Prelude.{slice_get}
-use Rattle.std.specs.List.{range_with_len}
-use Rattle.pct_model.specs.declared.state.Phase.TheVariants.{Prepare}
-use Rattle.pct_model.specs.ForkCalls.{handlers_among}
+use Rattle.pct_names.proofs.Names.{handlers_among, Prepare, range_with_len, reverse, slice_get, ◌≡◌}
 use Rattle.pct_transitions.proofs.fork_calls.newest_below.Given as goal
 
 -- the handlers that were passed over are absent

@@ -1,5 +1,4 @@
-use Rattle.std.proofs.Common.{◌+◌, ◌-◌, List, ℕ, sym, ap, ◌∙◌, arith}
-use Rattle.std.specs.List.{range_with_len}
+use Rattle.pct_names.proofs.Names.{◌+◌, ◌-◌, ap, arith, List, range_with_len, sym, ℕ, ◌∙◌}
 use Rattle.pct_transitions.proofs.HandlerScans.{upwards, first_handler, passes_over, finds}
 use Rattle.pct_transitions.proofs.fork_calls.oldest_from.Goals as goal
 

@@ -1,7 +1,4 @@
-use Rattle.std.proofs.Common.{◌≡◌, ◌-◌}
-use Rattle.std.specs.Prelude.{slice_get}
-use Rattle.std.specs.List.{range_with_len}
-use Rattle.pct_model.specs.ForkCalls.{handlers_among}
+use Rattle.pct_names.proofs.Names.{◌-◌, handlers_among, range_with_len, slice_get, ◌≡◌}
 use Rattle.pct_transitions.proofs.fork_calls.oldest_from.Given as goal
 
 -- the handlers that were passed over are absent

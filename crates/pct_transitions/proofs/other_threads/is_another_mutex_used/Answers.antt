@@ -1,5 +1,4 @@
-use Rattle.std.proofs.Common.{Bool, sym, ◌∙◌, arith}
-use Rattle.pct_model.specs.World.{Thread}
+use Rattle.pct_names.proofs.Names.{arith, Bool, sym, Thread, ◌∙◌}
 use Rattle.pct_transitions.specs.OtherThreads.{is_waiting_with_another}
 use Rattle.pct_transitions.proofs.OthersRead.{any_found, any_none}
 use Rattle.pct_transitions.proofs.other_threads.is_another_mutex_used.Goals as goal

@@ -1,5 +1,4 @@
-use Rattle.std.proofs.Common.{◌≡◌, false, take}
-use Rattle.std.specs.List.{list_any}
+use Rattle.pct_names.proofs.Names.{false, list_any, take, ◌≡◌}
 use Rattle.pct_transitions.specs.OtherThreads.{any_on, is_waiting_with_another}
 use Rattle.pct_transitions.proofs.other_threads.is_another_mutex_used.Given as goal
 

@@ -1,4 +1,4 @@
-use Rattle.std.proofs.Common.{sym, ◌∙◌, arith}
+use Rattle.pct_names.proofs.Names.{arith, sym, ◌∙◌}
 use Rattle.pct_transitions.specs.OtherThreads.{is_other_running}
 use Rattle.pct_transitions.proofs.OthersRead.{any_found, any_none}
 use Rattle.pct_transitions.proofs.other_threads.is_another_running.Goals as goal

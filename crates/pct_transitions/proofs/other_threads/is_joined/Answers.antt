@@ -1,6 +1,4 @@
-use Rattle.std.proofs.Common.{Bool, sym, ◌∙◌, arith}
-use Rattle.pct_model.specs.World.{Thread}
-use Rattle.pct_model.specs.OtherThreads.{is_joining}
+use Rattle.pct_names.proofs.Names.{arith, Bool, is_joining, sym, Thread, ◌∙◌}
 use Rattle.pct_transitions.proofs.OthersRead.{any_found, any_none}
 use Rattle.pct_transitions.proofs.other_threads.is_joined.Goals as goal
 

@@ -1,6 +1,4 @@
-use Rattle.std.proofs.Common.{◌≡◌, false, take}
-use Rattle.std.specs.List.{list_any}
-use Rattle.pct_model.specs.OtherThreads.{is_joining}
+use Rattle.pct_names.proofs.Names.{false, is_joining, list_any, take, ◌≡◌}
 use Rattle.pct_transitions.specs.OtherThreads.{any_on}
 use Rattle.pct_transitions.proofs.other_threads.is_joined.Given as goal
 

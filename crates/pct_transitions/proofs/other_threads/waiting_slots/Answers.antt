@@ -1,5 +1,4 @@
-use Rattle.std.proofs.Common.{◌≡◌, true, false, sym, ◌∙◌}
-use Rattle.pct_model.specs.CondCalls.{is_waiting_on}
+use Rattle.pct_names.proofs.Names.{false, is_waiting_on, sym, true, ◌∙◌, ◌≡◌}
 use Rattle.pct_set.proofs.SlotScans.{scan_begun, scan_there, scan_fewer, scan_more, scan_ended}
 use Rattle.pct_threads.specs.Tables.{held_at}
 use Rattle.pct_transitions.specs.OtherThreads.{any_on}

@@ -1,5 +1,4 @@
-use Rattle.std.proofs.Common.{length}
-use Rattle.pct_model.specs.CondCalls.{is_waiting_on}
+use Rattle.pct_names.proofs.Names.{is_waiting_on, length}
 use Rattle.pct_set.proofs.SlotScans.{Scans}
 use Rattle.pct_threads.specs.Tables.{held_at, is_occupied_at}
 use Rattle.pct_transitions.specs.OtherThreads.{any_on}

@@ -1,7 +1,4 @@
-use Rattle.std.proofs.Common.{◌≡◌, ℕ, List, [], ◌∷◌, Option, Some, None, sym, ap, ◌∙◌}
-use Rattle.std.specs.Prelude.{slice_get}
-use Rattle.pct_model.specs.declared.transition.Transition.{Transition}
-use Rattle.pct_model.specs.ProcessExit.{goes_on_exiting}
+use Rattle.pct_names.proofs.Names.{[], ap, goes_on_exiting, List, None, Option, slice_get, Some, sym, Transition, ℕ, ◌∙◌, ◌∷◌, ◌≡◌}
 use Rattle.pct_transitions.proofs.process_exit.goes_on_exiting.Goals as goal
 
 module _ (value : Option ℕ) (o : Transition) where

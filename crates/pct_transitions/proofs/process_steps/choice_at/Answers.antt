@@ -1,8 +1,4 @@
-use Rattle.std.proofs.Common.{List, length, ap, ◌∙◌}
-use Rattle.std.specs.Prelude.{slice_get}
-use Rattle.pct_model.specs.declared.schedule.Alt.{Alt}
-use Rattle.pct_model.specs.ChoiceTable.{choices_at}
-use Rattle.pct_model.specs.NextStatement.{next_of, body_at}
+use Rattle.pct_names.proofs.Names.{Alt, ap, body_at, choices_at, length, List, next_of, slice_get, ◌∙◌}
 use Rattle.pct_engine_laws.specs.SeenSteps.{others_in}
 use Rattle.pct_process.specs.FamilyViews.{other_processes}
 use Rattle.pct_transitions.proofs.process_steps.choice_at.Goals as goal

@@ -1,7 +1,4 @@
-use Rattle.std.proofs.Common.{List, length, ap, ◌∙◌}
-use Rattle.pct_model.specs.declared.schedule.Alt.{Alt}
-use Rattle.pct_model.specs.ChoiceTable.{choices_at}
-use Rattle.pct_model.specs.NextStatement.{next_of, body_at}
+use Rattle.pct_names.proofs.Names.{Alt, ap, body_at, choices_at, length, List, next_of, ◌∙◌}
 use Rattle.pct_engine_laws.specs.SeenSteps.{others_in}
 use Rattle.pct_process.specs.FamilyViews.{other_processes}
 use Rattle.pct_transitions.proofs.OfferedLists.{has_row}

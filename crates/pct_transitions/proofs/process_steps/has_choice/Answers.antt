@@ -1,11 +1,5 @@
-use Rattle.std.proofs.Common.{◌≡◌, ℕ, Bool, not, ◌++◌, length, nat_lt, inl, inr, sym, ap, ◌∙◌}
-use Rattle.pct_model.specs.declared.script.Script.{Script}
-use Rattle.pct_model.specs.declared.state.Status.{Status}
-use Rattle.pct_model.specs.Cancelability.{is_deliverable}
-use Rattle.pct_model.specs.ChoiceTable.{go_if, act_if, choices_at, is_enabled}
-use Rattle.pct_model.specs.NextStatement.{next_of, body_at}
-use Rattle.pct_model.specs.OtherProcesses.{Family}
-use Rattle.pct_model.specs.World.{Thread}
+use Rattle.pct_names.proofs.Names.{◌++◌, act_if, ap, body_at, Bool, choices_at, Family, go_if, inl, inr, is_deliverable, is_enabled, length}
+use Rattle.pct_names.proofs.Names.{nat_lt, next_of, not, Script, Status, sym, Thread, ℕ, ◌∙◌, ◌≡◌}
 use Rattle.pct_engine_laws.specs.SeenSteps.{others_in, is_ready_in}
 use Rattle.pct_process.specs.FamilyViews.{other_processes}
 use Rattle.pct_process.specs.ProcessViews.{ProcessData}

@@ -1,9 +1,5 @@
-use Rattle.std.proofs.Common.{List, length, sym, ap, ◌∙◌, subst}
-use Rattle.std.proofs.lemmas.Bool.{false≢true}
-use Rattle.pct_model.specs.declared.schedule.Alt.{Alt}
-use Rattle.pct_model.specs.ChoiceTable.{choices_at, offers}
-use Rattle.pct_model.specs.NextStatement.{next_of, body_at}
-use Rattle.pct_model.specs.TransitionTable.{acts_or, transition_at}
+use Rattle.pct_names.proofs.Names.{acts_or, Alt, ap, body_at, choices_at, false≢true, length, List, next_of, offers, subst, sym}
+use Rattle.pct_names.proofs.Names.{transition_at, ◌∙◌}
 use Rattle.pct_engine_laws.specs.SeenSteps.{others_in}
 use Rattle.pct_process.specs.FamilyViews.{other_processes}
 use Rattle.pct_process.specs.ProcessViews.{ProcessData}

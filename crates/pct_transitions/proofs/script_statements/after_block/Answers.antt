@@ -1,4 +1,4 @@
-use Rattle.std.proofs.Common.{ap, ◌∙◌, arith}
+use Rattle.pct_names.proofs.Names.{ap, arith, ◌∙◌}
 use Rattle.pct_jumps.specs.JumpTable.{jumps_of}
 use Rattle.pct_transitions.specs.Programs.{ProgramValue}
 use Rattle.pct_transitions.proofs.Bodies.{few_statements, is_opening}

@@ -1,9 +1,5 @@
-use Rattle.std.proofs.Common.{rules, tests, reverse, ap, ◌∙◌}
-use Rattle.std.proofs.lemmas.Iterator.{YieldsList-from_slice}
-use Rattle.std.proofs.lemmas.Iterator.Search.{any_from_yields_List}
-use Rattle.std.proofs.lemmas.List.Sorted.{list_any-IsPermutation, IsPermutation-reverse}
-use Rattle.pct_model.specs.declared.frame.Frame.{Frame}
-use Rattle.pct_model.specs.StopTable.{is_handler_kind, is_in_handler}
+use Rattle.pct_names.proofs.Names.{any_from_yields_List, ap, Frame, is_handler_kind, is_in_handler, IsPermutation-reverse}
+use Rattle.pct_names.proofs.Names.{list_any-IsPermutation, reverse, rules, tests, YieldsList-from_slice, ◌∙◌}
 use Rattle.pct_transitions.proofs.stop_table.is_in_handler.Goals as goal
 
 pub returns : goal.returns

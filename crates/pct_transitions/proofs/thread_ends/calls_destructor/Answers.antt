@@ -1,8 +1,4 @@
-use Rattle.std.proofs.Common.{◌≡◌, ℕ, Option, None, sym, ap, ◌∙◌}
-use Rattle.std.specs.Prelude.{option_and_then}
-use Rattle.pct_model.specs.Keys.{Key}
-use Rattle.pct_model.specs.ThreadEnds.{calls_destructor}
-use Rattle.pct_model.specs.Transitions.{no_change}
+use Rattle.pct_names.proofs.Names.{ap, calls_destructor, Key, no_change, None, Option, option_and_then, sym, ℕ, ◌∙◌, ◌≡◌}
 use Rattle.pct_transitions.proofs.thread_ends.calls_destructor.Goals as goal
 
 -- a key that was not made has no destructor

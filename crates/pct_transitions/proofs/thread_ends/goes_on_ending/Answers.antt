@@ -1,10 +1,5 @@
-use Rattle.std.proofs.Common.{◌≡◌, ℕ, Bool, List, [], ◌∷◌, Some, None, sym, ap, ◌∙◌}
-use Rattle.std.specs.Prelude.{slice_get}
-use Rattle.pct_model.specs.declared.schedule.Alt.{Alt}
-use Rattle.pct_model.specs.declared.transition.Transition.{Transition}
-use Rattle.pct_model.specs.Keys.{KeyPlace}
-use Rattle.pct_model.specs.ThreadEnds.{goes_on_ending}
-use Rattle.pct_model.specs.World.{Thread}
+use Rattle.pct_names.proofs.Names.{[], Alt, ap, Bool, goes_on_ending, KeyPlace, List, None, slice_get, Some, sym, Thread, Transition, ℕ}
+use Rattle.pct_names.proofs.Names.{◌∙◌, ◌∷◌, ◌≡◌}
 use Rattle.pct_transitions.proofs.thread_ends.goes_on_ending.Goals as goal
 
 module _ (is_last : Bool) (passes : ℕ) (keys : List KeyPlace) (t : Thread) (choice : Alt) (o : Transition) where

@@ -1,6 +1,4 @@
-use Rattle.std.proofs.Common.{length, sym, ap, ◌∙◌, subst, arith}
-use Rattle.pct_model.specs.declared.transition.Transition.{Transition}
-use Rattle.pct_model.specs.CancelCalls.{acts_on_request}
+use Rattle.pct_names.proofs.Names.{acts_on_request, ap, arith, length, subst, sym, Transition, ◌∙◌}
 use Rattle.pct_engine_laws.specs.Fitting.{TransitionFits}
 use Rattle.pct_transitions.proofs.Fits.{acting_fits, transition_fits}
 use Rattle.pct_transitions.proofs.transition_table.transition_by.Goals as goal

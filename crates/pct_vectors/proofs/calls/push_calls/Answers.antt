@@ -1,5 +1,4 @@
-use Rattle.std.proofs.Common.{◌≡◌, ◌++◌, ◌∷◌, [], refl, sym, ap, ◌∙◌, arith}
-use Rattle.pct_model.specs.declared.statement.Stmt.{Stmt}
+use Rattle.pct_names.proofs.Names.{◌++◌, [], ap, arith, refl, Stmt, sym, ◌∙◌, ◌∷◌, ◌≡◌}
 use Rattle.pct_vectors.specs.GeneratedContents.{statement_of}
 use Rattle.pct_vectors.proofs.Numbered.{after-more}
 use Rattle.pct_vectors.proofs.calls.push_calls.Goals as goal

@@ -1,4 +1,4 @@
-use Rattle.std.proofs.Common.{◌≡◌, ◌+◌, ◌≤◌, ◌++◌}
+use Rattle.pct_names.proofs.Names.{◌+◌, ◌++◌, ◌≡◌, ◌≤◌}
 use Rattle.pct_vectors.specs.GeneratedContents.{statement_of}
 use Rattle.pct_vectors.proofs.Numbered.{below}
 use Rattle.pct_vectors.proofs.calls.push_calls.Given as goal

@@ -1,4 +1,4 @@
-use Rattle.std.proofs.Common.{◌≡◌, ℕ, List, ◌++◌, ◌∷◌, [], refl, sym, ap, ◌∙◌, arith}
+use Rattle.pct_names.proofs.Names.{◌++◌, [], ap, arith, List, refl, sym, ℕ, ◌∙◌, ◌∷◌, ◌≡◌}
 use Rattle.pct_vectors.specs.GeneratedContents.{thread_name}
 use Rattle.pct_vectors.proofs.Numbered.{after-more}
 use Rattle.pct_vectors.proofs.names.push_threads.Goals as goal

@@ -1,4 +1,4 @@
-use Rattle.std.proofs.Common.{◌≡◌, ◌+◌, ◌≤◌, ◌++◌}
+use Rattle.pct_names.proofs.Names.{◌+◌, ◌++◌, ◌≡◌, ◌≤◌}
 use Rattle.pct_vectors.specs.GeneratedContents.{thread_name}
 use Rattle.pct_vectors.proofs.Numbered.{below}
 use Rattle.pct_vectors.proofs.names.push_threads.Given as goal

@@ -1,11 +1,5 @@
-use Rattle.std.proofs.Common.{◌≡◌, ◌+◌, ◌/◌, ◌%◌, ℕ, true, List, [], ◌∷◌, codes, refl, ap, sym, ◌∙◌, subst, arith}
-use Rattle.pct_model.specs.declared.script.Func.{Func}
-use Rattle.pct_model.specs.declared.script.SemDecl.{SemDecl}
-use Rattle.pct_model.specs.Keywords.{text_of}
-use Rattle.pct_model.specs.Contents.{Contents}
-use Rattle.pct_model.specs.Canon.{script_lines}
-use Rattle.pct_model.specs.Static.{is_static}
-use Rattle.pct_model.specs.GeneratedScript.{threads_of, rounds_of, generated_text}
+use Rattle.pct_names.proofs.Names.{◌%◌, ◌+◌, ◌/◌, [], ap, arith, codes, Contents, Func, generated_text, is_static, List, refl, rounds_of}
+use Rattle.pct_names.proofs.Names.{script_lines, SemDecl, subst, sym, text_of, threads_of, true, ℕ, ◌∙◌, ◌∷◌, ◌≡◌}
 use Rattle.pct_vectors.specs.GeneratedContents.{global_names, generated_functions, generated_contents}
 use Rattle.pct_vectors.proofs.StaticScripts.{generated_is_static}
 use Rattle.pct_vectors.proofs.GeneratedTexts.{generated_canon}

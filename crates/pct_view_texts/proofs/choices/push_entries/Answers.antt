@@ -1,5 +1,4 @@
-use Rattle.std.proofs.Common.{ℕ, ◌≤◌, List, ◌++◌, length, flat_map, ap, ◌∙◌, arith}
-use Rattle.std.proofs.lemmas.List.{take_all}
+use Rattle.pct_names.proofs.Names.{◌++◌, ap, arith, flat_map, length, List, take_all, ℕ, ◌∙◌, ◌≤◌}
 use Rattle.pct_view_texts.specs.ListedLines.{choice_line}
 use Rattle.pct_view_texts.specs.TextBuffers.{text_in}
 use Rattle.pct_view_texts.proofs.ListedTexts.{entry_lines_shown, next_text}

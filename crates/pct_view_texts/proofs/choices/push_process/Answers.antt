@@ -1,5 +1,4 @@
-use Rattle.std.proofs.Common.{List, flat_map}
-use Rattle.std.specs.Prelude.{slice_get}
+use Rattle.pct_names.proofs.Names.{flat_map, List, slice_get}
 use Rattle.pct_engine_laws.specs.Seen.{Seen, seen}
 use Rattle.pct_transitions.specs.Programs.{ProgramValue}
 use Rattle.pct_view_laws.specs.Listed.{ListedThread}

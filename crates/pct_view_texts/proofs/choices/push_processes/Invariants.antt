@@ -1,6 +1,6 @@
 use Rattle.pct_engine.specs.EngineStates.{IsRunOf}
 use Rattle.pct_engine_laws.specs.Seen.{seen}
-use Rattle.pct_model.specs.Run.{Run}
+use Rattle.pct_names.proofs.Names.{Run}
 use Rattle.pct_view_texts.specs.ListedLines.{lines_by}
 use Rattle.pct_view_texts.specs.TextBuffers.{text_in}
 use Rattle.pct_view_texts.proofs.ListedTexts.{AreAppended}

@@ -1,6 +1,4 @@
-use Rattle.std.proofs.Common.{ℕ, ◌<◌, ◌≤◌, List, [], ◌++◌, cond, length, take, flat_map, ap, ◌∙◌, arith}
-use Rattle.std.specs.Prelude.{is_some}
-use Rattle.std.proofs.lemmas.List.{take_all}
+use Rattle.pct_names.proofs.Names.{◌++◌, ◌<◌, [], ap, arith, cond, flat_map, is_some, length, List, take, take_all, ℕ, ◌∙◌, ◌≤◌}
 use Rattle.pct_engine_laws.specs.Seen.{SeenSlot}
 use Rattle.pct_process.specs.ProcessViews.{ProcessData}
 use Rattle.pct_view_laws.specs.SeenViews.{listed_on}

@@ -1,6 +1,5 @@
-use Rattle.std.proofs.Common.{◌≡◌, ◌++◌, codes, take}
+use Rattle.pct_names.proofs.Names.{◌++◌, codes, event_words, take, ◌≡◌}
 use Rattle.std.specs.List.{flat_map}
-use Rattle.pct_model.specs.EventTexts.{event_words}
 use Rattle.pct_view_texts.specs.Fields.{phrase_text}
 use Rattle.pct_view_texts.specs.TextBuffers.{text_in}
 use Rattle.pct_view_texts.proofs.events.push_other_events.Given as goal

@@ -1,6 +1,4 @@
-use Rattle.std.proofs.Common.{ℕ, List, ◌++◌, ◌∷◌, flat_map, ap, ◌∙◌, codes}
-use Rattle.std.specs.Prelude.{zip}
-use Rattle.pct_model.specs.EventTexts.{func_name}
+use Rattle.pct_names.proofs.Names.{◌++◌, ap, codes, flat_map, func_name, List, zip, ℕ, ◌∙◌, ◌∷◌}
 use Rattle.pct_view_texts.specs.Fields.{phrase_text}
 use Rattle.pct_view_texts.specs.Positions.{locals_of}
 use Rattle.pct_view_texts.specs.States.{value_words}

@@ -1,4 +1,4 @@
-use Rattle.std.proofs.Common.{map, reverse}
+use Rattle.pct_names.proofs.Names.{map, reverse}
 use Rattle.pct_view_texts.specs.States.{frame_phrase}
 use Rattle.pct_view_texts.proofs.PhraseTexts.{collected}
 use Rattle.pct_view_texts.proofs.frames.push_frames.Goals as goal

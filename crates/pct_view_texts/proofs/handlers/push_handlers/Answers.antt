@@ -1,4 +1,4 @@
-use Rattle.std.proofs.Common.{sym, ◌∙◌}
+use Rattle.pct_names.proofs.Names.{sym, ◌∙◌}
 use Rattle.pct_view_texts.specs.Choices.{handler_phrase}
 use Rattle.pct_view_texts.proofs.Appending.{then_text}
 use Rattle.pct_view_texts.proofs.FieldTexts.{phrase_each}

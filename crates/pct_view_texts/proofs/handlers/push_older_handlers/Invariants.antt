@@ -1,4 +1,4 @@
-use Rattle.std.proofs.Common.{◌≡◌, ◌++◌, codes, length}
+use Rattle.pct_names.proofs.Names.{◌++◌, codes, length, ◌≡◌}
 use Rattle.std.specs.List.{flat_map}
 use Rattle.pct_view_texts.specs.Choices.{handler_phrase}
 use Rattle.pct_view_texts.specs.Fields.{phrase_text}

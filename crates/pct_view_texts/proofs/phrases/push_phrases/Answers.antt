@@ -1,4 +1,4 @@
-use Rattle.std.proofs.Common.{ℕ, List, ◌∷◌, [], length, ap, ◌∙◌, arith}
+use Rattle.pct_names.proofs.Names.{[], ap, arith, length, List, ℕ, ◌∙◌, ◌∷◌}
 use Rattle.pct_view_texts.proofs.Appending.{as_text, then_text}
 use Rattle.pct_view_texts.proofs.PhraseTexts.{no_phrases, some_phrases}
 use Rattle.pct_view_texts.proofs.phrases.push_phrases.Goals as goal

@@ -1,4 +1,4 @@
-use Rattle.std.proofs.Common.{◌∷◌, ◌++◌, sym, ap, ◌∙◌}
+use Rattle.pct_names.proofs.Names.{◌++◌, ap, sym, ◌∙◌, ◌∷◌}
 use Rattle.pct_process.specs.ProcessViews.{ProcessData}
 use Rattle.pct_view_texts.specs.Fields.{field_text}
 use Rattle.pct_view_texts.specs.States.{registered_phrases}

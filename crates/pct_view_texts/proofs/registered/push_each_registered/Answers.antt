@@ -1,4 +1,4 @@
-use Rattle.std.proofs.Common.{subst}
+use Rattle.pct_names.proofs.Names.{subst}
 use Rattle.pct_process.specs.ProcessViews.{ProcessData}
 use Rattle.pct_view_texts.specs.Fields.{after_commas}
 use Rattle.pct_view_texts.specs.States.{registered_phrases}

@@ -1,4 +1,4 @@
-use Rattle.std.proofs.Common.{◌++◌, codes}
+use Rattle.pct_names.proofs.Names.{◌++◌, codes}
 use Rattle.pct_view_texts.specs.Fields.{phrase_text}
 use Rattle.pct_view_texts.specs.States.{exit_function_phrase}
 use Rattle.pct_view_texts.proofs.PhraseTexts.{none_first, none_left}

@@ -1,5 +1,4 @@
-use Rattle.std.proofs.Common.{◌≡◌, ◌++◌, codes, length}
-use Rattle.std.specs.Prelude.{flat_map}
+use Rattle.pct_names.proofs.Names.{◌++◌, codes, flat_map, length, ◌≡◌}
 use Rattle.pct_view_texts.specs.Fields.{phrase_text}
 use Rattle.pct_view_texts.specs.States.{exit_function_phrase}
 use Rattle.pct_view_texts.specs.TextBuffers.{text_in}

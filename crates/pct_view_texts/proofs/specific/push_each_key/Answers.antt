@@ -1,5 +1,4 @@
-use Rattle.std.proofs.Common.{◌≡◌, List, ℕ, ◌++◌, ap, ◌∙◌, arith}
-use Rattle.pct_model.specs.declared.limits.TheConstants.{MAX_KEYS}
+use Rattle.pct_names.proofs.Names.{◌++◌, ap, arith, List, MAX_KEYS, ℕ, ◌∙◌, ◌≡◌}
 use Rattle.pct_view_texts.specs.States.{key_on}
 use Rattle.pct_view_texts.specs.TextBuffers.{text_in}
 use Rattle.pct_view_texts.proofs.PhraseTexts.{all_keys, next_place}

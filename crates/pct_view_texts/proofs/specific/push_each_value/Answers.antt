@@ -1,6 +1,5 @@
-use Rattle.std.proofs.Common.{◌≡◌, List, ℕ, ◌++◌, ap, ◌∙◌, arith}
+use Rattle.pct_names.proofs.Names.{◌++◌, ap, arith, List, MAX_KEYS, ℕ, ◌∙◌, ◌≡◌}
 use Rattle.pct_keys.specs.Tables.{row_at}
-use Rattle.pct_model.specs.declared.limits.TheConstants.{MAX_KEYS}
 use Rattle.pct_view_texts.specs.States.{specific_on}
 use Rattle.pct_view_texts.specs.TextBuffers.{text_in}
 use Rattle.pct_view_texts.proofs.PhraseTexts.{all_values, next_place}

@@ -1,6 +1,4 @@
-use Rattle.std.proofs.Common.{◌≡◌, ◌++◌}
-use Rattle.std.specs.Prelude.{flat_map}
-use Rattle.std.specs.List.{range_with_len}
+use Rattle.pct_names.proofs.Names.{◌++◌, flat_map, range_with_len, ◌≡◌}
 use Rattle.pct_keys.specs.Tables.{row_at}
 use Rattle.pct_view_texts.specs.Fields.{after_commas}
 use Rattle.pct_view_texts.specs.States.{specific_on}

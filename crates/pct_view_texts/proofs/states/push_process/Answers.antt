@@ -1,5 +1,4 @@
-use Rattle.std.proofs.Common.{◌≡◌, false, sym, ap, ◌∙◌}
-use Rattle.std.specs.Prelude.{is_some}
+use Rattle.pct_names.proofs.Names.{ap, false, is_some, sym, ◌∙◌, ◌≡◌}
 use Rattle.pct_process.specs.ProcessViews.{ProcessData}
 use Rattle.pct_view_laws.specs.ListedProcesses.{process_in}
 use Rattle.pct_view_texts.proofs.StateTexts.{process_text}

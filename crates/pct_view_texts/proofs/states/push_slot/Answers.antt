@@ -1,4 +1,4 @@
-use Rattle.std.specs.Prelude.{filter}
+use Rattle.pct_names.proofs.Names.{filter}
 use Rattle.pct_process.specs.ProcessViews.{slot_on}
 use Rattle.pct_view_laws.specs.Listed.{is_unended}
 use Rattle.pct_view_texts.proofs.StateTexts.{one_state}

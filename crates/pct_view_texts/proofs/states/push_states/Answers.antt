@@ -1,4 +1,4 @@
-use Rattle.std.proofs.Common.{length}
+use Rattle.pct_names.proofs.Names.{length}
 use Rattle.pct_engine.proofs.ReachedStates.{slots_within}
 use Rattle.pct_engine_laws.proofs.LongerRuns.{run_parts}
 use Rattle.pct_view_texts.proofs.StateTexts.{all_text}

@@ -1,6 +1,4 @@
-use Rattle.std.proofs.Common.{ℕ, ◌<◌, ◌≤◌, List, [], ◌++◌, length, flat_map, ap, ◌∙◌, arith}
-use Rattle.std.specs.Prelude.{filter}
-use Rattle.std.proofs.lemmas.List.{take_all}
+use Rattle.pct_names.proofs.Names.{◌++◌, ◌<◌, [], ap, arith, filter, flat_map, length, List, take_all, ℕ, ◌∙◌, ◌≤◌}
 use Rattle.pct_engine_laws.specs.Seen.{SeenSlot, threads_on}
 use Rattle.pct_view_laws.specs.Listed.{is_unended}
 use Rattle.pct_view_texts.specs.ListedLines.{values_lines}

@@ -1,5 +1,4 @@
-use Rattle.std.proofs.Common.{◌≡◌, ◌++◌, take}
-use Rattle.std.specs.Prelude.{filter, flat_map}
+use Rattle.pct_names.proofs.Names.{◌++◌, filter, flat_map, take, ◌≡◌}
 use Rattle.pct_engine_laws.specs.Seen.{threads_on}
 use Rattle.pct_view_laws.specs.Listed.{is_unended}
 use Rattle.pct_view_laws.specs.ListedProcesses.{ListedProcess}

@@ -1,4 +1,4 @@
-use Rattle.std.proofs.Common.{map}
+use Rattle.pct_names.proofs.Names.{map}
 use Rattle.pct_view_texts.proofs.LineTexts.{step_line}
 use Rattle.pct_view_texts.proofs.step.push_step.Goals as goal
 

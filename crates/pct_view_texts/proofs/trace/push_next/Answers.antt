@@ -1,5 +1,4 @@
-use Rattle.std.proofs.Common.{List, ◌++◌, length, drop, reverse, refl, sym, ap, ◌∙◌, arith, ℕ}
-use Rattle.pct_model.specs.declared.event.Event.{Event}
+use Rattle.pct_names.proofs.Names.{◌++◌, ap, arith, drop, Event, length, List, refl, reverse, sym, ℕ, ◌∙◌}
 use Rattle.pct_view_texts.proofs.Appending.{both_texts}
 use Rattle.pct_view_texts.proofs.StepLines.{no_fewer, text_of_step}
 use Rattle.pct_view_texts.proofs.trace.push_next.Goals as goal

@@ -1,5 +1,4 @@
-use Rattle.std.proofs.Common.{ℕ, ◌+◌, List, ◌++◌, ap, ◌∙◌, sym, arith}
-use Rattle.std.specs.Prelude.{is_some}
+use Rattle.pct_names.proofs.Names.{◌+◌, ◌++◌, ap, arith, is_some, List, sym, ℕ, ◌∙◌}
 use Rattle.std.proofs.lemmas.List.{append-nil}
 use Rattle.pct_engine_laws.proofs.LongerRuns.{run_none}
 use Rattle.pct_history.proofs.IllegalEntries.{illegal-at, follows-until, follows-all}

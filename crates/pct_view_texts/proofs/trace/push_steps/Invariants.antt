@@ -1,6 +1,4 @@
-use Rattle.std.proofs.Common.{◌≡◌, ◌≤◌, ◌++◌, true, length, take}
-use Rattle.std.specs.Prelude.{is_some}
-use Rattle.pct_model.specs.Run.{run}
+use Rattle.pct_names.proofs.Names.{◌++◌, is_some, length, run, take, true, ◌≡◌, ◌≤◌}
 use Rattle.pct_view_texts.specs.NextSteps.{steps_text}
 use Rattle.pct_view_texts.specs.TextBuffers.{text_in}
 use Rattle.pct_view_texts.proofs.trace.push_steps.Given as goal

@@ -1,7 +1,4 @@
-use Rattle.std.proofs.Common.{◌++◌, ap, ◌∙◌}
-use Rattle.pct_model.specs.declared.stop.Verdict.{Verdict}
-use Rattle.pct_model.specs.Keywords.{line_text}
-use Rattle.pct_model.specs.Report.{verdict_line}
+use Rattle.pct_names.proofs.Names.{◌++◌, ap, line_text, Verdict, verdict_line, ◌∙◌}
 use Rattle.pct_view_texts.specs.TextBuffers.{text_in}
 use Rattle.pct_view_texts.specs.Trace.{trace_text}
 use Rattle.pct_view_texts.proofs.Appending.{both_texts}

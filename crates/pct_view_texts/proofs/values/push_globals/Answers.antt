@@ -1,5 +1,4 @@
-use Rattle.std.proofs.Common.{map}
-use Rattle.std.specs.Prelude.{zip}
+use Rattle.pct_names.proofs.Names.{map, zip}
 use Rattle.pct_view_texts.specs.States.{value_words}
 use Rattle.pct_view_texts.proofs.PhraseTexts.{collected}
 use Rattle.pct_view_texts.proofs.values.push_globals.Goals as goal

@@ -1,7 +1,4 @@
-use Rattle.std.proofs.Common.{◌≡◌, ◌⊎◌, inl, inr, length, codes, ◌++◌}
-use Rattle.std.specs.Prelude.{zip}
-use Rattle.std.specs.Iterator.Adapters.{zip_first, zip_second}
-use Rattle.std.specs.Slice.Iter.{iter_rest}
+use Rattle.pct_names.proofs.Names.{◌++◌, codes, inl, inr, iter_rest, length, zip, zip_first, zip_second, ◌≡◌, ◌⊎◌}
 use Rattle.pct_view_texts.specs.Fields.{phrase_text}
 use Rattle.pct_view_texts.specs.States.{mutex_phrase}
 use Rattle.pct_view_texts.proofs.PhraseTexts.{no_pairs, none_left}

@@ -1,7 +1,4 @@
-use Rattle.std.proofs.Common.{◌≡◌, ◌++◌, codes}
-use Rattle.std.specs.Prelude.{flat_map, zip}
-use Rattle.std.specs.Iterator.Adapters.{zip_first, zip_second}
-use Rattle.std.specs.Slice.Iter.{iter_rest}
+use Rattle.pct_names.proofs.Names.{◌++◌, codes, flat_map, iter_rest, zip, zip_first, zip_second, ◌≡◌}
 use Rattle.pct_view_texts.specs.Fields.{phrase_text}
 use Rattle.pct_view_texts.specs.States.{mutex_phrase}
 use Rattle.pct_view_texts.specs.TextBuffers.{text_in}

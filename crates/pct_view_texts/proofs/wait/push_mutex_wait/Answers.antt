@@ -1,4 +1,4 @@
-use Rattle.std.proofs.Common.{[], ◌∷◌, ◌++◌, codes}
+use Rattle.pct_names.proofs.Names.{◌++◌, [], codes, ◌∷◌}
 use Rattle.pct_io.specs.Fields.{field_text as word_text}
 use Rattle.pct_view_texts.specs.Choices.{waits_for}
 use Rattle.pct_view_texts.specs.Fields.{phrase_text}

@@ -1,4 +1,4 @@
-use Rattle.std.proofs.Common.{sym}
+use Rattle.pct_names.proofs.Names.{sym}
 use Rattle.pct_view_texts.proofs.Appending.{as_text, then_text}
 use Rattle.pct_view_texts.proofs.StatusTexts.{before_comma_if_not_running}
 use Rattle.pct_view_texts.proofs.wait.push_status_of_waiting.Goals as goal

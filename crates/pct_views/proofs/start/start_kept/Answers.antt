@@ -1,5 +1,4 @@
-use Rattle.std.proofs.Common.{ap, ◌∙◌, length}
-use Rattle.std.specs.Prelude.{slice_get, option_map}
+use Rattle.pct_names.proofs.Names.{ap, length, option_map, slice_get, ◌∙◌}
 use Rattle.pct_engine_laws.specs.Seen.{Seen, seen, family_in}
 use Rattle.pct_engine_laws.specs.SeenSteps.{thread_with}
 use Rattle.pct_process.specs.ProcessViews.{ProcessData}

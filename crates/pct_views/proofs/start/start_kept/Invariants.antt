@@ -1,6 +1,6 @@
 use Rattle.pct_engine.specs.EngineStates.{IsRunOf}
 use Rattle.pct_engine_laws.specs.Seen.{seen}
-use Rattle.pct_model.specs.Run.{Run}
+use Rattle.pct_names.proofs.Names.{Run}
 use Rattle.pct_views.proofs.FoundProcesses.{AreLeft}
 use Rattle.pct_views.proofs.start.start_kept.Given as goal
 

@@ -1,4 +1,4 @@
-use Rattle.std.proofs.Common.{sym, ◌∙◌}
+use Rattle.pct_names.proofs.Names.{sym, ◌∙◌}
 use Rattle.pct_engine.proofs.ReachedStates.{slots_within}
 use Rattle.pct_engine_laws.proofs.LongerRuns.{run_parts}
 use Rattle.pct_view_laws.proofs.StartSeen.{start_is_seen}

@@ -1,6 +1,4 @@
-use Rattle.std.proofs.Common.{◌≡◌, true, List, Some, sym, ap, ◌∙◌, subst}
-use Rattle.std.specs.Prelude.{is_some, option_map, slice_get}
-use Rattle.pct_model.specs.declared.frame.Frame.{Frame}
+use Rattle.pct_names.proofs.Names.{ap, Frame, is_some, List, option_map, slice_get, Some, subst, sym, true, ◌∙◌, ◌≡◌}
 use Rattle.pct_process.specs.ProcessViews.{thread_on_slot, ProcessData}
 use Rattle.pct_transitions.proofs.ProcessReads.{occupied_by, frames_read}
 use Rattle.pct_view_laws.specs.TracedSteps.{position_in}

@@ -1,5 +1,4 @@
-use Rattle.std.proofs.Common.{◌≡◌, ◌<◌, true, length, Some, sym, ap, ◌∙◌, subst}
-use Rattle.std.specs.Prelude.{is_some}
+use Rattle.pct_names.proofs.Names.{◌<◌, ap, is_some, length, Some, subst, sym, true, ◌∙◌, ◌≡◌}
 use Rattle.pct_process.specs.ProcessViews.{thread_on_slot, ProcessData}
 use Rattle.pct_transitions.proofs.ProcessReads.{occupied_by, frames_read}
 use Rattle.pct_view_laws.specs.declared.position.StepStart.{StepStart}

@@ -1,6 +1,4 @@
-use Rattle.std.proofs.Common.{List, ap, ◌∙◌}
-use Rattle.std.specs.Prelude.{slice_get}
-use Rattle.pct_model.specs.declared.schedule.Alt.{Alt}
+use Rattle.pct_names.proofs.Names.{Alt, ap, List, slice_get, ◌∙◌}
 use Rattle.pct_process.specs.ProcessViews.{thread_on_slot}
 use Rattle.pct_view_laws.specs.Listed.{ListedThread}
 use Rattle.pct_views.proofs.ListedThreads.{choices_are, listed_alone, thread_of}

@@ -1,5 +1,4 @@
-use Rattle.std.proofs.Common.{◌≡◌, ℕ, ◌<◌, List, [], length, sym, ap, ◌∙◌, subst}
-use Rattle.std.specs.Prelude.{filter}
+use Rattle.pct_names.proofs.Names.{◌<◌, [], ap, filter, length, List, subst, sym, ℕ, ◌∙◌, ◌≡◌}
 use Rattle.pct_engine_laws.specs.Seen.{SeenSlot}
 use Rattle.pct_keys.specs.Tables.{Table}
 use Rattle.pct_process.specs.ProcessViews.{ProcessData, slots_of, slot_on}

@@ -1,6 +1,4 @@
-use Rattle.std.proofs.Common.{Option, sym, ap, ◌∙◌}
-use Rattle.pct_model.specs.declared.statement.Stmt.{Stmt}
-use Rattle.pct_model.specs.NextStatement.{StatementIn}
+use Rattle.pct_names.proofs.Names.{ap, Option, StatementIn, Stmt, sym, ◌∙◌}
 use Rattle.pct_transitions.specs.declared.current.At.{At}
 use Rattle.pct_transitions.specs.Positions.{next_at}
 use Rattle.pct_view_laws.specs.Waits.{wait_at}

@@ -1,9 +1,5 @@
-use Rattle.std.proofs.Common.{◌≡◌, Bool, cond, length, nat_lt, Option, Some, None, inl, inr, sym, ap, ◌∙◌}
-use Rattle.pct_model.specs.declared.script.Script.{Script}
-use Rattle.pct_model.specs.declared.state.Status.{Status}
-use Rattle.pct_model.specs.NextStatement.{NextStatement, next_of}
-use Rattle.pct_model.specs.OtherProcesses.{Family}
-use Rattle.pct_model.specs.World.{Thread}
+use Rattle.pct_names.proofs.Names.{ap, Bool, cond, Family, inl, inr, length, nat_lt, next_of, NextStatement, None, Option, Script, Some}
+use Rattle.pct_names.proofs.Names.{Status, sym, Thread, ◌∙◌, ◌≡◌}
 use Rattle.pct_engine_laws.specs.SeenSteps.{choices_in, others_in}
 use Rattle.pct_process.specs.FamilyViews.{other_processes}
 use Rattle.pct_process.specs.ProcessViews.{ProcessData}

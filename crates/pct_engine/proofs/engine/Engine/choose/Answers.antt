@@ -1,6 +1,5 @@
-use Rattle.std.proofs.Common.{◌<◌, ◌≤◌, None, length, sym, ◌∙◌, subst, arith}
+use Rattle.pct_names.proofs.Names.{◌<◌, arith, length, None, Run, subst, sym, ◌∙◌, ◌≤◌}
 use Rattle.std.proofs.lemmas.Bool.{ltb-true, ltb-false}
-use Rattle.pct_model.specs.Run.{Run}
 use Rattle.pct_engine.specs.EngineStates.{EngineValue, IsRunOf, IsChoice}
 use Rattle.pct_engine.proofs.EngineChoices.{full_after, choice_after}
 use Rattle.pct_engine.proofs.ReachedStates.{stands_can_step}

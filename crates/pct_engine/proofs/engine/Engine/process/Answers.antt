@@ -1,6 +1,4 @@
-use Rattle.std.proofs.Common.{◌≡◌, List, length, ◌≤◌, subst}
-use Rattle.std.specs.Prelude.{slice_get}
-use Rattle.pct_model.specs.Run.{Run}
+use Rattle.pct_names.proofs.Names.{length, List, Run, slice_get, subst, ◌≡◌, ◌≤◌}
 use Rattle.pct_engine_laws.specs.Seen.{Seen, seen}
 use Rattle.pct_machine.specs.ShownProcesses.{ShowsIfSome}
 use Rattle.pct_engine.specs.EngineStates.{EngineValue, IsRunOf}

@@ -1,6 +1,4 @@
-use Rattle.std.proofs.Common.{◌↔◌, subst}
-use Rattle.std.specs.Prelude.{IsOk}
-use Rattle.pct_model.specs.Run.{Run}
+use Rattle.pct_names.proofs.Names.{IsOk, Run, subst, ◌↔◌}
 use Rattle.pct_engine_laws.proofs.OpenRuns.{goes_on_while_open}
 use Rattle.pct_engine.specs.EngineStates.{EngineValue, IsRunOf, IsAllowed}
 use Rattle.pct_engine.proofs.EngineLaws.{keeps_laws}

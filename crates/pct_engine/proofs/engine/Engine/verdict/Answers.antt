@@ -1,6 +1,4 @@
-use Rattle.std.proofs.Common.{◌≡◌, List, length, ap, ◌∙◌, subst}
-use Rattle.pct_model.specs.Run.{Run, verdict_of}
-use Rattle.pct_model.specs.declared.schedule.Entry.{Entry}
+use Rattle.pct_names.proofs.Names.{ap, Entry, length, List, Run, subst, verdict_of, ◌∙◌, ◌≡◌}
 use Rattle.pct_engine_laws.specs.SeenSteps.{seen_verdict}
 use Rattle.pct_engine.specs.EngineStates.{EngineValue, IsRunOf}
 use Rattle.pct_engine.proofs.EngineChoices.{verdict_after}

@@ -1,5 +1,4 @@
-use Rattle.std.proofs.Common.{sym, ap, ◌∙◌}
-use Rattle.std.specs.Prelude.{is_some}
+use Rattle.pct_names.proofs.Names.{ap, is_some, sym, ◌∙◌}
 use Rattle.std.proofs.lemmas.Bool.{true≢false}
 use Rattle.pct_jumps.proofs.JumpTableFacts.{closing_is, is_closed_in, closes_inside}
 use Rattle.pct_jumps.proofs.jump_table.Jumps.close_of.Goals as goal

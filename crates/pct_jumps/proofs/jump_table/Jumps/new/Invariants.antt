@@ -1,4 +1,4 @@
-use Rattle.std.proofs.Common.{◌≡◌, take}
+use Rattle.pct_names.proofs.Names.{take, ◌≡◌}
 use Rattle.pct_jumps.specs.JumpTable.{jumps_of}
 use Rattle.pct_jumps.proofs.jump_table.Jumps.new.Given as goal
 

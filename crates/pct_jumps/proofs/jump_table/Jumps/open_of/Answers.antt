@@ -1,4 +1,4 @@
-use Rattle.std.proofs.Common.{sym, ◌∙◌}
+use Rattle.pct_names.proofs.Names.{sym, ◌∙◌}
 use Rattle.pct_jumps.proofs.JumpTableFacts.{opening_is, opens_earlier, opens_unless_last}
 use Rattle.pct_jumps.proofs.jump_table.Jumps.open_of.Goals as goal
 

@@ -1,5 +1,4 @@
-use Rattle.std.proofs.Common.{sym, ap, ◌∙◌, arith}
-use Rattle.pct_model.specs.Keys.{next_key}
+use Rattle.pct_names.proofs.Names.{ap, arith, next_key, sym, ◌∙◌}
 use Rattle.pct_keys.specs.Tables.{Table}
 use Rattle.pct_keys.proofs.SoundTables.{IsSound-made, next_key-here, made_at}
 use Rattle.pct_keys.proofs.keys.Keys.create.Goals as goal

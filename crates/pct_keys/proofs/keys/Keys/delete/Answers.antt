@@ -1,5 +1,4 @@
-use Rattle.std.proofs.Common.{◌≡◌, length, arith}
-use Rattle.std.proofs.lemmas.List.{take_at, with_items_is}
+use Rattle.pct_names.proofs.Names.{arith, length, take_at, with_items_is, ◌≡◌}
 use Rattle.pct_keys.proofs.SoundTables.{IsSound-without, deleted_at}
 use Rattle.pct_keys.proofs.keys.Keys.delete.Goals as goal
 

@@ -1,5 +1,4 @@
-use Rattle.std.proofs.Common.{sym, ap, length, arith}
-use Rattle.pct_model.specs.Keys.{is_due}
+use Rattle.pct_names.proofs.Names.{ap, arith, is_due, length, sym}
 use Rattle.pct_keys.specs.Tables.{row_at}
 use Rattle.pct_keys.proofs.NoValues.{due_places-none}
 use Rattle.pct_keys.proofs.Scan.{due-start, count-step, count-end}

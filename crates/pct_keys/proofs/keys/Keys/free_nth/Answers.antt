@@ -1,6 +1,4 @@
-use Rattle.std.proofs.Common.{sym, ap, ◌∙◌, not, slice_get, arith}
-use Rattle.std.specs.Prelude.{is_none}
-use Rattle.pct_model.specs.Keys.{key_at}
+use Rattle.pct_names.proofs.Names.{ap, arith, is_none, key_at, not, slice_get, sym, ◌∙◌}
 use Rattle.pct_keys.proofs.Scan.{free-start, nth-miss, nth-hit, nth-found, nth-end}
 use Rattle.pct_keys.proofs.keys.Keys.free_nth.Goals as goal
 use Rattle.pct_keys.proofs.keys.Keys.free_nth.Goals.{then-not-is_live+else-rest-eq0, else-not-is_live}

@@ -1,6 +1,4 @@
-use Rattle.std.proofs.Common.{◌≡◌, slice_get}
-use Rattle.std.specs.Prelude.{is_none}
-use Rattle.pct_model.specs.Keys.{key_at, free_places}
+use Rattle.pct_names.proofs.Names.{free_places, is_none, key_at, slice_get, ◌≡◌}
 use Rattle.pct_keys.proofs.Scan.{places_from}
 use Rattle.pct_keys.proofs.keys.Keys.free_nth.Given as goal
 

@@ -1,5 +1,4 @@
-use Rattle.std.proofs.Common.{sym, ap, length, arith}
-use Rattle.pct_model.specs.Keys.{is_left}
+use Rattle.pct_names.proofs.Names.{ap, arith, is_left, length, sym}
 use Rattle.pct_keys.specs.Tables.{row_at}
 use Rattle.pct_keys.proofs.NoValues.{left_places-none}
 use Rattle.pct_keys.proofs.Scan.{left-start, count-step, count-end}

@@ -1,5 +1,4 @@
-use Rattle.std.proofs.Common.{◌≡◌, ◌+◌, ◌≤◌, length}
-use Rattle.pct_model.specs.Keys.{is_left, left_places}
+use Rattle.pct_names.proofs.Names.{◌+◌, is_left, left_places, length, ◌≡◌, ◌≤◌}
 use Rattle.pct_keys.specs.Tables.{row_at}
 use Rattle.pct_keys.proofs.Scan.{places_from}
 use Rattle.pct_keys.proofs.keys.Keys.left.Given as goal

@@ -1,5 +1,4 @@
-use Rattle.std.proofs.Common.{sym, ap, ◌∙◌, slice_get, arith}
-use Rattle.pct_model.specs.Keys.{is_left}
+use Rattle.pct_names.proofs.Names.{ap, arith, is_left, slice_get, sym, ◌∙◌}
 use Rattle.pct_keys.specs.Tables.{row_at}
 use Rattle.pct_keys.proofs.NoValues.{left_places-none}
 use Rattle.pct_keys.proofs.Scan.{left-start, nth-miss, nth-hit, nth-found, nth-end}

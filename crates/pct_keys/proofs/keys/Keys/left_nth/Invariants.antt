@@ -1,5 +1,4 @@
-use Rattle.std.proofs.Common.{◌≡◌, slice_get}
-use Rattle.pct_model.specs.Keys.{is_left, left_places}
+use Rattle.pct_names.proofs.Names.{is_left, left_places, slice_get, ◌≡◌}
 use Rattle.pct_keys.specs.Tables.{row_at}
 use Rattle.pct_keys.proofs.Scan.{places_from}
 use Rattle.pct_keys.proofs.keys.Keys.left_nth.Given as goal

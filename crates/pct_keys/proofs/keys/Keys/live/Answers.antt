@@ -1,6 +1,4 @@
-use Rattle.std.proofs.Common.{sym, ap, ◌+◌, not, length, arith}
-use Rattle.std.specs.Prelude.{is_none}
-use Rattle.pct_model.specs.Keys.{key_at}
+use Rattle.pct_names.proofs.Names.{◌+◌, ap, arith, is_none, key_at, length, not, sym}
 use Rattle.pct_keys.proofs.Scan.{free-start, others-step, others-end}
 use Rattle.pct_keys.proofs.keys.Keys.live.Goals as goal
 

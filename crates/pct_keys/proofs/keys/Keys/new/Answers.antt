@@ -1,4 +1,4 @@
-use Rattle.std.proofs.Common.{arith}
+use Rattle.pct_names.proofs.Names.{arith}
 use Rattle.pct_keys.proofs.SoundTables.{IsSound-new}
 use Rattle.pct_keys.proofs.keys.Keys.new.Goals as goal
 

@@ -1,7 +1,4 @@
-use Rattle.std.proofs.Common.{◌≡◌, ◌≤◌}
-use Rattle.std.specs.Prelude.{replicate, vec_len, vec_capacity}
-use Rattle.pct_model.specs.declared.limits.TheConstants.{MAX_SLOTS}
-use Rattle.pct_model.specs.Keys.{no_values}
+use Rattle.pct_names.proofs.Names.{MAX_SLOTS, no_values, replicate, vec_capacity, vec_len, ◌≡◌, ◌≤◌}
 use Rattle.pct_keys.proofs.keys.Keys.new.Given as goal
 
 abbrev pub invariant-loop : goal.invariant-loop

@@ -1,5 +1,4 @@
-use Rattle.std.proofs.Common.{◌<◌, length}
-use Rattle.std.proofs.lemmas.List.{get_or_read}
+use Rattle.pct_names.proofs.Names.{◌<◌, get_or_read, length}
 use Rattle.pct_keys.specs.Tables.{no_row}
 use Rattle.pct_keys.proofs.SoundTables.{IsSound-row, FitsRow-with_pass}
 use Rattle.pct_keys.proofs.keys.Keys.pass_begin.Goals as goal

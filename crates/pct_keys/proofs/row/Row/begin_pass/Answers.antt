@@ -1,6 +1,6 @@
-use Rattle.std.proofs.Common.{◌≡◌, sym, ap, ◌∙◌, ℕ, ◌<◌, Bool, false, not, List, length, map, get_or, nat_eq, arith}
-use Rattle.std.proofs.lemmas.List.{ext_get_or, get_or-map, length-map}
-use Rattle.pct_model.specs.Keys.{KeyValues, with_pass}
+use Rattle.pct_names.proofs.Names.{◌<◌, ap, arith, Bool, false, get_or, KeyValues, length, length-map, List, map, nat_eq, not, sym}
+use Rattle.pct_names.proofs.Names.{with_pass, ℕ, ◌∙◌, ◌≡◌}
+use Rattle.std.proofs.lemmas.List.{ext_get_or, get_or-map}
 use Rattle.pct_keys.proofs.row.Row.begin_pass.Goals as goal
 
 -- the values are those at the start, and each place with a value is marked

@@ -1,5 +1,4 @@
-use Rattle.std.proofs.Common.{◌≡◌, ℕ, ◌<◌, true, false, not, length, get_or, nat_eq}
-use Rattle.pct_model.specs.declared.limits.TheConstants.{MAX_KEYS}
+use Rattle.pct_names.proofs.Names.{◌<◌, false, get_or, length, MAX_KEYS, nat_eq, not, true, ℕ, ◌≡◌}
 use Rattle.pct_keys.proofs.row.Row.begin_pass.Given as goal
 
 abbrev pub invariant-loop-place : goal.invariant-loop-place

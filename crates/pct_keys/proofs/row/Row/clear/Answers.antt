@@ -1,5 +1,4 @@
-use Rattle.std.proofs.Common.{ap, ◌∙◌}
-use Rattle.pct_model.specs.Keys.{without_value}
+use Rattle.pct_names.proofs.Names.{ap, without_value, ◌∙◌}
 use Rattle.pct_keys.proofs.NoValues.{without_value-none}
 use Rattle.pct_keys.proofs.row.Row.clear.Goals as goal
 

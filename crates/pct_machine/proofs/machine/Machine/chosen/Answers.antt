@@ -1,6 +1,4 @@
-use Rattle.std.proofs.Common.{◌≡◌, ℕ, ◌+◌, ◌<◌, true, false, List, is_some, sym, ap, ◌∙◌, subst}
-use Rattle.std.specs.Prelude.{IfSome}
-use Rattle.std.specs.List.{list_any}
+use Rattle.pct_names.proofs.Names.{◌+◌, ◌<◌, ap, false, IfSome, is_some, List, list_any, subst, sym, true, ℕ, ◌∙◌, ◌≡◌}
 use Rattle.pct_engine_laws.specs.Seen.{Seen, SeenProcess, family_in}
 use Rattle.pct_machine.specs.Candidates.{pick_after, candidates_among, takes_entry}
 use Rattle.pct_machine.specs.Places.{families, RiseWithin}

@@ -1,5 +1,4 @@
-use Rattle.std.proofs.Common.{None, ap}
-use Rattle.pct_model.specs.World.{opening}
+use Rattle.pct_names.proofs.Names.{ap, None, opening}
 use Rattle.pct_machine.specs.Places.{ProcessList}
 use Rattle.pct_machine.proofs.machine.Machine.first.Goals as goal
 

@@ -1,9 +1,4 @@
-use Rattle.std.proofs.Common.{◌≡◌, false, Option, is_some, sym, ap, ◌∙◌, subst}
-use Rattle.std.specs.Prelude.{IfSome}
-use Rattle.pct_model.specs.declared.schedule.Config.{Config}
-use Rattle.pct_model.specs.declared.schedule.Entry.{Entry}
-use Rattle.pct_model.specs.declared.script.Script.{Script}
-use Rattle.pct_model.specs.declared.transition.Transition.{Transition}
+use Rattle.pct_names.proofs.Names.{ap, Config, Entry, false, IfSome, is_some, Option, Script, subst, sym, Transition, ◌∙◌, ◌≡◌}
 use Rattle.pct_engine_laws.specs.Seen.{Seen, seen_after}
 use Rattle.pct_engine_laws.specs.SeenSteps.{seen_transition}
 use Rattle.pct_machine.specs.declared.changes.Change.{Change}

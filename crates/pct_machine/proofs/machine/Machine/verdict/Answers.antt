@@ -1,5 +1,5 @@
-use Rattle.std.proofs.Common.{◌<◌, ◌+◌, subst, true, false, None, Some, is_some, refl, sym, ap, ◌∙◌, eq-eqb, ne_eqb, length}
-use Rattle.std.specs.List.{list_all, list_any}
+use Rattle.pct_names.proofs.Names.{◌+◌, ◌<◌, ap, false, is_some, length, list_all, list_any, None, refl, Some, subst, sym, true, ◌∙◌}
+use Rattle.std.proofs.Common.{eq-eqb, ne_eqb}
 use Rattle.pct_engine_laws.specs.Seen.{Seen, SeenProcess, family_in}
 use Rattle.pct_engine_laws.specs.SeenSteps.{has_ready_in}
 use Rattle.pct_transitions.specs.Programs.{ProgramValue}

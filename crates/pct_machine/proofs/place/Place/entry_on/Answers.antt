@@ -1,8 +1,4 @@
-use Rattle.std.proofs.Common.{length, sym, ap, ◌∙◌}
-use Rattle.std.specs.Prelude.{option_map}
-use Rattle.std.proofs.lemmas.Option.{same_Some}
-use Rattle.pct_model.specs.World.{Thread}
-use Rattle.pct_model.specs.Chosen.{item_at}
+use Rattle.pct_names.proofs.Names.{ap, item_at, length, option_map, same_Some, sym, Thread, ◌∙◌}
 use Rattle.pct_engine_laws.specs.Seen.{SeenProcess}
 use Rattle.pct_engine_laws.specs.SeenSteps.{choices_in}
 use Rattle.pct_process.specs.FamilyViews.{other_processes}

@@ -1,5 +1,4 @@
-use Rattle.std.proofs.Common.{length, ap, ◌∙◌}
-use Rattle.std.specs.Prelude.{nat_lt, is_some}
+use Rattle.pct_names.proofs.Names.{ap, is_some, length, nat_lt, ◌∙◌}
 use Rattle.pct_engine_laws.specs.Seen.{threads_on}
 use Rattle.pct_engine_laws.specs.SeenSteps.{is_ready_in, ready_in}
 use Rattle.pct_process.specs.FamilyViews.{other_processes}

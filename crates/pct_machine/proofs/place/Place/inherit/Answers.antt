@@ -1,4 +1,4 @@
-use Rattle.std.proofs.Common.{sym, ap, ◌∙◌, None, subst}
+use Rattle.pct_names.proofs.Names.{ap, None, subst, sym, ◌∙◌}
 use Rattle.pct_engine_laws.specs.Seen.{SeenProcess, child_seen}
 use Rattle.pct_actions.specs.ProcessChanges.{AreOnSlots}
 use Rattle.pct_machine.proofs.HeldSlots.{one_slot}

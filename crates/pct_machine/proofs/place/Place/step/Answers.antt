@@ -1,4 +1,4 @@
-use Rattle.std.proofs.Common.{sym, subst}
+use Rattle.pct_names.proofs.Names.{subst, sym}
 use Rattle.pct_actions.specs.ProcessChanges.{AreOnSlots}
 use Rattle.pct_engine_laws.specs.Seen.{SeenProcess}
 use Rattle.pct_process.specs.FamilyViews.{other_processes}

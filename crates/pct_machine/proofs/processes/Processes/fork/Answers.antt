@@ -1,5 +1,4 @@
-use Rattle.std.proofs.Common.{◌+◌, map, take, sym, ap, ◌∙◌}
-use Rattle.std.proofs.lemmas.Option.{none-some}
+use Rattle.pct_names.proofs.Names.{◌+◌, ap, map, none-some, sym, take, ◌∙◌}
 use Rattle.pct_engine_laws.specs.Seen.{relative_in}
 use Rattle.pct_machine.proofs.LegalEntries.{none_found}
 use Rattle.pct_machine.proofs.ForkedPlaces.{thread_lent, sound_with, list_with}

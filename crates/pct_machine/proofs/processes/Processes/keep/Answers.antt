@@ -1,4 +1,4 @@
-use Rattle.std.proofs.Common.{map, take, ap, ◌∙◌}
+use Rattle.pct_names.proofs.Names.{ap, map, take, ◌∙◌}
 use Rattle.pct_engine_laws.specs.Seen.{relative_in}
 use Rattle.pct_machine.proofs.ChangedPlaces.{sound_changed}
 use Rattle.pct_machine.proofs.processes.Processes.keep.Goals as goal

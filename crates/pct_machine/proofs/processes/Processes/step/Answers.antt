@@ -1,8 +1,4 @@
-use Rattle.std.proofs.Common.{◌≡◌, cond, List, Some, sym, ap, ◌∙◌, subst}
-use Rattle.std.specs.Prelude.{find}
-use Rattle.pct_model.specs.declared.process.Relative.{Relative}
-use Rattle.pct_model.specs.declared.schedule.Entry.{Entry}
-use Rattle.pct_model.specs.OtherProcesses.{Family, family_among}
+use Rattle.pct_names.proofs.Names.{ap, cond, Entry, Family, family_among, find, List, Relative, Some, subst, sym, ◌∙◌, ◌≡◌}
 use Rattle.pct_engine_laws.specs.Seen.{SeenProcess, process_seen, is_live_seen}
 use Rattle.pct_process.specs.FamilyViews.{other_processes}
 use Rattle.pct_transitions.specs.Programs.{ProgramValue}

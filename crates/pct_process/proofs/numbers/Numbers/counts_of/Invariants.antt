@@ -1,4 +1,4 @@
-use Rattle.std.proofs.Common.{◌≡◌, map, take}
+use Rattle.pct_names.proofs.Names.{map, take, ◌≡◌}
 use Rattle.pct_process.proofs.numbers.Numbers.counts_of.Given as goal
 
 abbrev pub invariant-loop-sem : goal.invariant-loop-sem

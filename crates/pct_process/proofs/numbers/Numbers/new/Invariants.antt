@@ -1,5 +1,4 @@
-use Rattle.std.proofs.Common.{◌≡◌, length}
-use Rattle.std.specs.Prelude.{replicate}
+use Rattle.pct_names.proofs.Names.{length, replicate, ◌≡◌}
 use Rattle.pct_process.proofs.numbers.Numbers.new.Given as goal
 
 abbrev pub invariant-loop : goal.invariant-loop

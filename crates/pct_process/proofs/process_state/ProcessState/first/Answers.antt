@@ -1,9 +1,4 @@
-use Rattle.std.proofs.Common.{false, List, length, map, replicate, ap, ◌∙◌, arith}
-use Rattle.pct_model.specs.declared.script.Func.{Func}
-use Rattle.pct_model.specs.declared.script.SemDecl.{SemDecl}
-use Rattle.pct_model.specs.declared.name.Name.{Name}
-use Rattle.pct_model.specs.declared.state.FrameKind.TheVariants.{Main}
-use Rattle.pct_model.specs.Names.{main_of, names_of}
+use Rattle.pct_names.proofs.Names.{ap, arith, false, Func, length, List, Main, main_of, map, Name, names_of, replicate, SemDecl, ◌∙◌}
 use Rattle.pct_model.proofs.StaticFacts.{few_functions}
 use Rattle.pct_threads.specs.Slots.{with_call_alone}
 use Rattle.pct_threads.specs.Tables.{on_held, with_created}

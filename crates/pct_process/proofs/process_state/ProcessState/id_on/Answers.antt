@@ -1,6 +1,4 @@
-use Rattle.std.proofs.Common.{◌≡◌, Some, ap, subst}
-use Rattle.std.specs.Prelude.{option_map}
-use Rattle.pct_model.specs.World.{Thread}
+use Rattle.pct_names.proofs.Names.{ap, option_map, Some, subst, Thread, ◌≡◌}
 use Rattle.pct_process.specs.ProcessViews.{thread_on_slot, ProcessData}
 use Rattle.pct_process.proofs.ViewedSlots.{occupied_on, id_is}
 use Rattle.pct_process.proofs.process_state.ProcessState.id_on.Goals as goal

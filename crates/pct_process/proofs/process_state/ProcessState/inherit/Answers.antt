@@ -1,5 +1,4 @@
-use Rattle.std.proofs.Common.{◌≡◌, ℕ, Bool, not, List, Some, None, sym, ap, ◌∙◌, subst}
-use Rattle.std.proofs.lemmas.Option.{same_Some}
+use Rattle.pct_names.proofs.Names.{ap, Bool, List, None, not, same_Some, Some, subst, sym, ℕ, ◌∙◌, ◌≡◌}
 use Rattle.pct_threads.specs.Slots.{Slot}
 use Rattle.pct_threads.specs.Tables.{thread_at}
 use Rattle.pct_engine_laws.specs.Seen.{SeenSlot, is_last_in}

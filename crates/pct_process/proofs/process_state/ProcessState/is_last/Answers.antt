@@ -1,4 +1,4 @@
-use Rattle.std.proofs.Common.{ap, ◌∙◌}
+use Rattle.pct_names.proofs.Names.{ap, ◌∙◌}
 use Rattle.pct_engine_laws.specs.Seen.{is_last_in}
 use Rattle.pct_process.specs.ProcessViews.{ProcessData}
 use Rattle.pct_process.proofs.LastThread.{last_read}

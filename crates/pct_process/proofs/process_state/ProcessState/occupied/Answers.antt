@@ -1,5 +1,4 @@
-use Rattle.std.proofs.Common.{◌≡◌, ◌∙◌, subst}
-use Rattle.std.specs.Prelude.{is_some}
+use Rattle.pct_names.proofs.Names.{is_some, subst, ◌∙◌, ◌≡◌}
 use Rattle.pct_set.specs.Slots.{slots_where}
 use Rattle.pct_process.specs.ProcessViews.{thread_on_slot, ProcessData}
 use Rattle.pct_process.proofs.ViewedSlots.{occupied-are}

@@ -1,5 +1,4 @@
-use Rattle.std.proofs.Common.{◌≤◌, length, sym, ap, ◌∙◌, subst}
-use Rattle.std.specs.Prelude.{All}
+use Rattle.pct_names.proofs.Names.{All, ap, length, subst, sym, ◌∙◌, ◌≤◌}
 use Rattle.pct_engine_laws.specs.Seen.{SeenSlot}
 use Rattle.pct_process.specs.ProcessViews.{ProcessData}
 use Rattle.pct_process.proofs.ViewedSlots.{length-slots_of, one_each}

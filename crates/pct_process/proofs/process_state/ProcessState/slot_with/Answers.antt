@@ -1,4 +1,4 @@
-use Rattle.std.proofs.Common.{◌≡◌, length, None, sym, ◌∙◌, subst}
+use Rattle.pct_names.proofs.Names.{length, None, subst, sym, ◌∙◌, ◌≡◌}
 use Rattle.pct_engine_laws.specs.SeenSteps.{thread_with}
 use Rattle.pct_process.specs.ProcessViews.{thread_on_slot, HoldsThread, ProcessData}
 use Rattle.pct_process.proofs.ViewedSlots.{looked_up, not_looked_up}

@@ -1,4 +1,4 @@
-use Rattle.std.proofs.Common.{ap, ◌∙◌}
+use Rattle.pct_names.proofs.Names.{ap, ◌∙◌}
 use Rattle.pct_script.specs.LineRuns.{lists_at}
 use Rattle.pct_script.proofs.LineRuns.{no_lists}
 use Rattle.pct_script.proofs.line_numbers.StatementLines.new.Goals as goal

@@ -1,8 +1,6 @@
 use denote.Ref.{Bor}
-use Rattle.std.proofs.Common.{◌≡◌, ℕ, List, suc, Some, None, MatchOption, length, slice_get, ap, ◌∙◌, arith, subst, sym}
-use Rattle.std.specs.Prelude.{unwrap_or}
-use Rattle.std.proofs.lemmas.Grind.{common_steps}
-use Rattle.std.proofs.lemmas.Option.{gets}
+use Rattle.pct_names.proofs.Names.{ap, arith, common_steps, gets, length, List, MatchOption, None, slice_get, Some, subst, suc, sym}
+use Rattle.pct_names.proofs.Names.{unwrap_or, ℕ, ◌∙◌, ◌≡◌}
 use Rattle.pct_script.proofs.LineRuns.{end_at, no_list, part_is_list}
 use Rattle.pct_script.proofs.line_numbers.StatementLines.numbers_of.Goals as goal
 

@@ -1,4 +1,4 @@
-use Rattle.std.proofs.Common.{◌≡◌, [], ◌∷◌, ◌++◌, length, ap, ◌∙◌, subst, sym}
+use Rattle.pct_names.proofs.Names.{◌++◌, [], ap, length, subst, sym, ◌∙◌, ◌∷◌, ◌≡◌}
 use Rattle.pct_script.specs.LineRuns.{AreStarts, lists_at}
 use Rattle.pct_script.proofs.LineRuns.{one_more_list, one_more_start}
 use Rattle.pct_script.proofs.line_numbers.StatementLines.push_function.Goals as goal

@@ -1,4 +1,4 @@
-use Rattle.std.proofs.Common.{[], ◌∷◌, length, ap, ◌∙◌, arith}
+use Rattle.pct_names.proofs.Names.{[], ap, arith, length, ◌∙◌, ◌∷◌}
 use Rattle.std.proofs.lemmas.List.{length-append}
 use Rattle.pct_script.specs.LineRuns.{lists_at, with_more}
 use Rattle.pct_script.proofs.LineRuns.{longer_list, starts_of_longer}

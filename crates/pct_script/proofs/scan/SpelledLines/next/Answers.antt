@@ -1,4 +1,4 @@
-use Rattle.std.proofs.Common.{sym, ◌∙◌, arith}
+use Rattle.pct_names.proofs.Names.{arith, sym, ◌∙◌}
 use Rattle.pct_script.proofs.SpelledLines.{none_spelled, spelled_first, spelled_later}
 use Rattle.pct_script.proofs.scan.SpelledLines.next.Goals as goal
 

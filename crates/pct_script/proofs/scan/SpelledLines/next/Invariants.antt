@@ -1,4 +1,4 @@
-use Rattle.std.proofs.Common.{◌≡◌, ◌+◌, ◌≤◌, length}
+use Rattle.pct_names.proofs.Names.{◌+◌, length, ◌≡◌, ◌≤◌}
 use Rattle.pct_script.specs.SpelledLines.{spelled_from}
 use Rattle.pct_script.proofs.scan.SpelledLines.next.Given as goal
 

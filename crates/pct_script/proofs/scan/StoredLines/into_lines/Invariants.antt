@@ -1,5 +1,4 @@
-use Rattle.std.proofs.Common.{◌≡◌, ◌++◌, length, filter_map}
-use Rattle.pct_model.specs.Sections.{parsed_numbered}
+use Rattle.pct_names.proofs.Names.{◌++◌, filter_map, length, parsed_numbered, ◌≡◌}
 use Rattle.pct_script.proofs.scan.StoredLines.into_lines.Given as goal
 
 abbrev pub invariant-loop-number : goal.invariant-loop-number

@@ -1,4 +1,4 @@
-use Rattle.std.proofs.Common.{◌++◌, ap, ◌∙◌}
+use Rattle.pct_names.proofs.Names.{◌++◌, ap, ◌∙◌}
 use Rattle.pct_script.specs.Outlines.{outlines_in, outlines_of}
 use Rattle.pct_script.proofs.LineOutlines.{outlines_together}
 use Rattle.pct_script.proofs.scan.StoredLines.outlines.Goals as goal

@@ -1,7 +1,4 @@
-use Rattle.std.proofs.Common.{refl, sym, ap, ◌∙◌, subst}
-use Rattle.std.specs.Option.{IsSome}
-use Rattle.std.specs.Global.{Box}
-use Rattle.std.proofs.lemmas.Option.{same_Some}
+use Rattle.pct_names.proofs.Names.{ap, Box, IsSome, refl, same_Some, subst, sym, ◌∙◌}
 use Rattle.pct_engine.specs.EngineStates.{EngineValue}
 use Rattle.pct_shared.specs.Hosts.{IsClosing}
 use Rattle.pct_shared.specs.TurnRule.{Slot}

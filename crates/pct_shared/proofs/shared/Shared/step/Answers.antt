@@ -1,4 +1,4 @@
-use Rattle.std.proofs.Common.{sym, ap, ◌∙◌, subst}
+use Rattle.pct_names.proofs.Names.{ap, subst, sym, ◌∙◌}
 use Rattle.pct_shared.specs.Passes.{IsTurn, KeptByTurn, PassValue, view_on}
 use Rattle.pct_shared.proofs.PassTurns.{kept_by_turn, rests_after, turn_after}
 use Rattle.pct_shared.proofs.shared.Shared.step.Goals as goal

@@ -1,4 +1,4 @@
-use Rattle.std.proofs.Common.{◌<◌, ap, length, []}
+use Rattle.pct_names.proofs.Names.{◌<◌, [], ap, length}
 use Rattle.pct_threads.specs.Slots.{Held}
 use Rattle.pct_threads.proofs.FrameLemmas.{word_set, frame_within}
 use Rattle.pct_threads.proofs.row.Row.set_frame_word.Goals as goal

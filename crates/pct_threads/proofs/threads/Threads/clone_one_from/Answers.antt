@@ -1,5 +1,5 @@
-use Rattle.std.proofs.Common.{◌∙◌, ◌<◌, arith, length, length-set, map, ap}
-use Rattle.std.proofs.lemmas.List.{length-map}
+use Rattle.pct_names.proofs.Names.{◌<◌, ap, arith, length, length-map, map, ◌∙◌}
+use Rattle.std.proofs.Common.{length-set}
 use Rattle.pct_set.specs.Slots.{with_slot}
 use Rattle.pct_threads.specs.Slots.{is_occupied, freed}
 use Rattle.pct_threads.proofs.OccupiedSlots.{added, none_held}

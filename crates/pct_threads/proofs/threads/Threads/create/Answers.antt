@@ -1,4 +1,5 @@
-use Rattle.std.proofs.Common.{◌≡◌, ◌∙◌, true, List, arith, length-set, sym, ap, subst}
+use Rattle.pct_names.proofs.Names.{ap, arith, List, subst, sym, true, ◌∙◌, ◌≡◌}
+use Rattle.std.proofs.Common.{length-set}
 use Rattle.pct_set.specs.Slots.{with_slot}
 use Rattle.pct_threads.specs.Slots.{Slot, is_occupied}
 use Rattle.pct_threads.specs.Tables.{is_free_at}

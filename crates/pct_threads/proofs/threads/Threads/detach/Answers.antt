@@ -1,4 +1,5 @@
-use Rattle.std.proofs.Common.{◌≡◌, true, List, arith, length-set, sym, subst}
+use Rattle.pct_names.proofs.Names.{arith, List, subst, sym, true, ◌≡◌}
+use Rattle.std.proofs.Common.{length-set}
 use Rattle.pct_threads.specs.Slots.{Slot}
 use Rattle.pct_threads.specs.Tables.{is_occupied_at}
 use Rattle.pct_threads.proofs.OccupiedSlots.{retained}

@@ -1,5 +1,4 @@
-use Rattle.std.proofs.Common.{sym, ◌∙◌, arith}
-use Rattle.std.proofs.lemmas.List.Quantifiers.{position-Some}
+use Rattle.pct_names.proofs.Names.{arith, position-Some, sym, ◌∙◌}
 use Rattle.pct_threads.specs.Slots.{unused, has_id}
 use Rattle.pct_threads.specs.Tables.{held_at}
 use Rattle.pct_threads.proofs.TableLemmas.{occupied-test}

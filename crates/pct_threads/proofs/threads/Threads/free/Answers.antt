@@ -1,4 +1,4 @@
-use Rattle.std.proofs.Common.{◌∙◌, arith}
+use Rattle.pct_names.proofs.Names.{arith, ◌∙◌}
 use Rattle.pct_threads.proofs.FreeSlots.{free_more, free_all}
 use Rattle.pct_threads.proofs.threads.Threads.free.Goals as goal
 

@@ -1,4 +1,4 @@
-use Rattle.std.proofs.Common.{◌≡◌}
+use Rattle.pct_names.proofs.Names.{◌≡◌}
 use Rattle.pct_set.specs.Slots.{slots_where}
 use Rattle.pct_threads.proofs.FreeSlots.{is_free_below}
 use Rattle.pct_threads.proofs.threads.Threads.free.Given as goal

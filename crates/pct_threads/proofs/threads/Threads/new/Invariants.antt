@@ -1,6 +1,4 @@
-use Rattle.std.proofs.Common.{◌≡◌, ◌≤◌}
-use Rattle.std.specs.Prelude.{replicate, vec_capacity}
-use Rattle.pct_model.specs.declared.limits.TheConstants.{MAX_SLOTS}
+use Rattle.pct_names.proofs.Names.{MAX_SLOTS, replicate, vec_capacity, ◌≡◌, ◌≤◌}
 use Rattle.pct_threads.specs.Slots.{unused}
 use Rattle.pct_threads.proofs.threads.Threads.new.Given as goal
 

@@ -1,5 +1,5 @@
-use Rattle.std.proofs.Common.{◌∙◌, ◌<◌, List, length, arith, length-set, sym, ap, subst}
-use Rattle.std.proofs.lemmas.List.{get_or_default}
+use Rattle.pct_names.proofs.Names.{◌<◌, ap, arith, get_or_default, length, List, subst, sym, ◌∙◌}
+use Rattle.std.proofs.Common.{length-set}
 use Rattle.pct_threads.specs.Slots.{Slot, unused, is_occupied, with_frame_word}
 use Rattle.pct_threads.specs.Tables.{frames_at}
 use Rattle.pct_threads.proofs.OccupiedSlots.{same_set, some_map}

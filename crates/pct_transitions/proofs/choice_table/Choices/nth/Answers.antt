@@ -1,5 +1,4 @@
-use Rattle.std.proofs.Common.{sym, ap, ◌∙◌}
-use Rattle.std.specs.Prelude.{slice_get}
+use Rattle.pct_names.proofs.Names.{ap, slice_get, sym, ◌∙◌}
 use Rattle.pct_transitions.specs.Listed.{listed}
 use Rattle.pct_transitions.specs.declared.choice_table.Choices.{Choices}
 use Rattle.pct_transitions.proofs.choice_table.Choices.nth.Goals as goal

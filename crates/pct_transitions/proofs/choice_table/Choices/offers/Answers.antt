@@ -1,7 +1,5 @@
-use Rattle.std.proofs.Common.{sym, ap, ◌∙◌}
+use Rattle.pct_names.proofs.Names.{ap, left_keys, new_keys, offers, same_choice, sym, ◌∙◌}
 use Rattle.pct_model.specs.declared.schedule.Alt.TheVariants as alt
-use Rattle.pct_model.specs.ChoiceTable.{same_choice, offers}
-use Rattle.pct_model.specs.Keys.{new_keys, left_keys}
 use Rattle.pct_keys.specs.Tables.{row_at}
 use Rattle.pct_threads.specs.Tables.{next_id_at}
 use Rattle.pct_transitions.specs.Listed.{listed}

@@ -1,4 +1,4 @@
-use Rattle.std.proofs.Common.{◌∙◌}
+use Rattle.pct_names.proofs.Names.{◌∙◌}
 use Rattle.pct_transitions.proofs.OthersRead.{joins_read}
 use Rattle.pct_transitions.proofs.context.Context.another_joins.Goals as goal
 

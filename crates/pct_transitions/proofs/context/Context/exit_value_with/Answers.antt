@@ -1,4 +1,4 @@
-use Rattle.std.proofs.Common.{sym, ◌∙◌}
+use Rattle.pct_names.proofs.Names.{sym, ◌∙◌}
 use Rattle.pct_transitions.proofs.OthersRead.{has_ended, none_ended}
 use Rattle.pct_transitions.proofs.context.Context.exit_value_with.Goals as goal
 

@@ -1,5 +1,4 @@
-use Rattle.std.proofs.Common.{◌<◌, ℕ, List, length, map, sym, ap, ◌∙◌, subst}
-use Rattle.std.specs.Prelude.{All}
+use Rattle.pct_names.proofs.Names.{◌<◌, All, ap, length, List, map, subst, sym, ℕ, ◌∙◌}
 use Rattle.pct_threads.specs.Tables.{next_id_at}
 use Rattle.pct_transitions.proofs.OthersRead.{new_ids_read, free_within}
 use Rattle.pct_transitions.proofs.context.Context.free_slots.Goals as goal

@@ -1,4 +1,4 @@
-use Rattle.std.proofs.Common.{sym, ◌∙◌}
+use Rattle.pct_names.proofs.Names.{sym, ◌∙◌}
 use Rattle.pct_transitions.proofs.OthersRead.{is_detached, none_detached}
 use Rattle.pct_transitions.proofs.context.Context.is_detached_thread.Goals as goal
 

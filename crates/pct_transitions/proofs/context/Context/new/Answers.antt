@@ -1,5 +1,4 @@
-use Rattle.std.proofs.Common.{◌≡◌, true, length, Some, refl, sym, ap, ◌∙◌, subst, arith}
-use Rattle.std.specs.Prelude.{is_some}
+use Rattle.pct_names.proofs.Names.{ap, arith, is_some, length, refl, Some, subst, sym, true, ◌∙◌, ◌≡◌}
 use Rattle.pct_threads.proofs.TableLemmas.{within-occupied}
 use Rattle.pct_keys.specs.Tables.{Table}
 use Rattle.pct_engine_laws.specs.SeenSteps.{others_in}

@@ -1,5 +1,4 @@
-use Rattle.std.proofs.Common.{◌≡◌, ℕ, List, true, sym, ap, ◌∙◌, subst, arith}
-use Rattle.std.specs.Prelude.{All}
+use Rattle.pct_names.proofs.Names.{All, ap, arith, List, subst, sym, true, ℕ, ◌∙◌, ◌≡◌}
 use Rattle.pct_threads.specs.Tables.{is_occupied_at}
 use Rattle.pct_transitions.specs.OtherThreads.{ids_on}
 use Rattle.pct_transitions.proofs.WaitersRead.{waiters_read, waiters_held}

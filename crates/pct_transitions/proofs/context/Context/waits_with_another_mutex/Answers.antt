@@ -1,4 +1,4 @@
-use Rattle.std.proofs.Common.{◌∙◌}
+use Rattle.pct_names.proofs.Names.{◌∙◌}
 use Rattle.pct_transitions.proofs.WaitersRead.{another_mutex_read}
 use Rattle.pct_transitions.proofs.context.Context.waits_with_another_mutex.Goals as goal
 

@@ -1,4 +1,4 @@
-use Rattle.std.proofs.Common.{◌≡◌, ◌∷◌, ◌++◌, take}
+use Rattle.pct_names.proofs.Names.{◌++◌, take, ◌∷◌, ◌≡◌}
 use Rattle.std.specs.List.{flat_map}
 use Rattle.pct_io.specs.Fields.{field_text}
 use Rattle.pct_view_texts.specs.TextBuffers.{text_in}
