@@ -229,9 +229,6 @@ impl Drawing<'_, '_> {
         let end = self.layout.tag_end(tags, index);
         let limit = self.layout.tag_limit(index, end);
         let name = Caption::new(owner.mutex, limit);
-        if name.total() > limit && limit < 3 {
-            return;
-        }
         let width = text_end(TAG_MARGIN * 2, name.len());
         let baseline = self.layout.baseline(owner.position);
         self.svg.fill(

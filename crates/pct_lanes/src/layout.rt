@@ -71,6 +71,9 @@ const FEW_LANES: usize = 4;
 /// The greatest number of characters of the name of a mutex.
 pub(crate) const MUTEX_LIMIT: usize = 10;
 
+// The number of characters of it that are shown where lanes are close.
+const SHORT_MUTEX: usize = 4;
+
 /// The width of the bar of a mutex.
 pub(crate) const BAR_WIDTH: usize = 4;
 
@@ -416,11 +419,11 @@ impl Layout {
         }
     }
 
-    /// How many characters of the name of a mutex have room in a tag that ends there, up to the lane before.
+    /// At most how many characters of the name of a mutex are in a tag that ends there. Lanes that are close are covered by a short one.
     pub(crate) fn tag_limit(&self, thread: usize, end: usize) -> usize {
         if self.is_narrow {
             let before = self.lane(thread).saturating_sub(self.distance);
-            characters_between(before.saturating_add(RADIUS), end).min(MUTEX_LIMIT)
+            characters_between(before.saturating_add(RADIUS), end).clamp(SHORT_MUTEX, MUTEX_LIMIT)
         } else {
             MUTEX_LIMIT
         }

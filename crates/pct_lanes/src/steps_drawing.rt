@@ -56,7 +56,7 @@ impl Drawing<'_, '_> {
                 .lane(last)
                 .saturating_sub(bars)
                 .min(self.layout.left_of_tags(self.run, last, row));
-            self.draw_arrow_between(arrow, (first, last), left, right);
+            self.draw_arrow_between(arrow, row, left, right);
         }
     }
 
@@ -72,23 +72,17 @@ impl Drawing<'_, '_> {
     }
 
     // An arrow in its row, from the left to the right place. It is interrupted at the lanes between these two.
-    fn draw_arrow_between(
-        &mut self,
-        arrow: &Arrow,
-        between: (usize, usize),
-        left: usize,
-        right: usize,
-    ) {
+    fn draw_arrow_between(&mut self, arrow: &Arrow, row: &Row, left: usize, right: usize) {
         let y = self.layout.y(self.run, arrow.row);
         let (class, _, _) = arrow.kind.look();
         self.note(arrow.kind);
         self.svg.push("<path class=\"");
         self.svg.push(class);
         self.svg.fill("\" d=\"M% %", &[left, y]);
-        let (first, last) = between;
-        for at in first.saturating_add(1)..last {
+        for at in arrow.from.min(arrow.to).saturating_add(1)..arrow.from.max(arrow.to) {
             if let Some(thread) = self.run.threads.get(at) {
-                let edge = self.layout.left_edge(at, thread);
+                let tags = self.layout.left_of_tags(self.run, at, row);
+                let edge = self.layout.left_edge(at, thread).min(tags);
                 if thread.is_drawn(arrow.row) && left < edge {
                     let after = self.layout.lane(at).saturating_add(GAP);
                     self.svg.fill("H%M% %", &[edge, after, y]);
