@@ -386,7 +386,10 @@ impl Layout {
             characters: 0,
             places: 0,
         };
-        for owner in run.owners.iter().skip(first) {
+        for at in first..run.owners.len() {
+            let Some(owner) = run.owners.get(at) else {
+                break;
+            };
             if owner.position != position {
                 break;
             }

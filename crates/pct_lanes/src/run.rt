@@ -177,7 +177,10 @@ impl<'a> Run<'a> {
             }
         }
         row.reach = index;
-        for arrow in self.arrows.iter().skip(first_arrow) {
+        for at in first_arrow..self.arrows.len() {
+            let Some(arrow) = self.arrows.get(at) else {
+                break;
+            };
             let other = arrow.from.max(arrow.to);
             if other > index && self.has_lane(other) {
                 row.reach = row.reach.max(other);
