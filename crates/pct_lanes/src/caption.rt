@@ -2,6 +2,9 @@
 
 use crate::run::Row;
 
+// The value of a canceled thread, as events have it.
+const CANCELED_VALUE: &str = "4294967295";
+
 /// A text in parts. Where it has more characters than the limit it is cut.
 #[derive(Clone, Copy)]
 pub(crate) struct Caption<'a> {
@@ -21,6 +24,16 @@ impl<'a> Caption<'a> {
     /// A text that is never cut.
     pub(crate) fn whole(text: &'a str) -> Caption<'a> {
         Caption::new(text, text.len())
+    }
+
+    /// The events of a step. The value of a thread that was canceled is `PTHREAD_CANCELED`.
+    pub(crate) fn of_events(row: &Row<'a>, limit: usize) -> Caption<'a> {
+        let events = row.step.events();
+        let parts = match events.split_once(CANCELED_VALUE) {
+            Some((before, after)) if row.has_canceled => [before, "PTHREAD_CANCELED", after, ""],
+            _ => [events, "", "", ""],
+        };
+        Caption { parts, limit }
     }
 
     /// The statement of a step. If the thread is in a call, `in` stands before it, and what has become of the call after it. It is empty

@@ -2,7 +2,9 @@
 
 use crate::caption::Caption;
 use crate::kinds::{KIND_COUNT, KINDS, Kind};
-use crate::layout::{DROP, LEGEND_WIDTH, Layout, MARGIN, ROW_HEIGHT, TITLE_BASELINE};
+use crate::layout::{
+    DROP, LEGEND_HEIGHT, LEGEND_WIDTH, Layout, MARGIN, ROW_HEIGHT, TITLE_BASELINE,
+};
 use crate::page::Page;
 use crate::run::Run;
 use crate::selection::Selection;
@@ -25,7 +27,9 @@ text{font-family:monospace;font-size:12px;fill:#000;stroke:none}
 .waiting{stroke-dasharray:6 4}
 .ended{stroke-width:1.5;stroke-dasharray:2 3}
 .owner{fill:#bbb;stroke:#000;stroke-width:1}
+.tag{fill:#fff;stroke:#000;stroke-width:.5}
 .arrow{fill:#000;stroke:#000;stroke-width:1}
+.fork{stroke-width:3}
 .request{stroke-dasharray:6 3}
 .signal{stroke-dasharray:2 2}
 .end{fill:none;stroke:#000;stroke-width:2}
@@ -85,13 +89,25 @@ fn open_document(svg: &mut Page, run: &Run, width: usize, height: usize) {
     svg.push("</text>\n");
 }
 
-// The verdict, and the number of steps.
+// The verdict, and which of the steps are shown.
 fn push_title(svg: &mut Page, run: &Run) {
     if let Some(verdict) = run.closing.first() {
         svg.push_escaped(verdict);
     }
-    svg.fill(", steps: %", &[run.rows.len()]);
-    if run.shown_rows < run.rows.len() {
+    let all = run.rows.len();
+    let (first, last) = run.selection.range(all);
+    let selected = last.saturating_add(1).saturating_sub(first);
+    if selected == 0 || selected == all {
+        svg.fill(", steps: %", &[all]);
+    } else if first == last {
+        svg.fill(", step %", &[first]);
+    } else {
+        svg.fill(", steps % to %", &[first, last]);
+    }
+    if last < all {
+        svg.fill(" of %", &[all]);
+    }
+    if run.shown_rows < selected || selected == 0 && all > 0 {
         svg.fill(", shown: %", &[run.shown_rows]);
     }
 }
@@ -117,7 +133,7 @@ impl Drawing<'_, '_> {
         self.draw_ends();
         self.draw_marks();
         self.draw_texts();
-        self.draw_last_waits();
+        self.draw_last_texts();
         self.draw_closing();
         self.draw_legend()
     }
@@ -215,7 +231,7 @@ impl Drawing<'_, '_> {
                     .saturating_mul(LEGEND_WIDTH)
                     .saturating_add(MARGIN * 2);
                 let y = (count / columns)
-                    .saturating_mul(ROW_HEIGHT)
+                    .saturating_mul(LEGEND_HEIGHT)
                     .saturating_add(top);
                 let (_, _, words) = kind.look();
                 self.draw_form(*kind, x, y.saturating_sub(DROP));
@@ -231,7 +247,7 @@ impl Drawing<'_, '_> {
         self.svg.push("</g>\n");
         count
             .div_ceil(columns)
-            .saturating_mul(ROW_HEIGHT)
+            .saturating_mul(LEGEND_HEIGHT)
             .saturating_add(top)
     }
 }

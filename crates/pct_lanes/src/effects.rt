@@ -22,6 +22,8 @@ pub(crate) enum Effect<'a> {
     Acquires(&'a str),
     /// The thread of the step owns this mutex no more.
     Releases(&'a str),
+    /// The thread of the step begins to end, by cancellation or not.
+    Ending(bool),
     /// The thread of the step has ended.
     Ends,
     /// The process of the step has ended.
@@ -40,12 +42,13 @@ enum Event {
     Call,
     Acquire,
     Release,
+    Ending,
     Ended,
     ProcessEnd,
 }
 
 // The first word of each.
-const EVENTS: [(&str, Event); 12] = [
+const EVENTS: [(&str, Event); 13] = [
     ("create", Event::Create),
     ("fork", Event::Fork),
     ("request", Event::Request),
@@ -56,6 +59,7 @@ const EVENTS: [(&str, Event); 12] = [
     ("call", Event::Call),
     ("acquire", Event::Acquire),
     ("release", Event::Release),
+    ("ending", Event::Ending),
     ("ended", Event::Ended),
     ("process_end", Event::ProcessEnd),
 ];
@@ -72,6 +76,7 @@ impl<'a> Effect<'a> {
             Event::Acquire => Effect::Acquires(word),
             Event::Release => Effect::Releases(word),
             Event::Broadcast => Effect::Broadcasts(word),
+            Event::Ending => Effect::Ending(word == "canceled"),
             Event::Ended => Effect::Ends,
             Event::ProcessEnd => Effect::EndsProcess,
             Event::Signal => Effect::Signals(thread_of(by, words.next()?)?),

@@ -121,13 +121,21 @@ impl Kind {
                 "requests cancellation",
             ),
             Kind::Signal => ("arrow signal", "m-14 0h28l-7-3v6l7-3", "signals a thread"),
-            Kind::Join => ("arrow join", "m-14 0h28l-7-3v6l7-3", "is joined"),
+            Kind::Join => ("arrow join", "m-14 0h28m0 0l-8-4m0 8l8-4", "is joined"),
             Kind::Waiting => ("waiting", "m0-8v16", "is in a call, or waits"),
             Kind::Owner => ("owner", "m-2-7h4v14h-4z", "owns the mutex"),
             Kind::Ended => ("ended", "m0-8v16", "has ended"),
             Kind::End => ("end", "m-6 0h12", "the thread ends"),
             Kind::ProcessEnd => ("end process", "m-6-2h12m-12 4h12", "the process ends"),
             Kind::CutOff => ("end cut", "m-4-4l8 8m-8 0l8-8", "ends with its process"),
+        }
+    }
+
+    /// The head of an arrow that points to the right side, and of one to the left: that of `join` is open.
+    pub(crate) fn heads(self) -> (&'static str, &'static str) {
+        match self {
+            Kind::Join => ("l-8-4m0 8l8-4", "l8-4m0 8l-8-4"),
+            _ => ("l-7-3v6l7-3", "l7-3v6l-7-3"),
         }
     }
 }

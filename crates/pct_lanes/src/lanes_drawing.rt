@@ -3,12 +3,12 @@
 use crate::caption::Caption;
 use crate::drawing::Drawing;
 use crate::kinds::Kind;
-use crate::layout::{DROP, FUNCTION_LIMIT, LINE_HEIGHT, RADIUS, characters_between, left_of};
+use crate::layout::{
+    BAR_WIDTH, DROP, FUNCTION_LIMIT, LINE_HEIGHT, PENDING, RADIUS, TAG_HEIGHT, TAG_MARGIN,
+    characters_between, left_of, text_end,
+};
 use crate::thread::{Thread, bars_up_to};
 use crate::waits::{Owner, Wait};
-
-// The width of the bar of a mutex.
-const BAR_WIDTH: usize = 4;
 
 // From the middle of a row to the bar of a thread that ends there.
 const END_DROP: usize = 8;
@@ -182,30 +182,35 @@ impl Drawing<'_, '_> {
 
     // ---- mutexes
 
-    // A bar beside the lane of the owner of a mutex, with its name at the top.
+    // A bar beside the lane of the owner of a mutex, and over the bars a tag with the name of the mutex at the top of each.
     pub(crate) fn draw_owners(&mut self) {
         self.svg.push("<g class=\"owners\">\n");
         for owner in self.run.owners.iter() {
-            if let Some(index) = owner.thread {
-                if let Some(thread) = self.run.threads.get(index) {
-                    if thread.is_shown {
-                        self.draw_owner(owner, index, thread);
-                    }
-                }
+            if let Some(index) = self.bar_of(owner) {
+                self.draw_bar(owner, index);
+            }
+        }
+        for owner in self.run.owners.iter() {
+            if let Some(index) = self.bar_of(owner) {
+                self.draw_tag(owner, index);
             }
         }
         self.svg.push("</g>\n");
     }
 
-    fn draw_owner(&mut self, owner: &Owner, index: usize, thread: &Thread) {
-        let top = self.layout.y(self.run, owner.first);
-        let bottom = match owner.last {
-            None => self.layout.bottom(),
-            Some(last) => self.layout.y(self.run, last),
-        };
-        if top >= bottom {
-            return;
+    // The index of the thread beside whose lane a mutex has a bar.
+    fn bar_of(&self, owner: &Owner) -> Option<usize> {
+        let index = owner.thread?;
+        if self.run.has_lane(index) && self.layout.has_bar(self.run, owner) {
+            Some(index)
+        } else {
+            None
         }
+    }
+
+    fn draw_bar(&mut self, owner: &Owner, index: usize) {
+        let top = self.layout.y(self.run, owner.first);
+        let bottom = self.layout.owner_bottom(self.run, owner);
         let place = bars_up_to(owner.place);
         let left = self
             .layout
@@ -216,63 +221,77 @@ impl Drawing<'_, '_> {
             &[left, top, BAR_WIDTH, bottom.saturating_sub(top)],
         );
         self.note(Kind::Owner);
-        self.draw_mutex(owner, index, thread);
     }
 
-    // The name of a mutex. If its owner does not make a step in the first row, which is left out or has a fork, the names of its
-    // mutexes stand below that row, one below the other.
-    fn draw_mutex(&mut self, owner: &Owner, index: usize, thread: &Thread) {
-        if let Some(row) = self.run.rows.get(owner.first) {
-            let below = if row.is_shown && row.thread == owner.thread {
-                0
-            } else {
-                bars_up_to(owner.place)
-            };
-            let position = row.position.saturating_add(below);
-            if position >= self.layout.rows {
-                return;
-            }
-            let y = self.layout.baseline(position);
-            let (end, limit) = self.layout.mutex(index, thread);
-            self.draw_text("label mutex", end, y, Caption::new(owner.mutex, limit));
-        }
+    // The tag of a mutex is in the first row that is shown of its bar. Several tags in one row are in the order of their bars.
+    fn draw_tag(&mut self, owner: &Owner, index: usize) {
+        let tags = self.layout.tags_below(self.run, owner, index);
+        let end = self.layout.tag_end(tags, index);
+        let limit = self.layout.tag_limit(index, end);
+        let name = Caption::new(owner.mutex, limit);
+        let width = text_end(TAG_MARGIN * 2, name.len());
+        let baseline = self.layout.baseline(owner.position);
+        self.svg.fill(
+            "<rect class=\"tag\" x=\"%\" y=\"%\" width=\"%\" height=\"%\"/>\n",
+            &[
+                end.saturating_sub(width),
+                baseline.saturating_sub(DROP).saturating_sub(TAG_HEIGHT / 2),
+                width,
+                TAG_HEIGHT,
+            ],
+        );
+        self.draw_text(
+            "label mutex",
+            end.saturating_sub(TAG_MARGIN),
+            baseline,
+            name,
+        );
     }
 
-    // ---- waits after the last step
+    // ---- after the last step
 
-    // What each thread waits for, below its lane; if the lanes have no room below the other lines after the steps.
-    pub(crate) fn draw_last_waits(&mut self) {
+    // What each thread waits for, and whether its end is requested, below its lane; if the lanes have no room below the other lines after the
+    // steps.
+    pub(crate) fn draw_last_texts(&mut self) {
         self.svg.push("<g class=\"waits\">\n");
         let mut line = self.run.closing.len();
         for (index, thread) in self.run.threads.iter().enumerate() {
-            if thread.is_shown && !thread.wait.is_empty() {
+            if thread.has_last_text() {
                 if self.layout.is_dense {
-                    self.draw_wait_line(thread, self.layout.closing(line));
+                    self.draw_last_line(thread, self.layout.closing(line));
                     line = line.saturating_add(1);
                 } else {
-                    self.draw_wait_below(thread, index);
+                    self.draw_last_texts_below(thread, index);
                 }
             }
         }
         self.svg.push("</g>\n");
     }
 
-    fn draw_wait_line(&mut self, thread: &Thread, y: usize) {
+    fn draw_last_line(&mut self, thread: &Thread, y: usize) {
         self.svg.fill(
             "<text class=\"label wait\" x=\"14\" y=\"%\">%.% ",
             &[y, thread.id.process, thread.id.thread],
         );
         self.svg.push_escaped(thread.wait);
+        if thread.has_request {
+            let both = if thread.wait.is_empty() { "" } else { ", " };
+            self.svg.push(both);
+            self.svg.push(PENDING);
+        }
         self.svg.push("</text>\n");
     }
 
-    // In one line, or in two if that has no room.
-    fn draw_wait_below(&mut self, thread: &Thread, index: usize) {
+    // A wait is in one line, or in two if that has no room, and a request in a line of its own.
+    fn draw_last_texts_below(&mut self, thread: &Thread, index: usize) {
         let x = self.layout.lane(index).saturating_sub(RADIUS);
-        let y = self.layout.bottom().saturating_add(LINE_HEIGHT);
-        let end = self.layout.next_edge(self.run, index, self.run.rows.len());
-        let limit = characters_between(x, end);
+        let limit = characters_between(x, self.next_last_text(index));
         let second = thread.wait.strip_prefix("waits for ").unwrap_or("");
+        let mut y = self.layout.bottom().saturating_add(LINE_HEIGHT);
+        if thread.has_request {
+            self.draw_text("label wait", x, y, Caption::new(PENDING, limit));
+            y = y.saturating_add(LINE_HEIGHT);
+        }
         if thread.wait.len() <= limit || second.is_empty() {
             self.draw_text("label wait", x, y, Caption::new(thread.wait, limit));
         } else {
@@ -284,5 +303,21 @@ impl Drawing<'_, '_> {
                 Caption::new(second, limit),
             );
         }
+    }
+
+    // Where the next lane with a text at its end begins, or the end of the picture.
+    fn next_last_text(&self, index: usize) -> usize {
+        for (at, thread) in self
+            .run
+            .threads
+            .iter()
+            .enumerate()
+            .skip(index.saturating_add(1))
+        {
+            if thread.has_last_text() {
+                return self.layout.lane(at).saturating_sub(RADIUS * 2);
+            }
+        }
+        self.layout.width.saturating_sub(RADIUS)
     }
 }

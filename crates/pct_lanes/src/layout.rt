@@ -2,7 +2,8 @@
 
 use crate::caption::Caption;
 use crate::run::{Row, Run};
-use crate::thread::Thread;
+use crate::thread::{Thread, bars_up_to};
+use crate::waits::Owner;
 use pct_io::NoMemory;
 use std::alloc::Global;
 
@@ -29,6 +30,9 @@ pub(crate) const TITLE_BASELINE: usize = MARGIN + 8;
 
 /// The most characters of a function's name above a lane.
 pub(crate) const FUNCTION_LIMIT: usize = 12;
+
+/// The height of an entry of the legend.
+pub(crate) const LEGEND_HEIGHT: usize = 24;
 
 /// The width of an entry of the legend.
 pub(crate) const LEGEND_WIDTH: usize = 270;
@@ -64,8 +68,23 @@ const SHORT_STATEMENT_LIMIT: usize = 30;
 
 const FEW_LANES: usize = 4;
 
-// The greatest number of characters of the name of a mutex.
-const MUTEX_LIMIT: usize = 10;
+/// The greatest number of characters of the name of a mutex.
+pub(crate) const MUTEX_LIMIT: usize = 10;
+
+// The number of characters of it that are shown where lanes are close.
+const SHORT_MUTEX: usize = 4;
+
+/// The width of the bar of a mutex.
+pub(crate) const BAR_WIDTH: usize = 4;
+
+/// The height of the tag of a mutex.
+pub(crate) const TAG_HEIGHT: usize = 14;
+
+/// From the sides of the tag of a mutex to its name.
+pub(crate) const TAG_MARGIN: usize = 2;
+
+// The words of a pending request at the end of a lane.
+pub(crate) const PENDING: &str = "request pending";
 
 // The greatest number of characters of events, and the least to which they are cut so that the picture is no wider than a slide.
 const EVENTS_LIMIT: usize = 44;
@@ -77,10 +96,23 @@ const LEAST_EVENTS: usize = 10;
 struct Lane {
     // Its place.
     place: usize,
+    // The row in which its thread comes into being.
+    first: usize,
     // The number of characters of the longest events, name or wait, which stand at the right side.
     right: usize,
     // The number of characters of the longest name of a mutex, at the left side.
     left: usize,
+    // The number of characters of those at the row with a fork that makes it, where an arrow leads to it.
+    forked: usize,
+}
+
+/// The tags of the mutexes whose bars begin at one position beside a lane.
+#[derive(Clone, Copy)]
+pub(crate) struct Tags {
+    /// The number of characters of those that are counted, with a space after each.
+    pub(crate) characters: usize,
+    /// The places of all bars.
+    places: u32,
 }
 
 /// Where the parts of a picture stand.
@@ -114,8 +146,10 @@ pub(crate) struct Layout {
     pub(crate) top: usize,
     /// The number of rows that are shown.
     pub(crate) rows: usize,
-    /// The number of waits after the last step.
-    pub(crate) last_waits: usize,
+    /// The number of threads with a text at the end of the lane.
+    pub(crate) last_texts: usize,
+    /// The number of lines at the end of the lanes.
+    pub(crate) last_lines: usize,
     /// The greatest number of characters of a name with its function.
     pub(crate) longest_name: usize,
 }
@@ -138,7 +172,8 @@ impl Layout {
             width: 0,
             top: MARGIN * 5,
             rows: run.shown_rows,
-            last_waits: 0,
+            last_texts: 0,
+            last_lines: 0,
             longest_name: 0,
         };
         layout.measure(run)?;
@@ -153,9 +188,15 @@ impl Layout {
         }
         self.measure_rows(run);
         for owner in run.owners.iter() {
-            if let Some(thread) = owner.thread {
+            if let (Some(thread), true) = (owner.thread, self.has_bar(run, owner)) {
+                let tags = self.tags_below(run, owner, thread);
+                let name = owner.mutex.len().min(MUTEX_LIMIT);
+                let characters = tags.characters.saturating_add(name);
                 if let Some(lane) = self.lanes.get_mut(thread) {
-                    lane.left = lane.left.max(owner.mutex.len()).min(MUTEX_LIMIT);
+                    lane.left = lane.left.max(characters);
+                    if lane.first == owner.first {
+                        lane.forked = lane.forked.max(characters);
+                    }
                 }
             }
         }
@@ -165,18 +206,24 @@ impl Layout {
 
     fn measure_thread(&mut self, thread: &Thread) -> Result<(), NoMemory> {
         let name = thread.id.len();
+        let request = if thread.has_request { PENDING.len() } else { 0 };
         self.lanes.push(Lane {
             place: 0,
-            right: name.max(thread.wait.len()),
+            first: thread.first,
+            right: name.max(thread.wait.len()).max(request),
             left: 0,
+            forked: 0,
         })?;
         if thread.is_shown {
             self.shown_lanes = self.shown_lanes.saturating_add(1);
             let function = thread.function.len().min(FUNCTION_LIMIT);
             let both = name.saturating_add(1).saturating_add(function);
             self.longest_name = self.longest_name.max(both);
-            if !thread.wait.is_empty() {
-                self.last_waits = self.last_waits.saturating_add(1);
+            if thread.has_last_text() {
+                self.last_texts = self.last_texts.saturating_add(1);
+                let request_lines = if thread.has_request { 1 } else { 0 };
+                let wait_lines = if thread.wait.is_empty() { 0 } else { 2 };
+                self.last_lines = self.last_lines.max(request_lines + wait_lines);
             }
             if self.shown_lanes > FEW_LANES {
                 self.statement_limit = SHORT_STATEMENT_LIMIT;
@@ -196,7 +243,8 @@ impl Layout {
                 place = place.max(row.place.len()).min(PLACE_LIMIT);
                 statement = statement.max(Caption::of_statement(row, self.statement_limit).len());
                 if let Some(lane) = self.lanes.get_mut(thread) {
-                    lane.right = lane.right.max(row.step.events().len());
+                    let events = Caption::of_events(row, EVENTS_LIMIT);
+                    lane.right = lane.right.max(events.total());
                     self.longest_events = self.longest_events.max(lane.right).min(EVENTS_LIMIT);
                 }
             }
@@ -209,7 +257,7 @@ impl Layout {
 
     // ---- lanes
 
-    // Cuts the events until the picture is no wider than a slide. If they would be cut too short the lanes become narrow.
+    // Cuts the room of the events until the picture is no wider than a slide. If it would be too short the lanes become narrow.
     fn place_lanes(&mut self, run: &Run) {
         for cut in 0..=EVENTS_LIMIT - LEAST_EVENTS {
             self.place_wide(run, EVENTS_LIMIT - cut);
@@ -230,18 +278,21 @@ impl Layout {
     fn place_wide(&mut self, run: &Run, limit: usize) {
         let mut place = self.texts_end.saturating_sub(WIDE_LANE / 2);
         let mut end = self.texts_end;
+        let mut width = LEAST_WIDTH;
         for (thread, lane) in run.threads.iter().zip(self.lanes.iter_mut()) {
             if thread.is_shown {
                 let bars = left_of(thread.most_owned);
                 let names = text_end(bars.saturating_add(RADIUS), lane.left);
+                let beside_arrow = text_end(bars, lane.forked);
                 place = place
                     .saturating_add(names.max(WIDE_LANE))
-                    .max(end.saturating_add(bars));
+                    .max(end.saturating_add(beside_arrow));
                 end = text_end(place, lane.right.min(limit)).saturating_add(TEXT_GAP + ARROW_ROOM);
+                width = width.max(text_end(place, lane.right).saturating_add(TEXT_GAP + MARGIN));
             }
             lane.place = place;
         }
-        self.width = end.max(LEAST_WIDTH);
+        self.width = width;
     }
 
     // Places lanes side by side, with room for the events of the last one.
@@ -272,36 +323,31 @@ impl Layout {
         self.lane(index).saturating_sub(left_of(thread.most_owned))
     }
 
-    /// Where the name of a mutex ends that this thread owns, and how many characters have room up to the lane before it.
-    pub(crate) fn mutex(&self, index: usize, thread: &Thread) -> (usize, usize) {
-        let end = self.left_edge(index, thread).saturating_sub(2);
-        let limit = if self.is_narrow {
-            let lane = self.lane(index).saturating_sub(self.distance);
-            characters_between(lane.saturating_add(RADIUS), end)
-        } else {
-            MUTEX_LIMIT
-        };
-        (end, limit)
+    /// Where the events of a step stand, and how many characters have room. In a narrow picture they stand beside the last lane that an
+    /// arrow of the row concerns, else beside the mark.
+    pub(crate) fn events(&self, run: &Run, row: &Row<'_>, thread: usize) -> (usize, usize) {
+        let beside = if self.is_narrow { row.reach } else { thread };
+        let start = self.lane(beside).saturating_add(TEXT_GAP);
+        let end = self.events_end(run, row, beside);
+        (start, characters_between(start, end))
     }
 
-    /// Where the events of a step stand, and at most how many characters have room. In a narrow picture they stand beside the last lane that
-    /// an arrow of the row concerns, else beside the mark, up to the next lane or an arrow to it.
-    pub(crate) fn events(
-        &self,
-        run: &Run,
-        index: usize,
-        row: &Row<'_>,
-        thread: usize,
-    ) -> (usize, usize) {
-        let (start, end) = if self.is_narrow {
-            (self.lane(row.reach), self.width.saturating_sub(MARGIN))
-        } else {
-            let edge = self.next_edge(run, thread, index);
-            let arrow = if row.reach > thread { ARROW_ROOM } else { 0 };
-            (self.lane(thread), edge.saturating_sub(arrow))
-        };
-        let start = start.saturating_add(TEXT_GAP);
-        (start, characters_between(start, end).min(EVENTS_LIMIT))
+    // Up to where the events extend that stand beside a lane: to an arrow, to the tag of a mutex, or to the end of the picture.
+    fn events_end(&self, run: &Run, row: &Row<'_>, beside: usize) -> usize {
+        for at in beside.saturating_add(1)..self.lanes.len() {
+            let tags = self.left_of_tags(run, at, row);
+            if !self.is_narrow && row.near == Some(at) {
+                let bars = match run.threads.get(at) {
+                    Some(thread) => left_of(thread.most_owned),
+                    None => 0,
+                };
+                let edge = self.lane(at).saturating_sub(bars);
+                return edge.min(tags).saturating_sub(ARROW_ROOM);
+            } else if tags < self.width {
+                return tags;
+            }
+        }
+        self.width.saturating_sub(MARGIN)
     }
 
     /// The next place at the right side of the lane with this index where a lane has a line in this row, or the end of the picture.
@@ -312,6 +358,78 @@ impl Layout {
             }
         }
         self.width.saturating_sub(MARGIN)
+    }
+
+    // ---- tags of mutexes
+
+    /// Whether the rows in which a mutex has this owner have a place in the picture.
+    pub(crate) fn has_bar(&self, run: &Run, owner: &Owner) -> bool {
+        self.y(run, owner.first) < self.owner_bottom(run, owner)
+    }
+
+    /// Down to where a mutex has this owner.
+    pub(crate) fn owner_bottom(&self, run: &Run, owner: &Owner) -> usize {
+        match owner.last {
+            None => self.bottom(),
+            Some(last) => self.y(run, last),
+        }
+    }
+
+    /// The tags between that of this owner and the lane.
+    pub(crate) fn tags_below(&self, run: &Run, owner: &Owner, thread: usize) -> Tags {
+        self.tags(run, owner.group, thread, owner.position, owner.place)
+    }
+
+    // The tags beside the lane of a thread at a position, counting those of bars that are nearer to the lane than this place.
+    fn tags(&self, run: &Run, first: usize, thread: usize, position: usize, place: u32) -> Tags {
+        let mut tags = Tags {
+            characters: 0,
+            places: 0,
+        };
+        for at in first..run.owners.len() {
+            let Some(owner) = run.owners.get(at) else {
+                break;
+            };
+            if owner.position != position {
+                break;
+            }
+            if owner.thread == Some(thread) && self.has_bar(run, owner) {
+                tags.places |= owner.place;
+                if owner.place < place {
+                    let name = owner.mutex.len().min(MUTEX_LIMIT).saturating_add(1);
+                    tags.characters = tags.characters.saturating_add(name);
+                }
+            }
+        }
+        tags
+    }
+
+    /// Where the tag of a mutex ends: at the last of the bars that begin in its row, and before the tags of those that are nearer to the lane.
+    pub(crate) fn tag_end(&self, tags: Tags, thread: usize) -> usize {
+        let bars = left_of(bars_up_to(tags.places)).saturating_sub(1);
+        self.lane(thread)
+            .saturating_sub(bars)
+            .saturating_sub(text_end(0, tags.characters))
+    }
+
+    /// The left side of the tags that a lane has in a row, or the end of the picture.
+    pub(crate) fn left_of_tags(&self, run: &Run, thread: usize, row: &Row<'_>) -> usize {
+        let tags = self.tags(run, row.owners, thread, row.position, u32::MAX);
+        if run.has_lane(thread) && tags.places > 0 {
+            self.tag_end(tags, thread)
+        } else {
+            self.width
+        }
+    }
+
+    /// At most how many characters of the name of a mutex are in a tag that ends there. Lanes that are close are covered by a short one.
+    pub(crate) fn tag_limit(&self, thread: usize, end: usize) -> usize {
+        if self.is_narrow {
+            let before = self.lane(thread).saturating_sub(self.distance);
+            characters_between(before.saturating_add(RADIUS), end).clamp(SHORT_MUTEX, MUTEX_LIMIT)
+        } else {
+            MUTEX_LIMIT
+        }
     }
 }
 

@@ -5,7 +5,7 @@ use crate::kinds::Kind;
 use crate::selection::Selection;
 use crate::thread::Thread;
 use crate::thread_id::ThreadId;
-use crate::trace_lines::{Step, nth_word};
+use crate::trace_lines::{State, Step};
 use crate::waits::{Owner, Wait};
 use pct_io::NoMemory;
 use std::alloc::Global;
@@ -36,6 +36,12 @@ pub(crate) struct Row<'a> {
     pub(crate) place: &'a str,
     /// The greatest index of a thread that has the mark or an end of an arrow in this row.
     pub(crate) reach: usize,
+    /// The least index above that of its thread of one that has an end of an arrow in this row.
+    pub(crate) near: Option<usize>,
+    /// The index of the first owner of a mutex whose bar begins at its position.
+    pub(crate) owners: usize,
+    /// Whether it shows the value of a canceled thread, which is PTHREAD_CANCELED.
+    pub(crate) has_canceled: bool,
     /// Whether it is shown.
     pub(crate) is_shown: bool,
     /// The number of rows before it that are shown.
@@ -122,6 +128,9 @@ impl<'a> Run<'a> {
             kind: Kind::Step,
             place: step.place,
             reach: 0,
+            near: None,
+            owners: self.first_owner(),
+            has_canceled: false,
             is_shown: self.selection.has_step(index, &step),
             position: self.shown_rows,
         };
@@ -151,29 +160,43 @@ impl<'a> Run<'a> {
         row.kind = kind;
         row.place = place;
         row.is_shown = row.is_shown && thread.is_shown;
-        row.reach = self.add_events(row, index, by)?;
-        Ok(())
+        self.add_events(row, index, by)
     }
 
-    // Adds the events of a step of this thread, and returns the greatest index of a thread that an arrow concerns.
-    fn add_events(&mut self, row: &Row<'a>, index: usize, by: ThreadId) -> Result<usize, NoMemory> {
+    // Adds the events of a step of this thread, and notes the threads that its arrows concern.
+    fn add_events(
+        &mut self,
+        row: &mut Row<'a>,
+        index: usize,
+        by: ThreadId,
+    ) -> Result<(), NoMemory> {
         let first_arrow = self.arrows.len();
         for event in row.step.events.split(',') {
             if let Some(effect) = Effect::parse(event, by) {
                 self.apply(effect, row, index, by)?;
             }
         }
-        let mut reach = index;
-        for arrow in self.arrows.iter().skip(first_arrow) {
-            reach = reach.max(arrow.from).max(arrow.to);
+        row.reach = index;
+        for at in first_arrow..self.arrows.len() {
+            let Some(arrow) = self.arrows.get(at) else {
+                break;
+            };
+            let other = arrow.from.max(arrow.to);
+            if other > index && self.has_lane(other) {
+                row.reach = row.reach.max(other);
+                row.near = match row.near {
+                    Some(near) => Some(near.min(other)),
+                    None => Some(other),
+                };
+            }
         }
-        Ok(reach)
+        Ok(())
     }
 
     fn apply(
         &mut self,
         effect: Effect<'a>,
-        row: &Row<'a>,
+        row: &mut Row<'a>,
         index: usize,
         by: ThreadId,
     ) -> Result<(), NoMemory> {
@@ -184,13 +207,22 @@ impl<'a> Run<'a> {
             Effect::Broadcasts(condition) => self.unblock_all(index, by.process, condition)?,
             Effect::Joins(id) => {
                 if let Some(from) = self.index_of(id) {
+                    row.has_canceled = self.is_canceled(from);
                     self.add_arrow(Kind::Join, from, Some(index))?;
                 }
             }
             Effect::Suspends => self.suspend(index),
             Effect::Acquires(mutex) => self.acquire(index, by.process, mutex)?,
             Effect::Releases(mutex) => self.release(index, by.process, mutex),
-            Effect::Ends => self.end_thread(index),
+            Effect::Ending(is_canceled) => {
+                if let Some(thread) = self.threads.get_mut(index) {
+                    thread.is_canceled = is_canceled;
+                }
+            }
+            Effect::Ends => {
+                row.has_canceled = self.is_canceled(index);
+                self.end_thread(index);
+            }
             Effect::EndsProcess => {
                 let end = (self.rows.len(), by.thread);
                 self.process_ends.insert(by.process, end)?;
@@ -226,6 +258,21 @@ impl<'a> Run<'a> {
     }
 
     // ---- threads
+
+    /// Whether the thread with this index has a lane.
+    pub(crate) fn has_lane(&self, index: usize) -> bool {
+        match self.threads.get(index) {
+            Some(thread) => thread.is_shown,
+            None => false,
+        }
+    }
+
+    fn is_canceled(&self, index: usize) -> bool {
+        match self.threads.get(index) {
+            Some(thread) => thread.is_canceled,
+            None => false,
+        }
+    }
 
     /// The index of the thread with this name.
     pub(crate) fn index_of(&self, id: ThreadId) -> Option<usize> {
@@ -311,37 +358,31 @@ impl<'a> Run<'a> {
 
     // ---- what is waited for after the last step
 
-    // Notes the wait of each thread in a text of `choices`.
+    // Notes where each thread of a text of `choices` is: a thread whose next step waits is dashed up to the end.
     fn add_choices(&mut self, choices: &'a str) -> Result<(), NoMemory> {
         for line in choices.split('\n') {
-            let mut fields = line.split('\t');
-            if let (Some(name), Some(status)) = (fields.next(), fields.nth(2)) {
-                if let Some(id) = ThreadId::parse(name) {
-                    self.add_last_wait(id, status)?;
+            if let Some(state) = State::parse(line) {
+                if let Some(index) = self.thread_named(state.step.thread) {
+                    self.end_wait(index, &state.step)?;
+                    self.add_last_texts(index, &state);
                 }
             }
         }
         Ok(())
     }
 
-    // Notes what a thread with this status waits for.
-    fn add_last_wait(&mut self, id: ThreadId, status: &'a str) -> Result<(), NoMemory> {
-        let Some(index) = self.index_of(id) else {
-            return Ok(());
-        };
-        let end = self.rows.len();
-        let shows_end = self.selection.has_end(end);
-        for phrase in status.split(',') {
-            let phrase = phrase.strip_prefix(' ').unwrap_or(phrase);
-            if phrase.starts_with("waits for") {
-                if let (true, Some(thread)) = (shows_end, self.threads.get_mut(index)) {
-                    thread.wait = phrase;
-                }
-                if nth_word(phrase, 2) == "mutex" {
-                    self.wait_for_mutex(index, nth_word(phrase, 3), end)?;
-                }
-            }
+    fn thread_named(&self, name: &str) -> Option<usize> {
+        self.index_of(ThreadId::parse(name)?)
+    }
+
+    // Notes what a thread waits for, and whether it has a pending request.
+    fn add_last_texts(&mut self, index: usize, state: &State<'a>) {
+        if !self.selection.has_end(self.rows.len()) {
+            return;
         }
-        Ok(())
+        if let Some(thread) = self.threads.get_mut(index) {
+            thread.wait = state.wait();
+            thread.has_request = state.has_request() && !thread.is_canceled;
+        }
     }
 }

@@ -38,6 +38,15 @@ impl<'a> Selection<'a> {
         false
     }
 
+    /// The numbers of the first and of the last step of a run with so many steps that are not left out for their number. If there is none the
+    /// first one is above the last one.
+    pub(crate) fn range(&self, steps: usize) -> (usize, usize) {
+        match self.steps {
+            None => (1, steps),
+            Some((first, last)) => (first as usize, steps.min(last as usize)),
+        }
+    }
+
     /// Whether the state after the last step of a run with so many steps is shown.
     pub(crate) fn has_end(&self, steps: usize) -> bool {
         match self.steps {

@@ -48,60 +48,52 @@ impl Drawing<'_, '_> {
     fn draw_arrow(&mut self, arrow: &Arrow, row: &Row) {
         let first = arrow.from.min(arrow.to);
         let last = arrow.from.max(arrow.to);
-        if first < last && self.has_lane(first) && self.has_lane(last) {
-            let left = self.right_of_mark(first, arrow.row, row);
+        if first < last && self.run.has_lane(first) && self.run.has_lane(last) {
+            let left = self.right_of_mark(first, row);
             let bars = left_of(arrow.bars);
-            let right = self.layout.lane(last).saturating_sub(bars);
-            self.draw_arrow_between(arrow, (first, last), left, right);
-        }
-    }
-
-    fn has_lane(&self, index: usize) -> bool {
-        match self.run.threads.get(index) {
-            Some(thread) => thread.is_shown,
-            None => false,
+            let right = self
+                .layout
+                .lane(last)
+                .saturating_sub(bars)
+                .min(self.layout.left_of_tags(self.run, last, row));
+            self.draw_arrow_between(arrow, row, left, right);
         }
     }
 
     // Where an arrow at the right side of the lane of this thread begins or ends. If the step is made by the thread its events stand before.
-    fn right_of_mark(&self, thread: usize, index: usize, row: &Row) -> usize {
-        let lane = self.layout.lane(thread).saturating_add(RADIUS);
-        let events = row.step.events();
-        if self.layout.is_narrow || row.thread != Some(thread) || events.is_empty() {
-            return lane;
+    fn right_of_mark(&self, thread: usize, row: &Row) -> usize {
+        let (start, limit) = self.layout.events(self.run, row, thread);
+        let events = Caption::of_events(row, limit).len();
+        if self.layout.is_narrow || row.thread != Some(thread) || events == 0 {
+            self.layout.lane(thread).saturating_add(RADIUS)
+        } else {
+            text_end(start, events).saturating_add(ARROW_GAP)
         }
-        let (start, limit) = self.layout.events(self.run, index, row, thread);
-        text_end(start, events.len().min(limit)).saturating_add(ARROW_GAP)
     }
 
     // An arrow in its row, from the left to the right place. It is interrupted at the lanes between these two.
-    fn draw_arrow_between(
-        &mut self,
-        arrow: &Arrow,
-        between: (usize, usize),
-        left: usize,
-        right: usize,
-    ) {
+    fn draw_arrow_between(&mut self, arrow: &Arrow, row: &Row, left: usize, right: usize) {
         let y = self.layout.y(self.run, arrow.row);
         let (class, _, _) = arrow.kind.look();
         self.note(arrow.kind);
         self.svg.push("<path class=\"");
         self.svg.push(class);
         self.svg.fill("\" d=\"M% %", &[left, y]);
-        let (first, last) = between;
-        for at in first.saturating_add(1)..last {
+        for at in arrow.from.min(arrow.to).saturating_add(1)..arrow.from.max(arrow.to) {
             if let Some(thread) = self.run.threads.get(at) {
-                let edge = self.layout.left_edge(at, thread);
+                let tags = self.layout.left_of_tags(self.run, at, row);
+                let edge = self.layout.left_edge(at, thread).min(tags);
                 if thread.is_drawn(arrow.row) && left < edge {
                     let after = self.layout.lane(at).saturating_add(GAP);
                     self.svg.fill("H%M% %", &[edge, after, y]);
                 }
             }
         }
+        let (to_right, to_left) = arrow.kind.heads();
         let head = if arrow.from < arrow.to {
-            (right, "l-7-3v6l7-3")
+            (right, to_right)
         } else {
-            (left, "l7-3v6l-7-3")
+            (left, to_left)
         };
         self.svg.fill("H%M% %", &[right, head.0, y]);
         self.svg.push(head.1);
@@ -132,11 +124,12 @@ impl Drawing<'_, '_> {
 
     // The events of a step. Where they extend over lanes these are pale.
     fn draw_events(&mut self, index: usize, row: &Row, thread: usize) {
-        let (x, limit) = self.layout.events(self.run, index, row, thread);
-        let events = Caption::new(row.step.events(), limit);
-        if self.layout.is_narrow && events.len() > 0 {
-            let top = self.layout.row_top(row.position);
-            let width = text_end(0, events.len());
+        let (x, limit) = self.layout.events(self.run, row, thread);
+        let events = Caption::of_events(row, limit);
+        let top = self.layout.row_top(row.position);
+        let width = text_end(0, events.len());
+        let edge = self.layout.next_edge(self.run, thread, index);
+        if width > 0 && (self.layout.is_narrow || x.saturating_add(width) > edge) {
             self.svg.fill(
                 "<rect class=\"ground\" x=\"%\" y=\"%\" width=\"%\" height=\"%\"/>\n",
                 &[x, top, width, ROW_HEIGHT],

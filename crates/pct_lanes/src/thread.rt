@@ -28,6 +28,10 @@ pub(crate) struct Thread<'a> {
     pub(crate) waited: usize,
     /// What it waits for after the last step, as `waits for mutex m`, or nothing.
     pub(crate) wait: &'a str,
+    /// Whether a request is pending after the last step, and it does not end by one already.
+    pub(crate) has_request: bool,
+    /// Whether it ends by cancellation.
+    pub(crate) is_canceled: bool,
     /// The greatest number of mutexes that it owns at once.
     pub(crate) most_owned: usize,
     // The places beside the lane that have a mutex which it owns, a bit each.
@@ -57,6 +61,8 @@ impl<'a> Thread<'a> {
             is_in_call: false,
             waited: first,
             wait: "",
+            has_request: false,
+            is_canceled: false,
             most_owned: 0,
             owned: 0,
             at: None,
@@ -83,6 +89,11 @@ impl<'a> Thread<'a> {
             Some(last) => last < row,
         };
         self.first <= row && !has_ended
+    }
+
+    /// Whether a text stands at the end of its lane.
+    pub(crate) fn has_last_text(&self) -> bool {
+        self.is_shown && (self.has_request || !self.wait.is_empty())
     }
 
     /// Whether the lane has a line in this row.

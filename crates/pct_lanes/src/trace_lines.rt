@@ -1,4 +1,4 @@
-//! The lines of a trace.
+//! The lines of a trace, and those of `choices`.
 
 /// A step of a run: the fields of its line.
 #[derive(Clone, Copy)]
@@ -74,11 +74,56 @@ impl<'a> Step<'a> {
 
     /// The word of the statement with this index, or nothing.
     pub(crate) fn word(&self, index: usize) -> &'a str {
-        nth_word(self.statement, index)
+        self.statement
+            .split_ascii_whitespace()
+            .nth(index)
+            .unwrap_or("")
     }
 }
 
-/// The word of a text with this index, or nothing.
-pub(crate) fn nth_word(text: &str, index: usize) -> &str {
-    text.split_ascii_whitespace().nth(index).unwrap_or("")
+/// Where a thread is after the last step: its line of `choices`.
+#[derive(Clone, Copy)]
+pub(crate) struct State<'a> {
+    /// The step that it would make: its statement, with its status as the place.
+    pub(crate) step: Step<'a>,
+    // Its cancelability state and type, and whether a request is pending.
+    request: &'a str,
+}
+
+impl<'a> State<'a> {
+    /// The state of this line. It is `None` where the line has fewer than five fields.
+    pub(crate) fn parse(line: &'a str) -> Option<State<'a>> {
+        let mut rest = line.split('\t');
+        let thread = rest.next()?;
+        let statement = rest.nth(1)?;
+        let place = rest.next()?;
+        let request = rest.next()?;
+        Some(State {
+            step: Step {
+                number: "",
+                thread,
+                place,
+                statement,
+                choice: "",
+                events: "",
+            },
+            request,
+        })
+    }
+
+    /// What the thread waits for, as `waits for mutex m`, or nothing.
+    pub(crate) fn wait(&self) -> &'a str {
+        for phrase in self.step.place.split(',') {
+            let phrase = phrase.strip_prefix(' ').unwrap_or(phrase);
+            if phrase.starts_with("waits for") {
+                return phrase;
+            }
+        }
+        ""
+    }
+
+    /// Whether a request is pending.
+    pub(crate) fn has_request(&self) -> bool {
+        self.request.contains("request pending")
+    }
 }

@@ -32,10 +32,10 @@ impl Layout {
         }
     }
 
-    /// The bottom of the lanes. If a thread waits after the last step, the lanes go on for a row.
+    /// The bottom of the lanes. If a text stands at the end of one, the lanes go on for a row.
     pub(crate) fn bottom(&self) -> usize {
-        let waits = if self.last_waits > 0 { 1 } else { 0 };
-        self.row_top(self.rows.saturating_add(waits))
+        let more = if self.last_texts > 0 { 1 } else { 0 };
+        self.row_top(self.rows.saturating_add(more))
     }
 
     /// Whether a reader of the last rows may not see the first ones.
@@ -45,12 +45,11 @@ impl Layout {
 
     /// The top of the names below the lanes, which stand there in a long picture.
     pub(crate) fn lower_names(&self) -> usize {
-        let waits = if self.last_waits > 0 && !self.is_dense {
-            2 * LINE_HEIGHT
-        } else {
-            0
-        };
-        self.bottom().saturating_add(waits).saturating_add(DROP * 2)
+        let lines = if self.is_dense { 0 } else { self.last_lines };
+        lines
+            .saturating_mul(LINE_HEIGHT)
+            .saturating_add(self.bottom())
+            .saturating_add(DROP * 2)
     }
 
     /// The base line of the line with this index after the steps.
@@ -71,8 +70,8 @@ impl Layout {
 
     /// The base line of the first line of the legend.
     pub(crate) fn legend(&self, run: &Run) -> usize {
-        let waits = if self.is_dense { self.last_waits } else { 0 };
-        self.closing(run.closing.len().saturating_add(waits))
+        let texts = if self.is_dense { self.last_texts } else { 0 };
+        self.closing(run.closing.len().saturating_add(texts))
             .saturating_add(ROW_HEIGHT / 2)
     }
 }

@@ -16,6 +16,10 @@ pub(crate) struct Owner<'a> {
     pub(crate) place: u32,
     /// The row of the step from which on it has the owner.
     pub(crate) first: usize,
+    /// The number of rows before that one that are shown.
+    pub(crate) position: usize,
+    /// The index of the first owner with this position.
+    pub(crate) group: usize,
     /// The row of the step up to which it has the owner. It is `None` if it has it after the last step.
     pub(crate) last: Option<usize>,
 }
@@ -54,15 +58,26 @@ impl<'a> Run<'a> {
         place: u32,
     ) -> Result<(), NoMemory> {
         let first = self.rows.len();
+        let group = self.first_owner();
         self.owners.push(Owner {
             process,
             mutex,
             thread,
             place,
             first,
+            position: self.shown_rows,
+            group,
             last: None,
         })?;
         Ok(())
+    }
+
+    /// The index of the first owner whose bar begins at the position of the row that is added.
+    pub(crate) fn first_owner(&self) -> usize {
+        match self.owners.last() {
+            Some(owner) if owner.position == self.shown_rows => owner.group,
+            _ => self.owners.len(),
+        }
     }
 
     fn own(&mut self, index: usize) -> u32 {
