@@ -6,3 +6,4 @@ pub mod KeptExitFunctions
 pub mod KeptKeys
 pub mod EndStages
 pub mod KeptValues
+pub mod SaidStatements
