@@ -7,3 +7,4 @@ pub mod KeptKeys
 pub mod EndStages
 pub mod KeptValues
 pub mod SaidStatements
+pub mod NamedWaits

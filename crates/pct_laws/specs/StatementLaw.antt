@@ -1,11 +1,12 @@
--- The law of statements: a running thread makes the event of its next statement, with the values of the operands, unless it acts upon a
--- request or its statement is a stop. One table has the events of each statement of the script language, and of each call.
+-- The law of statements: a running thread makes the events of its next statement, with the values of the operands, unless it acts upon a
+-- request or its statement is a stop. One table has the events of each statement of the script language, and of each call. A call that
+-- suspends the thread does so for what the operands name, and the events by which it leaves the call name what it was suspended for.
 --
 -- It leaves open when a thread acts upon a request (CancelLaw.antt) and which statement is a stop; which of the threads that wait a signal
--- unblocks, and which of the numbers that are free a new thread or a new key gets; whether waitpid finds a child; and what a step does
--- beside its events. It asks nothing of a thread that is suspended in a call, ends, forks or exits its process.
+-- unblocks, and which of the numbers that are free a new thread or a new key gets; whether waitpid finds a child; which value a join and
+-- which status waitpid gets (JoinLaw.antt, ProcessLaw.antt); and what else a step does beside its events.
 use Rattle.std.specs.Prelude.{◌≡◌, ℕ, ◌%◌, if◌then◌else◌, Bool, true, false, not, ◌&&◌, ◌||◌, List, [], ◌∷◌, length, is_none, nat_eq, nat_lt}
-use Rattle.std.specs.List.{list_any}
+use Rattle.std.specs.List.{list_all, list_any}
 use Rattle.pct_model.specs.declared.event.Caller.TheVariants as caller
 use Rattle.pct_model.specs.declared.event.What.{What}
 use Rattle.pct_model.specs.declared.event.What.TheVariants as what
@@ -14,8 +15,11 @@ use Rattle.pct_model.specs.declared.limits.TheConstants.{MAX_FORK_HANDLERS}
 use Rattle.pct_model.specs.declared.schedule.Config.{Config}
 use Rattle.pct_model.specs.declared.schedule.Entry.{Entry}
 use Rattle.pct_model.specs.declared.script.Script.{Script}
+use Rattle.pct_model.specs.declared.state.Cause.TheVariants as cause
 use Rattle.pct_model.specs.declared.state.FrameKind.{FrameKind}
 use Rattle.pct_model.specs.declared.state.FrameKind.TheVariants as kind
+use Rattle.pct_model.specs.declared.state.Status.{Status}
+use Rattle.pct_model.specs.declared.state.Status.TheVariants as status
 use Rattle.pct_model.specs.declared.statement.Operand.{Operand}
 use Rattle.pct_model.specs.declared.statement.Stmt.{Stmt}
 use Rattle.pct_model.specs.declared.statement.Stmt.TheVariants as statement
@@ -164,6 +168,62 @@ says_statement slots script s =
     not (is_running s.before.status) || acts_or_stops s.events
     || asked_at slots (body_at script s.before.frames) s.process.shared s.process.threads s.before (next_of script s.before.frames) s.events
 
+-- ---- calls that suspend
+
+-- the event is the call of a function in which the thread is suspended
+abbrev pub is_call : What → Bool
+is_call (what.Called index) = true
+is_call _ = false
+
+-- the thread is suspended, with this status, in the call that a statement makes, for what its operands name: a thread, a condition variable
+-- and a mutex, a semaphore, a process, or a generic point (XSH pthread_join, pthread_cond_wait, sem_wait, waitpid, 2.9.5.2)
+abbrev pub is_suspended_at : List ℕ → NextStatement → Status → Bool
+is_suspended_at globals (StatementIn frame (statement.Join id d)) (status.Joining n) = nat_eq n (value_of globals frame id)
+is_suspended_at globals (StatementIn frame (statement.CondWait c m)) (status.Waiting cond mutex) = nat_eq cond c && nat_eq mutex m
+is_suspended_at globals (StatementIn frame (statement.SemWait sem)) (status.InSem n) = nat_eq n sem
+is_suspended_at globals (StatementIn frame (statement.WaitPid result pid d)) (status.InWaitPid n) = nat_eq n (value_of globals frame pid)
+is_suspended_at globals (StatementIn frame (statement.PointCall index)) (status.AtPoint n) = nat_eq n index
+is_suspended_at globals _ _ = false
+
+-- a step with such an event suspends its thread at its next statement
+abbrev pub suspends_by_call : Script → ThreadStep → Bool
+suspends_by_call script s = not (list_any is_call s.events) || is_suspended_at s.process.shared.globals (next_of script s.before.frames) s.after.status
+
+-- ---- returns from these calls
+
+-- the thread is in a wait on condition variable c, and was not canceled in it
+abbrev pub is_in_wait_on : ℕ → Status → Bool
+is_in_wait_on c (status.Waiting cond m) = nat_eq cond c
+is_in_wait_on c (status.Reacquire cond m cause.Canceled) = false
+is_in_wait_on c (status.Reacquire cond m why) = nat_eq cond c
+is_in_wait_on c _ = false
+
+-- an event of a thread with this status, which may be suspended, names what the thread was suspended for: the thread that was joined, the
+-- semaphore, the process that was reaped, the generic point, the mutex and the condition variable of the wait. A `done` and an `acquire` of a
+-- thread that is not suspended is that of its statement
+abbrev pub names_its_wait : Status → What → Bool
+names_its_wait (status.Joining target) (what.Joined id v) = nat_eq id target
+names_its_wait s (what.Joined id v) = false
+names_its_wait (status.InSem n) (what.Taken sem) = nat_eq sem n
+names_its_wait s (what.Taken sem) = false
+names_its_wait (status.InWaitPid child) (what.Reaped pid n) = nat_eq pid child
+names_its_wait s (what.Reaped pid n) = false
+names_its_wait (status.AtPoint n) (what.Done index) = nat_eq index n
+names_its_wait (status.Reacquire c m why) (what.Acquired mutex) = nat_eq mutex m
+names_its_wait (status.Reacquire c m cause.Canceled) (what.EndingInWait cond mutex) = nat_eq cond c && nat_eq mutex m
+names_its_wait s (what.EndingInWait cond mutex) = false
+names_its_wait s (what.WaitCanceled c) = is_in_wait_on c s
+names_its_wait s (what.HandedOn c id) = is_in_wait_on c s
+names_its_wait s _ = true
+
+-- so does each event of a step
+abbrev pub each_names_its_wait : ThreadStep → Bool
+each_names_its_wait s = list_all (names_its_wait s.before.status) s.events
+
+-- ---- the law
+
 -- the law of statements, of the run of a schedule
-abbrev pub StatementLaw : Script → Config → List Entry → Type 0
-StatementLaw script config entries = EachStep script config entries (λ s. says_statement config.slots script s ≡ true)
+pub record StatementLaw (script : Script) (config : Config) (entries : List Entry) : Type 0 where
+  pub said : EachStep script config entries (λ s. says_statement config.slots script s ≡ true)
+  pub suspended : EachStep script config entries (λ s. suspends_by_call script s ≡ true)
+  pub named : EachStep script config entries (λ s. each_names_its_wait s ≡ true)

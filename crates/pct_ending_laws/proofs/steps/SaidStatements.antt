@@ -30,19 +30,14 @@ use Rattle.pct_laws.specs.StatementLaw.{agree, of_return, of_pop, is_among, unbl
 use Rattle.pct_transition_cases.proofs.CaseOfTransition.{no_stops}
 use Rattle.pct_ending_laws.proofs.lift.TakenSteps.{IsTaken}
 use Rattle.pct_ending_laws.proofs.requests.ActingCalls.{its_status}
+use Rattle.pct_ending_laws.proofs.steps.NamedWaits.{same, both_same}
 use Rattle.pct_ending_laws.proofs.steps.MovedThreads.{EveryStep, step_of, every_step}
 
 -- ---- tests
 
-same : (n : ℕ) → nat_eq n n ≡ true
-same n = eq-eqb n n refl
-
 agrees : (b : Bool) → agree b b ≡ true
 agrees true = refl
 agrees false = refl
-
-both_same : (m n : ℕ) → nat_eq m m && nat_eq n n ≡ true
-both_same m n = and_from (nat_eq m m) (nat_eq n n) (same m) (same n)
 
 -- what follows from a test
 unless : (a b c : Bool) → (a ≡ true → (b || c) ≡ true) → (not a || b || c) ≡ true
