@@ -5,13 +5,13 @@
 -- It leaves open when a thread acts upon a request (CancelLaw.antt) and which statement is a stop; which of the threads that wait a signal
 -- unblocks, and which of the numbers that are free a new thread or a new key gets; whether waitpid finds a child; which value a join and
 -- which status waitpid gets (JoinLaw.antt, ProcessLaw.antt); and what else a step does beside its events.
-use Rattle.std.specs.Prelude.{◌≡◌, ℕ, ◌%◌, if◌then◌else◌, Bool, true, false, not, ◌&&◌, ◌||◌, List, [], ◌∷◌, length, is_none, nat_eq, nat_lt}
-use Rattle.std.specs.List.{list_all, list_any}
+use Rattle.std.specs.Prelude.{◌≡◌, ℕ, ◌%◌, if◌then◌else◌, Bool, true, false, not, ◌&&◌, ◌||◌, List, [], ◌∷◌, length, count_by, is_none, is_some, nat_eq, nat_lt}
+use Rattle.std.specs.List.{list_all, list_any, range_with_len}
 use Rattle.pct_model.specs.declared.event.Caller.TheVariants as caller
 use Rattle.pct_model.specs.declared.event.What.{What}
 use Rattle.pct_model.specs.declared.event.What.TheVariants as what
 use Rattle.pct_model.specs.declared.frame.Frame.{Frame}
-use Rattle.pct_model.specs.declared.limits.TheConstants.{MAX_FORK_HANDLERS}
+use Rattle.pct_model.specs.declared.limits.TheConstants.{MAX_EXIT_FUNCTIONS, MAX_FORK_HANDLERS, MAX_KEYS}
 use Rattle.pct_model.specs.declared.schedule.Config.{Config}
 use Rattle.pct_model.specs.declared.schedule.Entry.{Entry}
 use Rattle.pct_model.specs.declared.script.Script.{Script}
@@ -24,17 +24,15 @@ use Rattle.pct_model.specs.declared.statement.Operand.{Operand}
 use Rattle.pct_model.specs.declared.statement.Stmt.{Stmt}
 use Rattle.pct_model.specs.declared.statement.Stmt.TheVariants as statement
 use Rattle.pct_model.specs.CancelCalls.{is_required, is_optional, point_kind, testcancel_point}
-use Rattle.pct_model.specs.CondCalls.{cond_wait_point}
+use Rattle.pct_model.specs.CondCalls.{cond_wait_point, is_waiting_on}
 use Rattle.pct_model.specs.ForkCalls.{waitpid_point}
-use Rattle.pct_model.specs.Keys.{new_keys}
+use Rattle.pct_model.specs.Keys.{KeyPlace, key_at, new_keys}
 use Rattle.pct_model.specs.LineParsing.{is_empty}
 use Rattle.pct_model.specs.NextStatement.{NextStatement, NoStatement, StatementIn, next_of, body_at}
-use Rattle.pct_model.specs.OtherThreads.{Waiter, waiters_among}
-use Rattle.pct_model.specs.ProcessExit.{may_register}
 use Rattle.pct_model.specs.SemCalls.{sem_wait_point}
 use Rattle.pct_model.specs.StopTable.{closes_function}
 use Rattle.pct_model.specs.ThreadCalls.{join_point}
-use Rattle.pct_model.specs.ThreadSlots.{by_slot, free_ids}
+use Rattle.pct_model.specs.ThreadSlots.{free_ids, holds_slot, slot_of}
 use Rattle.pct_model.specs.World.{Thread, SharedState, value_of}
 use Rattle.pct_laws.specs.CancelLaw.{is_running, acts_or_stops}
 use Rattle.pct_laws.specs.ThreadSteps.{ThreadStep, EachStep}
@@ -66,10 +64,25 @@ of_pop v [] events = is_empty events
 abbrev pub is_among : ℕ → List ℕ → Bool
 is_among n numbers = list_any (nat_eq n) numbers
 
--- a signal unblocks the thread with this id: one of these, or none, which is 0, if there are none
-abbrev pub unblocks : ℕ → List Waiter → Bool
-unblocks id [] = nat_eq id 0
-unblocks id waiters = list_any (λ waiter. nat_eq id waiter.id) waiters
+-- the thread waits on condition variable c, and its process inherited it
+abbrev pub waits_on : ℕ → Thread → Bool
+waits_on c t = not t.gone && is_waiting_on c t.status
+
+-- a signal to condition variable c unblocks the thread with an id: one of these threads that waits there, or none, which is 0, if none does
+abbrev pub unblocks : ℕ → ℕ → List Thread → Bool
+unblocks c id threads = if nat_eq (count_by (waits_on c) threads) 0 then nat_eq id 0 else list_any (λ t. waits_on c t && nat_eq id t.id) threads
+
+-- each slot is held by one of these threads: pthread_create fails
+abbrev pub all_slots_held : ℕ → List Thread → Bool
+all_slots_held slots threads = list_all (λ s. list_any (λ t. nat_eq (slot_of slots t.id) s && holds_slot t) threads) (range_with_len 0 slots)
+
+-- each place has a key: pthread_key_create fails
+abbrev pub all_places_taken : List KeyPlace → Bool
+all_places_taken keys = list_all (λ place. is_some (key_at keys place)) (range_with_len 0 MAX_KEYS)
+
+-- atexit registers a function: fewer than the limit are registered, and exit has not begun
+abbrev pub has_room : SharedState → Bool
+has_room shared = nat_lt (length shared.exit_functions) MAX_EXIT_FUNCTIONS && is_none shared.exit_value
 
 -- ---- the table
 
@@ -77,10 +90,6 @@ module _ (slots : ℕ) (body : List Stmt) (shared : SharedState) (threads : List
   -- the value of an operand
   abbrev pub value : Frame → Operand → ℕ
   value frame operand = value_of shared.globals frame operand
-
-  -- the threads of the process that wait on condition variable c
-  abbrev pub waiting_on : ℕ → List Waiter
-  waiting_on c = waiters_among c (by_slot slots threads)
 
   -- the events are those of a statement of a running thread
   abbrev pub asked : Frame → Stmt → List What → Bool
@@ -99,7 +108,7 @@ module _ (slots : ℕ) (body : List Stmt) (shared : SharedState) (threads : List
   -- XSH pthread_create: a number that is free, or EAGAIN, which is 1 in this host, if none is. That it fails only then, and which
   -- numbers are free, are choices of this host
   asked frame (statement.Create result id f v detached) (what.Created n made_detached ∷ []) = is_among n (free_ids slots threads) && agree made_detached detached
-  asked frame (statement.Create result id f v detached) (what.Answer caller.Create n ∷ []) = nat_eq n 1 && is_empty (free_ids slots threads)
+  asked frame (statement.Create result id f v detached) (what.Answer caller.Create n ∷ []) = nat_eq n 1 && all_slots_held slots threads
   -- XSH pthread_join: the call. That each call which may suspend the thread has an event of its own is a choice of this host
   asked frame (statement.Join id d) (what.Called index ∷ []) = nat_eq index join_point
   -- XSH pthread_detach, pthread_cancel, pthread_self, pthread_exit
@@ -117,7 +126,7 @@ module _ (slots : ℕ) (body : List Stmt) (shared : SharedState) (threads : List
   asked frame (statement.Pop v) events = of_pop (value frame v) t.handlers events
   -- XSH pthread_key_create: as for pthread_create
   asked frame (statement.KeyCreate result key destructor) (what.KeyMade n ∷ []) = is_among n (new_keys shared.keys)
-  asked frame (statement.KeyCreate result key destructor) (what.Answer caller.KeyCreate n ∷ []) = nat_eq n 1 && is_empty (new_keys shared.keys)
+  asked frame (statement.KeyCreate result key destructor) (what.Answer caller.KeyCreate n ∷ []) = nat_eq n 1 && all_places_taken shared.keys
   -- XSH pthread_key_delete, pthread_setspecific, pthread_getspecific
   asked frame (statement.KeyDelete key) (what.KeyGone n ∷ []) = nat_eq n (value frame key)
   asked frame (statement.SetSpecific key v) events = is_empty events
@@ -128,8 +137,8 @@ module _ (slots : ℕ) (body : List Stmt) (shared : SharedState) (threads : List
   -- XSH pthread_cond_wait: the call, and the release of the mutex, atomically
   asked frame (statement.CondWait c m) (what.Called index ∷ what.Released n ∷ []) = nat_eq index cond_wait_point && nat_eq n m
   -- XSH pthread_cond_signal, pthread_cond_broadcast: one of the threads that wait is unblocked, or none if none waits; and all of them
-  asked frame (statement.Signal c) (what.Signalled cond id ∷ []) = nat_eq cond c && unblocks id (waiting_on c)
-  asked frame (statement.Broadcast c) (what.BroadcastTo cond n ∷ []) = nat_eq cond c && nat_eq n (length (waiting_on c))
+  asked frame (statement.Signal c) (what.Signalled cond id ∷ []) = nat_eq cond c && unblocks c id threads
+  asked frame (statement.Broadcast c) (what.BroadcastTo cond n ∷ []) = nat_eq cond c && nat_eq n (count_by (waits_on c) threads)
   -- XSH sem_wait, sem_post
   asked frame (statement.SemWait sem) (what.Called index ∷ []) = nat_eq index sem_wait_point
   asked frame (statement.SemPost sem) (what.Posted n ∷ []) = nat_eq n sem
@@ -142,8 +151,8 @@ module _ (slots : ℕ) (body : List Stmt) (shared : SharedState) (threads : List
   asked frame (statement.WaitPid result pid d) (what.Called index ∷ []) = nat_eq index waitpid_point
   asked frame (statement.WaitPid result pid d) (what.Answer caller.WaitPid n ∷ []) = nat_eq n 3
   -- XSH atexit: it fails with 1 in this host where no function can be registered
-  asked frame (statement.AtExit result f) (what.Answer caller.AtExit n ∷ []) = nat_eq n 1 && not (may_register shared)
-  asked frame (statement.AtExit result f) events = is_empty events && may_register shared
+  asked frame (statement.AtExit result f) (what.Answer caller.AtExit n ∷ []) = nat_eq n 1 && not (has_room shared)
+  asked frame (statement.AtExit result f) events = is_empty events && has_room shared
   -- XSH exit, _exit: the status has 8 bits
   asked frame (statement.ProcExit v) (what.ExitBegun n ∷ []) = nat_eq n (value frame v)
   asked frame (statement.ProcExitNow v) (what.ProcessEnded n ∷ []) = nat_eq n (value frame v % 256)

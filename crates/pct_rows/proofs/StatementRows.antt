@@ -1,9 +1,9 @@
 -- The law of statements: statements with events that the law accepts, and events that it refuses, each with the name of the sentence that it
 -- breaks; calls with what they suspend their thread for; and made steps.
-use Rattle.pct_names.proofs.Names.{[], Bool, codes, cond_wait_point, false, first_process, Frame, FrameKind, is_static, IsTrue, join_point}
-use Rattle.pct_names.proofs.Names.{List, MAX_FORK_HANDLERS, MAX_KEYS, new_frame, new_shared, new_thread, None, Operand, Process, refl, replicate}
-use Rattle.pct_names.proofs.Names.{Script, sem_wait_point, SharedState, Some, StatementIn, Status, Stmt, testcancel_point, Thread, true}
-use Rattle.pct_names.proofs.Names.{waitpid_point, What, ℕ, ◌∷◌, ◌≡◌}
+use Rattle.pct_names.proofs.Names.{[], Bool, codes, cond_wait_point, false, first_process, Frame, FrameKind, is_static, IsTrue}
+use Rattle.pct_names.proofs.Names.{join_point, List, MAX_FORK_HANDLERS, MAX_KEYS, new_frame, new_shared, new_thread, None, Operand}
+use Rattle.pct_names.proofs.Names.{Process, refl, replicate, Script, sem_wait_point, SharedState, Some, StatementIn, Status, Stmt}
+use Rattle.pct_names.proofs.Names.{testcancel_point, Thread, true, waitpid_point, What, ℕ, ◌∷◌, ◌≡◌}
 use Rattle.pct_model.specs.declared.event.Caller.TheVariants as caller
 use Rattle.pct_model.specs.declared.event.What.TheVariants as what
 use Rattle.pct_model.specs.declared.state.Cause.TheVariants as cause

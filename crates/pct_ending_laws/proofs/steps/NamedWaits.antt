@@ -1,9 +1,10 @@
 -- A call suspends its thread for what the operands of the statement name, and the events by which a thread leaves a call name what it was
 -- suspended for.
-use Rattle.pct_names.proofs.Names.{◌&&◌, [], and_from, Bool, Cause, cond, Config, Entry, false, false≢true, for_each, has_left_wait}
-use Rattle.pct_names.proofs.Names.{is_live_thread, list_all, list_any, moved, named_after, nat_eq, next_of, NextStatement, List, not, Others}
-use Rattle.pct_names.proofs.Names.{others_of, Process, refl, Run, run, Script, SharedState, Some, Status, Stmt, subst, sym, Thread}
-use Rattle.pct_names.proofs.Names.{thread_after, thread_at, Transition, transition_by, true, value_of, What, body_at, ◌||◌, ℕ, ◌∷◌, ◌≡◌}
+use Rattle.pct_names.proofs.Names.{◌&&◌, [], and_from, body_at, Bool, Cause, cond, Config, Entry, false, false≢true, for_each}
+use Rattle.pct_names.proofs.Names.{has_left_wait, is_live_thread, List, list_all, list_any, moved, named_after, nat_eq, next_of}
+use Rattle.pct_names.proofs.Names.{NextStatement, not, Others, others_of, Process, refl, Run, run, Script, SharedState, Some, Status}
+use Rattle.pct_names.proofs.Names.{Stmt, subst, sym, Thread, thread_after, thread_at, Transition, transition_by, true, value_of, What}
+use Rattle.pct_names.proofs.Names.{◌||◌, ℕ, ◌∷◌, ◌≡◌}
 use Rattle.std.proofs.Common.{eq-eqb}
 use Rattle.pct_model.specs.declared.state.Cause.TheVariants as cause
 use Rattle.pct_model.specs.declared.state.Status.TheVariants as status

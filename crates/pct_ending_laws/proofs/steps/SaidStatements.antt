@@ -1,19 +1,21 @@
 -- A running thread makes the events of its next statement, acts upon a request, or its statement is a stop.
-use Rattle.pct_names.proofs.Names.{◌&&◌, [], act_if, acts_or, Alt, and_from, ap, begins_fork, begins_join, begins_sem_wait, begins_wait}
-use Rattle.pct_names.proofs.Names.{begins_waitpid, body_at, Bool, broadcasts, by_slot, called_kind, calls, calls_point, ChoiceRow, choices_at}
-use Rattle.pct_names.proofs.Names.{cond, Config, creates, creates_by, creates_key, creates_key_by, deletes_key, Dest, detaches, emits, ends_block}
-use Rattle.pct_names.proofs.Names.{ends_by_exit, ends_now, Entry, exits, fails_to_create, fails_to_create_key, false, false≢true, finds_no_child}
-use Rattle.pct_names.proofs.Names.{first_row, ForkAt, Frame, FrameKind, free_ids, gets_self, gets_specific, goes_on, is_allowed_asynchronously}
-use Rattle.pct_names.proofs.Names.{is_asynchronous, is_blocked, is_create, is_deliverable, is_forbidden_in_child, is_key_create, is_none}
-use Rattle.pct_names.proofs.Names.{is_optional, is_required, is_signal, jumps, leaves_handler, length, List, list_any, locks, map, MAX_FORK_HANDLERS}
-use Rattle.pct_names.proofs.Names.{may_register, nat_eq, nat_lt, new_keys, new_or_go, next_of, NextStatement, None, NoStatement, not, offers}
-use Rattle.pct_names.proofs.Names.{open_of, Operand, Option, Optional, or_right, Others, others_of, pick_or_go, point_kind, PointKind, pops, posts, Process}
-use Rattle.pct_names.proofs.Names.{pushes, refl, registers_fork, registers_if, requests, Required, returns_by, Run, run, running_choices}
-use Rattle.pct_names.proofs.Names.{running_rows, runs, same_choice, Script, sets, adds, sets_mode, sets_specific, sets_state, SharedState, signals_by}
-use Rattle.pct_names.proofs.Names.{Some, StatementIn, Status, Stmt, stop_at, stops_or, subst, suc, sym, tests_cancel, Thread, Transition}
-use Rattle.pct_names.proofs.Names.{transition_at, true, unlocks, value_of, Waiter, waiters_among, waiters_to_signal, acts_on_request, Why, ◌||◌}
-use Rattle.pct_names.proofs.Names.{ℕ, ◌∙◌, ◌∷◌, ◌≡◌}
-use Rattle.std.proofs.Common.{eq-eqb}
+use Rattle.pct_names.proofs.Names.{◌&&◌, ◌<◌, [], act_if, acts_on_request, acts_or, adds, Alt, and_from, ap, arith, begins_fork}
+use Rattle.pct_names.proofs.Names.{begins_join, begins_sem_wait, begins_wait, begins_waitpid, body_at, Bool, broadcasts, by_slot}
+use Rattle.pct_names.proofs.Names.{called_kind, calls, calls_point, ChoiceRow, choices_at, cond, Config, count_by, count_by-le-length}
+use Rattle.pct_names.proofs.Names.{creates, creates_by, creates_key, creates_key_by, deletes_key, Dest, detaches, emits, ends_block}
+use Rattle.pct_names.proofs.Names.{ends_by_exit, ends_now, Entry, eqb-false, exits, fails_to_create, fails_to_create_key, false}
+use Rattle.pct_names.proofs.Names.{false≢true, finds_no_child, first_row, ForkAt, Frame, FrameKind, free_ids, gets_self, gets_specific}
+use Rattle.pct_names.proofs.Names.{goes_on, is_allowed_asynchronously, is_asynchronous, is_blocked, is_create, is_deliverable}
+use Rattle.pct_names.proofs.Names.{is_forbidden_in_child, is_key_create, is_none, is_optional, is_required, is_signal, jumps}
+use Rattle.pct_names.proofs.Names.{leaves_handler, length, List, list_any, locks, map, MAX_FORK_HANDLERS, may_register, nat_eq, nat_lt}
+use Rattle.pct_names.proofs.Names.{new_keys, new_or_go, next_of, NextStatement, None, NoStatement, not, offers, open_of, Operand, Option}
+use Rattle.pct_names.proofs.Names.{Optional, or_right, Others, others_of, pick_or_go, point_kind, PointKind, pops, pos_of_ne-zero, posts}
+use Rattle.pct_names.proofs.Names.{Process, pushes, refl, registers_fork, registers_if, requests, Required, returns_by, Run, run}
+use Rattle.pct_names.proofs.Names.{running_choices, running_rows, runs, same_choice, Script, sets, sets_mode, sets_specific, sets_state}
+use Rattle.pct_names.proofs.Names.{SharedState, signals_by, Some, StatementIn, Status, Stmt, stop_at, stops_or, subst, suc, sym}
+use Rattle.pct_names.proofs.Names.{tests_cancel, Thread, Transition, transition_at, true, unlocks, value_of, Waiter, waiters_among}
+use Rattle.pct_names.proofs.Names.{waiters_to_signal, Why, ◌||◌, ℕ, ◌∙◌, ◌∷◌, ◌≡◌}
+use Rattle.std.proofs.Common.{eqb-true, eq-eqb}
 use Rattle.std.proofs.lemmas.Bool.{true≢false}
 use Rattle.pct_model.specs.declared.event.Caller.TheVariants as caller
 use Rattle.pct_model.specs.declared.event.What.{What}
@@ -26,10 +28,12 @@ use Rattle.pct_model.specs.declared.statement.Stmt.TheVariants as statement
 use Rattle.pct_model.specs.declared.transition.Action.TheVariants as action
 use Rattle.pct_model.specs.LineParsing.{is_empty}
 use Rattle.pct_laws.specs.CancelLaw.{is_running, acts_or_stops}
-use Rattle.pct_laws.specs.StatementLaw.{agree, of_return, of_pop, is_among, unblocks, asked, asked_at, says_statement}
+use Rattle.pct_laws.specs.StatementLaw.{agree, of_return, of_pop, is_among, waits_on, unblocks, asked, asked_at, says_statement}
 use Rattle.pct_transition_cases.proofs.CaseOfTransition.{no_stops}
+use Rattle.pct_ending_laws.proofs.lift.ProcessIds.{have_pids}
 use Rattle.pct_ending_laws.proofs.lift.TakenSteps.{IsTaken}
 use Rattle.pct_ending_laws.proofs.requests.ActingCalls.{its_status}
+use Rattle.pct_ending_laws.proofs.steps.WaitingThreads.{count_waiting, waits_by_id, count_some, no_free_slot, no_free_place}
 use Rattle.pct_ending_laws.proofs.steps.NamedWaits.{same, both_same}
 use Rattle.pct_ending_laws.proofs.steps.MovedThreads.{EveryStep, step_of, every_step}
 
@@ -70,12 +74,12 @@ only_new : (choice : Alt) → same_choice choice alt.Go ≡ false → ((k : ℕ)
 only_new choice not_go differs [] = ap (λ (b : Bool). b || false) not_go
 only_new choice not_go differs (m ∷ numbers) = not_among (λ k. alt.New k) choice differs (m ∷ numbers)
 
--- a signal unblocks one of the threads that wait, or none if none waits
-picked : (id : ℕ) (waiters : List Waiter) → offers (pick_or_go waiters) (alt.Pick id) ≡ true → unblocks id waiters ≡ true
+-- a signal picks one of the threads that wait, and `go` is offered only if none waits
+picked : (id : ℕ) (waiters : List Waiter) → offers (pick_or_go waiters) (alt.Pick id) ≡ true → list_any (λ (w : Waiter). nat_eq id w.id) waiters ≡ true
 picked id [] offered = absurd (false≢true offered)
 picked id (waiter ∷ waiters) offered = sym (among (λ (w : Waiter). alt.Pick w.id) (alt.Pick id) (λ (w : Waiter). nat_eq id w.id) (λ w. refl) (waiter ∷ waiters)) ∙ offered
 
-none_picked : (waiters : List Waiter) → offers (pick_or_go waiters) alt.Go ≡ true → unblocks 0 waiters ≡ true
+none_picked : (waiters : List Waiter) → offers (pick_or_go waiters) alt.Go ≡ true → length waiters ≡ 0
 none_picked [] offered = refl
 none_picked (waiter ∷ waiters) offered = absurd (true≢false (sym offered ∙ not_among (λ (w : Waiter). alt.Pick w.id) alt.Go (λ w. refl) (waiter ∷ waiters)))
 
@@ -120,7 +124,7 @@ pop_said next v ((f, a) ∷ handlers) = pop_by next v f a handlers (nat_eq v 0) 
 -- ---- a statement
 
 module _ (slots passes : ℕ) (body : List Stmt) (shared : SharedState) (threads : List Thread) (t : Thread) (others : Others)
-    (ids : others.new_ids ≡ free_ids slots threads) (waiting : (c : ℕ) → others.waiters c ≡ waiters_among c (by_slot slots threads)) where
+    (some : 0 < slots) (ids : others.new_ids ≡ free_ids slots threads) (waiting : (c : ℕ) → others.waiters c ≡ waiters_among c (by_slot slots threads)) where
   -- the events are those of the statement
   abbrev IsSaid : Frame → Stmt → List What → Type 0
   IsSaid frame s events = asked slots body shared threads t frame s events ≡ true
@@ -157,7 +161,7 @@ module _ (slots passes : ℕ) (body : List Stmt) (shared : SharedState) (threads
       → IsSaid frame (statement.Create result id f v detached) (creates_by choice (suc frame.pc) result id f (value frame v) detached).events
   unfolding creates fails_to_create
   create_said (alt.New n) frame result id f v detached offered = and_from (is_among n (free_ids slots threads)) (agree detached detached) (new_among n (free_ids slots threads) offered) (agrees detached)
-  create_said alt.Go frame result id f v detached offered = none_new (free_ids slots threads) offered
+  create_said alt.Go frame result id f v detached offered = no_free_slot slots threads (none_new (free_ids slots threads) offered)
   create_said (alt.Act n) frame result id f v detached offered = absurd (true≢false (sym offered ∙ only_new (alt.Act n) refl (λ k. refl) (free_ids slots threads)))
   create_said (alt.Pick n) frame result id f v detached offered = absurd (true≢false (sym offered ∙ only_new (alt.Pick n) refl (λ k. refl) (free_ids slots threads)))
   create_said (alt.Dtor n) frame result id f v detached offered = absurd (true≢false (sym offered ∙ only_new (alt.Dtor n) refl (λ k. refl) (free_ids slots threads)))
@@ -166,19 +170,36 @@ module _ (slots passes : ℕ) (body : List Stmt) (shared : SharedState) (threads
       → IsSaid frame (statement.KeyCreate result key destructor) (creates_key_by choice (suc frame.pc) result key destructor).events
   unfolding creates_key fails_to_create_key
   create_key_said (alt.New n) frame result key destructor offered = new_among n (new_keys shared.keys) offered
-  create_key_said alt.Go frame result key destructor offered = none_new (new_keys shared.keys) offered
+  create_key_said alt.Go frame result key destructor offered = no_free_place shared.keys (none_new (new_keys shared.keys) offered)
   create_key_said (alt.Act n) frame result key destructor offered = absurd (true≢false (sym offered ∙ only_new (alt.Act n) refl (λ k. refl) (new_keys shared.keys)))
   create_key_said (alt.Pick n) frame result key destructor offered = absurd (true≢false (sym offered ∙ only_new (alt.Pick n) refl (λ k. refl) (new_keys shared.keys)))
   create_key_said (alt.Dtor n) frame result key destructor offered = absurd (true≢false (sym offered ∙ only_new (alt.Dtor n) refl (λ k. refl) (new_keys shared.keys)))
 
   -- pthread_cond_signal
-  signal_said : (choice : Alt) (frame : Frame) (c : ℕ) → offers (pick_or_go (waiters_among c (by_slot slots threads))) choice ≡ true → IsSaid frame (statement.Signal c) (signals_by choice (suc frame.pc) c).events
+  abbrev seen : ℕ → List Waiter
+  seen c = waiters_among c (by_slot slots threads)
+
+  unblocks_by : (c id : ℕ) (none : Bool) → nat_eq (count_by (waits_on c) threads) 0 ≡ none → (count_by (waits_on c) threads ≡ 0 → nat_eq id 0 ≡ true) → (0 < count_by (waits_on c) threads → list_any (λ (t : Thread). waits_on c t && nat_eq id t.id) threads ≡ true)
+      → cond none (nat_eq id 0) (list_any (λ (t : Thread). waits_on c t && nat_eq id t.id) threads) ≡ true
+  unblocks_by c id true is if_none if_some = if_none (eqb-true (count_by (waits_on c) threads) 0 is)
+  unblocks_by c id false is if_none if_some = if_some (pos_of_ne-zero (eqb-false (count_by (waits_on c) threads) 0 is))
+
+  unblocks_one : (c id : ℕ) → list_any (λ (w : Waiter). nat_eq id w.id) (seen c) ≡ true → unblocks c id threads ≡ true
+  unblocks_one c id among =
+      unblocks_by c id (nat_eq (count_by (waits_on c) threads) 0) refl
+      (λ none. absurd (omega (arith, none, count_waiting slots c threads some, count_some (λ (w : Waiter). nat_eq id w.id) (seen c) among, count_by-le-length (λ (w : Waiter). nat_eq id w.id) (seen c))))
+      (λ waits. waits_by_id slots c id threads some among)
+
+  unblocks_none : (c : ℕ) → length (seen c) ≡ 0 → unblocks c 0 threads ≡ true
+  unblocks_none c none = unblocks_by c 0 (nat_eq (count_by (waits_on c) threads) 0) refl (λ zero. refl) (λ waits. absurd (omega (arith, waits, none, count_waiting slots c threads some)))
+
+  signal_said : (choice : Alt) (frame : Frame) (c : ℕ) → offers (pick_or_go (seen c)) choice ≡ true → IsSaid frame (statement.Signal c) (signals_by choice (suc frame.pc) c).events
   unfolding signals_by
-  signal_said (alt.Pick u) frame c offered = and_from (nat_eq c c) (unblocks u (waiters_among c (by_slot slots threads))) (same c) (picked u (waiters_among c (by_slot slots threads)) offered)
-  signal_said alt.Go frame c offered = and_from (nat_eq c c) (unblocks 0 (waiters_among c (by_slot slots threads))) (same c) (none_picked (waiters_among c (by_slot slots threads)) offered)
-  signal_said (alt.Act n) frame c offered = absurd (true≢false (sym offered ∙ only_picks (alt.Act n) refl (λ k. refl) (waiters_among c (by_slot slots threads))))
-  signal_said (alt.New n) frame c offered = absurd (true≢false (sym offered ∙ only_picks (alt.New n) refl (λ k. refl) (waiters_among c (by_slot slots threads))))
-  signal_said (alt.Dtor n) frame c offered = absurd (true≢false (sym offered ∙ only_picks (alt.Dtor n) refl (λ k. refl) (waiters_among c (by_slot slots threads))))
+  signal_said (alt.Pick u) frame c offered = and_from (nat_eq c c) (unblocks c u threads) (same c) (unblocks_one c u (picked u (seen c) offered))
+  signal_said alt.Go frame c offered = and_from (nat_eq c c) (unblocks c 0 threads) (same c) (unblocks_none c (none_picked (seen c) offered))
+  signal_said (alt.Act n) frame c offered = absurd (true≢false (sym offered ∙ only_picks (alt.Act n) refl (λ k. refl) (seen c)))
+  signal_said (alt.New n) frame c offered = absurd (true≢false (sym offered ∙ only_picks (alt.New n) refl (λ k. refl) (seen c)))
+  signal_said (alt.Dtor n) frame c offered = absurd (true≢false (sym offered ∙ only_picks (alt.Dtor n) refl (λ k. refl) (seen c)))
 
   -- pthread_atfork and atexit, by whether there is room
   register_fork_said : (frame : Frame) (result : Dest) (prepare parent child : Option ℕ) (room : Bool) → nat_lt (length shared.fork_handlers) MAX_FORK_HANDLERS ≡ room
@@ -228,8 +249,7 @@ module _ (slots passes : ℕ) (body : List Stmt) (shared : SharedState) (threads
   runs_said choice frame (statement.Signal c) offered none =
       signal_said choice frame c (subst (λ (waiters : List Waiter). offers (pick_or_go waiters) choice ≡ true) (waiting c) (own_choices choice frame (statement.Signal c) refl refl none offered))
   runs_said choice frame (statement.Broadcast c) offered none =
-      let number : List Waiter → ℕ = λ waiters. length waiters in
-      and_from (nat_eq c c) (nat_eq (number (others.waiters c)) (number (waiters_among c (by_slot slots threads)))) (same c) (eq-eqb (number (others.waiters c)) (number (waiters_among c (by_slot slots threads))) (ap number (waiting c)))
+      and_from (nat_eq c c) (nat_eq (length (others.waiters c)) (count_by (waits_on c) threads)) (same c) (eq-eqb (length (others.waiters c)) (count_by (waits_on c) threads) (ap (λ (waiters : List Waiter). length waiters) (waiting c) ∙ count_waiting slots c threads some))
   runs_said choice frame (statement.SemPost sem) offered none = same sem
   runs_said choice frame (statement.AtFork result prepare parent child) offered none = register_fork_said frame result prepare parent child (nat_lt (length shared.fork_handlers) MAX_FORK_HANDLERS) refl
   runs_said choice frame (statement.WaitPid result pid d) offered none = waitpid_said frame result d pid (others.family.child (value frame pid))
@@ -272,7 +292,7 @@ module _ (script : Script) (config : Config) where
       let next : NextStatement = next_of script t.frames in
       subst (λ (s : Status). offers (choices_at body p.shared t others next s) e.alt ≡ true
       → (acts_or_stops (acts_or e.alt s (transition_at config.passes body p.shared t others e.alt next s)).events || asked_at config.slots body p.shared p.threads t next (acts_or e.alt s (transition_at config.passes body p.shared t others e.alt next s)).events) ≡ true) (sym (its_status t.status running))
-      (at_statement config.slots config.passes body p.shared p.threads t others (seen_ids config.slots r.world p t.id) (seen_waiters config.slots r.world p t.id) e.alt next) taken.offered)
+      (at_statement config.slots config.passes body p.shared p.threads t others (have_pids script config before r is).some (seen_ids config.slots r.world p t.id) (seen_waiters config.slots r.world p t.id) e.alt next) taken.offered)
 
   -- each running thread of a run makes the events of its next statement
   pub says_statements_of_run : EveryStep script config (λ s. says_statement config.slots script s ≡ true)
