@@ -104,12 +104,15 @@ MACHINES = (
             ("CaseOfTransition",
              "signal_case (alt.Pick u) frame c may = signal_sent frame c u (λ known. picked_among (may known))",
              "signal_case (alt.Pick u) frame c may = signal_lost frame c")),
-    Machine("join_is_of_another_thread", "StatementLaw", "steps/NamedWaits", "TransitionTable",
-            "runs frame (statement.Join id d) = begins_join (value frame id)",
-            "runs frame (statement.Join id d) = begins_join t.id",
+    Machine("join_is_of_another_thread", "StatementLaw", "steps/NamedWaits", "ThreadCalls",
+            "begins_join id = acts (action.BeginJoin id ∷ []) (what.Called join_point ∷ [])",
+            "begins_join id = acts (action.BeginJoin (suc id) ∷ []) (what.Called join_point ∷ [])",
             ("TransitionCases",
              "(acts (action.BeginJoin (value frame id) ∷ []) (what.Called join_point ∷ []))",
-             "(acts (action.BeginJoin t.id ∷ []) (what.Called join_point ∷ []))")),
+             "(acts (action.BeginJoin (suc (value frame id)) ∷ []) (what.Called join_point ∷ []))")),
+    Machine("nobody_is_seen_to_wait", "StatementLaw", "steps/WaitingThreads", "OtherThreads",
+            "waiter_by c id (status.Waiting cond m) = if nat_eq cond c then record { id = id; mutex = m } ∷ [] else []",
+            "waiter_by c id (status.Waiting cond m) = []"),
 )
 
 
