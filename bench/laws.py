@@ -9,8 +9,8 @@ Each law is a function over the list of the events of a report, oldest first: Ra
 ProcessLaw. They are written from the sentences of the standard, and share no code with the definitions of the same names in
 crates/pct_laws/specs. Of Calls, Ends and CancelLaw this is the part that is about events; what they say of steps, the events
 alone do not show: for instance that `handler F A` comes with a call of F, that a thread ends with no key due or after all
-passes, or that a thread whose cancelability is deferred acts on a request only at a cancellation point. Once, JoinLaw, CondLaw
-and SlotLaw are not said again here. That the last thread of a process exits it in the step of its end, a part of Ends, stands
+passes, or that a thread whose cancelability is deferred acts on a request only at a cancellation point. Once, JoinLaw, CondLaw,
+SlotLaw and StatementLaw are not said again here. That the last thread of a process exits it in the step of its end, a part of Ends, stands
 in AfterEnd.
 
 - Forms. A line of each form in the table of events of docs/FORMATS.md must be read, and lines that are spoilt must be

@@ -7,7 +7,8 @@ A machine is the definition of a step with one line of it changed, so that it br
 a request that is dropped. In a copy of the crates below pct_ending_laws each machine is made in turn, and `rt check` then has to
 prove the laws of it. It is refused if the check does not prove them, and if an error is in a certain file: that of the proof of
 the law, or of a part of the invariant which this law needs. Other files have errors, too, where their proofs use the line that
-was changed.
+was changed. The list of the cases of a transition, from which the laws are proved, repeats the transitions; where the changed line
+is one of a transition, its case is changed alike, so that what is refused is the law.
 
 With names only these machines are tried. A machine takes about half a minute. `rt` has to be in the PATH. The last line is
 `N passed, M failed`. The status is 1 if M is not 0 or N is 0.
@@ -21,8 +22,9 @@ import sys
 import tempfile
 
 ROOT = pathlib.Path(__file__).resolve().parent.parent
-CRATES = ("pct_io", "pct_model", "pct_laws", "pct_jumps", "pct_transition_cases", "pct_ending_laws")
+CRATES = ("pct_io", "pct_model", "pct_names", "pct_laws", "pct_jumps", "pct_transition_cases", "pct_ending_laws")
 SPECS = "crates/pct_model/specs"
+CASES = "crates/pct_transition_cases/proofs"
 PROOFS = "crates/pct_ending_laws/proofs"
 SECONDS = 1800
 
@@ -37,6 +39,8 @@ class Machine:
     file: str
     line: str
     wrong: str
+    # The file of the cases, its line, and the line in its place, where the case of the transition repeats the line.
+    case: tuple = ()
 
 
 MACHINES = (
@@ -76,6 +80,39 @@ MACHINES = (
     Machine("the_status_of_a_process_is_lost", "ProcessLaw", "processes/ProcessEnds", "Actions",
             "process_after (action.EndProcess n) p = record p { ended = Some (record { status = n; reaped = nat_eq p.parent 0 }) }",
             "process_after (action.EndProcess n) p = record p { ended = Some (record { status = 0; reaped = nat_eq p.parent 0 }) }"),
+    Machine("push_loses_its_argument", "StatementLaw", "steps/SaidStatements", "CleanupHandlers",
+            "pushes next f v = goes_on next (action.PushHandler f v ∷ []) (Pushed f v ∷ [])",
+            "pushes next f v = goes_on next (action.PushHandler f 0 ∷ []) (Pushed f 0 ∷ [])",
+            ("TransitionCases",
+             "(action.PushHandler f (value frame v) ∷ []) (what.Pushed f (value frame v) ∷ []))",
+             "(action.PushHandler f 0 ∷ []) (what.Pushed f 0 ∷ []))")),
+    Machine("exit_gives_0", "StatementLaw", "steps/SaidStatements", "TransitionTable",
+            "runs frame (statement.ThreadExit v) = ends_by_exit (value frame v)",
+            "runs frame (statement.ThreadExit v) = ends_by_exit 0",
+            ("TransitionCases",
+             "(action.BeginEnd (reason.Exit (value frame v)) ∷ []) (what.EndingExit (value frame v) ∷ []))",
+             "(action.BeginEnd (reason.Exit 0) ∷ []) (what.EndingExit 0 ∷ []))")),
+    Machine("enable_disables", "StatementLaw", "steps/SaidStatements", "CancelCalls",
+            "(action.SetState (state_if enable) ∷ action.Write old (state_number state) ∷ []) (what.StateSet enable ∷ [])",
+            "(action.SetState (state_if false) ∷ action.Write old (state_number state) ∷ []) (what.StateSet false ∷ [])",
+            ("TransitionCases",
+             "(action.SetState (state_if enable) ∷ action.Write old (state_number t.state) ∷ []) (what.StateSet enable ∷ []))",
+             "(action.SetState (state_if false) ∷ action.Write old (state_number t.state) ∷ []) (what.StateSet false ∷ []))")),
+    Machine("signal_wakes_nobody", "StatementLaw", "steps/SaidStatements", "CondCalls",
+            "signals_by (alt.Pick u) next c = goes_on next (action.Wake u ∷ []) (what.Signalled c u ∷ [])",
+            "signals_by (alt.Pick u) next c = goes_on next [] (what.Signalled c 0 ∷ [])",
+            ("CaseOfTransition",
+             "signal_case (alt.Pick u) frame c may = signal_sent frame c u (λ known. picked_among (may known))",
+             "signal_case (alt.Pick u) frame c may = signal_lost frame c")),
+    Machine("join_is_of_another_thread", "StatementLaw", "steps/NamedWaits", "ThreadCalls",
+            "begins_join id = acts (action.BeginJoin id ∷ []) (what.Called join_point ∷ [])",
+            "begins_join id = acts (action.BeginJoin (suc id) ∷ []) (what.Called join_point ∷ [])",
+            ("TransitionCases",
+             "(acts (action.BeginJoin (value frame id) ∷ []) (what.Called join_point ∷ []))",
+             "(acts (action.BeginJoin (suc (value frame id)) ∷ []) (what.Called join_point ∷ []))")),
+    Machine("nobody_is_seen_to_wait", "StatementLaw", "steps/WaitingThreads", "OtherThreads",
+            "waiter_by c id (status.Waiting cond m) = if nat_eq cond c then record { id = id; mutex = m } ∷ [] else []",
+            "waiter_by c id (status.Waiting cond m) = []"),
 )
 
 
@@ -92,15 +129,22 @@ def errors(folder):
 
 def tried(machine, folder):
     """Why the machine is not refused as it should be, or None, and the files in which its proofs fail."""
-    path = folder / SPECS / f"{machine.file}.antt"
-    text = path.read_text()
-    if text.count(machine.line) != 1:
-        return f"{machine.file}.antt has no such line, or more than one", []
-    path.write_text(text.replace(machine.line, machine.wrong))
+    changes = [(folder / SPECS, machine.file, machine.line, machine.wrong)]
+    if machine.case:
+        changes.append((folder / CASES, *machine.case))
+    texts = {}
+    for parent, file, line, wrong in changes:
+        path = parent / f"{file}.antt"
+        texts[path] = path.read_text()
+        if texts[path].count(line) != 1:
+            return f"{file}.antt has no such line, or more than one", []
     try:
+        for (path, text), (_, _, line, wrong) in zip(texts.items(), changes):
+            path.write_text(text.replace(line, wrong))
         found = errors(folder)
     finally:
-        path.write_text(text)
+        for path, text in texts.items():
+            path.write_text(text)
     if found is None:
         return "its laws are proved", []
     files = found

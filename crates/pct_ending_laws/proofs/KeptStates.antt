@@ -8,6 +8,7 @@ use Rattle.pct_laws.specs.CancelLaw.{acts_where_it_may, acts_at_calls}
 use Rattle.pct_laws.specs.Ends.{each_may_begin, KeepsValues}
 use Rattle.pct_laws.specs.Kept.{IsPlainFunction, IsSuspendedInJoin}
 use Rattle.pct_laws.specs.CondLaw.{owners_allow, waits_allow, hand_ons_allow}
+use Rattle.pct_laws.specs.StatementLaw.{says_statement, suspends_by_call, each_names_its_wait}
 use Rattle.pct_ending_laws.proofs.lift.EachAllowed.{each_both}
 use Rattle.pct_ending_laws.specs.EndingLaws.{RunsKeepLaws, StatesAreKept}
 use Rattle.pct_ending_laws.proofs.exits.RegisteredFunctions.{registered_of_run}
@@ -40,6 +41,8 @@ use Rattle.pct_ending_laws.proofs.steps.KeptKeys.{keeps_keys_of_run}
 use Rattle.pct_ending_laws.proofs.steps.KeptValues.{keeps_values_of_run}
 use Rattle.pct_ending_laws.proofs.steps.MadeFrames.{says_calls_of_run}
 use Rattle.pct_ending_laws.proofs.steps.MovedThreads.{each_step}
+use Rattle.pct_ending_laws.proofs.steps.NamedWaits.{suspends_of_run, names_of_run}
+use Rattle.pct_ending_laws.proofs.steps.SaidStatements.{says_statements_of_run}
 use Rattle.pct_ending_laws.proofs.waits.WaitsOfRun.{waits_of_run, hand_ons_of_run, calls_of_run, waits_kept_of_run}
 
 -- each thread that is suspended in pthread_join
@@ -83,6 +86,11 @@ every_run_keeps_laws script config entries r is = record {
     acts = each_step script config (λ s. acts_where_it_may script s ≡ true) (each_may_act_of_run script config) entries;
     at_calls = each_step script config (λ s. acts_at_calls script s ≡ true) (acts_at_calls_of_run script config) entries;
     awakened = awakened_of_run script config entries r is;
+  };
+  statements = record {
+    said = each_step script config (λ s. says_statement config.slots script s ≡ true) (says_statements_of_run script config) entries;
+    suspended = each_step script config (λ s. suspends_by_call script s ≡ true) (suspends_of_run script config) entries;
+    named = each_step script config (λ s. each_names_its_wait s ≡ true) (names_of_run script config) entries;
   };
   joins = joins_of_run script config entries r is;
   conds = each_both (λ e earlier. owners_allow e earlier && waits_allow e earlier) hand_ons_allow r.events (each_both owners_allow waits_allow r.events (owners_of_run script config entries r is) (waits_of_run script config entries r is)) (hand_ons_of_run script config entries r is);

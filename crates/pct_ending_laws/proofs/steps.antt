@@ -6,3 +6,6 @@ pub mod KeptExitFunctions
 pub mod KeptKeys
 pub mod EndStages
 pub mod KeptValues
+pub mod WaitingThreads
+pub mod SaidStatements
+pub mod NamedWaits

@@ -14,6 +14,8 @@ ghost use Rattle.pct_ending_laws.specs.EndingLaws.{RunsKeepLaws, StatesAreKept};
 ///   stage of an end.
 /// - A thread is canceled only by a request, with cancelability enabled, at a cancellation point or with the asynchronous type;
 ///   with a request to act upon it calls no function that shall be a cancellation point.
+/// - A running thread makes the events of its next statement, with the values of its operands, unless it acts upon a request or
+///   the statement is a stop; and a call suspends it for what the operands name.
 /// - Each join that returns gets the value of a thread that has ended, no thread is joined twice or while it is detached, and no
 ///   request and no detach names a thread that is not known, or that has both ended and been joined or detached.
 /// - Each mutex is acquired while no thread owns it, and released by its owner; a condition wait that released its mutex goes on

@@ -14,6 +14,7 @@ use Rattle.pct_laws.specs.Ends.{Ends}
 use Rattle.pct_laws.specs.JoinLaw as JoinLaw
 use Rattle.pct_laws.specs.ProcessLaw as ProcessLaw
 use Rattle.pct_laws.specs.RanAll as RanAll
+use Rattle.pct_laws.specs.StatementLaw.{StatementLaw}
 use Rattle.pct_model.specs.Run.{Run}
 
 -- the laws of the run of a schedule, and of its events, newest first
@@ -33,6 +34,9 @@ pub record Laws (script : Script) (config : Config) (entries : List Entry) (r : 
   -- a thread is canceled only by a request, with cancelability enabled, at a cancellation point or with the asynchronous type; and with
   -- a request to act upon it acts at each function that it calls and that shall be a cancellation point
   pub cancels : CancelLaw script config entries r
+  -- a running thread makes the events of its next statement, with the values of the operands, unless it acts upon a request or its
+  -- statement is a stop; a call suspends it for what the operands name, and it leaves the call with an event that names the same
+  pub statements : StatementLaw script config entries
   -- each join that returns gets the value of a thread that has ended, no thread is joined twice or while it is detached, and no
   -- request or detach names a thread outside the lifetime of its id
   pub joins : each JoinLaw.allows r.events ≡ true

@@ -20,6 +20,7 @@ pub mod Ends
 pub mod Kept
 pub mod RequestsLaw
 pub mod CancelLaw
+pub mod StatementLaw
 pub mod JoinLaw
 pub mod CondLaw
 pub mod SlotLaw

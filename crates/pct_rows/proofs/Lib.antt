@@ -17,6 +17,7 @@ mod CallRows
 mod ProcessLawRows
 mod RequestRows
 mod ActRows
+mod StatementRows
 mod OneLawRows
 mod OptionRows
 mod EventRows

@@ -68,7 +68,7 @@ implied true false c d then = refl
 implied false b c d then = refl
 
 -- a thread that runs
-its_status : (s : Status) → is_running s ≡ true → s ≡ status.Running
+pub its_status : (s : Status) → is_running s ≡ true → s ≡ status.Running
 its_status status.Running is = refl
 its_status _ is = absurd (false≢true is)
 

@@ -1,0 +1,299 @@
+-- A running thread makes the events of its next statement, acts upon a request, or its statement is a stop.
+use Rattle.pct_names.proofs.Names.{◌&&◌, ◌<◌, [], act_if, acts_on_request, acts_or, adds, Alt, and_from, ap, arith, begins_fork}
+use Rattle.pct_names.proofs.Names.{begins_join, begins_sem_wait, begins_wait, begins_waitpid, body_at, Bool, broadcasts, by_slot}
+use Rattle.pct_names.proofs.Names.{called_kind, calls, calls_point, ChoiceRow, choices_at, cond, Config, count_by, count_by-le-length}
+use Rattle.pct_names.proofs.Names.{creates, creates_by, creates_key, creates_key_by, deletes_key, Dest, detaches, emits, ends_block}
+use Rattle.pct_names.proofs.Names.{ends_by_exit, ends_now, Entry, eqb-false, exits, fails_to_create, fails_to_create_key, false}
+use Rattle.pct_names.proofs.Names.{false≢true, finds_no_child, first_row, ForkAt, Frame, FrameKind, free_ids, gets_self, gets_specific}
+use Rattle.pct_names.proofs.Names.{goes_on, is_allowed_asynchronously, is_asynchronous, is_blocked, is_create, is_deliverable}
+use Rattle.pct_names.proofs.Names.{is_forbidden_in_child, is_key_create, is_none, is_optional, is_required, is_signal, jumps}
+use Rattle.pct_names.proofs.Names.{leaves_handler, length, List, list_any, locks, map, MAX_FORK_HANDLERS, may_register, nat_eq, nat_lt}
+use Rattle.pct_names.proofs.Names.{new_keys, new_or_go, next_of, NextStatement, None, NoStatement, not, offers, open_of, Operand, Option}
+use Rattle.pct_names.proofs.Names.{Optional, or_right, Others, others_of, pick_or_go, point_kind, PointKind, pops, pos_of_ne-zero, posts}
+use Rattle.pct_names.proofs.Names.{Process, pushes, refl, registers_fork, registers_if, requests, Required, returns_by, Run, run}
+use Rattle.pct_names.proofs.Names.{running_choices, running_rows, runs, same_choice, Script, sets, sets_mode, sets_specific, sets_state}
+use Rattle.pct_names.proofs.Names.{SharedState, signals_by, Some, StatementIn, Status, Stmt, stop_at, stops_or, subst, suc, sym}
+use Rattle.pct_names.proofs.Names.{tests_cancel, Thread, Transition, transition_at, true, unlocks, value_of, Waiter, waiters_among}
+use Rattle.pct_names.proofs.Names.{waiters_to_signal, Why, ◌||◌, ℕ, ◌∙◌, ◌∷◌, ◌≡◌}
+use Rattle.std.proofs.Common.{eqb-true, eq-eqb}
+use Rattle.std.proofs.lemmas.Bool.{true≢false}
+use Rattle.pct_model.specs.declared.event.Caller.TheVariants as caller
+use Rattle.pct_model.specs.declared.event.What.{What}
+use Rattle.pct_model.specs.declared.event.What.TheVariants as what
+use Rattle.pct_model.specs.declared.process.Child.{Child}
+use Rattle.pct_model.specs.declared.schedule.Alt.TheVariants as alt
+use Rattle.pct_model.specs.declared.state.FrameKind.TheVariants as kind
+use Rattle.pct_model.specs.declared.state.Status.TheVariants as status
+use Rattle.pct_model.specs.declared.statement.Stmt.TheVariants as statement
+use Rattle.pct_model.specs.declared.transition.Action.TheVariants as action
+use Rattle.pct_model.specs.LineParsing.{is_empty}
+use Rattle.pct_laws.specs.CancelLaw.{is_running, acts_or_stops}
+use Rattle.pct_laws.specs.StatementLaw.{agree, of_return, of_pop, is_among, waits_on, unblocks, asked, asked_at, says_statement}
+use Rattle.pct_transition_cases.proofs.CaseOfTransition.{no_stops}
+use Rattle.pct_ending_laws.proofs.lift.ProcessIds.{have_pids}
+use Rattle.pct_ending_laws.proofs.lift.TakenSteps.{IsTaken}
+use Rattle.pct_ending_laws.proofs.requests.ActingCalls.{its_status}
+use Rattle.pct_ending_laws.proofs.steps.WaitingThreads.{count_waiting, waits_by_id, count_some, no_free_slot, no_free_place}
+use Rattle.pct_ending_laws.proofs.steps.NamedWaits.{same, both_same}
+use Rattle.pct_ending_laws.proofs.steps.MovedThreads.{EveryStep, step_of, every_step}
+
+-- ---- tests
+
+agrees : (b : Bool) → agree b b ≡ true
+agrees true = refl
+agrees false = refl
+
+-- what follows from a test
+unless : (a b c : Bool) → (a ≡ true → (b || c) ≡ true) → (not a || b || c) ≡ true
+unless true b c then = then refl
+unless false b c then = refl
+
+-- ---- choices that name a number
+
+module _ {T : Type 0} (choose : T → Alt) (choice : Alt) where
+  -- a choice that differs from each of some choices is not among them
+  not_among : ((item : T) → same_choice choice (choose item) ≡ false) → (items : List T) → offers (map choose items) choice ≡ false
+  not_among differs [] = refl
+  not_among differs (item ∷ items) = ap (λ (b : Bool). b || offers (map choose items) choice) (differs item) ∙ not_among differs items
+
+  -- one that is among them passes the same test as theirs
+  among : (is_named : T → Bool) → ((item : T) → same_choice choice (choose item) ≡ is_named item) → (items : List T) → offers (map choose items) choice ≡ list_any is_named items
+  among is_named same_as [] = refl
+  among is_named same_as (item ∷ items) = ap (λ (b : Bool). b || offers (map choose items) choice) (same_as item) ∙ ap (λ (b : Bool). is_named item || b) (among is_named same_as items)
+
+-- a new number is one of those that are offered, and `go` is offered only if none is
+new_among : (n : ℕ) (numbers : List ℕ) → offers (new_or_go numbers) (alt.New n) ≡ true → is_among n numbers ≡ true
+new_among n [] offered = absurd (false≢true offered)
+new_among n (m ∷ numbers) offered = sym (among (λ k. alt.New k) (alt.New n) (nat_eq n) (λ k. refl) (m ∷ numbers)) ∙ offered
+
+none_new : (numbers : List ℕ) → offers (new_or_go numbers) alt.Go ≡ true → is_empty numbers ≡ true
+none_new [] offered = refl
+none_new (m ∷ numbers) offered = absurd (true≢false (sym offered ∙ not_among (λ k. alt.New k) alt.Go (λ k. refl) (m ∷ numbers)))
+
+only_new : (choice : Alt) → same_choice choice alt.Go ≡ false → ((k : ℕ) → same_choice choice (alt.New k) ≡ false) → (numbers : List ℕ) → offers (new_or_go numbers) choice ≡ false
+only_new choice not_go differs [] = ap (λ (b : Bool). b || false) not_go
+only_new choice not_go differs (m ∷ numbers) = not_among (λ k. alt.New k) choice differs (m ∷ numbers)
+
+-- a signal picks one of the threads that wait, and `go` is offered only if none waits
+picked : (id : ℕ) (waiters : List Waiter) → offers (pick_or_go waiters) (alt.Pick id) ≡ true → list_any (λ (w : Waiter). nat_eq id w.id) waiters ≡ true
+picked id [] offered = absurd (false≢true offered)
+picked id (waiter ∷ waiters) offered = sym (among (λ (w : Waiter). alt.Pick w.id) (alt.Pick id) (λ (w : Waiter). nat_eq id w.id) (λ w. refl) (waiter ∷ waiters)) ∙ offered
+
+none_picked : (waiters : List Waiter) → offers (pick_or_go waiters) alt.Go ≡ true → length waiters ≡ 0
+none_picked [] offered = refl
+none_picked (waiter ∷ waiters) offered = absurd (true≢false (sym offered ∙ not_among (λ (w : Waiter). alt.Pick w.id) alt.Go (λ w. refl) (waiter ∷ waiters)))
+
+only_picks : (choice : Alt) → same_choice choice alt.Go ≡ false → ((k : ℕ) → same_choice choice (alt.Pick k) ≡ false) → (waiters : List Waiter) → offers (pick_or_go waiters) choice ≡ false
+only_picks choice not_go differs [] = ap (λ (b : Bool). b || false) not_go
+only_picks choice not_go differs (waiter ∷ waiters) = not_among (λ (w : Waiter). alt.Pick w.id) choice (λ w. differs w.id) (waiter ∷ waiters)
+
+-- ---- returns and pops
+
+of_leaving : (kept : Option ForkAt) → is_empty (leaves_handler kept).events ≡ true
+unfolding leaves_handler
+of_leaving (Some at) = refl
+of_leaving None = refl
+
+return_said : (kept : Option ForkAt) (k : FrameKind) (v : ℕ) → of_return k v (returns_by kept k v).events ≡ true
+unfolding returns_by exits ends_by_exit
+return_said kept kind.Main v = same v
+return_said kept kind.Start v = same v
+return_said kept kind.Call v = refl
+return_said kept kind.PopHandler v = refl
+return_said kept kind.Handler v = refl
+return_said kept kind.Destructor v = refl
+return_said kept kind.ExitFn v = refl
+return_said kept kind.ForkFn v = of_leaving kept
+
+end_said : (body : List Stmt) (kept : Option ForkAt) (frame : Frame) (opened : Option ℕ)
+    → cond (is_none opened) (of_return frame.kind 0 (ends_block opened kept body frame).events) (is_empty (ends_block opened kept body frame).events) ≡ true
+unfolding jumps
+end_said body kept frame (Some opened) = refl
+end_said body kept frame None = return_said kept frame.kind 0
+
+pop_by : (next v f a : ℕ) (handlers : List (ℕ × ℕ)) (zero : Bool) → nat_eq v 0 ≡ zero
+    → of_pop v ((f, a) ∷ handlers) (cond zero (goes_on next (action.PopHandler ∷ []) (what.Popped f a false ∷ [])) (goes_on next (action.PopHandler ∷ action.Call f a kind.PopHandler ∷ []) (what.Popped f a true ∷ []))).events ≡ true
+pop_by next v f a handlers true is = and_from (nat_eq f f && nat_eq a a) (agree false (not (nat_eq v 0))) (both_same f a) (ap (λ (b : Bool). not (not b)) is)
+pop_by next v f a handlers false is = and_from (nat_eq f f && nat_eq a a) (agree true (not (nat_eq v 0))) (both_same f a) (ap not is)
+
+pop_said : (next v : ℕ) (handlers : List (ℕ × ℕ)) → of_pop v handlers (pops next v handlers).events ≡ true
+unfolding pops
+pop_said next v [] = refl
+pop_said next v ((f, a) ∷ handlers) = pop_by next v f a handlers (nat_eq v 0) refl
+
+-- ---- a statement
+
+module _ (slots passes : ℕ) (body : List Stmt) (shared : SharedState) (threads : List Thread) (t : Thread) (others : Others)
+    (some : 0 < slots) (ids : others.new_ids ≡ free_ids slots threads) (waiting : (c : ℕ) → others.waiters c ≡ waiters_among c (by_slot slots threads)) where
+  -- the events are those of the statement
+  abbrev IsSaid : Frame → Stmt → List What → Type 0
+  IsSaid frame s events = asked slots body shared threads t frame s events ≡ true
+
+  abbrev value : Frame → Operand → ℕ
+  value frame v = value_of shared.globals frame v
+
+  -- the rows of the choices that a statement has of its own
+  abbrev own_rows : Stmt → List ChoiceRow
+  own_rows s = (is_blocked s shared, []) ∷ (is_create s, new_or_go others.new_ids) ∷ (is_key_create s, new_or_go (new_keys shared.keys)) ∷ (is_signal s, pick_or_go (waiters_to_signal others s)) ∷ []
+
+  -- a thread at a statement that is neither a stop nor a call of a cancellation point has no other choices
+  own_choices : (choice : Alt) (frame : Frame) (s : Stmt) → called_kind s ≡ None → is_allowed_asynchronously s ≡ false → stop_at body shared t others frame s ≡ None → offers (choices_at body shared t others (StatementIn frame s) status.Running) choice ≡ true
+      → offers (first_row (own_rows s) (alt.Go ∷ [])) choice ≡ true
+  unfolding choices_at running_choices running_rows
+  own_choices choice frame s no_point unsafe none =
+      let allowed = no_stops body shared t others frame s none in
+      by (is_forbidden_in_child body shared frame s) (is_asynchronous t.state t.mode) (is_deliverable t.state t.pending) (is_required (called_kind s)) (is_optional (called_kind s)) (is_allowed_asynchronously s)
+      allowed.0 allowed.1.0 (ap is_required no_point) (ap is_optional no_point) unsafe
+    where
+      by : (forbidden asynchronous deliverable required optional allowed : Bool) → forbidden ≡ false → asynchronous && not allowed ≡ false → required ≡ false → optional ≡ false → allowed ≡ false
+          → offers (first_row ((forbidden, alt.Go ∷ []) ∷ (asynchronous, alt.Go ∷ act_if t.pending) ∷ (deliverable && required, alt.Act 0 ∷ []) ∷ (deliverable && optional, alt.Go ∷ alt.Act 0 ∷ []) ∷ own_rows s) (alt.Go ∷ [])) choice ≡ true
+          → offers (first_row (own_rows s) (alt.Go ∷ [])) choice ≡ true
+      by true _ _ _ _ _ allowed deferred shall may unsafe offered = absurd (true≢false allowed)
+      by false true _ _ _ true allowed deferred shall may unsafe offered = absurd (true≢false unsafe)
+      by false true _ _ _ false allowed deferred shall may unsafe offered = absurd (true≢false deferred)
+      by false false _ true _ _ allowed deferred shall may unsafe offered = absurd (true≢false shall)
+      by false false _ false true _ allowed deferred shall may unsafe offered = absurd (true≢false may)
+      by false false true false false _ allowed deferred shall may unsafe offered = offered
+      by false false false false false _ allowed deferred shall may unsafe offered = offered
+
+  -- pthread_create and pthread_key_create
+  create_said : (choice : Alt) (frame : Frame) (result id : Dest) (f : ℕ) (v : Operand) (detached : Bool) → offers (new_or_go (free_ids slots threads)) choice ≡ true
+      → IsSaid frame (statement.Create result id f v detached) (creates_by choice (suc frame.pc) result id f (value frame v) detached).events
+  unfolding creates fails_to_create
+  create_said (alt.New n) frame result id f v detached offered = and_from (is_among n (free_ids slots threads)) (agree detached detached) (new_among n (free_ids slots threads) offered) (agrees detached)
+  create_said alt.Go frame result id f v detached offered = no_free_slot slots threads (none_new (free_ids slots threads) offered)
+  create_said (alt.Act n) frame result id f v detached offered = absurd (true≢false (sym offered ∙ only_new (alt.Act n) refl (λ k. refl) (free_ids slots threads)))
+  create_said (alt.Pick n) frame result id f v detached offered = absurd (true≢false (sym offered ∙ only_new (alt.Pick n) refl (λ k. refl) (free_ids slots threads)))
+  create_said (alt.Dtor n) frame result id f v detached offered = absurd (true≢false (sym offered ∙ only_new (alt.Dtor n) refl (λ k. refl) (free_ids slots threads)))
+
+  create_key_said : (choice : Alt) (frame : Frame) (result key : Dest) (destructor : Option ℕ) → offers (new_or_go (new_keys shared.keys)) choice ≡ true
+      → IsSaid frame (statement.KeyCreate result key destructor) (creates_key_by choice (suc frame.pc) result key destructor).events
+  unfolding creates_key fails_to_create_key
+  create_key_said (alt.New n) frame result key destructor offered = new_among n (new_keys shared.keys) offered
+  create_key_said alt.Go frame result key destructor offered = no_free_place shared.keys (none_new (new_keys shared.keys) offered)
+  create_key_said (alt.Act n) frame result key destructor offered = absurd (true≢false (sym offered ∙ only_new (alt.Act n) refl (λ k. refl) (new_keys shared.keys)))
+  create_key_said (alt.Pick n) frame result key destructor offered = absurd (true≢false (sym offered ∙ only_new (alt.Pick n) refl (λ k. refl) (new_keys shared.keys)))
+  create_key_said (alt.Dtor n) frame result key destructor offered = absurd (true≢false (sym offered ∙ only_new (alt.Dtor n) refl (λ k. refl) (new_keys shared.keys)))
+
+  -- pthread_cond_signal
+  abbrev seen : ℕ → List Waiter
+  seen c = waiters_among c (by_slot slots threads)
+
+  unblocks_by : (c id : ℕ) (none : Bool) → nat_eq (count_by (waits_on c) threads) 0 ≡ none → (count_by (waits_on c) threads ≡ 0 → nat_eq id 0 ≡ true) → (0 < count_by (waits_on c) threads → list_any (λ (t : Thread). waits_on c t && nat_eq id t.id) threads ≡ true)
+      → cond none (nat_eq id 0) (list_any (λ (t : Thread). waits_on c t && nat_eq id t.id) threads) ≡ true
+  unblocks_by c id true is if_none if_some = if_none (eqb-true (count_by (waits_on c) threads) 0 is)
+  unblocks_by c id false is if_none if_some = if_some (pos_of_ne-zero (eqb-false (count_by (waits_on c) threads) 0 is))
+
+  unblocks_one : (c id : ℕ) → list_any (λ (w : Waiter). nat_eq id w.id) (seen c) ≡ true → unblocks c id threads ≡ true
+  unblocks_one c id among =
+      unblocks_by c id (nat_eq (count_by (waits_on c) threads) 0) refl
+      (λ none. absurd (omega (arith, none, count_waiting slots c threads some, count_some (λ (w : Waiter). nat_eq id w.id) (seen c) among, count_by-le-length (λ (w : Waiter). nat_eq id w.id) (seen c))))
+      (λ waits. waits_by_id slots c id threads some among)
+
+  unblocks_none : (c : ℕ) → length (seen c) ≡ 0 → unblocks c 0 threads ≡ true
+  unblocks_none c none = unblocks_by c 0 (nat_eq (count_by (waits_on c) threads) 0) refl (λ zero. refl) (λ waits. absurd (omega (arith, waits, none, count_waiting slots c threads some)))
+
+  signal_said : (choice : Alt) (frame : Frame) (c : ℕ) → offers (pick_or_go (seen c)) choice ≡ true → IsSaid frame (statement.Signal c) (signals_by choice (suc frame.pc) c).events
+  unfolding signals_by
+  signal_said (alt.Pick u) frame c offered = and_from (nat_eq c c) (unblocks c u threads) (same c) (unblocks_one c u (picked u (seen c) offered))
+  signal_said alt.Go frame c offered = and_from (nat_eq c c) (unblocks c 0 threads) (same c) (unblocks_none c (none_picked (seen c) offered))
+  signal_said (alt.Act n) frame c offered = absurd (true≢false (sym offered ∙ only_picks (alt.Act n) refl (λ k. refl) (seen c)))
+  signal_said (alt.New n) frame c offered = absurd (true≢false (sym offered ∙ only_picks (alt.New n) refl (λ k. refl) (seen c)))
+  signal_said (alt.Dtor n) frame c offered = absurd (true≢false (sym offered ∙ only_picks (alt.Dtor n) refl (λ k. refl) (seen c)))
+
+  -- pthread_atfork and atexit, by whether there is room
+  register_fork_said : (frame : Frame) (result : Dest) (prepare parent child : Option ℕ) (room : Bool) → nat_lt (length shared.fork_handlers) MAX_FORK_HANDLERS ≡ room
+      → IsSaid frame (statement.AtFork result prepare parent child)
+      (cond room (goes_on (suc frame.pc) (action.AddForkHandlers (record { prepare = prepare; parent = parent; child = child }) ∷ action.Write result 0 ∷ []) []) (goes_on (suc frame.pc) (action.Write result 2 ∷ []) (what.Answer caller.AtFork 2 ∷ []))).events
+  register_fork_said frame result prepare parent child true is = is
+  register_fork_said frame result prepare parent child false is = ap not is
+
+  register_said : (frame : Frame) (result : Dest) (f : ℕ) (may : Bool) → may_register shared ≡ may → IsSaid frame (statement.AtExit result f) (registers_if may (suc frame.pc) result f).events
+  unfolding registers_if
+  register_said frame result f true is = is
+  register_said frame result f false is = ap not is
+
+  -- waitpid, and generic points
+  waitpid_said : (frame : Frame) (result d : Dest) (pid : Operand) (found : Option Child) → IsSaid frame (statement.WaitPid result pid d) (begins_waitpid found (value frame pid) (suc frame.pc) result).events
+  unfolding finds_no_child
+  waitpid_said frame result d pid (Some child) = refl
+  waitpid_said frame result d pid None = refl
+
+  point_said : (frame : Frame) (index : ℕ) (k : Option PointKind) → point_kind index ≡ k → IsSaid frame (statement.PointCall index) (calls_point (suc frame.pc) index k).events
+  unfolding calls_point
+  point_said frame index (Some Required) is = and_from (nat_eq index index) (is_required (point_kind index)) (same index) (ap is_required is)
+  point_said frame index (Some Optional) is = and_from (nat_eq index index) (is_optional (point_kind index)) (same index) (ap is_optional is)
+  point_said frame index None is = ap is_none is
+
+  -- a statement that does not stop
+  runs_said : (choice : Alt) (frame : Frame) (s : Stmt) → offers (choices_at body shared t others (StatementIn frame s) status.Running) choice ≡ true → stop_at body shared t others frame s ≡ None
+      → IsSaid frame s (runs passes body shared t others choice frame s).events
+  unfolding runs emits sets adds jumps calls gets_self ends_by_exit pushes requests detaches begins_join sets_state sets_mode tests_cancel deletes_key sets_specific gets_specific locks unlocks begins_wait broadcasts begins_sem_wait posts registers_fork begins_fork exits ends_now called_kind
+  runs_said choice frame (statement.Emit v) offered none = same (value frame v)
+  runs_said choice frame statement.End offered none = end_said body t.kept frame (open_of body frame.pc)
+  runs_said choice frame (statement.Return v) offered none = return_said t.kept frame.kind (value frame v)
+  runs_said choice frame (statement.Create result id f v detached) offered none =
+      create_said choice frame result id f v detached (subst (λ (numbers : List ℕ). offers (new_or_go numbers) choice ≡ true) ids (own_choices choice frame (statement.Create result id f v detached) refl refl none offered))
+  runs_said choice frame (statement.Detach id) offered none = same (value frame id)
+  runs_said choice frame (statement.CancelThread id) offered none = same (value frame id)
+  runs_said choice frame (statement.ThreadExit v) offered none = same (value frame v)
+  runs_said choice frame (statement.SetState enable old) offered none = agrees enable
+  runs_said choice frame (statement.SetMode asynchronous old) offered none = agrees asynchronous
+  runs_said choice frame (statement.Push f v) offered none = both_same f (value frame v)
+  runs_said choice frame (statement.Pop v) offered none = pop_said (suc frame.pc) (value frame v) t.handlers
+  runs_said choice frame (statement.KeyCreate result key destructor) offered none = create_key_said choice frame result key destructor (own_choices choice frame (statement.KeyCreate result key destructor) refl refl none offered)
+  runs_said choice frame (statement.KeyDelete key) offered none = same (value frame key)
+  runs_said choice frame (statement.Lock m) offered none = same m
+  runs_said choice frame (statement.Unlock m) offered none = same m
+  runs_said choice frame (statement.CondWait c m) offered none = same m
+  runs_said choice frame (statement.Signal c) offered none =
+      signal_said choice frame c (subst (λ (waiters : List Waiter). offers (pick_or_go waiters) choice ≡ true) (waiting c) (own_choices choice frame (statement.Signal c) refl refl none offered))
+  runs_said choice frame (statement.Broadcast c) offered none =
+      and_from (nat_eq c c) (nat_eq (length (others.waiters c)) (count_by (waits_on c) threads)) (same c) (eq-eqb (length (others.waiters c)) (count_by (waits_on c) threads) (ap (λ (waiters : List Waiter). length waiters) (waiting c) ∙ count_waiting slots c threads some))
+  runs_said choice frame (statement.SemPost sem) offered none = same sem
+  runs_said choice frame (statement.AtFork result prepare parent child) offered none = register_fork_said frame result prepare parent child (nat_lt (length shared.fork_handlers) MAX_FORK_HANDLERS) refl
+  runs_said choice frame (statement.WaitPid result pid d) offered none = waitpid_said frame result d pid (others.family.child (value frame pid))
+  runs_said choice frame (statement.AtExit result f) offered none = register_said frame result f (may_register shared) refl
+  runs_said choice frame (statement.ProcExit v) offered none = same (value frame v)
+  runs_said choice frame (statement.ProcExitNow v) offered none = same _
+  runs_said choice frame (statement.PointCall index) offered none = point_said frame index (point_kind index) refl
+  runs_said choice frame _ offered none = refl
+
+  -- a statement that may stop
+  stop_said : (frame : Frame) (s : Stmt) (stop : Option Why) (other : Transition) → (stop ≡ None → IsSaid frame s other.events) → (acts_or_stops (stops_or stop other).events || asked slots body shared threads t frame s (stops_or stop other).events) ≡ true
+  stop_said frame s (Some why) other said = refl
+  stop_said frame s None other said = or_right (acts_or_stops other.events) (asked slots body shared threads t frame s other.events) (said refl)
+
+  -- a running thread
+  at_statement : (choice : Alt) (next : NextStatement) → offers (choices_at body shared t others next status.Running) choice ≡ true
+      → (acts_or_stops (acts_or choice status.Running (transition_at passes body shared t others choice next status.Running)).events || asked_at slots body shared threads t next (acts_or choice status.Running (transition_at passes body shared t others choice next status.Running)).events) ≡ true
+  unfolding transition_at acts_on_request choices_at
+  at_statement choice NoStatement offered = absurd (false≢true offered)
+  at_statement (alt.Act n) (StatementIn frame s) offered = refl
+  at_statement choice (StatementIn frame s) offered = stop_said frame s (stop_at body shared t others frame s) (runs passes body shared t others choice frame s) (runs_said choice frame s offered)
+
+-- ---- steps
+
+-- what a thread sees of the others, as the law has it
+seen_ids : (slots : ℕ) (w : _) (p : Process) (id : ℕ) → (others_of slots w p id).new_ids ≡ free_ids slots p.threads
+unfolding others_of
+seen_ids slots w p id = refl
+
+seen_waiters : (slots : ℕ) (w : _) (p : Process) (id c : ℕ) → (others_of slots w p id).waiters c ≡ waiters_among c (by_slot slots p.threads)
+unfolding others_of
+seen_waiters slots w p id c = refl
+
+module _ (script : Script) (config : Config) where
+  -- so it is of the step of an entry that moves a thread
+  says_statement_of_step : (before : List Entry) (r : Run) → run script config before ≡ Some r → (e : Entry) (p : Process) (t : Thread) → IsTaken script config r.world e p t → says_statement config.slots script (step_of script config r p e t) ≡ true
+  says_statement_of_step before r is e p t taken = unless (is_running t.status) _ _ (λ running.
+      let body : List Stmt = body_at script t.frames in
+      let others : Others = others_of config.slots r.world p t.id in
+      let next : NextStatement = next_of script t.frames in
+      subst (λ (s : Status). offers (choices_at body p.shared t others next s) e.alt ≡ true
+      → (acts_or_stops (acts_or e.alt s (transition_at config.passes body p.shared t others e.alt next s)).events || asked_at config.slots body p.shared p.threads t next (acts_or e.alt s (transition_at config.passes body p.shared t others e.alt next s)).events) ≡ true) (sym (its_status t.status running))
+      (at_statement config.slots config.passes body p.shared p.threads t others (have_pids script config before r is).some (seen_ids config.slots r.world p t.id) (seen_waiters config.slots r.world p t.id) e.alt next) taken.offered)
+
+  -- each running thread of a run makes the events of its next statement
+  pub says_statements_of_run : EveryStep script config (λ s. says_statement config.slots script s ≡ true)
+  says_statements_of_run = every_step script config (λ s. says_statement config.slots script s ≡ true) says_statement_of_step
