@@ -51,7 +51,7 @@ may_hand_on (what.HandedOn c u) pid tid earlier = has_just_left pid tid c earlie
 -- the law asks nothing of the other events
 may_hand_on _ pid tid earlier = true
 
--- an event may come after those before it, if it is that a signal is handed on
+-- an event may come after those before it: of those that hand a signal on, only one where it may; any other
 abbrev pub hand_ons_allow : Event → List Event → Bool
 hand_ons_allow e earlier = may_hand_on e.what e.pid e.tid earlier
 

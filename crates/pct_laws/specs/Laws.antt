@@ -22,7 +22,8 @@ pub record Laws (script : Script) (config : Config) (entries : List Entry) (r : 
   -- no cleanup handler is removed twice, the newest is removed first, a thread ends once, with none left, and after its handlers no
   -- key has two events of its destructor in a pass
   pub once : each (Once.allows config.passes) r.events ≡ true
-  -- the handlers that ran in a thread that has ended are all those that were open as it began to end, the newest first
+  -- as a thread ends, the handlers that ran in it are all those that were open as it began to end, the newest first; after_end says that
+  -- none runs later
   pub ran_all : each RanAll.allows r.events ≡ true
   -- a thread that has ended, or exits its process, neither removes a handler nor calls a destructor nor ends again; after its end it
   -- only exits its process, as the last thread

@@ -1,8 +1,8 @@
 -- The law of requests: a thread is canceled only by a request, and only with cancelability enabled (XSH pthread_cancel, 2.9.5.1, 2.9.5.3); a
 -- thread with cancelability enabled and a request pending returns from no function that it calls then and that shall be a cancellation
--- point, and is suspended in none: it acts on the request (XSH 2.9.5.2), in a condition wait by the stages of the wait (XSH
--- pthread_cond_wait); and a thread that has begun to end enables cancelability no more (XSH 2.9.5.3). It speaks of the events of a run
--- alone.
+-- point, but for pthread_join, whose returns are those of JoinLaw.antt, and is suspended in none: it acts on the request (XSH 2.9.5.2), in
+-- a condition wait by the stages of the wait (XSH pthread_cond_wait); and a thread that has begun to end enables cancelability no more (XSH
+-- 2.9.5.3). It speaks of the events of a run alone.
 use Rattle.std.specs.Prelude.{ℕ, Bool, true, false, not, ◌&&◌, ◌||◌, if◌then◌else◌, List, nat_eq}
 use Rattle.pct_model.specs.declared.event.Caller.TheVariants as caller
 use Rattle.pct_model.specs.declared.event.Event.{Event}
@@ -49,7 +49,7 @@ may_return index pid tid earlier =
     else if nat_eq index testcancel_point then not (has_to_act pid tid earlier)
     -- pthread_cond_wait returns at the end of a wait
     else if nat_eq index cond_wait_point then is_to_return (wait_stage pid tid earlier)
-    -- and another point that shall be one only after its call; any other comes with its call
+    -- and another point that shall be one directly after its call; an optional point has no event of its call
     else not (is_required (point_kind index)) || newest_is (calls_point index) pid tid earlier
 
 -- ---- the law

@@ -1,3 +1,3 @@
 //! The laws of runs, and the invariant of the states that they reach. A law of events is a test of an event against those before
-//! it. The crate has no code.
+//! it, or of a list whose events of one kind are directly followed by others. The crate has no code.
 #![tactic(auto)]
