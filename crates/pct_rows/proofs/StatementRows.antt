@@ -324,6 +324,11 @@ nor_on_another_condition_variable : says (statement.Signal 1) (what.Signalled 1 
 unfolding runs_on_literals
 nor_on_another_condition_variable = refl
 
+-- a thread that its process did not inherit waits no more
+nor_one_that_is_not_inherited : asked 4 statements shared (record (new_thread 3 false (frame kind.Start)) { status = status.Waiting 0 2; gone = true } ∷ []) thread (frame kind.Call) (statement.Signal 0) (what.Signalled 0 3 ∷ []) ≡ false
+unfolding runs_on_literals
+nor_one_that_is_not_inherited = refl
+
 a_signal_is_lost_if_nobody_waits : says (statement.Signal 1) (what.Signalled 1 0 ∷ []) ≡ true
 unfolding runs_on_literals
 a_signal_is_lost_if_nobody_waits = refl

@@ -14,11 +14,10 @@ use Rattle.pct_names.proofs.Names.{Process, pushes, refl, registers_fork, regist
 use Rattle.pct_names.proofs.Names.{running_choices, running_rows, runs, same_choice, Script, sets, sets_mode, sets_specific, sets_state}
 use Rattle.pct_names.proofs.Names.{SharedState, signals_by, Some, StatementIn, Status, Stmt, stop_at, stops_or, subst, suc, sym}
 use Rattle.pct_names.proofs.Names.{tests_cancel, Thread, Transition, transition_at, true, unlocks, value_of, Waiter, waiters_among}
-use Rattle.pct_names.proofs.Names.{waiters_to_signal, Why, ◌||◌, ℕ, ◌∙◌, ◌∷◌, ◌≡◌}
+use Rattle.pct_names.proofs.Names.{waiters_to_signal, What, Why, World, ◌||◌, ℕ, ◌∙◌, ◌∷◌, ◌≡◌}
 use Rattle.std.proofs.Common.{eqb-true, eq-eqb}
 use Rattle.std.proofs.lemmas.Bool.{true≢false}
 use Rattle.pct_model.specs.declared.event.Caller.TheVariants as caller
-use Rattle.pct_model.specs.declared.event.What.{What}
 use Rattle.pct_model.specs.declared.event.What.TheVariants as what
 use Rattle.pct_model.specs.declared.process.Child.{Child}
 use Rattle.pct_model.specs.declared.schedule.Alt.TheVariants as alt
@@ -275,11 +274,11 @@ module _ (slots passes : ℕ) (body : List Stmt) (shared : SharedState) (threads
 -- ---- steps
 
 -- what a thread sees of the others, as the law has it
-seen_ids : (slots : ℕ) (w : _) (p : Process) (id : ℕ) → (others_of slots w p id).new_ids ≡ free_ids slots p.threads
+seen_ids : (slots : ℕ) (w : World) (p : Process) (id : ℕ) → (others_of slots w p id).new_ids ≡ free_ids slots p.threads
 unfolding others_of
 seen_ids slots w p id = refl
 
-seen_waiters : (slots : ℕ) (w : _) (p : Process) (id c : ℕ) → (others_of slots w p id).waiters c ≡ waiters_among c (by_slot slots p.threads)
+seen_waiters : (slots : ℕ) (w : World) (p : Process) (id c : ℕ) → (others_of slots w p id).waiters c ≡ waiters_among c (by_slot slots p.threads)
 unfolding others_of
 seen_waiters slots w p id c = refl
 
