@@ -307,15 +307,11 @@ impl Drawing<'_, '_> {
 
     // Where the next lane with a text at its end begins, or the end of the picture.
     fn next_last_text(&self, index: usize) -> usize {
-        for (at, thread) in self
-            .run
-            .threads
-            .iter()
-            .enumerate()
-            .skip(index.saturating_add(1))
-        {
-            if thread.has_last_text() {
-                return self.layout.lane(at).saturating_sub(RADIUS * 2);
+        for at in index.saturating_add(1)..self.run.threads.len() {
+            if let Some(thread) = self.run.threads.get(at) {
+                if thread.has_last_text() {
+                    return self.layout.lane(at).saturating_sub(RADIUS * 2);
+                }
             }
         }
         self.layout.width.saturating_sub(RADIUS)

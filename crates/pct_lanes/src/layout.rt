@@ -106,6 +106,20 @@ struct Lane {
     forked: usize,
 }
 
+impl Lane {
+    // The lane of a thread, without its place, its events and its mutexes.
+    fn of(thread: &Thread) -> Lane {
+        let request = if thread.has_request { PENDING.len() } else { 0 };
+        Lane {
+            place: 0,
+            first: thread.first,
+            right: thread.id.len().max(thread.wait.len()).max(request),
+            left: 0,
+            forked: 0,
+        }
+    }
+}
+
 /// The tags of the mutexes whose bars begin at one position beside a lane.
 #[derive(Clone, Copy)]
 pub(crate) struct Tags {
@@ -157,8 +171,12 @@ pub(crate) struct Layout {
 impl Layout {
     /// The layout of the picture of a run.
     pub(crate) fn new(alloc: Global, run: &Run) -> Result<Layout, NoMemory> {
+        let mut lanes = Vec::new(alloc);
+        for thread in run.threads.iter() {
+            lanes.push(Lane::of(thread))?;
+        }
         let mut layout = Layout {
-            lanes: Vec::new(alloc),
+            lanes,
             is_narrow: false,
             is_dense: false,
             numbers_end: 0,
@@ -176,15 +194,15 @@ impl Layout {
             last_lines: 0,
             longest_name: 0,
         };
-        layout.measure(run)?;
+        layout.measure(run);
         Ok(layout)
     }
 
     // ---- measures
 
-    fn measure(&mut self, run: &Run) -> Result<(), NoMemory> {
+    fn measure(&mut self, run: &Run) {
         for thread in run.threads.iter() {
-            self.measure_thread(thread)?;
+            self.measure_thread(thread);
         }
         self.measure_rows(run);
         for owner in run.owners.iter() {
@@ -201,23 +219,13 @@ impl Layout {
             }
         }
         self.place_lanes(run);
-        Ok(())
     }
 
-    fn measure_thread(&mut self, thread: &Thread) -> Result<(), NoMemory> {
-        let name = thread.id.len();
-        let request = if thread.has_request { PENDING.len() } else { 0 };
-        self.lanes.push(Lane {
-            place: 0,
-            first: thread.first,
-            right: name.max(thread.wait.len()).max(request),
-            left: 0,
-            forked: 0,
-        })?;
+    fn measure_thread(&mut self, thread: &Thread) {
         if thread.is_shown {
             self.shown_lanes = self.shown_lanes.saturating_add(1);
             let function = thread.function.len().min(FUNCTION_LIMIT);
-            let both = name.saturating_add(1).saturating_add(function);
+            let both = thread.id.len().saturating_add(1).saturating_add(function);
             self.longest_name = self.longest_name.max(both);
             if thread.has_last_text() {
                 self.last_texts = self.last_texts.saturating_add(1);
@@ -229,7 +237,6 @@ impl Layout {
                 self.statement_limit = SHORT_STATEMENT_LIMIT;
             }
         }
-        Ok(())
     }
 
     // Measures the texts of the rows, and places those at the left side.
@@ -352,9 +359,11 @@ impl Layout {
 
     /// The next place at the right side of the lane with this index where a lane has a line in this row, or the end of the picture.
     pub(crate) fn next_edge(&self, run: &Run, index: usize, row: usize) -> usize {
-        for (at, thread) in run.threads.iter().enumerate().skip(index.saturating_add(1)) {
-            if thread.is_drawn(row) {
-                return self.left_edge(at, thread);
+        for at in index.saturating_add(1)..run.threads.len() {
+            if let Some(thread) = run.threads.get(at) {
+                if thread.is_drawn(row) {
+                    return self.left_edge(at, thread);
+                }
             }
         }
         self.width.saturating_sub(MARGIN)

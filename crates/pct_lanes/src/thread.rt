@@ -74,12 +74,13 @@ impl<'a> Thread<'a> {
 
     /// The replica of this thread in the child of a fork, which comes into being in this row.
     pub(crate) fn replica(&self, id: ThreadId, is_shown: bool, first: usize) -> Thread<'a> {
-        let mut thread = Thread::new(id, self.function, is_shown, first);
-        thread.at = self.at;
-        thread.fork_place = self.fork_place;
-        thread.inside = self.inside;
-        thread.outside = self.outside;
-        thread
+        Thread {
+            at: self.at,
+            fork_place: self.fork_place,
+            inside: self.inside,
+            outside: self.outside,
+            ..Thread::new(id, self.function, is_shown, first)
+        }
     }
 
     /// Whether the thread is there in this row.

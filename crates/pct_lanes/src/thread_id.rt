@@ -18,8 +18,8 @@ impl ThreadId {
     pub(crate) fn parse(text: &str) -> Option<ThreadId> {
         let (process, thread) = text.split_once('.')?;
         Some(ThreadId {
-            process: process.parse().ok()?,
-            thread: thread.parse().ok()?,
+            process: number_in(process),
+            thread: number_in(thread),
         })
     }
 
@@ -29,6 +29,11 @@ impl ThreadId {
             .saturating_add(digits(self.thread))
             .saturating_add(1)
     }
+}
+
+/// The number that a text is. It is 0, the number of no process and of no thread, if the text is none.
+pub(crate) fn number_in(text: &str) -> usize {
+    text.parse().unwrap_or(0)
 }
 
 fn digits(number: usize) -> usize {
