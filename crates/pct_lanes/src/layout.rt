@@ -146,8 +146,6 @@ pub(crate) struct Layout {
     pub(crate) statements: usize,
     /// The greatest number of characters of a statement.
     pub(crate) statement_limit: usize,
-    // The number of lanes.
-    shown_lanes: usize,
     // The number of characters of the longest events, cut.
     longest_events: usize,
     // The distance of the lanes in a narrow picture.
@@ -182,8 +180,11 @@ impl Layout {
             numbers_end: 0,
             places: 0,
             statements: 0,
-            statement_limit: STATEMENT_LIMIT,
-            shown_lanes: 0,
+            statement_limit: if run.shown_threads > FEW_LANES {
+                SHORT_STATEMENT_LIMIT
+            } else {
+                STATEMENT_LIMIT
+            },
             longest_events: 0,
             distance: 0,
             texts_end: 0,
@@ -223,7 +224,6 @@ impl Layout {
 
     fn measure_thread(&mut self, thread: &Thread) {
         if thread.is_shown {
-            self.shown_lanes = self.shown_lanes.saturating_add(1);
             let function = thread.function.len().min(FUNCTION_LIMIT);
             let both = thread.id.len().saturating_add(1).saturating_add(function);
             self.longest_name = self.longest_name.max(both);
@@ -232,9 +232,6 @@ impl Layout {
                 let request_lines = if thread.has_request { 1 } else { 0 };
                 let wait_lines = if thread.wait.is_empty() { 0 } else { 2 };
                 self.last_lines = self.last_lines.max(request_lines + wait_lines);
-            }
-            if self.shown_lanes > FEW_LANES {
-                self.statement_limit = SHORT_STATEMENT_LIMIT;
             }
         }
     }
@@ -266,7 +263,7 @@ impl Layout {
 
     // Cuts the room of the events until the picture is no wider than a slide. If it would be too short the lanes become narrow.
     fn place_lanes(&mut self, run: &Run) {
-        for cut in 0..=EVENTS_LIMIT - LEAST_EVENTS {
+        for cut in 0..EVENTS_LIMIT - LEAST_EVENTS + 1 {
             self.place_wide(run, EVENTS_LIMIT - cut);
             if self.width <= SLIDE {
                 return;
@@ -286,8 +283,11 @@ impl Layout {
         let mut place = self.texts_end.saturating_sub(WIDE_LANE / 2);
         let mut end = self.texts_end;
         let mut width = LEAST_WIDTH;
-        for (thread, lane) in run.threads.iter().zip(self.lanes.iter_mut()) {
-            if thread.is_shown {
+        for (index, thread) in run.threads.iter().enumerate() {
+            if !thread.is_shown {
+                continue;
+            }
+            if let Some(lane) = self.lanes.get_mut(index) {
                 let bars = left_of(thread.most_owned);
                 let names = text_end(bars.saturating_add(RADIUS), lane.left);
                 let beside_arrow = text_end(bars, lane.forked);
@@ -296,8 +296,8 @@ impl Layout {
                     .max(end.saturating_add(beside_arrow));
                 end = text_end(place, lane.right.min(limit)).saturating_add(TEXT_GAP + ARROW_ROOM);
                 width = width.max(text_end(place, lane.right).saturating_add(TEXT_GAP + MARGIN));
+                lane.place = place;
             }
-            lane.place = place;
         }
         self.width = width;
     }
@@ -306,13 +306,16 @@ impl Layout {
     fn place_narrow(&mut self, run: &Run) {
         let right = text_end(TEXT_GAP + MARGIN, self.longest_events);
         let room = SLIDE.saturating_sub(self.texts_end).saturating_sub(right);
-        self.distance = (room / self.shown_lanes.max(1)).clamp(NARROW_LANE, WIDE_LANE);
+        self.distance = (room / run.shown_threads.max(1)).clamp(NARROW_LANE, WIDE_LANE);
         let mut place = self.texts_end;
-        for (thread, lane) in run.threads.iter().zip(self.lanes.iter_mut()) {
-            if thread.is_shown {
-                place = place.saturating_add(self.distance);
+        for (index, thread) in run.threads.iter().enumerate() {
+            if !thread.is_shown {
+                continue;
             }
-            lane.place = place;
+            if let Some(lane) = self.lanes.get_mut(index) {
+                place = place.saturating_add(self.distance);
+                lane.place = place;
+            }
         }
         self.width = place.saturating_add(right).max(LEAST_WIDTH);
     }

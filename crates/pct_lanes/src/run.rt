@@ -59,6 +59,8 @@ pub(crate) struct Run<'a> {
     pub(crate) shown_rows: usize,
     /// The threads, in the order in which they come into being. The first one is there from the beginning.
     pub(crate) threads: Vec<Thread<'a>>,
+    /// The number of threads that have a lane.
+    pub(crate) shown_threads: usize,
     /// What goes between threads, by rising row.
     pub(crate) arrows: Vec<Arrow>,
     /// Who owns a mutex, and when, by rising first row.
@@ -71,8 +73,8 @@ pub(crate) struct Run<'a> {
     is_whole: bool,
     // The index of each thread, by its process and its number.
     indices: BTreeMap<(usize, usize), usize>,
-    // Of each process that has ended, the row, and the number of the thread that made the step.
-    process_ends: BTreeMap<usize, (usize, usize)>,
+    // The row in which each process has ended.
+    process_ends: BTreeMap<usize, usize>,
 }
 
 impl<'a> Run<'a> {
@@ -89,6 +91,7 @@ impl<'a> Run<'a> {
             rows: Vec::new(alloc),
             shown_rows: 0,
             threads: Vec::new(alloc),
+            shown_threads: 0,
             arrows: Vec::new(alloc),
             owners: Vec::new(alloc),
             waits: Vec::new(alloc),
@@ -152,9 +155,7 @@ impl<'a> Run<'a> {
 
     // Notes what the step of a row does, and completes the row.
     fn note_thread(&mut self, row: &mut Row<'a>) {
-        let Some(by) = ThreadId::parse(row.step.thread) else {
-            return;
-        };
+        let by = ThreadId::parse(row.step.thread);
         let Some(index) = self.index_of(by) else {
             return;
         };
@@ -209,7 +210,11 @@ impl<'a> Run<'a> {
                     self.add_arrow(Kind::Join, from, Some(index));
                 }
             }
-            Event::Call => self.suspend(index),
+            Event::Call => {
+                if let Some(thread) = self.threads.get_mut(index) {
+                    thread.is_in_call = true;
+                }
+            }
             Event::Acquire => self.acquire(index, by.process, effect.name),
             Event::Release => self.release(index, by.process, effect.name),
             Event::Ending => {
@@ -221,14 +226,14 @@ impl<'a> Run<'a> {
                 row.has_canceled = self.is_canceled(index);
                 self.end_thread(index);
             }
-            Event::ProcessEnd => self.end_process(by),
+            Event::ProcessEnd => self.end_process(index, by.process),
         }
     }
 
-    // Notes that the process of this thread has ended, by a step of the thread.
-    fn end_process(&mut self, by: ThreadId) {
-        let end = (self.rows.len(), by.thread);
-        let is_added = self.process_ends.insert(by.process, end).is_ok();
+    // The process ends by a step of the thread with this index.
+    fn end_process(&mut self, index: usize, process: usize) {
+        self.end_thread(index);
+        let is_added = self.process_ends.insert(process, self.rows.len()).is_ok();
         self.note_memory(is_added);
     }
 
@@ -280,6 +285,9 @@ impl<'a> Run<'a> {
         let id = (thread.id.process, thread.id.thread);
         let is_added = self.indices.insert(id, self.threads.len()).is_ok();
         self.note_memory(is_added);
+        if thread.is_shown {
+            self.shown_threads = self.shown_threads.saturating_add(1);
+        }
         let is_added = self.threads.push(thread).is_ok();
         self.note_memory(is_added);
     }
@@ -311,15 +319,10 @@ impl<'a> Run<'a> {
         }
     }
 
-    fn suspend(&mut self, index: usize) {
-        if let Some(thread) = self.threads.get_mut(index) {
-            thread.is_in_call = true;
-        }
-    }
-
+    // Notes the end of a thread. One that has ended before may end its process.
     fn end_thread(&mut self, index: usize) {
         if let Some(thread) = self.threads.get_mut(index) {
-            thread.last = Some(self.rows.len());
+            thread.last = Some(thread.last.unwrap_or(self.rows.len()));
         }
     }
 
@@ -327,15 +330,15 @@ impl<'a> Run<'a> {
     fn end_processes(&mut self) {
         for thread in self.threads.iter_mut() {
             if thread.last.is_none() {
-                if let Some((row, by)) = self.process_ends.get(&thread.id.process) {
+                if let Some(row) = self.process_ends.get(&thread.id.process) {
                     thread.last = Some(*row);
-                    thread.is_cut_off = thread.id.thread != *by;
+                    thread.is_cut_off = true;
                 }
             }
         }
         for owner in self.owners.iter_mut() {
             if owner.last.is_none() {
-                if let Some((row, _)) = self.process_ends.get(&owner.process) {
+                if let Some(row) = self.process_ends.get(&owner.process) {
                     owner.last = Some(*row);
                 }
             }
@@ -348,7 +351,7 @@ impl<'a> Run<'a> {
     fn add_choices(&mut self, choices: &'a str) {
         for line in choices.split('\n') {
             if let Some(state) = State::parse(line) {
-                if let Some(index) = self.thread_named(state.step.thread) {
+                if let Some(index) = self.index_of(ThreadId::parse(state.step.thread)) {
                     self.end_wait(index, &state.step);
                     self.add_last_texts(index, &state);
                 }
@@ -356,13 +359,10 @@ impl<'a> Run<'a> {
         }
     }
 
-    fn thread_named(&self, name: &str) -> Option<usize> {
-        self.index_of(ThreadId::parse(name)?)
-    }
-
     // Notes what a thread waits for, and whether it has a pending request.
     fn add_last_texts(&mut self, index: usize, state: &State<'a>) {
-        if !self.selection.has_end(self.rows.len()) {
+        let (_, last) = self.selection.range();
+        if self.rows.len() > last {
             return;
         }
         if let Some(thread) = self.threads.get_mut(index) {

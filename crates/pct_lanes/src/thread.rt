@@ -85,11 +85,7 @@ impl<'a> Thread<'a> {
 
     /// Whether the thread is there in this row.
     pub(crate) fn is_there(&self, row: usize) -> bool {
-        let has_ended = match self.last {
-            None => false,
-            Some(last) => last < row,
-        };
-        self.first <= row && !has_ended
+        self.first <= row && row <= self.last.unwrap_or(usize::MAX)
     }
 
     /// Whether a text stands at the end of its lane.

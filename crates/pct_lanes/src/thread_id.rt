@@ -14,13 +14,13 @@ impl ThreadId {
         thread: 1,
     };
 
-    /// The thread that this text names. It is `None` where the text is not of the form `PID.TID`.
-    pub(crate) fn parse(text: &str) -> Option<ThreadId> {
-        let (process, thread) = text.split_once('.')?;
-        Some(ThreadId {
+    /// The thread that this text names. It is none that is there where the text is not of the form `PID.TID`.
+    pub(crate) fn parse(text: &str) -> ThreadId {
+        let (process, thread) = text.split_once('.').unwrap_or(("", ""));
+        ThreadId {
             process: number_in(process),
             thread: number_in(thread),
-        })
+        }
     }
 
     /// The number of characters of `PID.TID`.

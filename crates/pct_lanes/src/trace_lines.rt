@@ -57,6 +57,14 @@ impl<'a> Step<'a> {
         self.place.starts_with("in ")
     }
 
+    /// What has become of the call that the thread was in, after a comma, or nothing.
+    pub(crate) fn outcome(&self) -> &'a str {
+        match self.place.split_once(',') {
+            None => "",
+            Some((call, _)) => self.place.strip_prefix(call).unwrap_or(""),
+        }
+    }
+
     /// Whether the thread acts on a request in this step.
     pub(crate) fn is_act(&self) -> bool {
         self.choice.starts_with("act")

@@ -40,7 +40,10 @@ impl<'a> Run<'a> {
 
     /// The thread with this index owns a mutex of its process.
     pub(crate) fn acquire(&mut self, index: usize, process: usize, mutex: &'a str) {
-        let place = self.own(index);
+        let place = match self.threads.get_mut(index) {
+            Some(thread) => thread.own(),
+            None => 0,
+        };
         self.add_owner(process, mutex, Some(index), place);
     }
 
@@ -67,24 +70,31 @@ impl<'a> Run<'a> {
         }
     }
 
-    fn own(&mut self, index: usize) -> u32 {
-        match self.threads.get_mut(index) {
-            Some(thread) => thread.own(),
-            None => 0,
+    /// The thread with this index owns a mutex of its process no more.
+    pub(crate) fn release(&mut self, index: usize, process: usize, mutex: &str) {
+        let at = self.open_owner(process, mutex);
+        let mut place = 0;
+        if let Some(owner) = self.owners.get_mut(at) {
+            owner.last = Some(self.rows.len());
+            place = owner.place;
+        }
+        if let Some(thread) = self.threads.get_mut(index) {
+            thread.disown(place);
         }
     }
 
-    /// The thread with this index owns a mutex of its process no more.
-    pub(crate) fn release(&mut self, index: usize, process: usize, mutex: &str) {
-        for owner in self.owners.iter_mut().rev() {
-            if owner.last.is_none() && owner.process == process && owner.mutex == mutex {
-                owner.last = Some(self.rows.len());
-                if let Some(thread) = self.threads.get_mut(index) {
-                    thread.disown(owner.place);
+    // The index of the last owner that has this mutex still. If there is none it is past all owners.
+    fn open_owner(&self, process: usize, mutex: &str) -> usize {
+        let count = self.owners.len();
+        for after in 0..count {
+            let at = count.saturating_sub(after).saturating_sub(1);
+            if let Some(owner) = self.owners.get(at) {
+                if owner.last.is_none() && owner.process == process && owner.mutex == mutex {
+                    return at;
                 }
-                break;
             }
         }
+        count
     }
 
     /// In the child of a fork the mutexes have owners as in the parent: the thread that forked is its replica.
@@ -96,19 +106,13 @@ impl<'a> Run<'a> {
         process: usize,
     ) {
         for at in 0..self.owners.len() {
-            let mut mutex = "";
-            let mut thread = None;
-            if let Some(owner) = self.owners.get(at) {
-                if owner.last.is_none() && owner.process == parent_process {
-                    mutex = owner.mutex;
-                    thread = owner.thread;
+            if let Some(owner) = self.owners.get(at).copied() {
+                let is_open = owner.last.is_none() && owner.process == parent_process;
+                if is_open && owner.thread == Some(parent) {
+                    self.acquire(replica, process, owner.mutex);
+                } else if is_open {
+                    self.add_owner(process, owner.mutex, None, 0);
                 }
-            }
-            if !mutex.is_empty() && thread == Some(parent) {
-                let place = self.own(replica);
-                self.add_owner(process, mutex, Some(replica), place);
-            } else if !mutex.is_empty() {
-                self.add_owner(process, mutex, None, 0);
             }
         }
     }
@@ -128,15 +132,16 @@ impl<'a> Run<'a> {
         }
     }
 
-    // Ends the call in which the thread is suspended. It returns false if there is none.
+    // Ends the call in which the thread is suspended, by its end at the latest. It returns false if there is none.
     fn leave_call(&mut self, index: usize) -> bool {
         let row = self.rows.len();
         if let Some(thread) = self.threads.get_mut(index) {
             if thread.is_in_call {
                 let first = thread.since;
+                let last = thread.last.unwrap_or(row);
                 thread.is_in_call = false;
                 thread.since = row;
-                self.add_wait(index, first, row);
+                self.add_wait(index, first, last);
                 return true;
             }
         }
@@ -182,18 +187,17 @@ impl<'a> Run<'a> {
 
     // The index of an owner before which no owner has this mutex after this row.
     fn first_owner_after(&self, process: usize, mutex: &str, row: usize) -> usize {
-        let mut index = self.owners.len();
-        for owner in self.owners.iter().rev() {
-            let has_ended = match owner.last {
-                None => false,
-                Some(last) => last <= row,
-            };
-            if has_ended && owner.process == process && owner.mutex == mutex {
-                break;
+        let count = self.owners.len();
+        for after in 0..count {
+            let index = count.saturating_sub(after);
+            if let Some(owner) = self.owners.get(index.saturating_sub(1)) {
+                let last = owner.last.unwrap_or(usize::MAX);
+                if last <= row && owner.process == process && owner.mutex == mutex {
+                    return index;
+                }
             }
-            index = index.saturating_sub(1);
         }
-        index
+        0
     }
 
     /// A step of the thread with the index `by` unblocks the thread with this index, which waits on a condition variable.
@@ -228,15 +232,8 @@ impl<'a> Run<'a> {
 
     /// After the last step: the threads that are suspended in a call are so up to the end.
     pub(crate) fn add_open_calls(&mut self) {
-        let bottom = self.rows.len();
         for index in 0..self.threads.len() {
-            if let Some(thread) = self.threads.get(index) {
-                if thread.is_in_call {
-                    let first = thread.since;
-                    let last = thread.last.unwrap_or(bottom);
-                    self.add_wait(index, first, last);
-                }
-            }
+            self.leave_call(index);
         }
     }
 }
