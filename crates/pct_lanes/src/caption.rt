@@ -8,7 +8,9 @@ const CANCELED_VALUE: &str = "4294967295";
 /// A text in parts. Where it has more characters than the limit it is cut.
 #[derive(Clone, Copy)]
 pub(crate) struct Caption<'a> {
-    pub(crate) parts: [&'a str; 4],
+    pub(crate) before: &'a str,
+    pub(crate) text: &'a str,
+    pub(crate) after: &'a str,
     pub(crate) limit: usize,
 }
 
@@ -16,49 +18,50 @@ impl<'a> Caption<'a> {
     /// A text with at most so many characters.
     pub(crate) fn new(text: &'a str, limit: usize) -> Caption<'a> {
         Caption {
-            parts: [text, "", "", ""],
+            before: "",
+            text,
+            after: "",
             limit,
         }
-    }
-
-    /// A text that is never cut.
-    pub(crate) fn whole(text: &'a str) -> Caption<'a> {
-        Caption::new(text, text.len())
     }
 
     /// The events of a step. The value of a thread that was canceled is `PTHREAD_CANCELED`.
     pub(crate) fn of_events(row: &Row<'a>, limit: usize) -> Caption<'a> {
         let events = row.step.events();
-        let parts = match events.split_once(CANCELED_VALUE) {
-            Some((before, after)) if row.has_canceled => [before, "PTHREAD_CANCELED", after, ""],
-            _ => [events, "", "", ""],
-        };
-        Caption { parts, limit }
+        match events.split_once(CANCELED_VALUE) {
+            Some((before, after)) if row.has_canceled => Caption {
+                before,
+                text: "PTHREAD_CANCELED",
+                after,
+                limit,
+            },
+            _ => Caption::new(events, limit),
+        }
     }
 
     /// The statement of a step. If the thread is in a call, `in` stands before it, and what has become of the call after it. It is empty
     /// if the thread is in no function.
     pub(crate) fn of_statement(row: &Row<'a>, limit: usize) -> Caption<'a> {
-        let parts = if row.step.is_at_statement() {
-            [row.step.statement, "", "", ""]
+        if row.step.is_at_statement() {
+            Caption::new(row.step.statement, limit)
         } else if row.step.is_in_call() {
-            match row.step.place.split_once(',') {
-                None => ["in ", row.step.statement, "", ""],
-                Some((_, outcome)) => ["in ", row.step.statement, ",", outcome],
+            Caption {
+                before: "in ",
+                text: row.step.statement,
+                after: row.step.outcome(),
+                limit,
             }
         } else {
-            ["", "", "", ""]
-        };
-        Caption { parts, limit }
+            Caption::new("", limit)
+        }
     }
 
     /// Its number of characters, before it is cut.
     pub(crate) fn total(&self) -> usize {
-        let mut total: usize = 0;
-        for part in self.parts.iter() {
-            total = total.saturating_add(part.len());
-        }
-        total
+        self.before
+            .len()
+            .saturating_add(self.text.len())
+            .saturating_add(self.after.len())
     }
 
     /// Its number of characters.

@@ -92,10 +92,11 @@ fn open_document(svg: &mut Page, run: &Run, width: usize, height: usize) {
 // The verdict, and which of the steps are shown.
 fn push_title(svg: &mut Page, run: &Run) {
     if let Some(verdict) = run.closing.first() {
-        svg.push_escaped(verdict);
+        svg.push_escaped(verdict, verdict.len());
     }
     let all = run.rows.len();
-    let (first, last) = run.selection.range(all);
+    let (first, last) = run.selection.range();
+    let last = last.min(all);
     let selected = last.saturating_add(1).saturating_sub(first);
     if selected == 0 || selected == all {
         svg.fill(", steps: %", &[all]);
@@ -159,12 +160,17 @@ impl Drawing<'_, '_> {
         }
     }
 
+    fn has_drawn(&self, kind: Kind) -> bool {
+        match self.has.get(kind as usize) {
+            Some(has) => *has,
+            None => false,
+        }
+    }
+
     /// Draws a form at a point.
     pub(crate) fn draw_form(&mut self, kind: Kind, x: usize, y: usize) {
         let (class, form, _) = kind.look();
-        self.svg.push("<path class=\"");
-        self.svg.push(class);
-        self.svg.fill("\" d=\"M% %", &[x, y]);
+        self.svg.begin("path", class, "\" d=\"M% %", &[x, y]);
         self.svg.push(form);
         self.svg.push("\"/>\n");
         self.note(kind);
@@ -177,9 +183,8 @@ impl Drawing<'_, '_> {
         if total == 0 || is_cut && caption.limit < 3 {
             return;
         }
-        self.svg.push("<text class=\"");
-        self.svg.push(class);
-        self.svg.fill("\" x=\"%\" y=\"%\">", &[x, y]);
+        self.svg
+            .begin("text", class, "\" x=\"%\" y=\"%\">", &[x, y]);
         if is_cut {
             self.svg.push("<title>");
             self.push_caption(&caption, total);
@@ -192,15 +197,13 @@ impl Drawing<'_, '_> {
         self.svg.push("</text>\n");
     }
 
-    /// Adds the first characters of a text.
-    pub(crate) fn push_caption(&mut self, caption: &Caption, count: usize) {
-        let mut left = count;
-        for part in caption.parts.iter() {
-            for character in part.chars().take(left) {
-                self.svg.push_character(character);
-            }
-            left = left.saturating_sub(part.len());
-        }
+    // Adds the first characters of a text.
+    fn push_caption(&mut self, caption: &Caption, count: usize) {
+        let rest = count.saturating_sub(caption.before.len());
+        let last = rest.saturating_sub(caption.text.len());
+        self.svg.push_escaped(caption.before, count);
+        self.svg.push_escaped(caption.text, rest);
+        self.svg.push_escaped(caption.after, last);
     }
 
     // ---- after the steps
@@ -209,12 +212,8 @@ impl Drawing<'_, '_> {
     fn draw_closing(&mut self) {
         self.svg.push("<g class=\"closings\">\n");
         for (index, line) in self.run.closing.iter().enumerate() {
-            self.draw_text(
-                "label closing",
-                MARGIN,
-                self.layout.closing(index),
-                Caption::whole(line),
-            );
+            let caption = Caption::new(line, line.len());
+            self.draw_text("label closing", MARGIN, self.layout.closing(index), caption);
         }
         self.svg.push("</g>\n");
     }
@@ -225,8 +224,8 @@ impl Drawing<'_, '_> {
         let columns = (self.layout.width / LEGEND_WIDTH).max(1);
         let mut count: usize = 0;
         self.svg.push("<g class=\"legend\">\n");
-        for (kind, has) in KINDS.iter().zip(self.has) {
-            if has {
+        for kind in KINDS.iter() {
+            if self.has_drawn(*kind) {
                 let x = (count % columns)
                     .saturating_mul(LEGEND_WIDTH)
                     .saturating_add(MARGIN * 2);
@@ -235,12 +234,8 @@ impl Drawing<'_, '_> {
                     .saturating_add(top);
                 let (_, _, words) = kind.look();
                 self.draw_form(*kind, x, y.saturating_sub(DROP));
-                self.draw_text(
-                    "label",
-                    x.saturating_add(MARGIN * 2),
-                    y,
-                    Caption::whole(words),
-                );
+                let caption = Caption::new(words, words.len());
+                self.draw_text("label", x.saturating_add(MARGIN * 2), y, caption);
                 count = count.saturating_add(1);
             }
         }

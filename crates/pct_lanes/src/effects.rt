@@ -1,50 +1,45 @@
 //! What the events of a step do to threads and mutexes.
 
-use crate::kinds::Kind;
-use crate::thread_id::ThreadId;
+use crate::thread_id::{ThreadId, number_in};
+use crate::trace_lines::word_of;
 
 /// What an event does.
 #[derive(Clone, Copy)]
-pub(crate) enum Effect<'a> {
-    /// It makes this thread, by the creation of a thread or by a fork.
-    Makes(Kind, ThreadId),
-    /// It requests the end of this thread.
-    Requests(ThreadId),
-    /// It signals this thread, or hands a signal on to it.
-    Signals(ThreadId),
-    /// It unblocks the threads that wait on this condition variable.
-    Broadcasts(&'a str),
-    /// The thread of the step has joined this thread.
-    Joins(ThreadId),
+pub(crate) enum Event {
+    /// It makes a thread.
+    Create,
+    /// It makes a process, with a replica of the thread of the step.
+    Fork,
+    /// It requests the end of a thread.
+    Request,
+    /// It signals a thread, or hands a signal on to it.
+    Signal,
+    /// It unblocks the threads that wait on a condition variable.
+    Broadcast,
+    /// The thread of the step has joined a thread.
+    Joined,
     /// The thread of the step is suspended in a call.
-    Suspends,
-    /// The thread of the step owns this mutex.
-    Acquires(&'a str),
-    /// The thread of the step owns this mutex no more.
-    Releases(&'a str),
-    /// The thread of the step begins to end, by cancellation or not.
-    Ending(bool),
+    Call,
+    /// The thread of the step owns a mutex.
+    Acquire,
+    /// The thread of the step owns a mutex no more.
+    Release,
+    /// The thread of the step begins to end.
+    Ending,
     /// The thread of the step has ended.
-    Ends,
+    Ended,
     /// The process of the step has ended.
-    EndsProcess,
+    ProcessEnd,
 }
 
-// The events with an effect.
+/// An event of a step that does something to threads or mutexes.
 #[derive(Clone, Copy)]
-enum Event {
-    Create,
-    Fork,
-    Request,
-    Signal,
-    Broadcast,
-    Joined,
-    Call,
-    Acquire,
-    Release,
-    Ending,
-    Ended,
-    ProcessEnd,
+pub(crate) struct Effect<'a> {
+    pub(crate) event: Event,
+    /// What it names: a mutex, a condition variable, a number, or how the thread ends.
+    pub(crate) name: &'a str,
+    /// The thread with that number in the process of the step. Of a fork it is the replica, in the process with that number.
+    pub(crate) other: ThreadId,
 }
 
 // The first word of each.
@@ -67,39 +62,25 @@ const EVENTS: [(&str, Event); 13] = [
 impl<'a> Effect<'a> {
     /// The effect of this event of a step that the thread `by` makes. It is `None` for an event that concerns no other thread and
     /// no mutex, and ends nothing.
-    pub(crate) fn parse(event: &'a str, by: ThreadId) -> Option<Effect<'a>> {
-        let mut words = event.split_ascii_whitespace();
-        let event = find_event(words.next()?)?;
-        let word = words.next()?;
-        Some(match event {
-            Event::Call => Effect::Suspends,
-            Event::Acquire => Effect::Acquires(word),
-            Event::Release => Effect::Releases(word),
-            Event::Broadcast => Effect::Broadcasts(word),
-            Event::Ending => Effect::Ending(word == "canceled"),
-            Event::Ended => Effect::Ends,
-            Event::ProcessEnd => Effect::EndsProcess,
-            Event::Signal => Effect::Signals(thread_of(by, words.next()?)?),
-            Event::Request => Effect::Requests(thread_of(by, word)?),
-            Event::Joined => Effect::Joins(thread_of(by, word)?),
-            Event::Create => Effect::Makes(Kind::Create, thread_of(by, word)?),
-            Event::Fork => Effect::Makes(
-                Kind::Fork,
-                ThreadId {
-                    process: word.parse().ok()?,
-                    ..by
-                },
-            ),
-        })
+    pub(crate) fn parse(text: &'a str, by: ThreadId) -> Option<Effect<'a>> {
+        let event = find_event(word_of(text, 0))?;
+        let name = match event {
+            Event::Signal => word_of(text, 2),
+            _ => word_of(text, 1),
+        };
+        let number = number_in(name);
+        let other = match event {
+            Event::Fork => ThreadId {
+                process: number,
+                ..by
+            },
+            _ => ThreadId {
+                thread: number,
+                ..by
+            },
+        };
+        Some(Effect { event, name, other })
     }
-}
-
-// The thread with this number, of the process of `by`.
-fn thread_of(by: ThreadId, number: &str) -> Option<ThreadId> {
-    Some(ThreadId {
-        thread: number.parse().ok()?,
-        ..by
-    })
 }
 
 fn find_event(name: &str) -> Option<Event> {

@@ -17,23 +17,15 @@ use std::alloc::Global;
 pub fn lanes(alloc: Global, trace: &[u8], selection: Selection) -> Result<Vec<u8>, NoMemory> {
     let run = Run::parse(alloc, trace, &[], selection)?;
     let mut table = Page::new(alloc);
-    table.reserve(size_of_fields(&run))?;
+    // The table has at least two bytes for each step and thread that are shown. They are asked for at once, so that a table which cannot
+    // fit into memory is refused before it is begun.
+    table.reserve(
+        run.shown_rows
+            .saturating_mul(run.shown_threads)
+            .saturating_mul(2),
+    )?;
     push_lines(&mut table, &run);
     table.finish()
-}
-
-// The table has at least two bytes for each step and thread that are shown. They are asked for at once, so that a table which cannot
-// fit into memory is refused before it is begun.
-fn size_of_fields(run: &Run) -> usize {
-    let mut shown_threads: usize = 0;
-    for thread in run.threads.iter() {
-        if thread.is_shown {
-            shown_threads = shown_threads.saturating_add(1);
-        }
-    }
-    run.shown_rows
-        .saturating_mul(shown_threads)
-        .saturating_mul(2)
 }
 
 fn push_lines(table: &mut Page, run: &Run) {

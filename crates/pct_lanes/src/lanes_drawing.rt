@@ -53,9 +53,9 @@ impl Drawing<'_, '_> {
 
     // The name of a thread and its function, from the bottom to the top.
     fn draw_turned_name(&mut self, class: &str, lane: usize, y: usize, thread: &Thread) {
-        self.svg.push("<text class=\"");
-        self.svg.push(class);
-        self.svg.fill(
+        self.svg.begin(
+            "text",
+            class,
             "\" transform=\"translate(% %) rotate(-90)\">%.% ",
             &[
                 lane.saturating_add(DROP),
@@ -64,8 +64,7 @@ impl Drawing<'_, '_> {
                 thread.id.thread,
             ],
         );
-        let function = Caption::new(thread.function, FUNCTION_LIMIT);
-        self.push_caption(&function, FUNCTION_LIMIT);
+        self.svg.push_escaped(thread.function, FUNCTION_LIMIT);
         self.svg.push("</text>\n");
     }
 
@@ -80,9 +79,9 @@ impl Drawing<'_, '_> {
     }
 
     fn draw_name(&mut self, class: &str, x: usize, y: usize, thread: &Thread) {
-        self.svg.push("<text class=\"");
-        self.svg.push(class);
-        self.svg.fill(
+        self.svg.begin(
+            "text",
+            class,
             "\" x=\"%\" y=\"%\">%.%</text>\n",
             &[x, y, thread.id.process, thread.id.thread],
         );
@@ -143,9 +142,8 @@ impl Drawing<'_, '_> {
             return false;
         }
         let lane = self.layout.lane(index);
-        self.svg.push("<path class=\"");
-        self.svg.push(class);
-        self.svg.fill("\" d=\"M% %V%\"/>\n", &[lane, top, bottom]);
+        self.svg
+            .begin("path", class, "\" d=\"M% %V%\"/>\n", &[lane, top, bottom]);
         true
     }
 
@@ -273,7 +271,7 @@ impl Drawing<'_, '_> {
             "<text class=\"label wait\" x=\"14\" y=\"%\">%.% ",
             &[y, thread.id.process, thread.id.thread],
         );
-        self.svg.push_escaped(thread.wait);
+        self.svg.push_escaped(thread.wait, thread.wait.len());
         if thread.has_request {
             let both = if thread.wait.is_empty() { "" } else { ", " };
             self.svg.push(both);
@@ -307,15 +305,11 @@ impl Drawing<'_, '_> {
 
     // Where the next lane with a text at its end begins, or the end of the picture.
     fn next_last_text(&self, index: usize) -> usize {
-        for (at, thread) in self
-            .run
-            .threads
-            .iter()
-            .enumerate()
-            .skip(index.saturating_add(1))
-        {
-            if thread.has_last_text() {
-                return self.layout.lane(at).saturating_sub(RADIUS * 2);
+        for at in index.saturating_add(1)..self.run.threads.len() {
+            if let Some(thread) = self.run.threads.get(at) {
+                if thread.has_last_text() {
+                    return self.layout.lane(at).saturating_sub(RADIUS * 2);
+                }
             }
         }
         self.layout.width.saturating_sub(RADIUS)

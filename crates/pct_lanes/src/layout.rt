@@ -106,6 +106,20 @@ struct Lane {
     forked: usize,
 }
 
+impl Lane {
+    // The lane of a thread, without its place, its events and its mutexes.
+    fn of(thread: &Thread) -> Lane {
+        let request = if thread.has_request { PENDING.len() } else { 0 };
+        Lane {
+            place: 0,
+            first: thread.first,
+            right: thread.id.len().max(thread.wait.len()).max(request),
+            left: 0,
+            forked: 0,
+        }
+    }
+}
+
 /// The tags of the mutexes whose bars begin at one position beside a lane.
 #[derive(Clone, Copy)]
 pub(crate) struct Tags {
@@ -132,8 +146,6 @@ pub(crate) struct Layout {
     pub(crate) statements: usize,
     /// The greatest number of characters of a statement.
     pub(crate) statement_limit: usize,
-    // The number of lanes.
-    shown_lanes: usize,
     // The number of characters of the longest events, cut.
     longest_events: usize,
     // The distance of the lanes in a narrow picture.
@@ -157,15 +169,22 @@ pub(crate) struct Layout {
 impl Layout {
     /// The layout of the picture of a run.
     pub(crate) fn new(alloc: Global, run: &Run) -> Result<Layout, NoMemory> {
+        let mut lanes = Vec::new(alloc);
+        for thread in run.threads.iter() {
+            lanes.push(Lane::of(thread))?;
+        }
         let mut layout = Layout {
-            lanes: Vec::new(alloc),
+            lanes,
             is_narrow: false,
             is_dense: false,
             numbers_end: 0,
             places: 0,
             statements: 0,
-            statement_limit: STATEMENT_LIMIT,
-            shown_lanes: 0,
+            statement_limit: if run.shown_threads > FEW_LANES {
+                SHORT_STATEMENT_LIMIT
+            } else {
+                STATEMENT_LIMIT
+            },
             longest_events: 0,
             distance: 0,
             texts_end: 0,
@@ -176,15 +195,15 @@ impl Layout {
             last_lines: 0,
             longest_name: 0,
         };
-        layout.measure(run)?;
+        layout.measure(run);
         Ok(layout)
     }
 
     // ---- measures
 
-    fn measure(&mut self, run: &Run) -> Result<(), NoMemory> {
+    fn measure(&mut self, run: &Run) {
         for thread in run.threads.iter() {
-            self.measure_thread(thread)?;
+            self.measure_thread(thread);
         }
         self.measure_rows(run);
         for owner in run.owners.iter() {
@@ -201,23 +220,12 @@ impl Layout {
             }
         }
         self.place_lanes(run);
-        Ok(())
     }
 
-    fn measure_thread(&mut self, thread: &Thread) -> Result<(), NoMemory> {
-        let name = thread.id.len();
-        let request = if thread.has_request { PENDING.len() } else { 0 };
-        self.lanes.push(Lane {
-            place: 0,
-            first: thread.first,
-            right: name.max(thread.wait.len()).max(request),
-            left: 0,
-            forked: 0,
-        })?;
+    fn measure_thread(&mut self, thread: &Thread) {
         if thread.is_shown {
-            self.shown_lanes = self.shown_lanes.saturating_add(1);
             let function = thread.function.len().min(FUNCTION_LIMIT);
-            let both = name.saturating_add(1).saturating_add(function);
+            let both = thread.id.len().saturating_add(1).saturating_add(function);
             self.longest_name = self.longest_name.max(both);
             if thread.has_last_text() {
                 self.last_texts = self.last_texts.saturating_add(1);
@@ -225,11 +233,7 @@ impl Layout {
                 let wait_lines = if thread.wait.is_empty() { 0 } else { 2 };
                 self.last_lines = self.last_lines.max(request_lines + wait_lines);
             }
-            if self.shown_lanes > FEW_LANES {
-                self.statement_limit = SHORT_STATEMENT_LIMIT;
-            }
         }
-        Ok(())
     }
 
     // Measures the texts of the rows, and places those at the left side.
@@ -259,7 +263,7 @@ impl Layout {
 
     // Cuts the room of the events until the picture is no wider than a slide. If it would be too short the lanes become narrow.
     fn place_lanes(&mut self, run: &Run) {
-        for cut in 0..=EVENTS_LIMIT - LEAST_EVENTS {
+        for cut in 0..EVENTS_LIMIT - LEAST_EVENTS + 1 {
             self.place_wide(run, EVENTS_LIMIT - cut);
             if self.width <= SLIDE {
                 return;
@@ -279,8 +283,11 @@ impl Layout {
         let mut place = self.texts_end.saturating_sub(WIDE_LANE / 2);
         let mut end = self.texts_end;
         let mut width = LEAST_WIDTH;
-        for (thread, lane) in run.threads.iter().zip(self.lanes.iter_mut()) {
-            if thread.is_shown {
+        for (index, thread) in run.threads.iter().enumerate() {
+            if !thread.is_shown {
+                continue;
+            }
+            if let Some(lane) = self.lanes.get_mut(index) {
                 let bars = left_of(thread.most_owned);
                 let names = text_end(bars.saturating_add(RADIUS), lane.left);
                 let beside_arrow = text_end(bars, lane.forked);
@@ -289,8 +296,8 @@ impl Layout {
                     .max(end.saturating_add(beside_arrow));
                 end = text_end(place, lane.right.min(limit)).saturating_add(TEXT_GAP + ARROW_ROOM);
                 width = width.max(text_end(place, lane.right).saturating_add(TEXT_GAP + MARGIN));
+                lane.place = place;
             }
-            lane.place = place;
         }
         self.width = width;
     }
@@ -299,13 +306,16 @@ impl Layout {
     fn place_narrow(&mut self, run: &Run) {
         let right = text_end(TEXT_GAP + MARGIN, self.longest_events);
         let room = SLIDE.saturating_sub(self.texts_end).saturating_sub(right);
-        self.distance = (room / self.shown_lanes.max(1)).clamp(NARROW_LANE, WIDE_LANE);
+        self.distance = (room / run.shown_threads.max(1)).clamp(NARROW_LANE, WIDE_LANE);
         let mut place = self.texts_end;
-        for (thread, lane) in run.threads.iter().zip(self.lanes.iter_mut()) {
-            if thread.is_shown {
-                place = place.saturating_add(self.distance);
+        for (index, thread) in run.threads.iter().enumerate() {
+            if !thread.is_shown {
+                continue;
             }
-            lane.place = place;
+            if let Some(lane) = self.lanes.get_mut(index) {
+                place = place.saturating_add(self.distance);
+                lane.place = place;
+            }
         }
         self.width = place.saturating_add(right).max(LEAST_WIDTH);
     }
@@ -352,9 +362,11 @@ impl Layout {
 
     /// The next place at the right side of the lane with this index where a lane has a line in this row, or the end of the picture.
     pub(crate) fn next_edge(&self, run: &Run, index: usize, row: usize) -> usize {
-        for (at, thread) in run.threads.iter().enumerate().skip(index.saturating_add(1)) {
-            if thread.is_drawn(row) {
-                return self.left_edge(at, thread);
+        for at in index.saturating_add(1)..run.threads.len() {
+            if let Some(thread) = run.threads.get(at) {
+                if thread.is_drawn(row) {
+                    return self.left_edge(at, thread);
+                }
             }
         }
         self.width.saturating_sub(MARGIN)

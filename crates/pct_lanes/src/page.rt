@@ -33,15 +33,24 @@ impl Page {
         }
     }
 
-    /// Adds a text of SVG.
-    pub(crate) fn push_escaped(&mut self, text: &str) {
-        for character in text.chars() {
+    /// Adds at most so many characters of a text of SVG.
+    pub(crate) fn push_escaped(&mut self, text: &str, count: usize) {
+        for character in text.chars().take(count) {
             self.push_character(character);
         }
     }
 
-    /// Adds a character of a text of SVG. One that is no visible ASCII character is shown as `?`.
-    pub(crate) fn push_character(&mut self, character: char) {
+    /// Adds the beginning of an element of SVG: its name, its class, and a form with these values.
+    pub(crate) fn begin(&mut self, name: &str, class: &str, form: &str, values: &[usize]) {
+        self.push("<");
+        self.push(name);
+        self.push(" class=\"");
+        self.push(class);
+        self.fill(form, values);
+    }
+
+    // Adds a character of a text of SVG. One that is no visible ASCII character is shown as `?`.
+    fn push_character(&mut self, character: char) {
         match character {
             '&' => self.push("&amp;"),
             '<' => self.push("&lt;"),

@@ -1,6 +1,6 @@
 //! The run of a trace: its steps, its threads, when each of them is there, waits, and owns a mutex.
 
-use crate::effects::Effect;
+use crate::effects::{Effect, Event};
 use crate::kinds::Kind;
 use crate::selection::Selection;
 use crate::thread::Thread;
@@ -59,6 +59,8 @@ pub(crate) struct Run<'a> {
     pub(crate) shown_rows: usize,
     /// The threads, in the order in which they come into being. The first one is there from the beginning.
     pub(crate) threads: Vec<Thread<'a>>,
+    /// The number of threads that have a lane.
+    pub(crate) shown_threads: usize,
     /// What goes between threads, by rising row.
     pub(crate) arrows: Vec<Arrow>,
     /// Who owns a mutex, and when, by rising first row.
@@ -67,10 +69,12 @@ pub(crate) struct Run<'a> {
     pub(crate) waits: Vec<Wait>,
     /// The lines after the steps: the verdict, and a notice.
     pub(crate) closing: Vec<&'a str>,
+    // Whether there was memory for all of it.
+    is_whole: bool,
     // The index of each thread, by its process and its number.
     indices: BTreeMap<(usize, usize), usize>,
-    // Of each process that has ended, the row, and the number of the thread that made the step.
-    process_ends: BTreeMap<usize, (usize, usize)>,
+    // The row in which each process has ended.
+    process_ends: BTreeMap<usize, usize>,
 }
 
 impl<'a> Run<'a> {
@@ -87,40 +91,47 @@ impl<'a> Run<'a> {
             rows: Vec::new(alloc),
             shown_rows: 0,
             threads: Vec::new(alloc),
+            shown_threads: 0,
             arrows: Vec::new(alloc),
             owners: Vec::new(alloc),
             waits: Vec::new(alloc),
             closing: Vec::new(alloc),
+            is_whole: true,
             indices: BTreeMap::new(alloc),
             process_ends: BTreeMap::new(alloc),
         };
-        run.add_all(trace, choices)?;
-        Ok(run)
+        run.add_all(trace, choices);
+        if run.is_whole { Ok(run) } else { Err(NoMemory) }
     }
 
-    fn add_all(&mut self, trace: &'a [u8], choices: &'a [u8]) -> Result<(), NoMemory> {
+    fn add_all(&mut self, trace: &'a [u8], choices: &'a [u8]) {
         let is_shown = self.selection.has_thread(ThreadId::MAIN);
-        self.add_thread(Thread::new(ThreadId::MAIN, "main", is_shown, 0))?;
-        self.add_lines(str::from_utf8(trace).unwrap_or(""))?;
+        self.add_thread(Thread::new(ThreadId::MAIN, "main", is_shown, 0));
+        self.add_lines(str::from_utf8(trace).unwrap_or(""));
         self.end_processes();
-        self.add_choices(str::from_utf8(choices).unwrap_or(""))?;
-        self.add_open_calls()
+        self.add_choices(str::from_utf8(choices).unwrap_or(""));
+        self.add_open_calls();
     }
 
-    fn add_lines(&mut self, trace: &'a str) -> Result<(), NoMemory> {
+    fn add_lines(&mut self, trace: &'a str) {
         for line in trace.split('\n') {
             if let Some(step) = Step::parse(line) {
-                self.add_step(step)?;
+                self.add_step(step);
             } else if !line.is_empty() {
-                self.closing.push(line)?;
+                let is_added = self.closing.push(line).is_ok();
+                self.note_memory(is_added);
             }
         }
-        Ok(())
+    }
+
+    /// Notes whether there was memory for a part of the run. It is whole if there was for each.
+    pub(crate) fn note_memory(&mut self, is_added: bool) {
+        self.is_whole = self.is_whole && is_added;
     }
 
     // ---- steps
 
-    fn add_step(&mut self, step: Step<'a>) -> Result<(), NoMemory> {
+    fn add_step(&mut self, step: Step<'a>) {
         let index = self.rows.len();
         let mut row = Row {
             step,
@@ -134,46 +145,39 @@ impl<'a> Run<'a> {
             is_shown: self.selection.has_step(index, &step),
             position: self.shown_rows,
         };
-        self.note_thread(&mut row)?;
+        self.note_thread(&mut row);
         if row.is_shown {
             self.shown_rows = self.shown_rows.saturating_add(1);
         }
-        self.rows.push(row)?;
-        Ok(())
+        let is_added = self.rows.push(row).is_ok();
+        self.note_memory(is_added);
     }
 
     // Notes what the step of a row does, and completes the row.
-    fn note_thread(&mut self, row: &mut Row<'a>) -> Result<(), NoMemory> {
-        let Some(by) = ThreadId::parse(row.step.thread) else {
-            return Ok(());
+    fn note_thread(&mut self, row: &mut Row<'a>) {
+        let by = ThreadId::parse(row.step.thread);
+        let Some(index) = self.index_of(by) else {
+            return;
         };
-        let Some(index) = self.see(by) else {
-            return Ok(());
-        };
-        self.end_wait(index, &row.step)?;
-        let Some(thread) = self.threads.get_mut(index) else {
-            return Ok(());
-        };
-        let (kind, place) = thread.note_step(row.step);
-        thread.since = self.rows.len();
-        row.thread = Some(index);
-        row.kind = kind;
-        row.place = place;
-        row.is_shown = row.is_shown && thread.is_shown;
-        self.add_events(row, index, by)
+        self.see(index);
+        self.end_wait(index, &row.step);
+        if let Some(thread) = self.threads.get_mut(index) {
+            let (kind, place) = thread.note_step(row.step);
+            thread.since = self.rows.len();
+            row.thread = Some(index);
+            row.kind = kind;
+            row.place = place;
+            row.is_shown = row.is_shown && thread.is_shown;
+        }
+        self.add_events(row, index, by);
     }
 
     // Adds the events of a step of this thread, and notes the threads that its arrows concern.
-    fn add_events(
-        &mut self,
-        row: &mut Row<'a>,
-        index: usize,
-        by: ThreadId,
-    ) -> Result<(), NoMemory> {
+    fn add_events(&mut self, row: &mut Row<'a>, index: usize, by: ThreadId) {
         let first_arrow = self.arrows.len();
         for event in row.step.events.split(',') {
             if let Some(effect) = Effect::parse(event, by) {
-                self.apply(effect, row, index, by)?;
+                self.apply(effect, row, index, by);
             }
         }
         row.reach = index;
@@ -190,71 +194,69 @@ impl<'a> Run<'a> {
                 };
             }
         }
-        Ok(())
     }
 
-    fn apply(
-        &mut self,
-        effect: Effect<'a>,
-        row: &mut Row<'a>,
-        index: usize,
-        by: ThreadId,
-    ) -> Result<(), NoMemory> {
-        match effect {
-            Effect::Makes(kind, id) => self.make_thread(kind, id, row, index)?,
-            Effect::Requests(id) => self.add_arrow(Kind::Request, index, self.index_of(id))?,
-            Effect::Signals(id) => self.unblock(index, self.index_of(id))?,
-            Effect::Broadcasts(condition) => self.unblock_all(index, by.process, condition)?,
-            Effect::Joins(id) => {
-                if let Some(from) = self.index_of(id) {
+    fn apply(&mut self, effect: Effect<'a>, row: &mut Row<'a>, index: usize, by: ThreadId) {
+        let other = self.index_of(effect.other);
+        match effect.event {
+            Event::Create => self.make_thread(Kind::Create, effect.other, row, index),
+            Event::Fork => self.make_thread(Kind::Fork, effect.other, row, index),
+            Event::Request => self.add_arrow(Kind::Request, index, other),
+            Event::Signal => self.unblock(index, other),
+            Event::Broadcast => self.unblock_all(index, by.process, effect.name),
+            Event::Joined => {
+                if let Some(from) = other {
                     row.has_canceled = self.is_canceled(from);
-                    self.add_arrow(Kind::Join, from, Some(index))?;
+                    self.add_arrow(Kind::Join, from, Some(index));
                 }
             }
-            Effect::Suspends => self.suspend(index),
-            Effect::Acquires(mutex) => self.acquire(index, by.process, mutex)?,
-            Effect::Releases(mutex) => self.release(index, by.process, mutex),
-            Effect::Ending(is_canceled) => {
+            Event::Call => {
                 if let Some(thread) = self.threads.get_mut(index) {
-                    thread.is_canceled = is_canceled;
+                    thread.is_in_call = true;
                 }
             }
-            Effect::Ends => {
+            Event::Acquire => self.acquire(index, by.process, effect.name),
+            Event::Release => self.release(index, by.process, effect.name),
+            Event::Ending => {
+                if let Some(thread) = self.threads.get_mut(index) {
+                    thread.is_canceled = effect.name == "canceled";
+                }
+            }
+            Event::Ended => {
                 row.has_canceled = self.is_canceled(index);
                 self.end_thread(index);
             }
-            Effect::EndsProcess => {
-                let end = (self.rows.len(), by.thread);
-                self.process_ends.insert(by.process, end)?;
-            }
+            Event::ProcessEnd => self.end_process(index, by.process),
         }
-        Ok(())
+    }
+
+    // The process ends by a step of the thread with this index.
+    fn end_process(&mut self, index: usize, process: usize) {
+        self.end_thread(index);
+        let is_added = self.process_ends.insert(process, self.rows.len()).is_ok();
+        self.note_memory(is_added);
     }
 
     /// Adds an arrow between the threads with these indices.
-    pub(crate) fn add_arrow(
-        &mut self,
-        kind: Kind,
-        from: usize,
-        to: Option<usize>,
-    ) -> Result<(), NoMemory> {
+    pub(crate) fn add_arrow(&mut self, kind: Kind, from: usize, to: Option<usize>) {
         let row = self.rows.len();
         if let Some(to) = to {
-            self.see_at(from);
-            self.see_at(to);
+            self.see(from);
+            self.see(to);
             let bars = match self.threads.get(from.max(to)) {
                 Some(thread) => thread.bars(),
                 None => 0,
             };
-            self.arrows.push(Arrow {
+            let arrow = Arrow {
                 row,
                 kind,
                 from,
                 to,
                 bars,
-            })?;
+            };
+            let is_added = self.arrows.push(arrow).is_ok();
+            self.note_memory(is_added);
         }
-        Ok(())
     }
 
     // ---- threads
@@ -279,21 +281,19 @@ impl<'a> Run<'a> {
         self.indices.get(&(id.process, id.thread)).copied()
     }
 
-    fn add_thread(&mut self, thread: Thread<'a>) -> Result<(), NoMemory> {
-        self.indices
-            .insert((thread.id.process, thread.id.thread), self.threads.len())?;
-        self.threads.push(thread)?;
-        Ok(())
+    fn add_thread(&mut self, thread: Thread<'a>) {
+        let id = (thread.id.process, thread.id.thread);
+        let is_added = self.indices.insert(id, self.threads.len()).is_ok();
+        self.note_memory(is_added);
+        if thread.is_shown {
+            self.shown_threads = self.shown_threads.saturating_add(1);
+        }
+        let is_added = self.threads.push(thread).is_ok();
+        self.note_memory(is_added);
     }
 
     // Adds the thread that the step of a row creates, or the replica of its thread.
-    fn make_thread(
-        &mut self,
-        kind: Kind,
-        id: ThreadId,
-        row: &Row<'a>,
-        index: usize,
-    ) -> Result<(), NoMemory> {
+    fn make_thread(&mut self, kind: Kind, id: ThreadId, row: &Row<'a>, index: usize) {
         let first = self.rows.len();
         let is_shown = self.selection.has_thread(id);
         let made = self.threads.len();
@@ -305,35 +305,24 @@ impl<'a> Run<'a> {
             }
             _ => Thread::new(id, row.step.word(3), is_shown, first),
         };
-        self.add_thread(thread)?;
+        self.add_thread(thread);
         if let Kind::Fork = kind {
-            self.copy_owners(index, parent, made, id.process)?;
+            self.copy_owners(index, parent, made, id.process);
         }
-        self.add_arrow(kind, index, Some(made))
+        self.add_arrow(kind, index, Some(made));
     }
 
-    // Notes that the row of the step has something of this thread, and returns its index.
-    fn see(&mut self, id: ThreadId) -> Option<usize> {
-        let index = self.index_of(id)?;
-        self.see_at(index);
-        Some(index)
-    }
-
-    fn see_at(&mut self, index: usize) {
+    // Notes that the row of the step has something of the thread with this index.
+    fn see(&mut self, index: usize) {
         if let Some(thread) = self.threads.get_mut(index) {
             thread.last_seen = self.rows.len();
         }
     }
 
-    fn suspend(&mut self, index: usize) {
-        if let Some(thread) = self.threads.get_mut(index) {
-            thread.is_in_call = true;
-        }
-    }
-
+    // Notes the end of a thread. One that has ended before may end its process.
     fn end_thread(&mut self, index: usize) {
         if let Some(thread) = self.threads.get_mut(index) {
-            thread.last = Some(self.rows.len());
+            thread.last = Some(thread.last.unwrap_or(self.rows.len()));
         }
     }
 
@@ -341,15 +330,15 @@ impl<'a> Run<'a> {
     fn end_processes(&mut self) {
         for thread in self.threads.iter_mut() {
             if thread.last.is_none() {
-                if let Some((row, by)) = self.process_ends.get(&thread.id.process) {
+                if let Some(row) = self.process_ends.get(&thread.id.process) {
                     thread.last = Some(*row);
-                    thread.is_cut_off = thread.id.thread != *by;
+                    thread.is_cut_off = true;
                 }
             }
         }
         for owner in self.owners.iter_mut() {
             if owner.last.is_none() {
-                if let Some((row, _)) = self.process_ends.get(&owner.process) {
+                if let Some(row) = self.process_ends.get(&owner.process) {
                     owner.last = Some(*row);
                 }
             }
@@ -359,25 +348,21 @@ impl<'a> Run<'a> {
     // ---- what is waited for after the last step
 
     // Notes where each thread of a text of `choices` is: a thread whose next step waits is dashed up to the end.
-    fn add_choices(&mut self, choices: &'a str) -> Result<(), NoMemory> {
+    fn add_choices(&mut self, choices: &'a str) {
         for line in choices.split('\n') {
             if let Some(state) = State::parse(line) {
-                if let Some(index) = self.thread_named(state.step.thread) {
-                    self.end_wait(index, &state.step)?;
+                if let Some(index) = self.index_of(ThreadId::parse(state.step.thread)) {
+                    self.end_wait(index, &state.step);
                     self.add_last_texts(index, &state);
                 }
             }
         }
-        Ok(())
-    }
-
-    fn thread_named(&self, name: &str) -> Option<usize> {
-        self.index_of(ThreadId::parse(name)?)
     }
 
     // Notes what a thread waits for, and whether it has a pending request.
     fn add_last_texts(&mut self, index: usize, state: &State<'a>) {
-        if !self.selection.has_end(self.rows.len()) {
+        let (_, last) = self.selection.range();
+        if self.rows.len() > last {
             return;
         }
         if let Some(thread) = self.threads.get_mut(index) {

@@ -29,38 +29,26 @@ impl<'a> Selection<'a> {
             return true;
         };
         for name in str::from_utf8(threads).unwrap_or("").split(',') {
-            if let Some(shown) = ThreadId::parse(name) {
-                if shown.process == id.process && shown.thread == id.thread {
-                    return true;
-                }
+            let shown = ThreadId::parse(name);
+            if shown.process == id.process && shown.thread == id.thread {
+                return true;
             }
         }
         false
     }
 
-    /// The numbers of the first and of the last step of a run with so many steps that are not left out for their number. If there is none the
-    /// first one is above the last one.
-    pub(crate) fn range(&self, steps: usize) -> (usize, usize) {
+    /// The numbers of the first and of the last step that are not left out for their number. If there is none the first one is above the
+    /// last one.
+    pub(crate) fn range(&self) -> (usize, usize) {
         match self.steps {
-            None => (1, steps),
-            Some((first, last)) => (first as usize, steps.min(last as usize)),
-        }
-    }
-
-    /// Whether the state after the last step of a run with so many steps is shown.
-    pub(crate) fn has_end(&self, steps: usize) -> bool {
-        match self.steps {
-            None => true,
-            Some((_, last)) => steps <= last as usize,
+            None => (1, usize::MAX),
+            Some((first, last)) => (first as usize, last as usize),
         }
     }
 
     /// Whether the step in this row is shown, if its thread is. Rows count the steps from 0.
     pub(crate) fn has_step(&self, row: usize, step: &Step) -> bool {
-        let is_within = match self.steps {
-            None => true,
-            Some((first, last)) => first as usize <= row.saturating_add(1) && row < last as usize,
-        };
-        is_within && !(self.events && step.events().is_empty())
+        let (first, last) = self.range();
+        first <= row.saturating_add(1) && row < last && !(self.events && step.events().is_empty())
     }
 }

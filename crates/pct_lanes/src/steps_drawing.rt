@@ -76,9 +76,7 @@ impl Drawing<'_, '_> {
         let y = self.layout.y(self.run, arrow.row);
         let (class, _, _) = arrow.kind.look();
         self.note(arrow.kind);
-        self.svg.push("<path class=\"");
-        self.svg.push(class);
-        self.svg.fill("\" d=\"M% %", &[left, y]);
+        self.svg.begin("path", class, "\" d=\"M% %", &[left, y]);
         for at in arrow.from.min(arrow.to).saturating_add(1)..arrow.from.max(arrow.to) {
             if let Some(thread) = self.run.threads.get(at) {
                 let tags = self.layout.left_of_tags(self.run, at, row);
@@ -108,7 +106,7 @@ impl Drawing<'_, '_> {
         for (index, row) in self.run.rows.iter().enumerate() {
             if row.is_shown {
                 let y = self.layout.baseline(row.position);
-                let number = Caption::whole(row.step.number);
+                let number = Caption::new(row.step.number, row.step.number.len());
                 let place = Caption::new(row.place, PLACE_LIMIT);
                 let statement = Caption::of_statement(row, self.layout.statement_limit);
                 self.draw_text("label number", self.layout.numbers_end, y, number);

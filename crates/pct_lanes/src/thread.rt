@@ -74,21 +74,18 @@ impl<'a> Thread<'a> {
 
     /// The replica of this thread in the child of a fork, which comes into being in this row.
     pub(crate) fn replica(&self, id: ThreadId, is_shown: bool, first: usize) -> Thread<'a> {
-        let mut thread = Thread::new(id, self.function, is_shown, first);
-        thread.at = self.at;
-        thread.fork_place = self.fork_place;
-        thread.inside = self.inside;
-        thread.outside = self.outside;
-        thread
+        Thread {
+            at: self.at,
+            fork_place: self.fork_place,
+            inside: self.inside,
+            outside: self.outside,
+            ..Thread::new(id, self.function, is_shown, first)
+        }
     }
 
     /// Whether the thread is there in this row.
     pub(crate) fn is_there(&self, row: usize) -> bool {
-        let has_ended = match self.last {
-            None => false,
-            Some(last) => last < row,
-        };
-        self.first <= row && !has_ended
+        self.first <= row && row <= self.last.unwrap_or(usize::MAX)
     }
 
     /// Whether a text stands at the end of its lane.

@@ -14,13 +14,13 @@ impl ThreadId {
         thread: 1,
     };
 
-    /// The thread that this text names. It is `None` where the text is not of the form `PID.TID`.
-    pub(crate) fn parse(text: &str) -> Option<ThreadId> {
-        let (process, thread) = text.split_once('.')?;
-        Some(ThreadId {
-            process: process.parse().ok()?,
-            thread: thread.parse().ok()?,
-        })
+    /// The thread that this text names. It is none that is there where the text is not of the form `PID.TID`.
+    pub(crate) fn parse(text: &str) -> ThreadId {
+        let (process, thread) = text.split_once('.').unwrap_or(("", ""));
+        ThreadId {
+            process: number_in(process),
+            thread: number_in(thread),
+        }
     }
 
     /// The number of characters of `PID.TID`.
@@ -29,6 +29,11 @@ impl ThreadId {
             .saturating_add(digits(self.thread))
             .saturating_add(1)
     }
+}
+
+/// The number that a text is. It is 0, the number of no process and of no thread, if the text is none.
+pub(crate) fn number_in(text: &str) -> usize {
+    text.parse().unwrap_or(0)
 }
 
 fn digits(number: usize) -> usize {

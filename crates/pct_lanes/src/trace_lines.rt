@@ -20,19 +20,14 @@ pub(crate) struct Step<'a> {
 impl<'a> Step<'a> {
     /// The step of this line. It is `None` where the line has fewer than six fields, as that of the verdict.
     pub(crate) fn parse(line: &'a str) -> Option<Step<'a>> {
-        let mut rest = line.split('\t');
-        let mut fields = [line; 6];
-        for field in fields.iter_mut() {
-            *field = rest.next()?;
-        }
-        let [number, thread, place, statement, choice, events] = fields;
+        line.split('\t').nth(5)?;
         Some(Step {
-            number,
-            thread,
-            place,
-            statement,
-            choice,
-            events,
+            number: field(line, 0),
+            thread: field(line, 1),
+            place: field(line, 2),
+            statement: field(line, 3),
+            choice: field(line, 4),
+            events: field(line, 5),
         })
     }
 
@@ -43,12 +38,12 @@ impl<'a> Step<'a> {
 
     /// What the table shows of the step: its events; if it has none, the statement; if there is none, where the thread was.
     pub(crate) fn summary(&self) -> &'a str {
-        if self.events != "-" {
-            self.events
-        } else if self.statement != "-" {
+        if self.events == "-" && self.statement == "-" {
+            self.place
+        } else if self.events == "-" {
             self.statement
         } else {
-            self.place
+            self.events
         }
     }
 
@@ -60,6 +55,14 @@ impl<'a> Step<'a> {
     /// Whether the thread was in a call.
     pub(crate) fn is_in_call(&self) -> bool {
         self.place.starts_with("in ")
+    }
+
+    /// What has become of the call that the thread was in, after a comma, or nothing.
+    pub(crate) fn outcome(&self) -> &'a str {
+        match self.place.split_once(',') {
+            None => "",
+            Some((call, _)) => self.place.strip_prefix(call).unwrap_or(""),
+        }
     }
 
     /// Whether the thread acts on a request in this step.
@@ -74,11 +77,18 @@ impl<'a> Step<'a> {
 
     /// The word of the statement with this index, or nothing.
     pub(crate) fn word(&self, index: usize) -> &'a str {
-        self.statement
-            .split_ascii_whitespace()
-            .nth(index)
-            .unwrap_or("")
+        word_of(self.statement, index)
     }
+}
+
+/// The word of a text with this index, or nothing.
+pub(crate) fn word_of(text: &str, index: usize) -> &str {
+    text.split_ascii_whitespace().nth(index).unwrap_or("")
+}
+
+// The field of a line with this index, or nothing.
+fn field(line: &str, index: usize) -> &str {
+    line.split('\t').nth(index).unwrap_or("")
 }
 
 /// Where a thread is after the last step: its line of `choices`.
@@ -93,21 +103,17 @@ pub(crate) struct State<'a> {
 impl<'a> State<'a> {
     /// The state of this line. It is `None` where the line has fewer than five fields.
     pub(crate) fn parse(line: &'a str) -> Option<State<'a>> {
-        let mut rest = line.split('\t');
-        let thread = rest.next()?;
-        let statement = rest.nth(1)?;
-        let place = rest.next()?;
-        let request = rest.next()?;
+        line.split('\t').nth(4)?;
         Some(State {
             step: Step {
                 number: "",
-                thread,
-                place,
-                statement,
+                thread: field(line, 0),
+                place: field(line, 3),
+                statement: field(line, 2),
                 choice: "",
                 events: "",
             },
-            request,
+            request: field(line, 4),
         })
     }
 

@@ -3,7 +3,6 @@
 use crate::kinds::Kind;
 use crate::run::Run;
 use crate::trace_lines::Step;
-use pct_io::NoMemory;
 
 /// Rows in which a mutex has an owner.
 #[derive(Clone, Copy)]
@@ -40,36 +39,27 @@ impl<'a> Run<'a> {
     // ---- mutexes
 
     /// The thread with this index owns a mutex of its process.
-    pub(crate) fn acquire(
-        &mut self,
-        index: usize,
-        process: usize,
-        mutex: &'a str,
-    ) -> Result<(), NoMemory> {
-        let place = self.own(index);
-        self.add_owner(process, mutex, Some(index), place)
+    pub(crate) fn acquire(&mut self, index: usize, process: usize, mutex: &'a str) {
+        let place = match self.threads.get_mut(index) {
+            Some(thread) => thread.own(),
+            None => 0,
+        };
+        self.add_owner(process, mutex, Some(index), place);
     }
 
-    fn add_owner(
-        &mut self,
-        process: usize,
-        mutex: &'a str,
-        thread: Option<usize>,
-        place: u32,
-    ) -> Result<(), NoMemory> {
-        let first = self.rows.len();
-        let group = self.first_owner();
-        self.owners.push(Owner {
+    fn add_owner(&mut self, process: usize, mutex: &'a str, thread: Option<usize>, place: u32) {
+        let owner = Owner {
             process,
             mutex,
             thread,
             place,
-            first,
+            first: self.rows.len(),
             position: self.shown_rows,
-            group,
+            group: self.first_owner(),
             last: None,
-        })?;
-        Ok(())
+        };
+        let is_added = self.owners.push(owner).is_ok();
+        self.note_memory(is_added);
     }
 
     /// The index of the first owner whose bar begins at the position of the row that is added.
@@ -80,24 +70,31 @@ impl<'a> Run<'a> {
         }
     }
 
-    fn own(&mut self, index: usize) -> u32 {
-        match self.threads.get_mut(index) {
-            Some(thread) => thread.own(),
-            None => 0,
+    /// The thread with this index owns a mutex of its process no more.
+    pub(crate) fn release(&mut self, index: usize, process: usize, mutex: &str) {
+        let at = self.open_owner(process, mutex);
+        let mut place = 0;
+        if let Some(owner) = self.owners.get_mut(at) {
+            owner.last = Some(self.rows.len());
+            place = owner.place;
+        }
+        if let Some(thread) = self.threads.get_mut(index) {
+            thread.disown(place);
         }
     }
 
-    /// The thread with this index owns a mutex of its process no more.
-    pub(crate) fn release(&mut self, index: usize, process: usize, mutex: &str) {
-        for owner in self.owners.iter_mut().rev() {
-            if owner.last.is_none() && owner.process == process && owner.mutex == mutex {
-                owner.last = Some(self.rows.len());
-                if let Some(thread) = self.threads.get_mut(index) {
-                    thread.disown(owner.place);
+    // The index of the last owner that has this mutex still. If there is none it is past all owners.
+    fn open_owner(&self, process: usize, mutex: &str) -> usize {
+        let count = self.owners.len();
+        for after in 0..count {
+            let at = count.saturating_sub(after).saturating_sub(1);
+            if let Some(owner) = self.owners.get(at) {
+                if owner.last.is_none() && owner.process == process && owner.mutex == mutex {
+                    return at;
                 }
-                break;
             }
         }
+        count
     }
 
     /// In the child of a fork the mutexes have owners as in the parent: the thread that forked is its replica.
@@ -107,139 +104,117 @@ impl<'a> Run<'a> {
         parent_process: usize,
         replica: usize,
         process: usize,
-    ) -> Result<(), NoMemory> {
+    ) {
         for at in 0..self.owners.len() {
-            let mut mutex = "";
-            let mut thread = None;
-            if let Some(owner) = self.owners.get(at) {
-                if owner.last.is_none() && owner.process == parent_process {
-                    mutex = owner.mutex;
-                    thread = owner.thread;
+            if let Some(owner) = self.owners.get(at).copied() {
+                let is_open = owner.last.is_none() && owner.process == parent_process;
+                if is_open && owner.thread == Some(parent) {
+                    self.acquire(replica, process, owner.mutex);
+                } else if is_open {
+                    self.add_owner(process, owner.mutex, None, 0);
                 }
             }
-            if !mutex.is_empty() && thread == Some(parent) {
-                let place = self.own(replica);
-                self.add_owner(process, mutex, Some(replica), place)?;
-            } else if !mutex.is_empty() {
-                self.add_owner(process, mutex, None, 0)?;
-            }
         }
-        Ok(())
     }
 
     // ---- calls and waits
 
     /// The thread with this index makes a step, so its call or its wait is over.
-    pub(crate) fn end_wait(&mut self, index: usize, step: &Step<'a>) -> Result<(), NoMemory> {
-        let row = self.rows.len();
-        if self.leave_call(index)? {
-            return Ok(());
+    pub(crate) fn end_wait(&mut self, index: usize, step: &Step<'a>) {
+        if self.leave_call(index) {
+            return;
         }
         let word = step.word(0);
         if word == "pthread_mutex_lock" {
-            self.wait_for_mutex(index, step.word(1), row)
+            self.wait_for_mutex(index, step.word(1));
         } else if word == "pthread_cond_wait" && step.is_in_call() {
-            self.wait_for_mutex(index, step.word(2), row)
-        } else {
-            Ok(())
+            self.wait_for_mutex(index, step.word(2));
         }
     }
 
-    // Ends the call in which the thread is suspended. It returns false if there is none.
-    fn leave_call(&mut self, index: usize) -> Result<bool, NoMemory> {
+    // Ends the call in which the thread is suspended, by its end at the latest. It returns false if there is none.
+    fn leave_call(&mut self, index: usize) -> bool {
         let row = self.rows.len();
-        let Some(thread) = self.threads.get_mut(index) else {
-            return Ok(false);
-        };
-        if !thread.is_in_call {
-            return Ok(false);
+        if let Some(thread) = self.threads.get_mut(index) {
+            if thread.is_in_call {
+                let first = thread.since;
+                let last = thread.last.unwrap_or(row);
+                thread.is_in_call = false;
+                thread.since = row;
+                self.add_wait(index, first, last);
+                return true;
+            }
         }
-        let first = thread.since;
-        thread.is_in_call = false;
-        thread.since = row;
-        self.add_wait(index, first, row)?;
-        Ok(true)
+        false
     }
 
-    /// Adds the waits of a thread for a mutex of its process, up to this row: since it is where it is, the rows in which another thread owns
-    /// the mutex; after the last step also those in which it owns the mutex itself.
-    pub(crate) fn wait_for_mutex(
-        &mut self,
-        index: usize,
-        mutex: &str,
-        end: usize,
-    ) -> Result<(), NoMemory> {
+    // Adds the waits of a thread for a mutex of its process: since it is where it is, the rows in which another thread owns the mutex; after
+    // the last step also those in which it owns the mutex itself.
+    fn wait_for_mutex(&mut self, index: usize, mutex: &str) {
         let Some(thread) = self.threads.get(index) else {
-            return Ok(());
+            return;
         };
         let process = thread.id.process;
         let since = thread.since;
+        let end = self.rows.len();
         for at in self.first_owner_after(process, mutex, since)..self.owners.len() {
             if let Some(owner) = self.owners.get(at) {
                 let first = owner.first.max(since);
                 let last = owner.last.unwrap_or(end).min(end);
                 if owner.process == process && owner.mutex == mutex {
-                    self.add_wait(index, first, last)?;
+                    self.add_wait(index, first, last);
                 }
             }
         }
-        Ok(())
     }
 
     // The thread with this index waits between these rows.
-    fn add_wait(&mut self, index: usize, first: usize, last: usize) -> Result<(), NoMemory> {
+    fn add_wait(&mut self, index: usize, first: usize, last: usize) {
         if let Some(thread) = self.threads.get_mut(index) {
             if first < last {
-                let after = thread.waited;
-                thread.waited = last;
-                self.waits.push(Wait {
+                let wait = Wait {
                     thread: index,
-                    after,
+                    after: thread.waited,
                     first,
                     last,
-                })?;
+                };
+                thread.waited = last;
+                let is_added = self.waits.push(wait).is_ok();
+                self.note_memory(is_added);
             }
         }
-        Ok(())
     }
 
     // The index of an owner before which no owner has this mutex after this row.
     fn first_owner_after(&self, process: usize, mutex: &str, row: usize) -> usize {
-        let mut index = self.owners.len();
-        for owner in self.owners.iter().rev() {
-            let has_ended = match owner.last {
-                None => false,
-                Some(last) => last <= row,
-            };
-            if has_ended && owner.process == process && owner.mutex == mutex {
-                break;
+        let count = self.owners.len();
+        for after in 0..count {
+            let index = count.saturating_sub(after);
+            if let Some(owner) = self.owners.get(index.saturating_sub(1)) {
+                let last = owner.last.unwrap_or(usize::MAX);
+                if last <= row && owner.process == process && owner.mutex == mutex {
+                    return index;
+                }
             }
-            index = index.saturating_sub(1);
         }
-        index
+        0
     }
 
     /// A step of the thread with the index `by` unblocks the thread with this index, which waits on a condition variable.
-    pub(crate) fn unblock(&mut self, by: usize, index: Option<usize>) -> Result<(), NoMemory> {
+    pub(crate) fn unblock(&mut self, by: usize, index: Option<usize>) {
         if let Some(index) = index {
-            self.leave_call(index)?;
+            self.leave_call(index);
         }
-        self.add_arrow(Kind::Signal, by, index)
+        self.add_arrow(Kind::Signal, by, index);
     }
 
     /// A step of the thread with the index `by` unblocks all threads of its process that wait on a condition variable.
-    pub(crate) fn unblock_all(
-        &mut self,
-        by: usize,
-        process: usize,
-        condition: &str,
-    ) -> Result<(), NoMemory> {
+    pub(crate) fn unblock_all(&mut self, by: usize, process: usize, condition: &str) {
         for index in 0..self.threads.len() {
             if self.is_in_wait(index, process, condition) {
-                self.unblock(by, Some(index))?;
+                self.unblock(by, Some(index));
             }
         }
-        Ok(())
     }
 
     fn is_in_wait(&self, index: usize, process: usize, condition: &str) -> bool {
@@ -256,17 +231,9 @@ impl<'a> Run<'a> {
     }
 
     /// After the last step: the threads that are suspended in a call are so up to the end.
-    pub(crate) fn add_open_calls(&mut self) -> Result<(), NoMemory> {
-        let bottom = self.rows.len();
+    pub(crate) fn add_open_calls(&mut self) {
         for index in 0..self.threads.len() {
-            if let Some(thread) = self.threads.get(index) {
-                if thread.is_in_call {
-                    let first = thread.since;
-                    let last = thread.last.unwrap_or(bottom);
-                    self.add_wait(index, first, last)?;
-                }
-            }
+            self.leave_call(index);
         }
-        Ok(())
     }
 }
