@@ -1,7 +1,2 @@
--- The keys of each process, and the values of its threads at places without a key, over every run.
-pub mod KeyPlaces
-pub mod KeyActions
-pub mod KeptKeys
-pub mod KeysOfProcesses
-pub mod LeftKeys
+-- The events of keys over every run: the clauses on keys of the law of calls and of the invariant.
 pub mod KeyEvents

@@ -17,16 +17,16 @@ use Rattle.pct_laws.specs.Kept.{EachProcess, KeysKept}
 use Rattle.pct_laws.specs.KeyEvents.{key_after, has_key}
 use Rattle.pct_transition_cases.proofs.CaseOfTransition.{case_of}
 use Rattle.pct_transition_cases.proofs.TransitionCases.{TransitionCase, fork_handler_called, key_made, key_deleted, destructor_called}
-use Rattle.pct_ending_laws.proofs.keys.KeyPlaces.{place_of_next}
-use Rattle.pct_ending_laws.proofs.keys.KeysOfProcesses.{KeysFit, keys_of_run}
-use Rattle.pct_ending_laws.proofs.keys.LeftKeys.{left_has_value}
-use Rattle.pct_ending_laws.proofs.lift.ChangedThreads.{changed_shared, other_shared}
-use Rattle.pct_ending_laws.proofs.lift.EveryProcess.{process_taken, moves_in, AllFit, of_made, IsProcessRule, every_process}
-use Rattle.pct_ending_laws.proofs.lift.HandlerEvents.{of_each_phase}
-use Rattle.pct_ending_laws.proofs.lift.OfferedNumbers.{IsNumberOf, new_key_of, left_key_of}
-use Rattle.pct_ending_laws.proofs.lift.ReportedBy.{Reading, reported_by, is_reading, after_own}
-use Rattle.pct_ending_laws.proofs.lift.TakenSteps.{AfterEveryRun, every_run}
-use Rattle.pct_ending_laws.proofs.lift.ThreadsAfter.{Moves}
+use Rattle.pct_thread_invariants.proofs.keys.KeyPlaces.{place_of_next}
+use Rattle.pct_thread_invariants.proofs.keys.KeysOfProcesses.{KeysFit, keys_of_run}
+use Rattle.pct_thread_invariants.proofs.keys.LeftKeys.{left_has_value}
+use Rattle.pct_thread_invariants.proofs.lift.ChangedThreads.{changed_shared, other_shared}
+use Rattle.pct_thread_invariants.proofs.lift.EveryProcess.{process_taken, moves_in, AllFit, of_made, IsProcessRule, every_process}
+use Rattle.pct_thread_invariants.proofs.lift.HandlerEvents.{of_each_phase}
+use Rattle.pct_thread_invariants.proofs.lift.OfferedNumbers.{IsNumberOf, new_key_of, left_key_of}
+use Rattle.pct_thread_invariants.proofs.lift.ReportedBy.{Reading, reported_by, is_reading, after_own}
+use Rattle.pct_thread_invariants.proofs.lift.TakenSteps.{AfterEveryRun, every_run}
+use Rattle.pct_thread_invariants.proofs.lift.ThreadsAfter.{Moves}
 
 -- ---- what is reported
 
