@@ -22,7 +22,7 @@ use Rattle.pct_thread_invariants.proofs.thread.SuspendedCalls.{call_event, newes
 use Rattle.pct_join_laws.proofs.joins.JoiningThreads.{JoinsOne, joins_of_processes}
 use Rattle.pct_join_laws.proofs.joins.ReportedFlags.{known_of_run, joined_of_run, detached_of_run}
 use Rattle.pct_join_laws.proofs.joins.LawfulJoins.{joins_of_run}
-use Rattle.pct_ending_laws.proofs.keys.KeyEvents.{key_events_of_run, keys_law_of_run}
+use Rattle.pct_ending_laws.proofs.KeyEvents.{key_events_of_run, keys_law_of_run}
 use Rattle.pct_cancel_laws.proofs.owners.OwnersOfRun.{owners_of_run, owners_kept}
 use Rattle.pct_process_laws.proofs.processes.ProcessEnds.{end_status_of_run}
 use Rattle.pct_process_laws.proofs.processes.ProcessEnds.{exit_value_of_run}

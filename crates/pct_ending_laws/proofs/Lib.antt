@@ -1,4 +1,4 @@
-pub mod keys
+pub mod KeyEvents
 pub mod steps
 pub mod ends
 pub mod KeptStates

@@ -22,7 +22,7 @@ use Rattle.pct_thread_invariants.proofs.lift.HandlerEvents.{of_each_phase}
 use Rattle.pct_thread_invariants.proofs.lift.OfferedNumbers.{left_key_of}
 use Rattle.pct_thread_invariants.proofs.lift.TakenSteps.{IsTaken}
 use Rattle.pct_thread_invariants.proofs.lift.ThreadsAfter.{Moves, mover}
-use Rattle.pct_ending_laws.proofs.keys.KeyEvents.{new_place_free, key_made_on_place, found_on, no_key_on_place}
+use Rattle.pct_ending_laws.proofs.KeyEvents.{new_place_free, key_made_on_place, found_on, no_key_on_place}
 use Rattle.pct_thread_invariants.proofs.keys.KeyPlaces.{default_set}
 use Rattle.pct_thread_invariants.proofs.keys.KeysOfProcesses.{keys_of_run}
 use Rattle.pct_thread_invariants.proofs.keys.LeftKeys.{left_is_due}

@@ -5,7 +5,7 @@ use Rattle.pct_names.proofs.Names.{Run, run, Script, set, shared_after, SharedSt
 use Rattle.pct_names.proofs.Names.{transition_by, true, value_of, ◌||◌, ℕ, ◌∙◌, ◌≡◌, ◌≢◌}
 use Rattle.pct_laws.specs.Calls.{changes_key, KeepsKeys}
 use Rattle.pct_transition_cases.proofs.TransitionCases.{TransitionCase, key_made, key_deleted}
-use Rattle.pct_ending_laws.proofs.keys.KeyEvents.{key_set_other}
+use Rattle.pct_ending_laws.proofs.KeyEvents.{key_set_other}
 use Rattle.pct_thread_invariants.proofs.lift.ChangedThreads.{changed_shared}
 use Rattle.pct_thread_invariants.proofs.lift.EveryProcess.{moves_of_run}
 use Rattle.pct_thread_invariants.proofs.lift.TakenSteps.{IsTaken}
