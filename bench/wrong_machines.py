@@ -4,11 +4,12 @@
     bench/wrong_machines.py [NAME ..]
 
 A machine is the definition of a step with one line of it changed, so that it breaks what a law says: a call that does nothing,
-a request that is dropped. In a copy of the crates below pct_ending_laws each machine is made in turn, and `rt check` then has to
+a request that is dropped. In a copy of the crates up to pct_ending_laws each machine is made in turn, and `rt check` then has to
 prove the laws of it. It is refused if the check does not prove them, and if an error is in a certain file: that of the proof of
 the law, or of a part of the invariant which this law needs. Other files have errors, too, where their proofs use the line that
-was changed. The list of the cases of a transition, from which the laws are proved, repeats the transitions; where the changed line
-is one of a transition, its case is changed alike, so that what is refused is the law.
+was changed. A crate is checked only where those below it are proved, so in the copy the five crates that prove the laws are one.
+The list of the cases of a transition, from which the laws are proved, repeats the transitions; where the changed line is one of a
+transition, its case is changed alike, so that what is refused is the law.
 
 With names only these machines are tried. A machine takes about half a minute. `rt` has to be in the PATH. The last line is
 `N passed, M failed`. The status is 1 if M is not 0 or N is 0.
@@ -22,17 +23,18 @@ import sys
 import tempfile
 
 ROOT = pathlib.Path(__file__).resolve().parent.parent
-CRATES = ("pct_io", "pct_model", "pct_names", "pct_laws", "pct_jumps", "pct_transition_cases", "pct_ending_laws")
+BELOW = ("pct_io", "pct_model", "pct_names", "pct_laws", "pct_jumps", "pct_transition_cases")
+# The crates that prove the laws. In the copy they are the last one.
+LAWS = ("pct_thread_invariants", "pct_join_laws", "pct_cancel_laws", "pct_process_laws", "pct_ending_laws")
 SPECS = "crates/pct_model/specs"
 CASES = "crates/pct_transition_cases/proofs"
-PROOFS = "crates/pct_ending_laws/proofs"
 SECONDS = 1800
 
 
 @dataclasses.dataclass(frozen=True)
 class Machine:
     name: str
-    # The law that it breaks, and the file in which the proof of this law has to fail.
+    # The law that it breaks, and the file in which the proof of this law has to fail, below proofs/ of one of LAWS.
     law: str
     proof: str
     # The file of the definitions, its line, and the line in its place.
@@ -53,7 +55,7 @@ MACHINES = (
     Machine("an_exit_function_stays_registered", "Calls", "steps/CalledFunctions", "Actions",
             "shared_after action.TakeExit s = record s { exit_functions = without_first s.exit_functions }",
             "shared_after action.TakeExit s = s"),
-    Machine("a_deleted_key_stays", "Calls", "keys/KeyEvents", "Actions",
+    Machine("a_deleted_key_stays", "Calls", "KeyEvents", "Actions",
             "shared_after (action.DeleteKey k) s = record s { keys = without_key (key_place k) s.keys }",
             "shared_after (action.DeleteKey k) s = s"),
     Machine("no_key_is_due", "Ends", "steps/EndStages", "ThreadEnds",
@@ -116,9 +118,27 @@ MACHINES = (
 )
 
 
+def copy_crates(folder):
+    """Copies the crates into the folder, those of LAWS as one."""
+    shutil.copy(ROOT / "HANDLES", folder)
+    uses = dict(re.findall(r"^(\w+):(.*)$", (ROOT / "crates.txt").read_text(), re.M))
+    for crate in BELOW:
+        shutil.copytree(ROOT / "crates" / crate, folder / "crates" / crate)
+    shutil.copytree(ROOT / "crates" / LAWS[-1] / "src", folder / "crates" / LAWS[-1] / "src")
+    for crate in LAWS:
+        for path in sorted((ROOT / "crates" / crate).rglob("*.antt")):
+            copy = folder / "crates" / LAWS[-1] / path.relative_to(ROOT / "crates" / crate)
+            copy.parent.mkdir(parents=True, exist_ok=True)
+            # Lib.antt, which each of them has, gets the lines of all.
+            with copy.open("a") as file:
+                file.write(re.sub(rf"\bRattle\.(?:{'|'.join(LAWS)})\.", f"Rattle.{LAWS[-1]}.", path.read_text()))
+    uses[LAWS[-1]] = "".join(f" {crate}" for crate in BELOW if any(crate in uses[law].split() for law in LAWS))
+    (folder / "crates.txt").write_text("".join(f"{crate}:{uses[crate]}\n" for crate in (*BELOW, LAWS[-1])))
+
+
 def errors(folder):
     """The proof files with errors when the laws are proved in the folder, or None if they are proved."""
-    ran = subprocess.run(["rt", "check"], cwd=folder / "crates/pct_ending_laws", stdout=subprocess.PIPE, stderr=subprocess.STDOUT, timeout=SECONDS)
+    ran = subprocess.run(["rt", "check"], cwd=folder / "crates" / LAWS[-1], stdout=subprocess.PIPE, stderr=subprocess.STDOUT, timeout=SECONDS)
     log = ran.stdout.decode(errors="replace")
     if ran.returncode == 0:
         return None
@@ -149,7 +169,7 @@ def tried(machine, folder):
         return "its laws are proved", []
     files = found
     if machine.proof not in files:
-        return f"no error in {PROOFS}/{machine.proof}.antt, but in {', '.join(files) or 'none of the proofs'}", files
+        return f"no error in {machine.proof}.antt, but in {', '.join(files) or 'none of the proofs'}", files
     return None, files
 
 
@@ -161,11 +181,7 @@ def main():
     passed = failed = 0
     with tempfile.TemporaryDirectory() as name:
         folder = pathlib.Path(name)
-        shutil.copy(ROOT / "HANDLES", folder)
-        (folder / "crates.txt").write_text("".join(
-            line for line in (ROOT / "crates.txt").read_text().splitlines(keepends=True) if line.split(":")[0] in CRATES))
-        for crate in CRATES:
-            shutil.copytree(ROOT / "crates" / crate, folder / "crates" / crate)
+        copy_crates(folder)
         for machine in MACHINES:
             if machine.name not in names:
                 continue

@@ -9,41 +9,41 @@ use Rattle.pct_laws.specs.Ends.{each_may_begin, KeepsValues}
 use Rattle.pct_laws.specs.Kept.{IsPlainFunction, IsSuspendedInJoin}
 use Rattle.pct_laws.specs.CondLaw.{owners_allow, waits_allow, hand_ons_allow}
 use Rattle.pct_laws.specs.StatementLaw.{says_statement, suspends_by_call, each_names_its_wait}
-use Rattle.pct_ending_laws.proofs.lift.EachAllowed.{each_both}
+use Rattle.pct_thread_invariants.proofs.lift.EachAllowed.{each_both}
 use Rattle.pct_ending_laws.specs.EndingLaws.{RunsKeepLaws, StatesAreKept}
-use Rattle.pct_ending_laws.proofs.exits.RegisteredFunctions.{registered_of_run}
-use Rattle.pct_ending_laws.proofs.ForksOfRun.{forks_of_run}
-use Rattle.pct_ending_laws.proofs.ThreadsOfRun.{once_of_run, keys_kept, threads_kept, last_kept}
+use Rattle.pct_thread_invariants.proofs.exits.RegisteredFunctions.{registered_of_run}
+use Rattle.pct_process_laws.proofs.ForksOfRun.{forks_of_run}
+use Rattle.pct_thread_invariants.proofs.ThreadsOfRun.{once_of_run, keys_kept, threads_kept, last_kept}
 use Rattle.pct_ending_laws.proofs.ends.AfterTheEnd.{after_end_of_run}
 use Rattle.pct_ending_laws.proofs.ends.HandlersRun.{ran_all}
 use Rattle.pct_ending_laws.proofs.ends.LeftoverValues.{leftovers_of_run}
-use Rattle.pct_ending_laws.proofs.lift.MadeNumbers.{numbers_of_run}
-use Rattle.pct_ending_laws.proofs.requests.SuspendedCalls.{call_event, newest_call_of_run}
-use Rattle.pct_ending_laws.proofs.joins.JoiningThreads.{JoinsOne, joins_of_processes}
-use Rattle.pct_ending_laws.proofs.joins.ReportedFlags.{known_of_run, joined_of_run, detached_of_run}
-use Rattle.pct_ending_laws.proofs.joins.LawfulJoins.{joins_of_run}
-use Rattle.pct_ending_laws.proofs.keys.KeyEvents.{key_events_of_run, keys_law_of_run}
-use Rattle.pct_ending_laws.proofs.owners.OwnersOfRun.{owners_of_run, owners_kept}
-use Rattle.pct_ending_laws.proofs.processes.ProcessEnds.{end_status_of_run}
-use Rattle.pct_ending_laws.proofs.processes.ProcessEnds.{exit_value_of_run}
-use Rattle.pct_ending_laws.proofs.processes.LawfulProcesses.{processes_of_run}
-use Rattle.pct_ending_laws.proofs.requests.ActingCalls.{acts_at_calls_of_run}
-use Rattle.pct_ending_laws.proofs.requests.ActingSteps.{each_may_act_of_run}
-use Rattle.pct_ending_laws.proofs.requests.AwakenedThreads.{awakened_of_run}
-use Rattle.pct_ending_laws.proofs.requests.CancelStates.{cancelability_of_run}
-use Rattle.pct_ending_laws.proofs.requests.LawfulRequests.{requests_of_run}
-use Rattle.pct_ending_laws.proofs.requests.PendingRequests.{pending_of_run}
-use Rattle.pct_ending_laws.proofs.slots.LawfulCreations.{slots_of_run}
+use Rattle.pct_thread_invariants.proofs.lift.MadeNumbers.{numbers_of_run}
+use Rattle.pct_thread_invariants.proofs.thread.SuspendedCalls.{call_event, newest_call_of_run}
+use Rattle.pct_join_laws.proofs.joins.JoiningThreads.{JoinsOne, joins_of_processes}
+use Rattle.pct_join_laws.proofs.joins.ReportedFlags.{known_of_run, joined_of_run, detached_of_run}
+use Rattle.pct_join_laws.proofs.joins.LawfulJoins.{joins_of_run}
+use Rattle.pct_ending_laws.proofs.KeyEvents.{key_events_of_run, keys_law_of_run}
+use Rattle.pct_cancel_laws.proofs.owners.OwnersOfRun.{owners_of_run, owners_kept}
+use Rattle.pct_process_laws.proofs.processes.ProcessEnds.{end_status_of_run}
+use Rattle.pct_process_laws.proofs.processes.ProcessEnds.{exit_value_of_run}
+use Rattle.pct_process_laws.proofs.processes.LawfulProcesses.{processes_of_run}
+use Rattle.pct_cancel_laws.proofs.requests.ActingCalls.{acts_at_calls_of_run}
+use Rattle.pct_cancel_laws.proofs.requests.ActingSteps.{each_may_act_of_run}
+use Rattle.pct_cancel_laws.proofs.requests.AwakenedThreads.{awakened_of_run}
+use Rattle.pct_cancel_laws.proofs.requests.CancelStates.{cancelability_of_run}
+use Rattle.pct_cancel_laws.proofs.requests.LawfulRequests.{requests_of_run}
+use Rattle.pct_cancel_laws.proofs.requests.PendingRequests.{pending_of_run}
+use Rattle.pct_join_laws.proofs.slots.LawfulCreations.{slots_of_run}
 use Rattle.pct_ending_laws.proofs.steps.CalledFunctions.{each_is_called_of_run}
 use Rattle.pct_ending_laws.proofs.steps.EndStages.{each_may_begin_of_run}
 use Rattle.pct_ending_laws.proofs.steps.KeptExitFunctions.{keeps_exit_functions_of_run}
 use Rattle.pct_ending_laws.proofs.steps.KeptKeys.{keeps_keys_of_run}
 use Rattle.pct_ending_laws.proofs.steps.KeptValues.{keeps_values_of_run}
 use Rattle.pct_ending_laws.proofs.steps.MadeFrames.{says_calls_of_run}
-use Rattle.pct_ending_laws.proofs.steps.MovedThreads.{each_step}
+use Rattle.pct_thread_invariants.proofs.lift.MovedThreads.{each_step}
 use Rattle.pct_ending_laws.proofs.steps.NamedWaits.{suspends_of_run, names_of_run}
 use Rattle.pct_ending_laws.proofs.steps.SaidStatements.{says_statements_of_run}
-use Rattle.pct_ending_laws.proofs.waits.WaitsOfRun.{waits_of_run, hand_ons_of_run, calls_of_run, waits_kept_of_run}
+use Rattle.pct_cancel_laws.proofs.waits.WaitsOfRun.{waits_of_run, hand_ons_of_run, calls_of_run, waits_kept_of_run}
 
 -- each thread that is suspended in pthread_join
 pub kept_joins_of_run : (script : Script) (config : Config) (entries : List Entry) (r : Run) → run script config entries ≡ Some r

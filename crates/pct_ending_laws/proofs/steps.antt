@@ -1,5 +1,4 @@
 -- The laws of a step: what each step of a run does to the thread that makes it.
-pub mod MovedThreads
 pub mod MadeFrames
 pub mod CalledFunctions
 pub mod KeptExitFunctions

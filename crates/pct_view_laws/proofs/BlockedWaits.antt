@@ -15,8 +15,8 @@ use Rattle.pct_model.specs.declared.state.Status.TheVariants as status
 use Rattle.pct_model.specs.declared.statement.Stmt.TheVariants as statement
 use Rattle.pct_transition_cases.proofs.OfferedChoices.{goes_at, may_go_on, offered_of}
 use Rattle.pct_ending_laws.proofs.KeptStates.{every_state_is_kept}
-use Rattle.pct_ending_laws.proofs.lift.MadeThreads.{IsLive, live_thread, process_is_made}
-use Rattle.pct_ending_laws.proofs.lift.ProcessIds.{HavePids, have_pids, ids_of_made}
+use Rattle.pct_thread_invariants.proofs.lift.MadeThreads.{IsLive, live_thread, process_is_made}
+use Rattle.pct_thread_invariants.proofs.lift.ProcessIds.{HavePids, have_pids, ids_of_made}
 use Rattle.pct_view_laws.specs.declared.wait.Wait.{Wait}
 use Rattle.pct_view_laws.specs.Listed.{BlockedThreadsWait, IsBlockedIfWaiting}
 use Rattle.pct_view_laws.specs.Waits.{wait_at, wait_by, wait_in}

@@ -7,7 +7,7 @@ use Rattle.pct_names.proofs.Names.{refl, slice_get_within, Some, subst, suc, sym
 use Rattle.std.proofs.Common.{zero-add, eq-eqb, ne_eqb}
 use Rattle.std.proofs.lemmas.Bool.{true≢false}
 use Rattle.pct_engine_laws.proofs.ListFacts.{All-flat_map}
-use Rattle.pct_ending_laws.proofs.lift.KeyedLists.{AreDistinct, found_at}
+use Rattle.pct_thread_invariants.proofs.lift.KeyedLists.{AreDistinct, found_at}
 
 module _ {A : Type 0} where
   -- an item of a list is its first one, or is among the others

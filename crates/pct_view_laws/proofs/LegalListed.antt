@@ -7,8 +7,8 @@ use Rattle.std.proofs.Common.{eqb-true, eq-eqb}
 use Rattle.pct_model.specs.declared.schedule.Alt.TheVariants as alt
 use Rattle.pct_view_laws.specs.Listed.{ListedThread, ListsLegalEntries, entries_of, entry_by, listed_entries, listed_of, listed_threads}
 use Rattle.pct_transition_cases.proofs.OfferedChoices.{offered_alive, offered_of}
-use Rattle.pct_ending_laws.proofs.lift.KeyedLists.{found_passes}
-use Rattle.pct_ending_laws.proofs.lift.ProcessIds.{HavePids, have_pids}
+use Rattle.pct_thread_invariants.proofs.lift.KeyedLists.{found_passes}
+use Rattle.pct_thread_invariants.proofs.lift.ProcessIds.{HavePids, have_pids}
 use Rattle.pct_view_laws.proofs.ContainedItems.{joined_contained, joined_was, mapped_contained, mapped_was}
 use Rattle.pct_view_laws.proofs.ListedThreads.{IsListed, is_listed, listed_was}
 

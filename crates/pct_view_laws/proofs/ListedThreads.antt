@@ -6,10 +6,10 @@ use Rattle.pct_names.proofs.Names.{World, ℕ, ◌≡◌}
 use Rattle.std.proofs.Common.{eq-eqb}
 use Rattle.pct_view_laws.specs.Listed.{ListedThread, is_unended, listed_of, listed_threads, unended_of}
 use Rattle.pct_engine_laws.proofs.ThreadChanges.{slot_below}
-use Rattle.pct_ending_laws.proofs.lift.KeyedLists.{found_passes}
-use Rattle.pct_ending_laws.proofs.lift.MadeThreads.{process_is_made}
-use Rattle.pct_ending_laws.proofs.lift.ProcessIds.{HavePids, ids_of_made}
-use Rattle.pct_ending_laws.proofs.lift.ThreadIds.{HaveIds}
+use Rattle.pct_thread_invariants.proofs.lift.KeyedLists.{found_passes}
+use Rattle.pct_thread_invariants.proofs.lift.MadeThreads.{process_is_made}
+use Rattle.pct_thread_invariants.proofs.lift.ProcessIds.{HavePids, ids_of_made}
+use Rattle.pct_thread_invariants.proofs.lift.ThreadIds.{HaveIds}
 use Rattle.pct_view_laws.proofs.ContainedItems.{contained_found, found_contained, index_contained, joined_contained, joined_was, mapped_contained, mapped_was, passed_contained, passed_was}
 
 -- a thread of a process, neither of which has ended, that holds its slot

@@ -5,7 +5,7 @@ use Rattle.pct_names.proofs.Names.{run_from, run_step, same_Some, Script, Some, 
 use Rattle.std.proofs.lemmas.List.{append-nil, append_assoc}
 use Rattle.pct_model.proofs.Runs.{run_from-more}
 use Rattle.pct_engine_laws.proofs.LongerRuns.{run_parts, run_after}
-use Rattle.pct_ending_laws.proofs.lift.TakenSteps.{first_run}
+use Rattle.pct_thread_invariants.proofs.lift.TakenSteps.{first_run}
 use Rattle.pct_view_laws.specs.TracedSteps.{TracedStep, IsTraceOf, start_in, steps_from, steps_of, events_of}
 
 -- ---- one step

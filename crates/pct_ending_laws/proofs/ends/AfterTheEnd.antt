@@ -15,20 +15,20 @@ use Rattle.pct_laws.specs.KnownIds.{known_ids}
 use Rattle.pct_laws.specs.KnownThreads.{makes_process, is_fork_of, creates_id, is_known, reports_end}
 use Rattle.pct_laws.specs.ThreadSummary.{ThreadSummary, with_event, summary_of, thread_ended}
 use Rattle.pct_transition_cases.proofs.TransitionCases.{TransitionCase, fork_handler_called, last_ended, last_ended_with_keys}
-use Rattle.pct_ending_laws.proofs.LastThreads.{LastExits, last_exits, others_if_last}
-use Rattle.pct_ending_laws.proofs.ThreadsOfRun.{threads_fit, threads_kept}
-use Rattle.pct_ending_laws.proofs.slots.KnownIds.{all_from_members, among_known}
-use Rattle.pct_ending_laws.proofs.slots.ReclaimedThreads.{IsPresent, known_present}
-use Rattle.pct_ending_laws.proofs.lift.EveryProcess.{process_taken, moves_of_run}
-use Rattle.pct_ending_laws.proofs.lift.EveryThread.{OfItsThreads, of_its_threads, of_made_thread}
-use Rattle.pct_ending_laws.proofs.lift.HandlerEvents.{of_each_phase}
-use Rattle.pct_ending_laws.proofs.lift.TakenSteps.{IsTaken, AfterEveryRun, every_run}
-use Rattle.pct_ending_laws.proofs.lift.KeyedLists.{found_passes}
-use Rattle.pct_ending_laws.proofs.lift.SummaryEnds.{begins_exit, ended_after, exiting_after, ended_stays}
-use Rattle.pct_ending_laws.proofs.lift.ThreadsAfter.{Moves, mover}
-use Rattle.pct_ending_laws.proofs.steps.MovedThreads.{case_of_step}
-use Rattle.pct_ending_laws.proofs.thread.EndingSteps.{stands}
-use Rattle.pct_ending_laws.proofs.thread.ThreadRule.{summary, summary_reading, FitsAny}
+use Rattle.pct_thread_invariants.proofs.LastThreads.{LastExits, last_exits, others_if_last}
+use Rattle.pct_thread_invariants.proofs.ThreadsOfRun.{threads_fit, threads_kept}
+use Rattle.pct_join_laws.proofs.slots.KnownIds.{all_from_members, among_known}
+use Rattle.pct_join_laws.proofs.slots.ReclaimedThreads.{IsPresent, known_present}
+use Rattle.pct_thread_invariants.proofs.lift.EveryProcess.{process_taken, moves_of_run}
+use Rattle.pct_thread_invariants.proofs.lift.EveryThread.{OfItsThreads, of_its_threads, of_made_thread}
+use Rattle.pct_thread_invariants.proofs.lift.HandlerEvents.{of_each_phase}
+use Rattle.pct_thread_invariants.proofs.lift.TakenSteps.{IsTaken, AfterEveryRun, every_run}
+use Rattle.pct_thread_invariants.proofs.lift.KeyedLists.{found_passes}
+use Rattle.pct_thread_invariants.proofs.lift.SummaryEnds.{begins_exit, ended_after, exiting_after, ended_stays}
+use Rattle.pct_thread_invariants.proofs.lift.ThreadsAfter.{Moves, mover}
+use Rattle.pct_thread_invariants.proofs.lift.MovedThreads.{case_of_step}
+use Rattle.pct_thread_invariants.proofs.thread.EndingSteps.{stands}
+use Rattle.pct_thread_invariants.proofs.thread.ThreadRule.{summary, summary_reading, FitsAny}
 
 -- ---- the events of a step, newest first
 

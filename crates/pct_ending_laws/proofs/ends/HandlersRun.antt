@@ -10,7 +10,6 @@ use Rattle.pct_laws.specs.KnownThreads.{is_in, is_own, is_fork_of, makes_process
 use Rattle.pct_laws.specs.Each.{each}
 use Rattle.pct_laws.specs.Once.{is_newest, may_come}
 use Rattle.pct_laws.specs.Once as Once
-use Rattle.pct_laws.specs.ProcessLaw.{is_stop}
 use Rattle.pct_laws.specs.ProcessLaw.{may_change}
 use Rattle.pct_laws.specs.ProcessLaw as ProcessLaw
 use Rattle.pct_laws.specs.RanAll.{begins_to_end, open_at_ending, handler_run, handlers_run, are_same, may_end}

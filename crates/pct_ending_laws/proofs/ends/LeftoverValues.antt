@@ -6,9 +6,9 @@ use Rattle.pct_laws.specs.FollowedEvents.{are_followed}
 use Rattle.pct_laws.specs.KnownThreads.{reports_end}
 use Rattle.pct_transition_cases.proofs.CaseOfTransition.{case_of}
 use Rattle.pct_transition_cases.proofs.TransitionCases.{TransitionCase, fork_handler_called}
-use Rattle.pct_ending_laws.proofs.lift.FollowedEvents.{step_follows, followed_later}
-use Rattle.pct_ending_laws.proofs.lift.HandlerEvents.{of_each_phase}
-use Rattle.pct_ending_laws.proofs.lift.TakenSteps.{AfterEveryRun, every_run}
+use Rattle.pct_thread_invariants.proofs.lift.FollowedEvents.{step_follows, followed_later}
+use Rattle.pct_thread_invariants.proofs.lift.HandlerEvents.{of_each_phase}
+use Rattle.pct_thread_invariants.proofs.lift.TakenSteps.{AfterEveryRun, every_run}
 
 module _ (passes : ℕ) (body : List Stmt) (shared : SharedState) (t : Thread) (others : Others) where
   -- the events of a transition, by its case

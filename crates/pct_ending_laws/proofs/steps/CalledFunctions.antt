@@ -14,17 +14,19 @@ use Rattle.pct_laws.specs.Calls.{IsCall, RunsOnly, RunsAbove, by_exit, by_call, 
 use Rattle.pct_laws.specs.Kept.{KeysKept}
 use Rattle.pct_laws.specs.ThreadSteps.{ThreadStep}
 use Rattle.pct_transition_cases.proofs.PlacedStatements.{IsPlaced, on_top, is_placed}
-use Rattle.pct_transition_cases.proofs.TransitionCases.{TransitionCase, fork_handler_called, handler_popped, handler_called, handler_run, destructor_called, key_made, key_deleted, process_ended_now, exit_function_called, process_ended}
-use Rattle.pct_ending_laws.proofs.lift.EveryProcess.{process_taken, moves_of_run}
-use Rattle.pct_ending_laws.proofs.lift.HandlerEvents.{of_each_phase}
-use Rattle.pct_ending_laws.proofs.lift.OfferedNumbers.{left_key_of}
-use Rattle.pct_ending_laws.proofs.lift.TakenSteps.{IsTaken}
-use Rattle.pct_ending_laws.proofs.lift.ThreadsAfter.{Moves, mover}
-use Rattle.pct_ending_laws.proofs.keys.KeyEvents.{new_place_free, key_made_on_place, found_on, no_key_on_place}
-use Rattle.pct_ending_laws.proofs.keys.KeyPlaces.{default_set}
-use Rattle.pct_ending_laws.proofs.keys.KeysOfProcesses.{keys_of_run}
-use Rattle.pct_ending_laws.proofs.keys.LeftKeys.{left_is_due}
-use Rattle.pct_ending_laws.proofs.steps.MovedThreads.{each_passing, EveryStep, step_of, case_of_step, every_step}
+use Rattle.pct_transition_cases.proofs.TransitionCases.{TransitionCase, fork_handler_called, handler_popped, handler_called, handler_run}
+use Rattle.pct_transition_cases.proofs.TransitionCases.{destructor_called, key_made, key_deleted, process_ended_now, exit_function_called}
+use Rattle.pct_transition_cases.proofs.TransitionCases.{process_ended}
+use Rattle.pct_thread_invariants.proofs.lift.EveryProcess.{process_taken, moves_of_run}
+use Rattle.pct_thread_invariants.proofs.lift.HandlerEvents.{of_each_phase}
+use Rattle.pct_thread_invariants.proofs.lift.OfferedNumbers.{left_key_of}
+use Rattle.pct_thread_invariants.proofs.lift.TakenSteps.{IsTaken}
+use Rattle.pct_thread_invariants.proofs.lift.ThreadsAfter.{Moves, mover}
+use Rattle.pct_ending_laws.proofs.KeyEvents.{new_place_free, key_made_on_place, found_on, no_key_on_place}
+use Rattle.pct_thread_invariants.proofs.keys.KeyPlaces.{default_set}
+use Rattle.pct_thread_invariants.proofs.keys.KeysOfProcesses.{keys_of_run}
+use Rattle.pct_thread_invariants.proofs.keys.LeftKeys.{left_is_due}
+use Rattle.pct_thread_invariants.proofs.lift.MovedThreads.{each_passing, EveryStep, step_of, case_of_step, every_step}
 
 -- ---- calls
 

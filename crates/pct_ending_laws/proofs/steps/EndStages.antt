@@ -15,24 +15,26 @@ use Rattle.pct_model.specs.declared.schedule.Alt.TheVariants as alt
 use Rattle.pct_model.specs.declared.state.Status.TheVariants as status
 use Rattle.pct_model.specs.declared.transition.Action.TheVariants as action
 use Rattle.pct_laws.specs.AfterEnd.{begins_exit_with_0}
-use Rattle.pct_laws.specs.Ends.{count_due, is_in_pass, none_left, takes_due, reports_left, is_status_ending, is_at_stage, has_run_handlers, others_have_ended, thread_may_end, each_may_begin}
+use Rattle.pct_laws.specs.Ends.{count_due, is_in_pass, none_left, takes_due, reports_left, is_status_ending, is_at_stage, has_run_handlers}
+use Rattle.pct_laws.specs.Ends.{others_have_ended, thread_may_end, each_may_begin}
 use Rattle.pct_laws.specs.KnownThreads.{reports_end}
 use Rattle.pct_laws.specs.ThreadSteps.{ThreadStep}
 use Rattle.pct_laws.specs.ThreadSummary.{ThreadSummary}
-use Rattle.pct_transition_cases.proofs.TransitionCases.{TransitionCase, fork_handler_called, handler_run, destructor_called, pass_begun, thread_ended, thread_ended_with_keys, last_ended, last_ended_with_keys}
-use Rattle.pct_ending_laws.proofs.ThreadsOfRun.{threads_fit}
-use Rattle.pct_ending_laws.proofs.lift.EveryProcess.{process_taken, moves_of_run}
-use Rattle.pct_ending_laws.proofs.lift.EveryThread.{of_made_thread}
-use Rattle.pct_ending_laws.proofs.lift.HandlerEvents.{of_each_phase}
-use Rattle.pct_ending_laws.proofs.lift.MadeThreads.{IsLive}
-use Rattle.pct_ending_laws.proofs.lift.TakenSteps.{IsTaken}
-use Rattle.pct_ending_laws.proofs.lift.ThreadsAfter.{Moves, mover}
-use Rattle.pct_ending_laws.proofs.keys.KeptKeys.{own_data, named_data}
-use Rattle.pct_ending_laws.proofs.keys.KeyActions.{is_keyless, first_of, key_actions}
-use Rattle.pct_ending_laws.proofs.keys.KeysOfProcesses.{data_moved}
-use Rattle.pct_ending_laws.proofs.lift.ReportedBy.{reported_by, of_thread}
-use Rattle.pct_ending_laws.proofs.thread.ThreadRule.{summary, ByAnyStatus, FitsAny, outside_exit}
-use Rattle.pct_ending_laws.proofs.steps.MovedThreads.{EveryStep, step_of, case_of_step, every_step}
+use Rattle.pct_transition_cases.proofs.TransitionCases.{TransitionCase, fork_handler_called, handler_run, destructor_called, pass_begun}
+use Rattle.pct_transition_cases.proofs.TransitionCases.{thread_ended, thread_ended_with_keys, last_ended, last_ended_with_keys}
+use Rattle.pct_thread_invariants.proofs.ThreadsOfRun.{threads_fit}
+use Rattle.pct_thread_invariants.proofs.lift.EveryProcess.{process_taken, moves_of_run}
+use Rattle.pct_thread_invariants.proofs.lift.EveryThread.{of_made_thread}
+use Rattle.pct_thread_invariants.proofs.lift.HandlerEvents.{of_each_phase}
+use Rattle.pct_thread_invariants.proofs.lift.MadeThreads.{IsLive}
+use Rattle.pct_thread_invariants.proofs.lift.TakenSteps.{IsTaken}
+use Rattle.pct_thread_invariants.proofs.lift.ThreadsAfter.{Moves, mover}
+use Rattle.pct_thread_invariants.proofs.keys.KeptKeys.{own_data, named_data}
+use Rattle.pct_thread_invariants.proofs.keys.KeyActions.{is_keyless, first_of, key_actions}
+use Rattle.pct_thread_invariants.proofs.keys.KeysOfProcesses.{data_moved}
+use Rattle.pct_thread_invariants.proofs.lift.ReportedBy.{reported_by, of_thread}
+use Rattle.pct_thread_invariants.proofs.thread.ThreadRule.{summary, ByAnyStatus, FitsAny, outside_exit}
+use Rattle.pct_thread_invariants.proofs.lift.MovedThreads.{EveryStep, step_of, case_of_step, every_step}
 
 -- ---- keys
 

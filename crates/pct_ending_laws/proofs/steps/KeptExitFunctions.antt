@@ -6,11 +6,11 @@ use Rattle.std.proofs.lemmas.Bool.{true≢false}
 use Rattle.pct_model.specs.declared.statement.Stmt.TheVariants as statement
 use Rattle.pct_laws.specs.Calls.{calls_exit_function, KeepsExits, KeepsExitFunctions}
 use Rattle.pct_transition_cases.proofs.TransitionCases.{TransitionCase, exit_registered, exit_function_called}
-use Rattle.pct_ending_laws.proofs.lift.ChangedThreads.{changed_shared}
-use Rattle.pct_ending_laws.proofs.lift.EveryProcess.{moves_of_run}
-use Rattle.pct_ending_laws.proofs.lift.TakenSteps.{IsTaken}
-use Rattle.pct_ending_laws.proofs.lift.ThreadsAfter.{Moves}
-use Rattle.pct_ending_laws.proofs.steps.MovedThreads.{EveryStep, step_of, case_of_step, every_step}
+use Rattle.pct_thread_invariants.proofs.lift.ChangedThreads.{changed_shared}
+use Rattle.pct_thread_invariants.proofs.lift.EveryProcess.{moves_of_run}
+use Rattle.pct_thread_invariants.proofs.lift.TakenSteps.{IsTaken}
+use Rattle.pct_thread_invariants.proofs.lift.ThreadsAfter.{Moves}
+use Rattle.pct_thread_invariants.proofs.lift.MovedThreads.{EveryStep, step_of, case_of_step, every_step}
 
 -- the same functions may be left at any next statement
 same_kept : (next : NextStatement) (functions : List ℕ) → KeepsExits next functions functions

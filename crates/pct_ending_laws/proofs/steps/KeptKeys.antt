@@ -5,12 +5,12 @@ use Rattle.pct_names.proofs.Names.{Run, run, Script, set, shared_after, SharedSt
 use Rattle.pct_names.proofs.Names.{transition_by, true, value_of, ◌||◌, ℕ, ◌∙◌, ◌≡◌, ◌≢◌}
 use Rattle.pct_laws.specs.Calls.{changes_key, KeepsKeys}
 use Rattle.pct_transition_cases.proofs.TransitionCases.{TransitionCase, key_made, key_deleted}
-use Rattle.pct_ending_laws.proofs.keys.KeyEvents.{key_set_other}
-use Rattle.pct_ending_laws.proofs.lift.ChangedThreads.{changed_shared}
-use Rattle.pct_ending_laws.proofs.lift.EveryProcess.{moves_of_run}
-use Rattle.pct_ending_laws.proofs.lift.TakenSteps.{IsTaken}
-use Rattle.pct_ending_laws.proofs.lift.ThreadsAfter.{Moves}
-use Rattle.pct_ending_laws.proofs.steps.MovedThreads.{EveryStep, step_of, case_of_step, every_step}
+use Rattle.pct_ending_laws.proofs.KeyEvents.{key_set_other}
+use Rattle.pct_thread_invariants.proofs.lift.ChangedThreads.{changed_shared}
+use Rattle.pct_thread_invariants.proofs.lift.EveryProcess.{moves_of_run}
+use Rattle.pct_thread_invariants.proofs.lift.TakenSteps.{IsTaken}
+use Rattle.pct_thread_invariants.proofs.lift.ThreadsAfter.{Moves}
+use Rattle.pct_thread_invariants.proofs.lift.MovedThreads.{EveryStep, step_of, case_of_step, every_step}
 
 -- a change of one place keeps the key on each other place
 key_on_other : (keys : List KeyPlace) (i j : ℕ) (change : KeyPlace → KeyPlace) → i ≢ j → key_at (on_place i change keys) j ≡ key_at keys j

@@ -10,13 +10,13 @@ use Rattle.std.proofs.lemmas.Bool.{true≢false}
 use Rattle.pct_model.specs.declared.transition.Action.TheVariants as action
 use Rattle.pct_laws.specs.Ends.{changes_value, changes_pass, sets_value, KeepsValues}
 use Rattle.pct_transition_cases.proofs.TransitionCases.{TransitionCase, key_deleted, specific_set, destructor_called, pass_begun}
-use Rattle.pct_ending_laws.proofs.keys.KeptKeys.{own_data, named_data}
-use Rattle.pct_ending_laws.proofs.keys.KeyActions.{first_of, key_actions}
-use Rattle.pct_ending_laws.proofs.keys.KeysOfProcesses.{data_moved}
-use Rattle.pct_ending_laws.proofs.lift.EveryProcess.{moves_of_run}
-use Rattle.pct_ending_laws.proofs.lift.TakenSteps.{IsTaken}
-use Rattle.pct_ending_laws.proofs.lift.ThreadsAfter.{Moves, mover}
-use Rattle.pct_ending_laws.proofs.steps.MovedThreads.{EveryStep, step_of, case_of_step, every_step}
+use Rattle.pct_thread_invariants.proofs.keys.KeptKeys.{own_data, named_data}
+use Rattle.pct_thread_invariants.proofs.keys.KeyActions.{first_of, key_actions}
+use Rattle.pct_thread_invariants.proofs.keys.KeysOfProcesses.{data_moved}
+use Rattle.pct_thread_invariants.proofs.lift.EveryProcess.{moves_of_run}
+use Rattle.pct_thread_invariants.proofs.lift.TakenSteps.{IsTaken}
+use Rattle.pct_thread_invariants.proofs.lift.ThreadsAfter.{Moves, mover}
+use Rattle.pct_thread_invariants.proofs.lift.MovedThreads.{EveryStep, step_of, case_of_step, every_step}
 
 -- ---- lists by place
 

@@ -9,12 +9,12 @@ use Rattle.pct_model.specs.declared.statement.Dest.TheVariants as destination
 use Rattle.pct_model.specs.declared.transition.Action.TheVariants as action
 use Rattle.pct_laws.specs.Calls.{says_call, calls_function, says_calls}
 use Rattle.pct_transition_cases.proofs.TransitionCases.{TransitionCase, fork_handler_called}
-use Rattle.pct_ending_laws.proofs.lift.ChangedThreads.{all_keep, named_keeps}
-use Rattle.pct_ending_laws.proofs.lift.EveryProcess.{moves_of_run}
-use Rattle.pct_ending_laws.proofs.lift.HandlerEvents.{of_each_phase}
-use Rattle.pct_ending_laws.proofs.lift.TakenSteps.{IsTaken}
-use Rattle.pct_ending_laws.proofs.lift.ThreadsAfter.{Moves, mover}
-use Rattle.pct_ending_laws.proofs.steps.MovedThreads.{EveryStep, step_of, case_of_step, every_step}
+use Rattle.pct_thread_invariants.proofs.lift.ChangedThreads.{all_keep, named_keeps}
+use Rattle.pct_thread_invariants.proofs.lift.EveryProcess.{moves_of_run}
+use Rattle.pct_thread_invariants.proofs.lift.HandlerEvents.{of_each_phase}
+use Rattle.pct_thread_invariants.proofs.lift.TakenSteps.{IsTaken}
+use Rattle.pct_thread_invariants.proofs.lift.ThreadsAfter.{Moves, mover}
+use Rattle.pct_thread_invariants.proofs.lift.MovedThreads.{EveryStep, step_of, case_of_step, every_step}
 
 -- ---- actions
 

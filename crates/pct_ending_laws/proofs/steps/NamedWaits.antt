@@ -9,12 +9,14 @@ use Rattle.std.proofs.Common.{eq-eqb}
 use Rattle.pct_model.specs.declared.state.Cause.TheVariants as cause
 use Rattle.pct_model.specs.declared.state.Status.TheVariants as status
 use Rattle.pct_laws.specs.StatementLaw.{is_call, is_suspended_at, suspends_by_call, is_in_wait_on, names_its_wait, each_names_its_wait}
-use Rattle.pct_transition_cases.proofs.TransitionCases.{TransitionCase, join_begun, join_ended, point_begun, point_passed, wait_begun, wait_ended, canceled_in_wait, canceled_after_wait, signal_handed_on, ended_in_wait, sem_wait_begun, sem_taken, waitpid_begun, child_reaped, fork_handler_called}
-use Rattle.pct_ending_laws.proofs.lift.EveryProcess.{moves_of_run}
-use Rattle.pct_ending_laws.proofs.lift.HandlerEvents.{of_each_phase}
-use Rattle.pct_ending_laws.proofs.lift.TakenSteps.{IsTaken}
-use Rattle.pct_ending_laws.proofs.lift.ThreadsAfter.{Moves, mover}
-use Rattle.pct_ending_laws.proofs.steps.MovedThreads.{EveryStep, step_of, case_of_step, every_step}
+use Rattle.pct_transition_cases.proofs.TransitionCases.{TransitionCase, join_begun, join_ended, point_begun, point_passed, wait_begun}
+use Rattle.pct_transition_cases.proofs.TransitionCases.{wait_ended, canceled_in_wait, canceled_after_wait, signal_handed_on, ended_in_wait}
+use Rattle.pct_transition_cases.proofs.TransitionCases.{sem_wait_begun, sem_taken, waitpid_begun, child_reaped, fork_handler_called}
+use Rattle.pct_thread_invariants.proofs.lift.EveryProcess.{moves_of_run}
+use Rattle.pct_thread_invariants.proofs.lift.HandlerEvents.{of_each_phase}
+use Rattle.pct_thread_invariants.proofs.lift.TakenSteps.{IsTaken}
+use Rattle.pct_thread_invariants.proofs.lift.ThreadsAfter.{Moves, mover}
+use Rattle.pct_thread_invariants.proofs.lift.MovedThreads.{EveryStep, step_of, case_of_step, every_step}
 
 pub same : (n : ℕ) → nat_eq n n ≡ true
 same n = eq-eqb n n refl

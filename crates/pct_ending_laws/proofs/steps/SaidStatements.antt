@@ -29,12 +29,12 @@ use Rattle.pct_model.specs.LineParsing.{is_empty}
 use Rattle.pct_laws.specs.CancelLaw.{is_running, acts_or_stops}
 use Rattle.pct_laws.specs.StatementLaw.{agree, of_return, of_pop, is_among, waits_on, unblocks, asked, asked_at, says_statement}
 use Rattle.pct_transition_cases.proofs.CaseOfTransition.{no_stops}
-use Rattle.pct_ending_laws.proofs.lift.ProcessIds.{have_pids}
-use Rattle.pct_ending_laws.proofs.lift.TakenSteps.{IsTaken}
-use Rattle.pct_ending_laws.proofs.requests.ActingCalls.{its_status}
+use Rattle.pct_thread_invariants.proofs.lift.ProcessIds.{have_pids}
+use Rattle.pct_thread_invariants.proofs.lift.TakenSteps.{IsTaken}
+use Rattle.pct_cancel_laws.proofs.requests.ActingCalls.{its_status}
 use Rattle.pct_ending_laws.proofs.steps.WaitingThreads.{count_waiting, waits_by_id, count_some, no_free_slot, no_free_place}
 use Rattle.pct_ending_laws.proofs.steps.NamedWaits.{same, both_same}
-use Rattle.pct_ending_laws.proofs.steps.MovedThreads.{EveryStep, step_of, every_step}
+use Rattle.pct_thread_invariants.proofs.lift.MovedThreads.{EveryStep, step_of, every_step}
 
 -- ---- tests
 

@@ -97,9 +97,6 @@ waits_there c id v false false (status.Ended n) = refl
 waits_there c id v false released _ = refl
 
 module _ (slots c : ℕ) (threads : List Thread) (some : 0 < slots) (v : ℕ → ℕ) where
-  weight : Waiter → ℕ
-  weight w = v w.id
-
   on_its_slot : (t : Thread) → sum_by (λ s. cond (is_on slots s t && holds_slot t) (sum_by (λ (w : Waiter). v w.id) (waiter_by c t.id t.status)) 0) (range_with_len 0 slots) ≡ cond (waits_on c t) (v t.id) 0
   on_its_slot t =
       let own : ℕ = cond (holds_slot t) (sum_by (λ (w : Waiter). v w.id) (waiter_by c t.id t.status)) 0 in

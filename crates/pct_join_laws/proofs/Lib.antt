@@ -1,0 +1,2 @@
+pub mod joins
+pub mod slots

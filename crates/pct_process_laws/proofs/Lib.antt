@@ -1,0 +1,2 @@
+pub mod processes
+pub mod ForksOfRun
