@@ -1,10 +1,10 @@
 -- After every run the keys of a process are those that its events report, and a destructor is called with a value that is not NULL, for a
 -- key that was made and not deleted.
 use Rattle.pct_names.proofs.Names.{◌&&◌, ◌+◌, ◌++◌, ◌<◌, [], and_from, ap, arith, body_at, Bool, changed, child_of, cond, Config, Entry}
-use Rattle.pct_names.proofs.Names.{eqb-false, Event, event_of, false, false≢true, for_each, if_number, is_none, is_some, Key, key_at}
-use Rattle.pct_names.proofs.Names.{key_place, key_with, KeyPlace, length, List, list_any, map, MAX_KEYS, nat_eq, new_keys, next_key}
-use Rattle.pct_names.proofs.Names.{next_of, NextStatement, no_keys, None, none-some, not, Option, option_and_then, option_map_or, Others}
-use Rattle.pct_names.proofs.Names.{others_of, Process, refl, replicate, reverse, Script, set, shared_after, SharedState, slice_get}
+use Rattle.pct_names.proofs.Names.{eqb-false, Event, event_of, false, false≢true, if_number, is_none, is_some, Key, key_at, key_place}
+use Rattle.pct_names.proofs.Names.{key_with, KeyPlace, length, List, list_any, map, MAX_KEYS, nat_eq, new_keys, next_key, next_of}
+use Rattle.pct_names.proofs.Names.{NextStatement, no_keys, None, none-some, not, Option, option_and_then, option_map_or, Others, others_of}
+use Rattle.pct_names.proofs.Names.{Process, refl, replicate, reverse, Script, set, shared_after, shared_moved, SharedState, slice_get}
 use Rattle.pct_names.proofs.Names.{slice_get-get_or, slice_get_within, Some, Status, Stmt, subst, suc, sym, Thread, Transition}
 use Rattle.pct_names.proofs.Names.{transition_by, true, value_at, value_of, What, with_key, without_key, World, zero, ◌||◌, ℕ, ◌∙◌, ◌∷◌}
 use Rattle.pct_names.proofs.Names.{◌≡◌, ◌≢◌}
@@ -177,7 +177,7 @@ module _ (keys : List KeyPlace) (reported : ℕ → Bool) (fits : AreReported ke
 module _ (script : Script) (passes : ℕ) (body : List Stmt) (shared : SharedState) (t : Thread) (others : Others) (kept : KeysKept script shared.keys) (e : Entry) where
   -- the keys after a transition
   case_reported : (reported : ℕ → Bool) → AreReported shared.keys reported → {next : NextStatement} {s : Status} {o : Transition} → TransitionCase passes body shared t others true next s o
-      → AreReported (for_each shared_after o.actions shared).keys (λ n. after_own (has n) (map (event_of e) (reverse o.events)) (reported n))
+      → AreReported (shared_moved o shared).keys (λ n. after_own (has n) (map (event_of e) (reverse o.events)) (reported n))
   unfolding shared_after
   case_reported reported fits (key_made frame result key destructor k among) = made_reported shared.keys reported fits script kept k destructor (among refl)
   case_reported reported fits (key_deleted frame key some) = deleted_reported shared.keys reported fits (value_of shared.globals frame key) some

@@ -1,13 +1,13 @@
 -- What is kept of a state after a transition depends only on what was kept before it.
-use Rattle.pct_names.proofs.Names.{◌&&◌, ◌+◌, ◌++◌, ◌<◌, [], Action, after_transition, ap, arith, as_reaped, Bool, changed, child_by}
-use Rattle.pct_names.proofs.Names.{child_of, cond, false, filter, filter-append, flat_map, flat_map-map, for_each, inherited, is_last}
-use Rattle.pct_names.proofs.Names.{is_live_process, is_some, is_unreaped, length, length-map, List, map, map-append, nat_eq, None, not}
-use Rattle.pct_names.proofs.Names.{Option, orphaned, other_process_after, Process, process_after, process_made, process_moved, ProcessEnd}
-use Rattle.pct_names.proofs.Names.{refl, shared_after, SharedState, Some, stop_after, sym, threads_moved, Transition, true, was_reaped}
+use Rattle.pct_names.proofs.Names.{◌&&◌, ◌+◌, ◌++◌, ◌<◌, [], after_transition, ap, arith, as_reaped, Bool, changed, child_by, child_of}
+use Rattle.pct_names.proofs.Names.{cond, false, filter, filter-append, flat_map, flat_map-map, inherited, is_last, is_live_process, is_some}
+use Rattle.pct_names.proofs.Names.{is_unreaped, length, length-map, List, map, map-append, moved, nat_eq, None, not, Option, orphaned}
+use Rattle.pct_names.proofs.Names.{other_process_after, Process, process_after, process_made, process_moved, ProcessAction, ProcessEnd}
+use Rattle.pct_names.proofs.Names.{refl, shared_moved, SharedState, Some, stop_after, sym, threads_moved, Transition, true, was_reaped}
 use Rattle.pct_names.proofs.Names.{World, ℕ, ◌∙◌, ◌∷◌, ◌≡◌}
 use Rattle.std.proofs.Common.{append-nil, length-append, true≢false}
 use mathlib.Core.Bool.{and-false}
-use Rattle.pct_model.specs.declared.transition.Action.TheVariants as action
+use Rattle.pct_model.specs.declared.transition.ProcessAction.TheVariants as process_action
 use Rattle.pct_engine_laws.specs.Seen.{SeenSlot, SeenProcess, seen_slot, seen_process, seen, is_last_in, own_kept, other_kept, process_seen, own_process_seen, other_process_seen, is_live_seen, slot_inherited, child_seen, child_seen_by, children_seen, processes_kept, seen_after}
 use Rattle.pct_engine_laws.proofs.ListFacts.{flat_map_agree, flat_map-flat_map, map-flat_map, filter-flat_map, flat_map-cond, map-filter}
 use Rattle.pct_engine_laws.proofs.IndexedLists.{by_index}
@@ -45,17 +45,11 @@ end_by f p after false true e left = sym (ap (λ (ps : List SeenProcess). ps ++ 
 end_by f p after false false e left = sym (ap (λ (ps : List SeenProcess). ps ++ []) e)
 
 -- what is kept of the process of the thread after an action; a process that is reaped has no parent
-pub own_action_kept : (slots : ℕ) (a : Action) (p : Process) → (was_reaped p.ended ≡ true → nat_eq p.parent 0 ≡ true) → kept slots (process_after a p) ≡ flat_map (own_kept a) (kept slots p)
+pub own_action_kept : (slots : ℕ) (a : Option ProcessAction) (p : Process) → (was_reaped p.ended ≡ true → nat_eq p.parent 0 ≡ true) → kept slots (process_after a p) ≡ flat_map (own_kept a) (kept slots p)
 unfolding process_after own_kept
-own_action_kept slots (action.EndProcess n) p orphan =
-    end_by (own_kept (action.EndProcess n)) (seen_process slots p) (record (seen_process slots p) { ended = Some n }) (was_reaped p.ended) (nat_eq p.parent 0) refl orphan
+own_action_kept slots (Some (process_action.End n)) p orphan =
+    end_by (own_kept (Some (process_action.End n))) (seen_process slots p) (record (seen_process slots p) { ended = Some n }) (was_reaped p.ended) (nat_eq p.parent 0) refl orphan
 own_action_kept slots _ p orphan = each_alone (kept slots p)
-
--- the process of the thread has no parent after an action, if it is reaped then
-pub own_action_orphan : (a : Action) (p : Process) → (was_reaped p.ended ≡ true → nat_eq p.parent 0 ≡ true) → was_reaped (process_after a p).ended ≡ true → nat_eq (process_after a p).parent 0 ≡ true
-unfolding process_after
-own_action_orphan (action.EndProcess n) p orphan e = e
-own_action_orphan _ p orphan e = orphan e
 
 kept_if_child : (slots : ℕ) (child : Bool) (x y : Process) (xs ys : List SeenProcess) → kept slots x ≡ xs → kept slots y ≡ ys → kept slots (cond child x y) ≡ cond child xs ys ++ []
 kept_if_child slots true x y xs ys first second = first ∙ sym (append-nil xs)
@@ -73,44 +67,20 @@ reaped_if slots p true =
 reaped_if slots p false = refl
 
 -- what is kept of another process after an action
-pub other_action_kept : (slots pid : ℕ) (a : Action) (p : Process) → kept slots (other_process_after pid a p) ≡ flat_map (other_kept pid a) (kept slots p)
+pub other_action_kept : (slots pid : ℕ) (a : Option ProcessAction) (p : Process) → kept slots (other_process_after pid a p) ≡ flat_map (other_kept pid a) (kept slots p)
 unfolding other_process_after other_kept
-other_action_kept slots pid (action.EndProcess n) p =
+other_action_kept slots pid (Some (process_action.End n)) p =
     let child : Bool = nat_eq p.parent pid in
     let with_end : Option ProcessEnd → Process = λ end. record p { ended = end } in
     let own : Option ProcessEnd → List SeenProcess = λ end. seen_process slots (with_end end) ∷ [] in
-    by_end (λ end. kept slots (other_process_after pid (action.EndProcess n) (with_end end)) ≡ flat_map (other_kept pid (action.EndProcess n)) (kept slots (with_end end)))
+    by_end (λ end. kept slots (other_process_after pid (Some (process_action.End n)) (with_end end)) ≡ flat_map (other_kept pid (Some (process_action.End n))) (kept slots (with_end end)))
     (kept_if_child slots child (record p { parent = 0; ended = None }) (with_end None) (seen_process slots (record p { parent = 0; ended = None }) ∷ []) (own None) refl refl)
     (λ m. let end : Option ProcessEnd = Some (record { status = m; reaped = true }) in gone_if_child slots child (orphaned end p) (with_end end) refl refl)
     (λ m. let end : Option ProcessEnd = Some (record { status = m; reaped = false }) in kept_if_child slots child (orphaned end p) (with_end end) [] (own end) refl refl)
     p.ended
-other_action_kept slots pid (action.Reap id) p =
-    reaped_if slots p (nat_eq p.pid id) ∙ sym (flat_map-cond (other_kept pid (action.Reap id)) (seen_process slots p) (not (was_reaped p.ended)))
+other_action_kept slots pid (Some (process_action.Reap id)) p =
+    reaped_if slots p (nat_eq p.pid id) ∙ sym (flat_map-cond (other_kept pid (Some (process_action.Reap id))) (seen_process slots p) (not (was_reaped p.ended)))
 other_action_kept slots pid _ p = each_alone (kept slots p)
-
--- ---- the actions of a transition
-
--- a change for each action, of processes of which some are kept
-abbrev pub for_each_kept : (Action → SeenProcess → List SeenProcess) → List Action → List SeenProcess → List SeenProcess
-for_each_kept change actions ps = for_each (λ a. flat_map (change a)) actions ps
-
--- nothing comes of nothing
-pub none_kept : (change : Action → SeenProcess → List SeenProcess) (actions : List Action) → for_each_kept change actions [] ≡ []
-none_kept change [] = refl
-none_kept change (a ∷ actions) = none_kept change actions
-
--- what is kept of the process of the thread after actions
-pub own_actions_kept : (slots : ℕ) (actions : List Action) (p : Process) → (was_reaped p.ended ≡ true → nat_eq p.parent 0 ≡ true) → kept slots (for_each process_after actions p) ≡ for_each_kept own_kept actions (kept slots p)
-own_actions_kept slots [] p orphan = refl
-own_actions_kept slots (a ∷ actions) p orphan =
-    own_actions_kept slots actions (process_after a p) (own_action_orphan a p orphan)
-    ∙ ap (for_each_kept own_kept actions) (own_action_kept slots a p orphan)
-
--- what is kept of another process after actions
-pub other_actions_kept : (slots pid : ℕ) (actions : List Action) (p : Process) → kept slots (for_each (other_process_after pid) actions p) ≡ for_each_kept (other_kept pid) actions (kept slots p)
-other_actions_kept slots pid [] p = refl
-other_actions_kept slots pid (a ∷ actions) p =
-    other_actions_kept slots pid actions (other_process_after pid a p) ∙ ap (for_each_kept (other_kept pid) actions) (other_action_kept slots pid a p)
 
 -- ---- a process
 
@@ -120,25 +90,26 @@ with_slots p shared slots = record p { slots = slots; shared = shared }
 
 -- the process of the thread, before the actions of its own
 abbrev with_thread : ℕ → Transition → Process → Process
-with_thread tid o p = record p { threads = threads_moved tid o p.threads; shared = for_each shared_after o.actions p.shared }
+with_thread tid o p = record p { threads = threads_moved tid o p.threads; shared = shared_moved o p.shared }
 
 -- the process of the thread after the transition
 pub own_kept_after : (slots tid : ℕ) (o : Transition) (p : Process) → 0 < slots → was_reaped p.ended ≡ false → kept slots (changed tid o p) ≡ own_process_seen slots tid o (seen_process slots p)
 own_kept_after slots tid o p some e =
-    own_actions_kept slots o.actions (with_thread tid o p) (λ reaped. absurd (true≢false (sym reaped ∙ e)))
-    ∙ ap (for_each_kept own_kept o.actions) (kept_whole slots (with_thread tid o p) e)
-    ∙ ap (λ (rows : List SeenSlot). for_each_kept own_kept o.actions (with_slots (seen_process slots p) (for_each shared_after o.actions p.shared) rows ∷ [])) (slots_after slots tid o p.threads some)
+    own_action_kept slots o.process (with_thread tid o p) (λ reaped. absurd (true≢false (sym reaped ∙ e)))
+    ∙ ap (flat_map (own_kept o.process)) (kept_whole slots (with_thread tid o p) e)
+    ∙ append-nil (own_kept o.process (seen_process slots (with_thread tid o p)))
+    ∙ ap (λ (rows : List SeenSlot). own_kept o.process (with_slots (seen_process slots p) (shared_moved o p.shared) rows)) (slots_after slots tid o p.threads some)
 
 -- another process, which is not reaped, after the transition
-pub other_kept_after : (slots pid : ℕ) (o : Transition) (p : Process) → was_reaped p.ended ≡ false → kept slots (for_each (other_process_after pid) o.actions p) ≡ other_process_seen pid o (seen_process slots p)
+pub other_kept_after : (slots pid : ℕ) (o : Transition) (p : Process) → was_reaped p.ended ≡ false → kept slots (other_process_after pid o.process p) ≡ other_process_seen pid o (seen_process slots p)
 other_kept_after slots pid o p e =
-    other_actions_kept slots pid o.actions p ∙ ap (for_each_kept (other_kept pid) o.actions) (kept_whole slots p e)
+    other_action_kept slots pid o.process p ∙ ap (flat_map (other_kept pid o.process)) (kept_whole slots p e) ∙ append-nil (other_kept pid o.process (seen_process slots p))
 
 -- what is kept of any process after the transition
 abbrev pub any_seen_after : ℕ → ℕ → ℕ → Transition → SeenProcess → List SeenProcess
 any_seen_after slots pid tid o p = cond (is_live_seen pid p) (own_process_seen slots tid o p) (other_process_seen pid o p)
 
-kept_if : (slots pid tid : ℕ) (o : Transition) (p : Process) (own : Bool) → 0 < slots → was_reaped p.ended ≡ false → kept slots (cond own (changed tid o p) (for_each (other_process_after pid) o.actions p)) ≡ cond own (own_process_seen slots tid o (seen_process slots p)) (other_process_seen pid o (seen_process slots p))
+kept_if : (slots pid tid : ℕ) (o : Transition) (p : Process) (own : Bool) → 0 < slots → was_reaped p.ended ≡ false → kept slots (cond own (changed tid o p) (other_process_after pid o.process p)) ≡ cond own (own_process_seen slots tid o (seen_process slots p)) (other_process_seen pid o (seen_process slots p))
 kept_if slots pid tid o p true some e = own_kept_after slots tid o p some e
 kept_if slots pid tid o p false some e = other_kept_after slots pid o p e
 
@@ -150,9 +121,8 @@ kept_after slots pid tid o p some =
     (kept_if slots pid tid o (with_end None) (nat_eq p.pid pid && true) some refl ∙ sym (append-nil (any_seen_after slots pid tid o (seen_process slots (with_end None)))))
     (λ n.
     let gone : Process = with_end (Some (record { status = n; reaped = true })) in
-    ap (λ (own : Bool). kept slots (cond own (changed tid o gone) (for_each (other_process_after pid) o.actions gone))) (and-false (nat_eq p.pid pid))
-    ∙ other_actions_kept slots pid o.actions gone
-    ∙ none_kept (other_kept pid) o.actions)
+    ap (λ (own : Bool). kept slots (cond own (changed tid o gone) (other_process_after pid o.process gone))) (and-false (nat_eq p.pid pid))
+    ∙ other_action_kept slots pid o.process gone)
     (λ n.
     let left : Process = with_end (Some (record { status = n; reaped = false })) in
     kept_if slots pid tid o left (nat_eq p.pid pid && false) some refl ∙ sym (append-nil (any_seen_after slots pid tid o (seen_process slots left))))
@@ -168,38 +138,28 @@ child_is_seen slots tid pid p some =
     let rows : by_index (seen_slot slots (map (inherited tid) p.threads)) slots ≡ map (slot_inherited tid) (seen_process slots p).slots = slots_of_child slots tid p.threads in
     λ i. record { pid = pid; parent = p.pid; ended = None; slots = rows i; shared = record p.shared { exit_value = None; restricted = not (last i) } }
 
-same_child_by : (tid pid : ℕ) (a : Action) (p : Process) → child_of tid pid (process_after a p) ≡ child_of tid pid p
-unfolding child_of process_after
-same_child_by tid pid (action.EndProcess n) p = refl
-same_child_by tid pid _ p = refl
-
 -- the end of a process does not change its child
-same_child : (tid pid : ℕ) (actions : List Action) (p : Process) → child_of tid pid (for_each process_after actions p) ≡ child_of tid pid p
-same_child tid pid [] p = refl
-same_child tid pid (a ∷ actions) p = same_child tid pid actions (process_after a p) ∙ same_child_by tid pid a p
+same_child : (tid pid : ℕ) (a : Option ProcessAction) (p : Process) → child_of tid pid (process_after a p) ≡ child_of tid pid p
+unfolding child_of process_after
+same_child tid pid (Some (process_action.End n)) p = refl
+same_child tid pid _ p = refl
 
 module _ (slots pid tid : ℕ) (o : Transition) where
   -- the child of a process after the transition
   child_after : (child : ℕ) (p : Process) → 0 < slots → seen_process slots (child_of tid child (changed tid o p)) ≡ child_seen tid child (process_seen slots tid o (seen_process slots p))
   child_after child p some =
-      ap (seen_process slots) (same_child tid child o.actions (with_thread tid o p))
+      ap (seen_process slots) (same_child tid child o.process (with_thread tid o p))
       ∙ child_is_seen slots tid child (with_thread tid o p) some
-      ∙ ap (λ (rows : List SeenSlot). child_seen tid child (with_slots (seen_process slots p) (for_each shared_after o.actions p.shared) rows)) (slots_after slots tid o p.threads some)
+      ∙ ap (λ (rows : List SeenSlot). child_seen tid child (with_slots (seen_process slots p) (shared_moved o p.shared) rows)) (slots_after slots tid o p.threads some)
 
-  child_by_action : (p : Process) (a : Action) → 0 < slots → map (seen_process slots) (child_by tid (changed tid o p) a) ≡ child_seen_by tid (process_seen slots tid o (seen_process slots p)) a
+  child_by_action : (p : Process) (a : Option ProcessAction) → 0 < slots → map (seen_process slots) (child_by tid (changed tid o p) a) ≡ child_seen_by tid (process_seen slots tid o (seen_process slots p)) a
   unfolding child_by child_seen_by
-  child_by_action p (action.MakeChild child) some = ap (λ (q : SeenProcess). q ∷ []) (child_after child p some)
+  child_by_action p (Some (process_action.Make child)) some = ap (λ (q : SeenProcess). q ∷ []) (child_after child p some)
   child_by_action p _ some = refl
-
-  -- what is kept of the processes that the actions make
-  children_by : (p : Process) → 0 < slots → map (seen_process slots) (flat_map (child_by tid (changed tid o p)) o.actions) ≡ flat_map (child_seen_by tid (process_seen slots tid o (seen_process slots p))) o.actions
-  children_by p some =
-      map-flat_map (seen_process slots) (child_by tid (changed tid o p)) o.actions
-      ∙ flat_map_agree (λ a. map (seen_process slots) (child_by tid (changed tid o p) a)) (child_seen_by tid (process_seen slots tid o (seen_process slots p))) (λ a. child_by_action p a some) o.actions
 
   -- what is kept of the processes that are made of one that is kept
   abbrev made_seen : SeenProcess → List SeenProcess
-  made_seen p = cond (is_live_seen pid p) (flat_map (child_seen_by tid (process_seen slots tid o p)) o.actions) []
+  made_seen p = cond (is_live_seen pid p) (child_seen_by tid (process_seen slots tid o p) o.process) []
 
   made_if : (live : Bool) (made : List Process) (seen_made : List SeenProcess) → map (seen_process slots) made ≡ seen_made → map (seen_process slots) (cond live made []) ≡ cond live seen_made []
   made_if true made seen_made e = e
@@ -211,16 +171,16 @@ module _ (slots pid tid : ℕ) (o : Transition) where
 
   made_of : (p : Process) → 0 < slots → map (seen_process slots) (process_made pid tid o p) ≡ flat_map made_seen (kept slots p)
   made_of p some =
-      let made : List SeenProcess = flat_map (child_seen_by tid (process_seen slots tid o (seen_process slots p))) o.actions in
-      made_if (is_live_process pid p) (flat_map (child_by tid (changed tid o p)) o.actions) made (children_by p some)
+      let made : List SeenProcess = child_seen_by tid (process_seen slots tid o (seen_process slots p)) o.process in
+      made_if (is_live_process pid p) (child_by tid (changed tid o p) o.process) made (child_by_action p o.process some)
       ∙ ap (λ (live : Bool). cond live made []) (sym (not_ended (nat_eq p.pid pid) p.ended))
       ∙ cond_both (not (was_reaped p.ended)) (is_live_seen pid (seen_process slots p)) made
       ∙ sym (flat_map-cond made_seen (seen_process slots p) (not (was_reaped p.ended)))
 
   -- none of them is reaped
-  unreaped_by : (p : Process) (a : Action) → filter is_unreaped (child_by tid p a) ≡ child_by tid p a
+  unreaped_by : (p : Process) (a : Option ProcessAction) → filter is_unreaped (child_by tid p a) ≡ child_by tid p a
   unfolding child_by child_of
-  unreaped_by p (action.MakeChild child) = refl
+  unreaped_by p (Some (process_action.Make child)) = refl
   unreaped_by p _ = refl
 
   unreaped_if : (live : Bool) (made : List Process) → filter is_unreaped made ≡ made → filter is_unreaped (cond live made []) ≡ cond live made []
@@ -228,7 +188,7 @@ module _ (slots pid tid : ℕ) (o : Transition) where
   unreaped_if false made e = refl
 
   unreaped_made : (p : Process) → filter is_unreaped (process_made pid tid o p) ≡ process_made pid tid o p
-  unreaped_made p = unreaped_if (is_live_process pid p) (flat_map (child_by tid (changed tid o p)) o.actions) (filter-flat_map is_unreaped (child_by tid (changed tid o p)) (unreaped_by (changed tid o p)) o.actions)
+  unreaped_made p = unreaped_if (is_live_process pid p) (child_by tid (changed tid o p) o.process) (unreaped_by (changed tid o p) o.process)
 
 -- ---- all processes
 
@@ -268,4 +228,4 @@ after_is_seen slots pid tid w o some =
     ∙ ap (λ (first : List SeenProcess). first ++ map (seen_process slots) made) (processes_after slots pid tid o w.processes some)
     ∙ ap (λ (rest : List SeenProcess). processes_kept slots pid tid o before ++ rest) are in
     let number : length (moved ++ made) ≡ length w.processes + length children = omega (arith, length-append moved made, length-map w.processes (process_moved pid tid o), length-map made (seen_process slots), ap length are) in
-    λ i. record { processes = processes i; made = number i; stop = for_each stop_after o.actions w.stop }
+    λ i. record { processes = processes i; made = number i; stop = stop_after o.stop w.stop }

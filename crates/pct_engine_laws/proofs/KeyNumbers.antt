@@ -1,14 +1,14 @@
 -- The numbers of keys, limited by the number of transitions.
-use Rattle.pct_names.proofs.Names.{◌*◌, ◌+◌, ◌<◌, [], Action, All, All-filter, All-get_or, All-map, All-replicate, All-set, All-weaker}
-use Rattle.pct_names.proofs.Names.{arith, false, for_each, free_places, get_or, get_or-range_with_len, get_or_from_slice_get, is_none, Key}
-use Rattle.pct_names.proofs.Names.{key_at, key_place, KeyPlace, KeyValues, left_keys, left_places, length-range_with_len, List, list_any}
-use Rattle.pct_names.proofs.Names.{MAX_KEYS, new_keys, next_key, no_keys, None, number_at, on_place, Option, option_and_then, option_map_or}
-use Rattle.pct_names.proofs.Names.{or_parts, range_with_len, refl, shared_after, SharedState, slice_get, slice_get_within, slice_set, Some}
-use Rattle.pct_names.proofs.Names.{subst, sym, ℕ, ◌∙◌, ◌∷◌, ◌≡◌, ◌≤◌}
+use Rattle.pct_names.proofs.Names.{◌*◌, ◌+◌, ◌<◌, All, All-filter, All-get_or, All-map, All-replicate, All-set, All-weaker, arith}
+use Rattle.pct_names.proofs.Names.{free_places, get_or, get_or-range_with_len, get_or_from_slice_get, is_none, Key, key_at, key_place}
+use Rattle.pct_names.proofs.Names.{KeyPlace, KeyValues, left_keys, left_places, length-range_with_len, List, MAX_KEYS, new_keys, next_key}
+use Rattle.pct_names.proofs.Names.{no_keys, None, number_at, on_place, Option, option_and_then, option_map_or, range_with_len, refl}
+use Rattle.pct_names.proofs.Names.{shared_after, SharedAction, SharedState, slice_get, slice_get_within, slice_set, Some, subst, sym, ℕ}
+use Rattle.pct_names.proofs.Names.{◌∙◌, ◌≡◌, ◌≤◌}
 use Rattle.std.proofs.Common.{zero-add}
 use Rattle.std.proofs.lemmas.Bool.{true≢false}
-use Rattle.pct_model.specs.declared.transition.Action.TheVariants as action
-use Rattle.pct_engine_laws.proofs.WhatTransitionsMake.{makes_key, Makes, FirstMakes}
+use Rattle.pct_model.specs.declared.transition.SharedAction.TheVariants as shared_action
+use Rattle.pct_engine_laws.proofs.WhatTransitionsMake.{MakesKey}
 
 -- fewer than n keys were ever made on a place, and the number of the key on it is limited by n
 pub record HasFewOn (n : ℕ) (p : KeyPlace) : Type 0 where
@@ -63,32 +63,16 @@ module _ (n : ℕ) (keys : List KeyPlace) (few : All (HasFewOn n) keys) where
 pub few_keys_more : (n m : ℕ) (keys : List KeyPlace) → n ≤ m → All (HasFewOn n) keys → All (HasFewOn m) keys
 few_keys_more n m keys more few = All-weaker (HasFewOn n) (HasFewOn m) (λ p has. record { made = omega (arith, has.made, more); number = omega (arith, has.number, more) }) keys few
 
-action_keeps_few : (n : ℕ) (a : Action) (s : SharedState) → makes_key a ≡ false → All (HasFewOn n) s.keys → All (HasFewOn n) (shared_after a s).keys
+-- after the action on what is shared, which makes at most one key
+pub few_keys_after : (n : ℕ) (a : Option SharedAction) (s : SharedState) → MakesKey (λ (k : ℕ). k ≤ 128 + 128 * n) a → All (HasFewOn n) s.keys → All (HasFewOn (n + 1)) (shared_after a s).keys
 unfolding shared_after
-action_keeps_few n (action.MakeKey k destructor) s none few = absurd (true≢false none)
-action_keeps_few n (action.DeleteKey k) s none few =
-    on_place_all (HasFewOn n) (HasFewOn n) (key_place k) (λ (p : KeyPlace). record p { key = None }) s.keys (λ p has. record { made = has.made; number = omega arith }) (λ p has. has) few
-action_keeps_few n _ s none few = few
-
-actions_keep_few : (n : ℕ) (actions : List Action) (s : SharedState) → list_any makes_key actions ≡ false → All (HasFewOn n) s.keys → All (HasFewOn n) (for_each shared_after actions s).keys
-actions_keep_few n [] s none few = few
-actions_keep_few n (a ∷ actions) s none few =
-    let parts = or_parts (makes_key a) (list_any makes_key actions) none in
-    actions_keep_few n actions (shared_after a s) parts.1 (action_keeps_few n a s parts.0 few)
-
-first_makes_few : (n : ℕ) (a : Action) (s : SharedState) → Makes (λ (k : ℕ). k ≤ 128 + 128 * n) a → All (HasFewOn n) s.keys → All (HasFewOn (n + 1)) (shared_after a s).keys
-unfolding shared_after
-first_makes_few n (action.MakeKey k destructor) s small few =
+few_keys_after n (Some (shared_action.MakeKey k destructor)) s small few =
     on_place_all (HasFewOn n) (HasFewOn (n + 1)) (key_place k) (λ (p : KeyPlace). record { made = p.made + 1; key = Some (record { number = k; destructor = destructor }) }) s.keys
     (λ p has. record { made = omega (arith, has.made); number = omega (arith, small) })
     (λ p has. record { made = omega (arith, has.made); number = omega (arith, has.number) }) few
-first_makes_few n (action.DeleteKey k) s small few = few_keys_more n (n + 1) (shared_after (action.DeleteKey k) s).keys (omega arith) (action_keeps_few n (action.DeleteKey k) s refl few)
-first_makes_few n _ s small few = few_keys_more n (n + 1) s.keys (omega arith) few
-
--- after the actions of a transition, which make at most one key
-pub few_keys_after : (n : ℕ) (actions : List Action) (s : SharedState) → FirstMakes (λ (k : ℕ). k ≤ 128 + 128 * n) actions → All (HasFewOn n) s.keys → All (HasFewOn (n + 1)) (for_each shared_after actions s).keys
-few_keys_after n [] s makes few = few_keys_more n (n + 1) s.keys (omega arith) few
-few_keys_after n (a ∷ actions) s makes few = actions_keep_few (n + 1) actions (shared_after a s) makes.1 (first_makes_few n a s makes.0 few)
+few_keys_after n (Some (shared_action.DeleteKey k)) s small few =
+    on_place_all (HasFewOn (n + 1)) (HasFewOn (n + 1)) (key_place k) (λ (p : KeyPlace). record p { key = None }) s.keys (λ p has. record { made = has.made; number = omega arith }) (λ p has. has) (few_keys_more n (n + 1) s.keys (omega arith) few)
+few_keys_after n _ s small few = few_keys_more n (n + 1) s.keys (omega arith) few
 
 -- before the first transition
 pub no_keys_few : All (HasFewOn 1) no_keys

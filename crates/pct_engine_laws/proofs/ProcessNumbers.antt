@@ -1,12 +1,12 @@
 -- The processes of a state are numbered in the order in which they were made, and a transition makes at most one.
-use Rattle.pct_names.proofs.Names.{◌+◌, ◌++◌, ◌<◌, [], Action, All, All-head, All-tail, and_left, and_parts, ap, arith, Bool, changed}
-use Rattle.pct_names.proofs.Names.{child_by, child_of, cond, false, flat_map, has_ended, is_live_process, length, List, map, MAX_PROCESSES}
-use Rattle.pct_names.proofs.Names.{nat_eq, nat_lt, None, none-some, not, pid_after, Process, process_made, refl, Relative, same_Some, Some}
-use Rattle.pct_names.proofs.Names.{subst, suc, sym, Transition, true, ℕ, ◌∙◌, ◌∷◌, ◌≡◌}
+use Rattle.pct_names.proofs.Names.{◌+◌, ◌++◌, ◌<◌, [], All, All-head, All-tail, and_left, and_parts, ap, arith, Bool, changed, child_by}
+use Rattle.pct_names.proofs.Names.{child_of, cond, false, flat_map, has_ended, is_live_process, length, List, map, MAX_PROCESSES, nat_eq}
+use Rattle.pct_names.proofs.Names.{nat_lt, None, none-some, not, Option, pid_after, Process, process_made, ProcessAction, refl, Relative}
+use Rattle.pct_names.proofs.Names.{same_Some, Some, subst, suc, sym, Transition, true, ℕ, ◌∙◌, ◌∷◌, ◌≡◌}
 use Rattle.std.proofs.Common.{append-nil, ne_eqb, eqb-true}
-use Rattle.pct_model.specs.declared.transition.Action.TheVariants as action
+use Rattle.pct_model.specs.declared.transition.ProcessAction.TheVariants as process_action
 use Rattle.pct_engine_laws.proofs.ListFacts.{flat_map_agree, map-flat_map}
-use Rattle.pct_engine_laws.proofs.WhatTransitionsMake.{pid_made, AtMostOne}
+use Rattle.pct_engine_laws.proofs.WhatTransitionsMake.{MakesProcess}
 
 -- the processes are numbered from a number on, in their order
 abbrev pub AreNumbered : ℕ → List Process → Type 0
@@ -43,24 +43,14 @@ module _ (pid tid : ℕ) (o : Transition) where
   none_made start [] low numbered = refl
   none_made start (p ∷ ps) low numbered =
       let other : nat_eq p.pid pid ≡ false = ne_eqb p.pid pid (λ same. absurd (omega (arith, same, numbered.0, low))) in
-      ap (λ (live : Bool). cond live (flat_map (child_by tid (changed tid o p)) o.actions) [] ++ flat_map (process_made pid tid o) ps) (and_left (nat_eq p.pid pid) (not (has_ended p)) other)
+      ap (λ (live : Bool). cond live (child_by tid (changed tid o p) o.process) [] ++ flat_map (process_made pid tid o) ps) (and_left (nat_eq p.pid pid) (not (has_ended p)) other)
       ∙ none_made (suc start) ps (omega (arith, low)) numbered.1
 
-  child_with : (p : Process) (a : Action) → child_by tid p a ≡ map (λ child. child_of tid child p) (pid_made a)
-  unfolding child_by
-  child_with p (action.MakeChild child) = refl
-  child_with p _ = refl
-
-  child_by_pids : (p : Process) → flat_map (child_by tid p) o.actions ≡ map (λ child. child_of tid child p) (flat_map pid_made o.actions)
-  child_by_pids p =
-      flat_map_agree (child_by tid p) (λ a. map (λ child. child_of tid child p) (pid_made a)) (child_with p) o.actions
-      ∙ sym (map-flat_map (λ child. child_of tid child p) pid_made o.actions)
-
-  module _ (next : ℕ) (makes : AtMostOne (λ child. child ≡ next) (flat_map pid_made o.actions)) (P : Process → Type 0) (Q : List Process → Type 0) (none : Q []) (one : (p : Process) → P p → Q (child_of tid next (changed tid o p) ∷ [])) where
-    made_with : (p : Process) → P p → (pids : List ℕ) → AtMostOne (λ child. child ≡ next) pids → Q (map (λ child. child_of tid child (changed tid o p)) pids)
-    made_with p has [] alone = none
-    made_with p has (child ∷ pids) alone =
-        subst (λ (rest : List ℕ). Q (map (λ k. child_of tid k (changed tid o p)) (child ∷ rest))) (sym alone.1) (subst (λ (k : ℕ). Q (child_of tid k (changed tid o p) ∷ [])) (sym alone.0) (one p has))
+  module _ (next : ℕ) (makes : MakesProcess (λ child. child ≡ next) o.process) (P : Process → Type 0) (Q : List Process → Type 0) (none : Q []) (one : (p : Process) → P p → Q (child_of tid next (changed tid o p) ∷ [])) where
+    made_with : (p : Process) → P p → (a : Option ProcessAction) → MakesProcess (λ child. child ≡ next) a → Q (child_by tid (changed tid o p) a)
+    unfolding child_by
+    made_with p has (Some (process_action.Make child)) is = subst (λ (k : ℕ). Q (child_of tid k (changed tid o p) ∷ [])) (sym is) (one p has)
+    made_with p has _ is = none
 
     -- what holds of none, and of the child with the next number of a process that has a property, holds of the processes that the
     -- transition makes
@@ -68,11 +58,11 @@ module _ (pid tid : ℕ) (o : Transition) where
     made_by start [] numbered all = none
     made_by start (p ∷ ps) numbered all = by (is_live_process pid p) refl (made_by (suc start) ps numbered.1 (All-tail P p ps all)) where
       children : List Process
-      children = flat_map (child_by tid (changed tid o p)) o.actions
+      children = child_by tid (changed tid o p) o.process
 
       by : (live : Bool) → is_live_process pid p ≡ live → Q (flat_map (process_made pid tid o) ps) → Q (cond live children [] ++ flat_map (process_made pid tid o) ps)
       by true lives others =
           let same : p.pid ≡ pid = eqb-true p.pid pid (and_parts (nat_eq p.pid pid) (not (has_ended p)) lives).0 in
           let alone : flat_map (process_made pid tid o) ps ≡ [] = none_made (suc start) ps (omega (arith, same, numbered.0)) numbered.1 in
-          subst Q (sym (ap (λ (rest : List Process). children ++ rest) alone ∙ append-nil children ∙ child_by_pids (changed tid o p))) (made_with p (All-head P p ps all) (flat_map pid_made o.actions) makes)
+          subst Q (sym (ap (λ (rest : List Process). children ++ rest) alone ∙ append-nil children)) (made_with p (All-head P p ps all) o.process makes)
       by false lives others = others

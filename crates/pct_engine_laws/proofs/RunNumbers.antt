@@ -1,22 +1,22 @@
 -- The numbers of a run that is limited in its entries: of its processes, threads and keys, and those in its entries.
-use Rattle.pct_names.proofs.Names.{◌&&◌, ◌*◌, ◌+◌, ◌<◌, [], Action, after_transition, All, All-append, All-cons, All-filter}
-use Rattle.pct_names.proofs.Names.{All-from_get_or, All-head, All-map, All-nil, All-tail, All-weaker, Alt, and_parts, ap, arith, as_reaped}
-use Rattle.pct_names.proofs.Names.{body_at, Bool, by_slot, changed, child_of, choices_of, cond, Config, count_by, count_by-le-length, Entry}
-use Rattle.pct_names.proofs.Names.{false, false≢true, family_among, filter, find, first_process, flat_map, for_each, free_ids, get_or}
-use Rattle.pct_names.proofs.Names.{get_or-range_with_len, has_ended, holds_slot, inherited, inl, inr, is_free, is_live_process}
-use Rattle.pct_names.proofs.Names.{is_live_thread, is_on, is_unreaped, KeyPlace, left_keys, length, length-map, length-range_with_len, List}
-use Rattle.pct_names.proofs.Names.{list_any, map, MAX_BUDGET, MAX_PASSES, MAX_SLOTS, MIN_PASSES, mul-le-mul, nat_eq, nat_le, new_keys}
-use Rattle.pct_names.proofs.Names.{NewThread, next_id, next_of, NextStatement, None, none-some, not, offers, opening, Option}
-use Rattle.pct_names.proofs.Names.{option_and_then, option_map, or_cases, orphaned, other_process_after, Others, others_of, Process}
-use Rattle.pct_names.proofs.Names.{process_after, process_made, process_moved, ProcessEnd, range_with_len, refl, relative_of, Run, run}
-use Rattle.pct_names.proofs.Names.{run_from, run_step, same_Some, Script, shared_after, SharedState, Some, Status, step, subst, suc}
-use Rattle.pct_names.proofs.Names.{Successor, sym, Thread, thread_created, thread_moved, threads_moved, Transition, transition_by, true}
-use Rattle.pct_names.proofs.Names.{Waiter, waiter_by, waiters_among, World, ℕ, ◌∙◌, ◌∷◌, ◌≡◌, ◌≤◌}
+use Rattle.pct_names.proofs.Names.{◌&&◌, ◌*◌, ◌+◌, ◌<◌, [], after_transition, All, All-append, All-cons, All-filter, All-from_get_or}
+use Rattle.pct_names.proofs.Names.{All-head, All-map, All-nil, All-tail, All-weaker, Alt, and_parts, ap, arith, as_reaped, body_at, Bool}
+use Rattle.pct_names.proofs.Names.{by_slot, changed, child_of, choices_of, cond, Config, count_by, count_by-le-length, Entry, false}
+use Rattle.pct_names.proofs.Names.{false≢true, family_among, filter, find, first_process, flat_map, free_ids, get_or, get_or-range_with_len}
+use Rattle.pct_names.proofs.Names.{has_ended, holds_slot, inherited, inl, inr, is_free, is_live_process, is_live_thread, is_on, is_unreaped}
+use Rattle.pct_names.proofs.Names.{KeyPlace, left_keys, length, length-map, length-range_with_len, List, list_any, map, MAX_BUDGET}
+use Rattle.pct_names.proofs.Names.{MAX_PASSES, MAX_SLOTS, MIN_PASSES, moved, mul-le-mul, nat_eq, nat_le, new_keys, NewThread, next_id}
+use Rattle.pct_names.proofs.Names.{next_of, NextStatement, None, none-some, not, offers, opening, Option, option_and_then, option_map}
+use Rattle.pct_names.proofs.Names.{or_cases, orphaned, other_process_after, Others, others_of, Process, process_after, process_made}
+use Rattle.pct_names.proofs.Names.{process_moved, ProcessAction, ProcessEnd, range_with_len, refl, relative_of, Run, run, run_from}
+use Rattle.pct_names.proofs.Names.{run_step, same_Some, Script, shared_moved, SharedState, Some, Status, step, subst, suc, Successor, sym}
+use Rattle.pct_names.proofs.Names.{Thread, thread_created, thread_moved, threads_moved, Transition, transition_by, true, Waiter, waiter_by}
+use Rattle.pct_names.proofs.Names.{waiters_among, World, ℕ, ◌∙◌, ◌∷◌, ◌≡◌, ◌≤◌}
 use Rattle.std.proofs.Common.{length-append, zero-add, eqb-true}
 use Rattle.std.proofs.lemmas.Bool.{leb-true}
 use Rattle.pct_model.specs.declared.schedule.Alt.TheVariants as alt
 use Rattle.pct_model.specs.declared.state.Status.TheVariants as status
-use Rattle.pct_model.specs.declared.transition.Action.TheVariants as action
+use Rattle.pct_model.specs.declared.transition.ProcessAction.TheVariants as process_action
 use Rattle.pct_model.proofs.LegalSteps.{step_legal}
 use Rattle.pct_engine_laws.specs.RunNumbers.{IsChoiceWithin, IsEntryWithin}
 use Rattle.pct_engine_laws.proofs.ListFacts.{any-map, All-flat_map}
@@ -154,14 +154,10 @@ HasFewBy n parts = HasFew n parts.0 parts.1 parts.2
 abbrev pub HasFewIn : ℕ → Process → Type 0
 HasFewIn n p = HasFewBy n (numbered p)
 
-own_action_same : (a : Action) (p : Process) → numbered (process_after a p) ≡ numbered p
+own_same : (a : Option ProcessAction) (p : Process) → numbered (process_after a p) ≡ numbered p
 unfolding process_after
-own_action_same (action.EndProcess n) p = refl
-own_action_same _ p = refl
-
-own_same : (actions : List Action) (p : Process) → numbered (for_each process_after actions p) ≡ numbered p
-own_same [] p = refl
-own_same (a ∷ actions) p = own_same actions (process_after a p) ∙ own_action_same a p
+own_same (Some (process_action.End n)) p = refl
+own_same _ p = refl
 
 same_if : (child : Bool) (end : Option ProcessEnd) (p : Process) → numbered (cond child (orphaned end p) p) ≡ numbered p
 same_if true None p = refl
@@ -172,15 +168,11 @@ reaped_same : (named : Bool) (p : Process) → numbered (cond named (record p { 
 reaped_same true p = refl
 reaped_same false p = refl
 
-other_action_same : (pid : ℕ) (a : Action) (p : Process) → numbered (other_process_after pid a p) ≡ numbered p
+other_same : (pid : ℕ) (a : Option ProcessAction) (p : Process) → numbered (other_process_after pid a p) ≡ numbered p
 unfolding other_process_after
-other_action_same pid (action.EndProcess n) p = same_if (nat_eq p.parent pid) p.ended p
-other_action_same pid (action.Reap child) p = reaped_same (nat_eq p.pid child) p
-other_action_same pid _ p = refl
-
-other_same : (pid : ℕ) (actions : List Action) (p : Process) → numbered (for_each (other_process_after pid) actions p) ≡ numbered p
-other_same pid [] p = refl
-other_same pid (a ∷ actions) p = other_same pid actions (other_process_after pid a p) ∙ other_action_same pid a p
+other_same pid (Some (process_action.End n)) p = same_if (nat_eq p.parent pid) p.ended p
+other_same pid (Some (process_action.Reap child)) p = reaped_same (nat_eq p.pid child) p
+other_same pid _ p = refl
 
 few_created : (created : Option NewThread) → length (thread_created created) ≤ 1
 few_created None = omega arith
@@ -206,17 +198,17 @@ own_few n made tid o p makes has =
     let small = λ (t : Thread). t.id ≤ 64 + 64 * n in
     let kept : All small moved = All-map small (thread_moved tid o) p.threads (All-weaker small (λ t. (thread_moved tid o t).id ≤ 64 + 64 * n) (λ t id. subst (λ (k : ℕ). k ≤ 64 + 64 * n) (sym ((transition_keeps tid o).same_id t)) id) p.threads has.ids) in
     let all : All small (threads_moved tid o p.threads) = All-append small moved (thread_created o.created) kept (small_created (64 + 64 * n) o.created makes.thread) in
-    subst (HasFewBy (n + 1)) (sym (own_same o.actions (record p { threads = threads_moved tid o p.threads; shared = for_each shared_after o.actions p.shared })))
+    subst (HasFewBy (n + 1)) (sym (own_same o.process (record p { threads = threads_moved tid o p.threads; shared = shared_moved o p.shared })))
     (record {
       pid_few = omega (arith, has.pid_few);
       few = omega (arith, length-append moved (thread_created o.created), length-map p.threads (thread_moved tid o), few_created o.created, has.few);
       ids = All-weaker small (λ t. t.id ≤ 64 + 64 * (n + 1)) (λ t id. omega (arith, id)) (threads_moved tid o p.threads) all;
-      keys_few = few_keys_after n o.actions p.shared makes.key has.keys_few;
+      keys_few = few_keys_after n o.shared _ makes.key has.keys_few;
     })
 
 -- another process
-other_few : (n pid : ℕ) (o : Transition) (p : Process) → HasFewIn n p → HasFewIn (n + 1) (for_each (other_process_after pid) o.actions p)
-other_few n pid o p has = subst (HasFewBy (n + 1)) (sym (other_same pid o.actions p)) (few_more n (n + 1) p.pid p.threads p.shared.keys (omega arith) has)
+other_few : (n pid : ℕ) (o : Transition) (p : Process) → HasFewIn n p → HasFewIn (n + 1) (other_process_after pid o.process p)
+other_few n pid o p has = subst (HasFewBy (n + 1)) (sym (other_same pid o.process p)) (few_more n (n + 1) p.pid p.threads p.shared.keys (omega arith) has)
 
 -- the child of a process
 child_few : (n tid pid : ℕ) (p : Process) → pid ≤ n → HasFewIn n p → HasFewIn n (child_of tid pid p)
@@ -244,11 +236,11 @@ record MadeWithin (n next : ℕ) (made : List Process) : Type 0 where
   pids : AreNumbered next made
   each : All (HasFewIn n) made
 
-pid_if : (pid tid : ℕ) (o : Transition) (p : Process) (own : Bool) → (cond own (changed tid o p) (for_each (other_process_after pid) o.actions p)).pid ≡ p.pid
-pid_if pid tid o p true = ap (λ (parts : ℕ × List Thread × List KeyPlace). parts.0) (own_same o.actions (record p { threads = threads_moved tid o p.threads; shared = for_each shared_after o.actions p.shared }))
-pid_if pid tid o p false = ap (λ (parts : ℕ × List Thread × List KeyPlace). parts.0) (other_same pid o.actions p)
+pid_if : (pid tid : ℕ) (o : Transition) (p : Process) (own : Bool) → (cond own (changed tid o p) (other_process_after pid o.process p)).pid ≡ p.pid
+pid_if pid tid o p true = ap (λ (parts : ℕ × List Thread × List KeyPlace). parts.0) (own_same o.process (record p { threads = threads_moved tid o p.threads; shared = shared_moved o p.shared }))
+pid_if pid tid o p false = ap (λ (parts : ℕ × List Thread × List KeyPlace). parts.0) (other_same pid o.process p)
 
-few_if : (n made pid tid : ℕ) (o : Transition) (p : Process) (own : Bool) → MakesWithin n made o → HasFewIn n p → HasFewIn (n + 1) (cond own (changed tid o p) (for_each (other_process_after pid) o.actions p))
+few_if : (n made pid tid : ℕ) (o : Transition) (p : Process) (own : Bool) → MakesWithin n made o → HasFewIn n p → HasFewIn (n + 1) (cond own (changed tid o p) (other_process_after pid o.process p))
 few_if n made pid tid o p true makes has = own_few n made tid o p makes has
 few_if n made pid tid o p false makes has = other_few n pid o p has
 

@@ -1,13 +1,14 @@
 -- The slots of a process after a transition of one of its threads.
-use Rattle.pct_names.proofs.Names.{◌&&◌, ◌+◌, ◌++◌, ◌-◌, ◌<◌, [], Action, and_right, ap, arith, Bool, Broadcast, Cause, cond, count_by}
-use Rattle.pct_names.proofs.Names.{Ended, false, false≢true, filter, filter-append, fold_push, for_each, holds_slot, in_child, inherited}
-use Rattle.pct_names.proofs.Names.{is_ended_status, is_live_thread, is_on, is_waiting_on, List, map, moved, named_after, nat_eq, new_frame}
-use Rattle.pct_names.proofs.Names.{new_thread, NewThread, None, not, Option, option_map_or, range_with_len, refl, replica_of, Signalled}
-use Rattle.pct_names.proofs.Names.{slice_set, slot_of, Some, Start, Status, sym, Thread, thread_after, thread_at, thread_created}
+use Rattle.pct_names.proofs.Names.{◌&&◌, ◌+◌, ◌++◌, ◌-◌, ◌<◌, [], and_right, ap, arith, Bool, Broadcast, Cause, cond, count_by, Ended}
+use Rattle.pct_names.proofs.Names.{false, false≢true, filter, filter-append, fold_push, holds_slot, in_child, inherited, is_ended_status}
+use Rattle.pct_names.proofs.Names.{is_live_thread, is_on, is_waiting_on, List, map, moved, named_after, NamedAction, nat_eq, new_frame}
+use Rattle.pct_names.proofs.Names.{new_thread, NewThread, None, not, Option, option_map_or, own_after, OwnAction, range_with_len, refl}
+use Rattle.pct_names.proofs.Names.{replica_of, Signalled, slice_set, slot_of, Some, Start, Status, sym, Thread, thread_at, thread_created}
 use Rattle.pct_names.proofs.Names.{thread_moved, threads_moved, Transition, true, unblocked, Waiting, ◌||◌, ℕ, ◌∙◌, ◌∷◌, ◌≡◌}
 use Rattle.std.proofs.Common.{mod-lt, ne_eqb, eq-eqb, append-nil}
 use Rattle.std.proofs.Math.Path.{fun_ext}
-use Rattle.pct_model.specs.declared.transition.Action.TheVariants as action
+use Rattle.pct_model.specs.declared.transition.NamedAction.TheVariants as named_action
+use Rattle.pct_model.specs.declared.transition.OwnAction.TheVariants as own_action
 use Rattle.pct_engine_laws.specs.Seen.{SeenSlot, seen_slot, slot_with, on_slot, with_created, slots_moved, slot_inherited}
 use Rattle.pct_engine_laws.proofs.ListFacts.{count_agree, count-map, filter_changed, map-map}
 use Rattle.pct_engine_laws.proofs.IndexedLists.{by_index, item_by_index, changed_by_index}
@@ -80,14 +81,10 @@ then_keeps f g first second = record {
 -- ---- a transition of a thread
 
 -- an action keeps the id of its thread
-pub action_keeps_id : (a : Action) (t : Thread) → (thread_after a t).id ≡ t.id
-unfolding thread_after
-action_keeps_id (action.Write d v) t = refl
+pub action_keeps_id : (a : Option OwnAction) (t : Thread) → (own_after a t).id ≡ t.id
+unfolding own_after
+action_keeps_id (Some own_action.PopHandler) t = refl
 action_keeps_id _ t = refl
-
-actions_keep_id : (actions : List Action) (t : Thread) → (for_each thread_after actions t).id ≡ t.id
-actions_keep_id [] t = refl
-actions_keep_id (a ∷ actions) t = actions_keep_id actions (thread_after a t) ∙ action_keeps_id a t
 
 going_on_keeps_id : (next : Option ℕ) (t : Thread) → (thread_at next t).id ≡ t.id
 unfolding thread_at
@@ -96,11 +93,7 @@ going_on_keeps_id (Some pc) t = refl
 
 -- a transition keeps the id of its thread
 pub transition_keeps_id : (o : Transition) (t : Thread) → (moved o t).id ≡ t.id
-transition_keeps_id o t = actions_keep_id o.actions (thread_at o.next t) ∙ going_on_keeps_id o.next t
-
--- a change that changes nothing
-nothing_keeps : KeepsSlots (λ t. t)
-nothing_keeps = record { same_id = λ t. refl; reclaimed = λ t gone. gone }
+transition_keeps_id o t = action_keeps_id o.own _ ∙ going_on_keeps_id o.next t
 
 -- the status after an unblocking is that of an ended thread exactly if the one before is
 pub unblocked_ended : (why : Cause) (s : Status) → is_ended_status (unblocked why s) ≡ is_ended_status s
@@ -108,28 +101,22 @@ unblocked_ended why (Waiting c m) = refl
 unblocked_ended why s = refl
 
 -- an action on the threads that it names
-pub named_keeps : (a : Action) → KeepsSlots (named_after a)
+pub named_keeps : (a : Option NamedAction) → KeepsSlots (named_after a)
 unfolding named_after
-named_keeps (action.EndJoin id) = on_thread_keeps id (λ t. record t { joined = true }) (λ t. refl)
-named_keeps (action.Request id) = passing_keeps (λ t. is_live_thread id t && not t.ended) (λ t. record t { pending = true }) (record { same_id = λ t. refl; reclaimed = λ t gone. gone })
-named_keeps (action.Detach id) = on_thread_keeps id (λ t. record t { detached = true }) (λ t. refl)
-named_keeps (action.Wake id) = on_thread_keeps id (λ t. record t { status = unblocked Signalled t.status }) (λ t. refl)
-named_keeps (action.WakeAll c) = passing_keeps (λ t. is_waiting_on c t.status) (λ t. record t { status = unblocked Broadcast t.status }) (record {
+named_keeps (Some (named_action.EndJoin id)) = on_thread_keeps id (λ t. record t { joined = true }) (λ t. refl)
+named_keeps (Some (named_action.Request id)) = passing_keeps (λ t. is_live_thread id t && not t.ended) (λ t. record t { pending = true }) (record { same_id = λ t. refl; reclaimed = λ t gone. gone })
+named_keeps (Some (named_action.Detach id)) = on_thread_keeps id (λ t. record t { detached = true }) (λ t. refl)
+named_keeps (Some (named_action.Wake id)) = on_thread_keeps id (λ t. record t { status = unblocked Signalled t.status }) (λ t. refl)
+named_keeps (Some (named_action.WakeAll c)) = passing_keeps (λ t. is_waiting_on c t.status) (λ t. record t { status = unblocked Broadcast t.status }) (record {
   same_id = λ t. refl;
   reclaimed = λ t gone. ap (λ (ended : Bool). not t.gone && not (ended && (t.joined || t.detached))) (unblocked_ended Broadcast t.status) ∙ gone;
 })
-named_keeps (action.DeleteKey k) = record { same_id = λ t. refl; reclaimed = λ t gone. gone }
-named_keeps _ = nothing_keeps
-
--- the actions of a transition, on the threads that they name
-pub all_named_keep : (actions : List Action) → KeepsSlots (for_each named_after actions)
-all_named_keep [] = nothing_keeps
-all_named_keep (a ∷ actions) = then_keeps (named_after a) (for_each named_after actions) (named_keeps a) (all_named_keep actions)
+named_keeps (Some (named_action.ForgetKey k)) = record { same_id = λ t. refl; reclaimed = λ t gone. gone }
+named_keeps None = record { same_id = λ t. refl; reclaimed = λ t gone. gone }
 
 -- a transition of the thread with an id
 pub transition_keeps : (tid : ℕ) (o : Transition) → KeepsSlots (thread_moved tid o)
-transition_keeps tid o =
-    then_keeps (on_thread tid (moved o)) (for_each named_after o.actions) (on_thread_keeps tid (moved o) (transition_keeps_id o)) (all_named_keep o.actions)
+transition_keeps tid o = then_keeps (on_thread tid (moved o)) (named_after o.named) (on_thread_keeps tid (moved o) (transition_keeps_id o)) (named_keeps o.named)
 
 -- ---- a new thread
 

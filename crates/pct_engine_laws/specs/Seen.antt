@@ -5,13 +5,13 @@ use Rattle.std.specs.Option.{option_map_or}
 use Rattle.std.specs.List.{list_all, range_with_len}
 use Rattle.pct_model.specs.declared.process.Relative.{Relative}
 use Rattle.pct_model.specs.declared.stop.Why.{Why}
-use Rattle.pct_model.specs.declared.transition.Action.{Action}
-use Rattle.pct_model.specs.declared.transition.Action.TheVariants as action
 use Rattle.pct_model.specs.declared.transition.NewThread.{NewThread}
+use Rattle.pct_model.specs.declared.transition.ProcessAction.{ProcessAction}
+use Rattle.pct_model.specs.declared.transition.ProcessAction.TheVariants as process_action
 use Rattle.pct_model.specs.declared.transition.Transition.{Transition}
 use Rattle.pct_model.specs.World.{Thread, SharedState, Process, World, was_reaped}
 use Rattle.pct_model.specs.ThreadSlots.{holds_slot, slot_of, is_on}
-use Rattle.pct_model.specs.Actions.{shared_after, stop_after, for_each, thread_moved, thread_created, replica_of}
+use Rattle.pct_model.specs.Actions.{shared_moved, stop_after, thread_moved, thread_created, replica_of}
 use Rattle.pct_model.specs.OtherProcesses.{Family, family_among}
 
 -- a slot: the number of threads ever made on it, and the thread that holds it
@@ -89,27 +89,27 @@ abbrev pub slots_moved : ℕ → ℕ → Transition → List SeenSlot → List S
 slots_moved slots tid o rows = with_created slots o.created (map (slot_after tid o) rows)
 
 -- the process of the thread after an action: after its end it is kept only if it has a parent
-unfoldable pub own_kept : Action → SeenProcess → List SeenProcess
-own_kept (action.EndProcess n) p = if nat_eq p.parent 0 then [] else record p { ended = Some n } ∷ []
+unfoldable pub own_kept : Option ProcessAction → SeenProcess → List SeenProcess
+own_kept (Some (process_action.End n)) p = if nat_eq p.parent 0 then [] else record p { ended = Some n } ∷ []
 own_kept _ p = p ∷ []
 
 -- another process after an action of a thread of process pid
-unfoldable pub other_kept : ℕ → Action → SeenProcess → List SeenProcess
-other_kept pid (action.Reap child) p = if nat_eq p.pid child && is_some p.ended then [] else p ∷ []
-other_kept pid (action.EndProcess n) p = if nat_eq p.parent pid then if is_some p.ended then [] else record p { parent = 0 } ∷ [] else p ∷ []
+unfoldable pub other_kept : ℕ → Option ProcessAction → SeenProcess → List SeenProcess
+other_kept pid (Some (process_action.Reap child)) p = if nat_eq p.pid child && is_some p.ended then [] else p ∷ []
+other_kept pid (Some (process_action.End n)) p = if nat_eq p.parent pid then if is_some p.ended then [] else record p { parent = 0 } ∷ [] else p ∷ []
 other_kept pid _ p = p ∷ []
 
 -- the process of the thread after the transition, but for its end
 abbrev pub process_seen : ℕ → ℕ → Transition → SeenProcess → SeenProcess
-process_seen slots tid o p = record p { slots = slots_moved slots tid o p.slots; shared = for_each shared_after o.actions p.shared }
+process_seen slots tid o p = record p { slots = slots_moved slots tid o p.slots; shared = shared_moved o p.shared }
 
 -- the process of the thread after the transition, with this number of slots
 abbrev pub own_process_seen : ℕ → ℕ → Transition → SeenProcess → List SeenProcess
-own_process_seen slots tid o p = for_each (λ a. flat_map (own_kept a)) o.actions (process_seen slots tid o p ∷ [])
+own_process_seen slots tid o p = own_kept o.process (process_seen slots tid o p)
 
 -- another process after the transition
 abbrev pub other_process_seen : ℕ → Transition → SeenProcess → List SeenProcess
-other_process_seen pid o p = for_each (λ a. flat_map (other_kept pid a)) o.actions (p ∷ [])
+other_process_seen pid o p = other_kept pid o.process p
 
 -- the process has this id and has not ended
 abbrev pub is_live_seen : ℕ → SeenProcess → Bool
@@ -124,13 +124,13 @@ abbrev pub child_seen : ℕ → ℕ → SeenProcess → SeenProcess
 child_seen tid pid p = record { pid = pid; parent = p.pid; ended = None; slots = map (slot_inherited tid) p.slots; shared = record p.shared { exit_value = None; restricted = not (is_last_in tid p.slots) } }
 
 -- the process that an action makes, if it makes one
-unfoldable pub child_seen_by : ℕ → SeenProcess → Action → List SeenProcess
-child_seen_by tid p (action.MakeChild pid) = child_seen tid pid p ∷ []
+unfoldable pub child_seen_by : ℕ → SeenProcess → Option ProcessAction → List SeenProcess
+child_seen_by tid p (Some (process_action.Make pid)) = child_seen tid pid p ∷ []
 child_seen_by tid p _ = []
 
 -- the processes that the transition makes
 abbrev pub children_seen : ℕ → ℕ → ℕ → Transition → List SeenProcess → List SeenProcess
-children_seen slots pid tid o ps = flat_map (λ p. if is_live_seen pid p then flat_map (child_seen_by tid (process_seen slots tid o p)) o.actions else []) ps
+children_seen slots pid tid o ps = flat_map (λ p. if is_live_seen pid p then child_seen_by tid (process_seen slots tid o p) o.process else []) ps
 
 -- the processes that were made before, after the transition
 abbrev pub processes_kept : ℕ → ℕ → ℕ → Transition → List SeenProcess → List SeenProcess
@@ -140,4 +140,4 @@ processes_kept slots pid tid o ps = flat_map (λ p. if is_live_seen pid p then o
 unfoldable pub seen_after : ℕ → ℕ → ℕ → Transition → Seen → Seen
 seen_after slots pid tid o v =
     let children : List SeenProcess = children_seen slots pid tid o v.processes in
-    record { processes = processes_kept slots pid tid o v.processes ++ children; made = v.made + length children; stop = for_each stop_after o.actions v.stop }
+    record { processes = processes_kept slots pid tid o v.processes ++ children; made = v.made + length children; stop = stop_after o.stop v.stop }

@@ -3,18 +3,24 @@
 -- once, before the first action.
 use Rattle.std.specs.Prelude.{ℕ, suc, Bool, true, false, not, ◌&&◌, if◌then◌else◌, List, [], ◌∷◌, ◌++◌, map, flat_map, Option, Some, None, is_some, nat_eq, slice_set}
 use Rattle.pct_model.specs.declared.frame.Frame.{Frame}
-use Rattle.pct_model.specs.declared.state.FrameKind.TheVariants.{Start}
+use Rattle.pct_model.specs.declared.state.FrameKind.TheVariants as kind
 use Rattle.pct_model.specs.declared.state.Phase.TheVariants.{Child}
 use Rattle.pct_model.specs.declared.state.Reason.TheVariants as reason
 use Rattle.pct_model.specs.declared.state.Cause.TheVariants as cause
 use Rattle.pct_model.specs.declared.state.Status.{Status}
-use Rattle.pct_model.specs.declared.state.Status.TheVariants.{Running, AtPoint, Joining, InSem, InWaitPid, Waiting, Reacquire, Ending, Forking, Exiting, Ended}
+use Rattle.pct_model.specs.declared.state.Status.TheVariants.{Running, Ending, Forking, Exiting, Ended}
 use Rattle.pct_model.specs.declared.statement.Dest.{Dest}
 use Rattle.pct_model.specs.declared.statement.Dest.TheVariants as destination
 use Rattle.pct_model.specs.declared.stop.Why.{Why}
-use Rattle.pct_model.specs.declared.transition.Action.{Action}
-use Rattle.pct_model.specs.declared.transition.Action.TheVariants as action
+use Rattle.pct_model.specs.declared.transition.NamedAction.{NamedAction}
+use Rattle.pct_model.specs.declared.transition.NamedAction.TheVariants as named_action
 use Rattle.pct_model.specs.declared.transition.NewThread.{NewThread}
+use Rattle.pct_model.specs.declared.transition.OwnAction.{OwnAction}
+use Rattle.pct_model.specs.declared.transition.OwnAction.TheVariants as own_action
+use Rattle.pct_model.specs.declared.transition.ProcessAction.{ProcessAction}
+use Rattle.pct_model.specs.declared.transition.ProcessAction.TheVariants as process_action
+use Rattle.pct_model.specs.declared.transition.SharedAction.{SharedAction}
+use Rattle.pct_model.specs.declared.transition.SharedAction.TheVariants as shared_action
 use Rattle.pct_model.specs.declared.transition.Transition.{Transition}
 use Rattle.pct_model.specs.Cancelability.{ending_state, ending_mode}
 use Rattle.pct_model.specs.CondCalls.{is_waiting_on, unblocked}
@@ -51,52 +57,47 @@ unfoldable pub thread_at : Option ℕ → Thread → Thread
 thread_at None t = t
 thread_at (Some pc) t = record t { status = Running; frames = at_pc pc t.frames }
 
--- the thread after an action
-unfoldable pub thread_after : Action → Thread → Thread
-thread_after (action.Write d v) t = record t { frames = frames_written d v t.frames }
-thread_after (action.Call f a kind) t = record t { status = Running; frames = new_frame f a kind ∷ t.frames }
-thread_after (action.CallAlone f a kind) t = record t { status = Running; frames = new_frame f a kind ∷ [] }
-thread_after (action.Leave status) t = record t { status = status; frames = without_first t.frames; kept = None }
-thread_after (action.PushHandler f a) t = record t { handlers = (f, a) ∷ t.handlers }
-thread_after action.PopHandler t = record t { handlers = without_first t.handlers }
-thread_after (action.SetState state) t = record t { state = state }
-thread_after (action.SetMode mode) t = record t { mode = mode }
-thread_after (action.BeginPoint index) t = record t { status = AtPoint index }
-thread_after (action.BeginJoin id) t = record t { status = Joining id }
-thread_after (action.BeginWait c m) t = record t { status = Waiting c m }
-thread_after (action.LeaveWait c m) t = record t { status = Reacquire c m cause.Canceled }
-thread_after (action.BeginSem s) t = record t { status = InSem s }
-thread_after (action.BeginWaitPid pid) t = record t { status = InWaitPid pid }
-thread_after (action.EnterFork at) t = record t { status = in_fork at }
-thread_after (action.KeepFork at) t = record t { kept = Some at }
-thread_after (action.SetSpecific k v) t = record t { specific = with_value (key_place k) v t.specific }
-thread_after action.BeginPass t = record t { pass = suc t.pass; specific = with_pass t.specific }
-thread_after (action.TakeKey k) t = record t { specific = without_value (key_place k) t.specific }
-thread_after (action.BeginEnd why) t = record t { status = Ending; frames = []; state = ending_state; mode = ending_mode; reason = why; kept = None }
-thread_after (action.EndThread v) t = record t { status = Ended v; ended = true }
-thread_after action.MarkEnded t = record t { ended = true }
-thread_after (action.BeginExit v) t = record t { status = Exiting; frames = []; state = ending_state; mode = ending_mode; kept = None }
-thread_after _ t = t
+-- the thread after its own action, if it has one
+unfoldable pub own_after : Option OwnAction → Thread → Thread
+own_after None t = t
+own_after (Some (own_action.Call f a kind)) t = record t { status = Running; frames = new_frame f a kind ∷ t.frames }
+own_after (Some (own_action.CallHandler f a)) t = record t { status = Running; frames = new_frame f a kind.PopHandler ∷ t.frames; handlers = without_first t.handlers }
+own_after (Some (own_action.RunHandler f a)) t = record t { status = Running; frames = new_frame f a kind.Handler ∷ []; handlers = without_first t.handlers }
+own_after (Some (own_action.RunDestructor k f v)) t = record t { status = Running; frames = new_frame f v kind.Destructor ∷ []; specific = without_value (key_place k) t.specific }
+own_after (Some (own_action.RunExitFunction f)) t = record t { status = Running; frames = new_frame f 0 kind.ExitFn ∷ [] }
+own_after (Some (own_action.CallForkHandler at f)) t = record t { status = Running; frames = new_frame f 0 kind.ForkFn ∷ t.frames; kept = Some at }
+own_after (Some (own_action.Leave status)) t = record t { status = status; frames = without_first t.frames; kept = None }
+own_after (Some (own_action.SetStatus status)) t = record t { status = status }
+own_after (Some (own_action.PushHandler f a)) t = record t { handlers = (f, a) ∷ t.handlers }
+own_after (Some own_action.PopHandler) t = record t { handlers = without_first t.handlers }
+own_after (Some (own_action.SetState state)) t = record t { state = state }
+own_after (Some (own_action.SetMode mode)) t = record t { mode = mode }
+own_after (Some (own_action.SetSpecific k v)) t = record t { specific = with_value (key_place k) v t.specific }
+own_after (Some own_action.BeginPass) t = record t { pass = suc t.pass; specific = with_pass t.specific }
+own_after (Some (own_action.BeginEnd why)) t = record t { status = Ending; frames = []; state = ending_state; mode = ending_mode; reason = why; kept = None }
+own_after (Some (own_action.EndThread v)) t = record t { status = Ended v; ended = true }
+own_after (Some own_action.BeginExit) t = record t { status = Exiting; frames = []; state = ending_state; mode = ending_mode; kept = None }
+own_after (Some own_action.EndLast) t = record t { status = Exiting; ended = true; frames = []; state = ending_state; mode = ending_mode; kept = None }
 
 -- ---- the threads of its process
 
--- any thread of the process after an action, which may name it, a key, or a condition variable
-unfoldable pub named_after : Action → Thread → Thread
-named_after (action.EndJoin id) t = if is_live_thread id t then record t { joined = true } else t
+-- any thread of the process after the action that names threads, if there is one
+unfoldable pub named_after : Option NamedAction → Thread → Thread
+named_after None t = t
+named_after (Some (named_action.EndJoin id)) t = if is_live_thread id t then record t { joined = true } else t
 -- a request for a thread that has ended changes nothing, which is a choice of this host
-named_after (action.Request id) t = if is_live_thread id t && not t.ended then record t { pending = true } else t
-named_after (action.Detach id) t = if is_live_thread id t then record t { detached = true } else t
+named_after (Some (named_action.Request id)) t = if is_live_thread id t && not t.ended then record t { pending = true } else t
+named_after (Some (named_action.Detach id)) t = if is_live_thread id t then record t { detached = true } else t
 -- a thread that waits on a condition variable is unblocked: by a signal, or with all others by a broadcast (XSH pthread_cond_signal)
-named_after (action.Wake id) t = if is_live_thread id t then record t { status = unblocked cause.Signalled t.status } else t
-named_after (action.WakeAll c) t = if is_waiting_on c t.status then record t { status = unblocked cause.Broadcast t.status } else t
+named_after (Some (named_action.Wake id)) t = if is_live_thread id t then record t { status = unblocked cause.Signalled t.status } else t
+named_after (Some (named_action.WakeAll c)) t = if is_waiting_on c t.status then record t { status = unblocked cause.Broadcast t.status } else t
 -- no thread keeps its value of a key that is deleted
-named_after (action.DeleteKey k) t = record t { specific = without_value (key_place k) t.specific }
-named_after _ t = t
+named_after (Some (named_action.ForgetKey k)) t = record t { specific = without_value (key_place k) t.specific }
 
 -- the thread that a transition creates
 abbrev pub thread_created : Option NewThread → List Thread
 thread_created None = []
-thread_created (Some new) = new_thread new.id new.detached (new_frame new.func new.arg Start) ∷ []
+thread_created (Some new) = new_thread new.id new.detached (new_frame new.func new.arg kind.Start) ∷ []
 
 -- ---- its process
 
@@ -105,23 +106,22 @@ abbrev pub globals_written : Dest → ℕ → List ℕ → List ℕ
 globals_written (destination.Global i) v globals = slice_set globals i v
 globals_written _ v globals = globals
 
--- the shared state after an action
-unfoldable pub shared_after : Action → SharedState → SharedState
-shared_after (action.Write d v) s = record s { globals = globals_written d v s.globals }
-shared_after (action.MakeKey k destructor) s = record s { keys = with_key (key_place k) k destructor s.keys }
-shared_after (action.DeleteKey k) s = record s { keys = without_key (key_place k) s.keys }
-shared_after (action.OwnMutex m id) s = record s { owners = slice_set s.owners m id }
-shared_after (action.SetCount sem n) s = record s { counts = slice_set s.counts sem n }
-shared_after (action.AddForkHandlers handlers) s = record s { fork_handlers = s.fork_handlers ++ handlers ∷ [] }
-shared_after (action.AddExit f) s = record s { exit_functions = f ∷ s.exit_functions }
-shared_after action.TakeExit s = record s { exit_functions = without_first s.exit_functions }
-shared_after (action.BeginExit v) s = record s { exit_value = Some v }
-shared_after _ s = s
+-- the shared state after the action on it, if there is one
+unfoldable pub shared_after : Option SharedAction → SharedState → SharedState
+shared_after None s = s
+shared_after (Some (shared_action.MakeKey k destructor)) s = record s { keys = with_key (key_place k) k destructor s.keys }
+shared_after (Some (shared_action.DeleteKey k)) s = record s { keys = without_key (key_place k) s.keys }
+shared_after (Some (shared_action.OwnMutex m id)) s = record s { owners = slice_set s.owners m id }
+shared_after (Some (shared_action.SetCount sem n)) s = record s { counts = slice_set s.counts sem n }
+shared_after (Some (shared_action.AddForkHandlers handlers)) s = record s { fork_handlers = s.fork_handlers ++ handlers ∷ [] }
+shared_after (Some (shared_action.AddExit f)) s = record s { exit_functions = f ∷ s.exit_functions }
+shared_after (Some shared_action.TakeExit) s = record s { exit_functions = without_first s.exit_functions }
+shared_after (Some (shared_action.BeginExit v)) s = record s { exit_value = Some v }
 
--- the process after an action: EndProcess ends it with a status; one without a parent is reaped as it ends, which is this host's
--- choice
-unfoldable pub process_after : Action → Process → Process
-process_after (action.EndProcess n) p = record p { ended = Some (record { status = n; reaped = nat_eq p.parent 0 }) }
+-- the process after an action on the processes: it may end with a status; one without a parent is reaped as it ends, which is this
+-- host's choice
+unfoldable pub process_after : Option ProcessAction → Process → Process
+process_after (Some (process_action.End n)) p = record p { ended = Some (record { status = n; reaped = nat_eq p.parent 0 }) }
 process_after _ p = p
 
 -- ---- the other processes
@@ -142,9 +142,9 @@ as_reaped None = None
 as_reaped (Some end) = Some (record end { reaped = true })
 
 -- another process after an action of a thread of process pid
-unfoldable pub other_process_after : ℕ → Action → Process → Process
-other_process_after pid (action.Reap child) p = if nat_eq p.pid child then record p { ended = as_reaped p.ended } else p
-other_process_after pid (action.EndProcess n) p = if nat_eq p.parent pid then orphaned p.ended p else p
+unfoldable pub other_process_after : ℕ → Option ProcessAction → Process → Process
+other_process_after pid (Some (process_action.Reap child)) p = if nat_eq p.pid child then record p { ended = as_reaped p.ended } else p
+other_process_after pid (Some (process_action.End n)) p = if nat_eq p.parent pid then orphaned p.ended p else p
 other_process_after pid _ p = p
 
 -- ---- the process that fork makes
@@ -171,39 +171,43 @@ unfoldable pub child_of : ℕ → ℕ → Process → Process
 child_of tid pid p = record { pid = pid; parent = p.pid; ended = None; threads = map (inherited tid) p.threads; shared = record p.shared { exit_value = None; restricted = not (is_last tid p.threads) } }
 
 -- the process that an action makes, if it makes one: a child of a process whose thread tid forks
-unfoldable pub child_by : ℕ → Process → Action → List Process
-child_by tid p (action.MakeChild pid) = child_of tid pid p ∷ []
+unfoldable pub child_by : ℕ → Process → Option ProcessAction → List Process
+child_by tid p (Some (process_action.Make pid)) = child_of tid pid p ∷ []
 child_by tid p _ = []
 
 -- ---- the run
 
--- the reason of the stop after an action
-unfoldable pub stop_after : Action → Option Why → Option Why
-stop_after (action.Stop why) stop = Some why
-stop_after _ stop = stop
+-- the reason of the stop after a transition, which may have one
+unfoldable pub stop_after : Option Why → Option Why → Option Why
+stop_after (Some why) stop = Some why
+stop_after None stop = stop
 
 -- ---- transitions
 
--- the result of a change for each action, in order
-abbrev pub for_each : {T : Type 0} → (Action → T → T) → List Action → T → T
-for_each change [] value = value
-for_each change (a ∷ actions) value = for_each change actions (change a value)
+-- what is written, in order
+abbrev pub written : {T : Type 0} → (Dest → ℕ → T → T) → List (Dest × ℕ) → T → T
+written write [] x = x
+written write ((d, v) ∷ writes) x = written write writes (write d v x)
 
 -- the thread after its transition
 abbrev pub moved : Transition → Thread → Thread
-moved o t = for_each thread_after o.actions (thread_at o.next t)
+moved o t = let at : Thread = thread_at o.next t in own_after o.own (record at { frames = written frames_written o.writes at.frames })
 
 -- a thread of the process after a transition of the one with an id
 abbrev pub thread_moved : ℕ → Transition → Thread → Thread
-thread_moved tid o t = for_each named_after o.actions (if is_live_thread tid t then moved o t else t)
+thread_moved tid o t = named_after o.named (if is_live_thread tid t then moved o t else t)
 
 -- the threads of the process
 abbrev pub threads_moved : ℕ → Transition → List Thread → List Thread
 threads_moved tid o threads = map (thread_moved tid o) threads ++ thread_created o.created
 
+-- what they share
+abbrev pub shared_moved : Transition → SharedState → SharedState
+shared_moved o s = shared_after o.shared (record s { globals = written globals_written o.writes s.globals })
+
 -- the process after a transition of its thread with an id
 abbrev pub changed : ℕ → Transition → Process → Process
-changed tid o p = for_each process_after o.actions (record p { threads = threads_moved tid o p.threads; shared = for_each shared_after o.actions p.shared })
+changed tid o p = process_after o.process (record p { threads = threads_moved tid o p.threads; shared = shared_moved o p.shared })
 
 -- the process has this id and has not ended
 abbrev pub is_live_process : ℕ → Process → Bool
@@ -211,12 +215,12 @@ is_live_process pid p = nat_eq p.pid pid && not (has_ended p)
 
 -- a process after a transition of thread tid of process pid
 abbrev pub process_moved : ℕ → ℕ → Transition → Process → Process
-process_moved pid tid o p = if is_live_process pid p then changed tid o p else for_each (other_process_after pid) o.actions p
+process_moved pid tid o p = if is_live_process pid p then changed tid o p else other_process_after pid o.process p
 
 -- the process that the transition makes, if it makes one: a child of the process of the thread, as that is after the transition
 abbrev pub process_made : ℕ → ℕ → Transition → Process → List Process
-process_made pid tid o p = if is_live_process pid p then flat_map (child_by tid (changed tid o p)) o.actions else []
+process_made pid tid o p = if is_live_process pid p then child_by tid (changed tid o p) o.process else []
 
 -- the state after a transition of thread tid of process pid
 unfoldable pub after_transition : ℕ → ℕ → Transition → World → World
-after_transition pid tid o w = record { processes = map (process_moved pid tid o) w.processes ++ flat_map (process_made pid tid o) w.processes; stop = for_each stop_after o.actions w.stop }
+after_transition pid tid o w = record { processes = map (process_moved pid tid o) w.processes ++ flat_map (process_made pid tid o) w.processes; stop = stop_after o.stop w.stop }

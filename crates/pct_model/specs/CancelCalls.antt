@@ -19,7 +19,8 @@ use Rattle.pct_model.specs.declared.state.Status.TheVariants as status
 use Rattle.pct_model.specs.declared.statement.Dest.{Dest}
 use Rattle.pct_model.specs.declared.statement.Stmt.{Stmt}
 use Rattle.pct_model.specs.declared.statement.Stmt.TheVariants as statement
-use Rattle.pct_model.specs.declared.transition.Action.TheVariants as action
+use Rattle.pct_model.specs.declared.transition.NamedAction.TheVariants as named_action
+use Rattle.pct_model.specs.declared.transition.OwnAction.TheVariants as own_action
 use Rattle.pct_model.specs.declared.transition.Transition.{Transition}
 use Rattle.pct_model.specs.NextStatement.{NextStatement, StatementIn}
 use Rattle.pct_model.specs.Points.{point_at}
@@ -33,7 +34,7 @@ use Rattle.pct_model.specs.Transitions.{goes_on, acts, no_change}
 
 -- a request for the thread with an id
 unfoldable pub requests : ℕ → ℕ → Transition
-requests next id = goes_on next (action.Request id ∷ []) (what.Request id ∷ [])
+requests next id = record (goes_on next (what.Request id ∷ [])) { named = Some (named_action.Request id) }
 
 -- ---- pthread_setcancelstate, pthread_setcanceltype
 
@@ -59,11 +60,11 @@ mode_if false = Deferred
 
 -- pthread_setcancelstate, in a thread with a state: the previous state is written to `old`
 unfoldable pub sets_state : ℕ → Bool → Dest → State → Transition
-sets_state next enable old state = goes_on next (action.SetState (state_if enable) ∷ action.Write old (state_number state) ∷ []) (what.StateSet enable ∷ [])
+sets_state next enable old state = record (goes_on next (what.StateSet enable ∷ [])) { writes = (old, state_number state) ∷ []; own = Some (own_action.SetState (state_if enable)) }
 
 -- pthread_setcanceltype, in a thread with a type: the previous type is written to `old` (XSH pthread_setcancelstate)
 unfoldable pub sets_mode : ℕ → Bool → Dest → Mode → Transition
-sets_mode next asynchronous old mode = goes_on next (action.SetMode (mode_if asynchronous) ∷ action.Write old (mode_number mode) ∷ []) (what.ModeSet asynchronous ∷ [])
+sets_mode next asynchronous old mode = record (goes_on next (what.ModeSet asynchronous ∷ [])) { writes = (old, mode_number mode) ∷ []; own = Some (own_action.SetMode (mode_if asynchronous)) }
 
 -- ---- cancellation points
 
@@ -73,7 +74,7 @@ testcancel_point = TESTCANCEL_POINT
 
 -- pthread_testcancel, where no request is acted upon: the thread goes on
 unfoldable pub tests_cancel : ℕ → Transition
-tests_cancel next = goes_on next [] (what.Done testcancel_point ∷ [])
+tests_cancel next = goes_on next (what.Done testcancel_point ∷ [])
 
 -- the kind of the cancellation point with an index, if there is one
 unfoldable pub point_kind : ℕ → Option PointKind
@@ -101,8 +102,8 @@ is_optional _ = false
 
 -- a call of a generic point: in this host a thread is suspended at a required one, and goes on at an optional one
 unfoldable pub calls_point : ℕ → ℕ → Option PointKind → Transition
-calls_point next index (Some kinds.Required) = acts (action.BeginPoint index ∷ []) (what.Called index ∷ [])
-calls_point next index (Some kinds.Optional) = goes_on next [] (what.Done index ∷ [])
+calls_point next index (Some kinds.Required) = record (acts (what.Called index ∷ [])) { own = Some (own_action.SetStatus (status.AtPoint index)) }
+calls_point next index (Some kinds.Optional) = goes_on next (what.Done index ∷ [])
 calls_point next index None = no_change
 
 -- what a thread at a point waits for may occur at any time
@@ -116,7 +117,7 @@ may_return index = option_map_or (λ point. is_outside point.wait) (point_at ind
 
 -- a thread that is suspended at a point goes on
 unfoldable pub passes_point : ℕ → NextStatement → Transition
-passes_point index (StatementIn frame (statement.PointCall i)) = goes_on (suc frame.pc) [] (what.Done index ∷ [])
+passes_point index (StatementIn frame (statement.PointCall i)) = goes_on (suc frame.pc) (what.Done index ∷ [])
 passes_point index next = no_change
 
 -- ---- acting upon a request
@@ -126,11 +127,11 @@ passes_point index next = no_change
 -- suspended in pthread_cond_wait has to own its mutex first, and a signal that unblocked it is handed on to thread u. That the request
 -- stays pending is a choice of this host.
 unfoldable pub acts_on_request : ℕ → Status → Transition
-acts_on_request u status.Running = acts (action.BeginEnd Canceled ∷ []) (what.EndingCanceled ∷ [])
-acts_on_request u (status.AtPoint index) = acts (action.BeginEnd Canceled ∷ []) (what.EndingCanceled ∷ [])
-acts_on_request u (status.Joining id) = acts (action.BeginEnd Canceled ∷ []) (what.EndingCanceled ∷ [])
-acts_on_request u (status.InSem s) = acts (action.BeginEnd Canceled ∷ []) (what.EndingCanceled ∷ [])
-acts_on_request u (status.InWaitPid pid) = acts (action.BeginEnd Canceled ∷ []) (what.EndingCanceled ∷ [])
+acts_on_request u status.Running = record (acts (what.EndingCanceled ∷ [])) { own = Some (own_action.BeginEnd Canceled) }
+acts_on_request u (status.AtPoint index) = record (acts (what.EndingCanceled ∷ [])) { own = Some (own_action.BeginEnd Canceled) }
+acts_on_request u (status.Joining id) = record (acts (what.EndingCanceled ∷ [])) { own = Some (own_action.BeginEnd Canceled) }
+acts_on_request u (status.InSem s) = record (acts (what.EndingCanceled ∷ [])) { own = Some (own_action.BeginEnd Canceled) }
+acts_on_request u (status.InWaitPid pid) = record (acts (what.EndingCanceled ∷ [])) { own = Some (own_action.BeginEnd Canceled) }
 acts_on_request u (status.Waiting c m) = leaves_wait c m
 acts_on_request u (status.Reacquire c m cause.Signalled) = hands_on u c m
 acts_on_request u (status.Reacquire c m cause.Broadcast) = leaves_wait c m

@@ -1,5 +1,5 @@
 -- Condition variables (XSH pthread_cond_wait, pthread_cond_signal, pthread_cond_broadcast). `next` is the pc of the next statement.
-use Rattle.std.specs.Prelude.{ℕ, suc, Bool, false, if◌then◌else◌, [], ◌∷◌, nat_eq}
+use Rattle.std.specs.Prelude.{ℕ, suc, Bool, false, if◌then◌else◌, [], ◌∷◌, nat_eq, Some}
 use Rattle.pct_model.specs.declared.event.What.TheVariants as what
 use Rattle.pct_model.specs.declared.point.TheConstants.{COND_WAIT_POINT}
 use Rattle.pct_model.specs.declared.schedule.Alt.{Alt}
@@ -10,7 +10,9 @@ use Rattle.pct_model.specs.declared.state.Reason.TheVariants.{Canceled}
 use Rattle.pct_model.specs.declared.state.Status.{Status}
 use Rattle.pct_model.specs.declared.state.Status.TheVariants as status
 use Rattle.pct_model.specs.declared.statement.Stmt.TheVariants as statement
-use Rattle.pct_model.specs.declared.transition.Action.TheVariants as action
+use Rattle.pct_model.specs.declared.transition.NamedAction.TheVariants as named_action
+use Rattle.pct_model.specs.declared.transition.OwnAction.TheVariants as own_action
+use Rattle.pct_model.specs.declared.transition.SharedAction.TheVariants as shared_action
 use Rattle.pct_model.specs.declared.transition.Transition.{Transition}
 use Rattle.pct_model.specs.NextStatement.{NextStatement, StatementIn}
 use Rattle.pct_model.specs.Transitions.{goes_on, acts, no_change}
@@ -35,34 +37,34 @@ unblocked why s = s
 
 -- the thread releases mutex m and blocks on condition variable c, atomically
 unfoldable pub begins_wait : ℕ → ℕ → Transition
-begins_wait c m = acts (action.BeginWait c m ∷ action.OwnMutex m 0 ∷ []) (what.Called cond_wait_point ∷ what.Released m ∷ [])
+begins_wait c m = record (acts (what.Called cond_wait_point ∷ what.Released m ∷ [])) { own = Some (own_action.SetStatus (status.Waiting c m)); shared = Some (shared_action.OwnMutex m 0) }
 
 -- a thread that was unblocked owns its mutex again, and returns; or, if it acted upon a request, begins to end, so that it owns the mutex
 -- before its first cleanup handler (XSH pthread_cond_wait)
 unfoldable pub reacquires : ℕ → ℕ → ℕ → Cause → NextStatement → Transition
-reacquires id c m cause.Canceled next = acts (action.OwnMutex m id ∷ action.BeginEnd Canceled ∷ []) (what.Acquired m ∷ what.EndingInWait c m ∷ [])
+reacquires id c m cause.Canceled next = record (acts (what.Acquired m ∷ what.EndingInWait c m ∷ [])) { own = Some (own_action.BeginEnd Canceled); shared = Some (shared_action.OwnMutex m id) }
 reacquires id c m why (StatementIn frame (statement.CondWait cond mutex)) =
-    goes_on (suc frame.pc) (action.OwnMutex m id ∷ []) (what.Acquired m ∷ what.Done cond_wait_point ∷ [])
+    record (goes_on (suc frame.pc) (what.Acquired m ∷ what.Done cond_wait_point ∷ [])) { shared = Some (shared_action.OwnMutex m id) }
 reacquires id c m why next = no_change
 
 -- a thread in a wait acts upon a request: before it begins to end, it waits until it owns the mutex again (XSH pthread_cond_wait)
 unfoldable pub leaves_wait : ℕ → ℕ → Transition
-leaves_wait c m = acts (action.LeaveWait c m ∷ []) (what.WaitCanceled c ∷ [])
+leaves_wait c m = record (acts (what.WaitCanceled c ∷ [])) { own = Some (own_action.SetStatus (status.Reacquire c m cause.Canceled)) }
 
 -- a thread that a signal unblocked acts upon a request: it must not consume the signal if other threads are blocked on the condition
 -- variable (XSH pthread_cond_wait). This host hands it on to the thread with id u, where u is not 0
 unfoldable pub hands_on : ℕ → ℕ → ℕ → Transition
-hands_on u c m = if nat_eq u 0 then leaves_wait c m else acts (action.LeaveWait c m ∷ action.Wake u ∷ []) (what.WaitCanceled c ∷ what.HandedOn c u ∷ [])
+hands_on u c m = if nat_eq u 0 then leaves_wait c m else record (acts (what.WaitCanceled c ∷ what.HandedOn c u ∷ [])) { own = Some (own_action.SetStatus (status.Reacquire c m cause.Canceled)); named = Some (named_action.Wake u) }
 
 -- ---- pthread_cond_signal, pthread_cond_broadcast
 
 -- a signal unblocks one of the threads that wait (the standard: at least one), which the scheduler chooses; if none waits, it has no
 -- effect
 unfoldable pub signals_by : Alt → ℕ → ℕ → Transition
-signals_by (alt.Pick u) next c = goes_on next (action.Wake u ∷ []) (what.Signalled c u ∷ [])
-signals_by alt.Go next c = goes_on next [] (what.Signalled c 0 ∷ [])
+signals_by (alt.Pick u) next c = record (goes_on next (what.Signalled c u ∷ [])) { named = Some (named_action.Wake u) }
+signals_by alt.Go next c = goes_on next (what.Signalled c 0 ∷ [])
 signals_by _ next c = no_change
 
 -- a broadcast unblocks all threads that wait; the event has their number
 unfoldable pub broadcasts : ℕ → ℕ → ℕ → Transition
-broadcasts next c waiting = goes_on next (action.WakeAll c ∷ []) (what.BroadcastTo c waiting ∷ [])
+broadcasts next c waiting = record (goes_on next (what.BroadcastTo c waiting ∷ [])) { named = Some (named_action.WakeAll c) }

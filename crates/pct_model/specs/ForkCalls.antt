@@ -18,7 +18,9 @@ use Rattle.pct_model.specs.declared.state.Status.TheVariants as status
 use Rattle.pct_model.specs.declared.statement.Dest.{Dest}
 use Rattle.pct_model.specs.declared.statement.Stmt.{Stmt}
 use Rattle.pct_model.specs.declared.statement.Stmt.TheVariants as statement
-use Rattle.pct_model.specs.declared.transition.Action.TheVariants as action
+use Rattle.pct_model.specs.declared.transition.OwnAction.TheVariants as own_action
+use Rattle.pct_model.specs.declared.transition.ProcessAction.TheVariants as process_action
+use Rattle.pct_model.specs.declared.transition.SharedAction.TheVariants as shared_action
 use Rattle.pct_model.specs.declared.transition.Transition.{Transition}
 use Rattle.pct_model.specs.NextStatement.{NextStatement, StatementIn}
 use Rattle.pct_model.specs.Transitions.{goes_on, acts, no_change}
@@ -76,35 +78,35 @@ handler_event ChildPhase f = what.ChildRun f
 
 -- a thread in fork calls a handler
 unfoldable pub calls_handler : ForkAt → HandlerCall → Transition
-calls_handler at call = acts (action.KeepFork (while_called at call.index) ∷ action.Call call.func 0 kind.ForkFn ∷ []) (handler_event at.phase call.func ∷ [])
+calls_handler at call = record (acts (handler_event at.phase call.func ∷ [])) { own = Some (own_action.CallForkHandler (while_called at call.index) call.func) }
 
 -- pthread_atfork, where this many registrations were made: the result is 0, or ENOMEM, which is 2 in this host, past its limit
 unfoldable pub registers_fork : ℕ → ℕ → Dest → ForkHandlers → Transition
 registers_fork count next result handlers =
-    if nat_lt count MAX_FORK_HANDLERS then goes_on next (action.AddForkHandlers handlers ∷ action.Write result 0 ∷ []) []
-    else goes_on next (action.Write result 2 ∷ []) (what.Answer caller.AtFork 2 ∷ [])
+    if nat_lt count MAX_FORK_HANDLERS then record (goes_on next []) { writes = (result, 0) ∷ []; shared = Some (shared_action.AddForkHandlers handlers) }
+    else record (goes_on next (what.Answer caller.AtFork 2 ∷ [])) { writes = (result, 2) ∷ [] }
 
 -- ---- fork
 
 -- fork is called, in a process with this many registrations. That these are the ones that it uses, and that a fork is at least three
 -- transitions, its call, the fork and its return, are choices of this host
 unfoldable pub begins_fork : ℕ → Transition
-begins_fork count = acts (action.EnterFork (record { phase = Prepare; next = count; length = count; answer = 0 }) ∷ []) []
+begins_fork count = record (acts []) { own = Some (own_action.SetStatus (in_fork (record { phase = Prepare; next = count; length = count; answer = 0 }))) }
 
 -- a child process is made, with this id; without an id there is none, and fork fails with EAGAIN. That the parent handlers are called
 -- then, too, is a choice of this host
 unfoldable pub forks_by : ℕ → Option ℕ → Transition
-forks_by length (Some pid) = acts (action.EnterFork (record { phase = Parent; next = 0; length = length; answer = pid }) ∷ action.MakeChild pid ∷ []) (what.Forked pid ∷ [])
-forks_by length None = acts (action.EnterFork (record { phase = Parent; next = 0; length = length; answer = 0 }) ∷ []) (what.Answer caller.Fork 1 ∷ [])
+forks_by length (Some pid) = record (acts (what.Forked pid ∷ [])) { own = Some (own_action.SetStatus (in_fork (record { phase = Parent; next = 0; length = length; answer = pid }))); process = Some (process_action.Make pid) }
+forks_by length None = record (acts (what.Answer caller.Fork 1 ∷ [])) { own = Some (own_action.SetStatus (in_fork (record { phase = Parent; next = 0; length = length; answer = 0 }))) }
 
 -- fork returns in the process that called it: the result is 0, and the id of the child is written. If no child was made, the result is
 -- EAGAIN, which is 1 in this host, and no id is written
 unfoldable pub returns_in_parent : ℕ → ℕ → Dest → Dest → Transition
-returns_in_parent pid next result child = if nat_eq pid 0 then goes_on next (action.Write result 1 ∷ []) [] else goes_on next (action.Write result 0 ∷ action.Write child pid ∷ []) []
+returns_in_parent pid next result child = if nat_eq pid 0 then record (goes_on next []) { writes = (result, 1) ∷ [] } else record (goes_on next []) { writes = (result, 0) ∷ (child, pid) ∷ [] }
 
 -- fork returns in the child: the result is 0, and so is the id that is written
 unfoldable pub returns_in_child : ℕ → Dest → Dest → Transition
-returns_in_child next result child = goes_on next (action.Write result 0 ∷ action.Write child 0 ∷ []) []
+returns_in_child next result child = record (goes_on next []) { writes = (result, 0) ∷ (child, 0) ∷ [] }
 
 -- a thread in fork goes on where no handler of the phase is left, by the phase; a new process gets this id
 abbrev pub goes_on_after_handlers : Phase → ForkAt → Option ℕ → NextStatement → Transition
@@ -120,7 +122,7 @@ goes_on_forking None at new_pid next = goes_on_after_handlers at.phase at new_pi
 
 -- a thread returns from a fork handler, with the values of its fork that it kept
 unfoldable pub leaves_handler : Option ForkAt → Transition
-leaves_handler (Some at) = acts (action.Leave (in_fork at) ∷ []) []
+leaves_handler (Some at) = record (acts []) { own = Some (own_action.Leave (in_fork at)) }
 leaves_handler None = no_change
 
 -- ---- waitpid
@@ -131,17 +133,17 @@ waitpid_point = WAITPID_POINT
 
 -- waitpid fails with ECHILD, which is 3 in this host: there is no such child that is not reaped
 unfoldable pub finds_no_child : ℕ → Dest → Transition
-finds_no_child next result = goes_on next (action.Write result 3 ∷ []) (what.Answer caller.WaitPid 3 ∷ [])
+finds_no_child next result = record (goes_on next (what.Answer caller.WaitPid 3 ∷ [])) { writes = (result, 3) ∷ [] }
 
 -- waitpid for the process with an id, which is this child or none: the thread is suspended until the child has ended. That this is two
 -- transitions also for a child that has ended is a choice of this host
 abbrev pub begins_waitpid : Option Child → ℕ → ℕ → Dest → Transition
-begins_waitpid (Some child) pid next result = acts (action.BeginWaitPid pid ∷ []) (what.Called waitpid_point ∷ [])
+begins_waitpid (Some child) pid next result = record (acts (what.Called waitpid_point ∷ [])) { own = Some (own_action.SetStatus (status.InWaitPid pid)) }
 begins_waitpid None pid next result = finds_no_child next result
 
 -- the thread returns from waitpid with the status of a child, which is reaped
 unfoldable pub reaps : ℕ → ℕ → ℕ → Dest → Dest → Transition
-reaps status pid next result value = goes_on next (action.Reap pid ∷ action.Write result 0 ∷ action.Write value status ∷ []) (what.Reaped pid status ∷ [])
+reaps status pid next result value = record (goes_on next (what.Reaped pid status ∷ [])) { writes = (result, 0) ∷ (value, status) ∷ []; process = Some (process_action.Reap pid) }
 
 -- so it does once the child has ended with a status
 abbrev pub reaps_if : Option ℕ → ℕ → ℕ → Dest → Dest → Transition

@@ -8,7 +8,9 @@ use Rattle.pct_model.specs.declared.state.FrameKind.{FrameKind}
 use Rattle.pct_model.specs.declared.state.FrameKind.TheVariants as kind
 use Rattle.pct_model.specs.declared.state.Status.TheVariants.{Running, Ending, Exiting}
 use Rattle.pct_model.specs.declared.statement.Dest.{Dest}
-use Rattle.pct_model.specs.declared.transition.Action.TheVariants as action
+use Rattle.pct_model.specs.declared.transition.OwnAction.TheVariants as own_action
+use Rattle.pct_model.specs.declared.transition.ProcessAction.TheVariants as process_action
+use Rattle.pct_model.specs.declared.transition.SharedAction.TheVariants as shared_action
 use Rattle.pct_model.specs.declared.transition.Transition.{Transition}
 use Rattle.pct_model.specs.ForkCalls.{leaves_handler}
 use Rattle.pct_model.specs.Transitions.{goes_on, acts, no_change}
@@ -17,7 +19,7 @@ use Rattle.pct_model.specs.World.{SharedState}
 
 -- a thread begins to exit its process, as if it called exit (XSH exit)
 unfoldable pub exits : ℕ → Transition
-exits v = acts (action.BeginExit v ∷ []) (ExitBegun v ∷ [])
+exits v = record (acts (ExitBegun v ∷ [])) { own = Some own_action.BeginExit; shared = Some (shared_action.BeginExit v) }
 
 -- `return` of a value, by the kind of the top frame: a return from `main` in the initial thread acts as exit, one from the start
 -- routine of another thread as pthread_exit (XSH pthread_create). After a fork handler the fork goes on, by the values that the thread
@@ -25,21 +27,21 @@ exits v = acts (action.BeginExit v ∷ []) (ExitBegun v ∷ [])
 unfoldable pub returns_by : Option ForkAt → FrameKind → ℕ → Transition
 returns_by kept kind.Main v = exits v
 returns_by kept kind.Start v = ends_by_exit v
-returns_by kept kind.Call v = acts (action.Leave Running ∷ []) []
-returns_by kept kind.PopHandler v = acts (action.Leave Running ∷ []) []
-returns_by kept kind.Handler v = acts (action.Leave Ending ∷ []) []
-returns_by kept kind.Destructor v = acts (action.Leave Ending ∷ []) []
-returns_by kept kind.ExitFn v = acts (action.Leave Exiting ∷ []) []
+returns_by kept kind.Call v = record (acts []) { own = Some (own_action.Leave Running) }
+returns_by kept kind.PopHandler v = record (acts []) { own = Some (own_action.Leave Running) }
+returns_by kept kind.Handler v = record (acts []) { own = Some (own_action.Leave Ending) }
+returns_by kept kind.Destructor v = record (acts []) { own = Some (own_action.Leave Ending) }
+returns_by kept kind.ExitFn v = record (acts []) { own = Some (own_action.Leave Exiting) }
 returns_by kept kind.ForkFn v = leaves_handler kept
 
 -- the process ends with a status of 8 bits, and its threads do nothing more: no cleanup handler and no destructor runs (XSH _exit)
 unfoldable pub ends_now : ℕ → Transition
-ends_now v = acts (action.EndProcess (v % 256) ∷ []) (ProcessEnded (v % 256) ∷ [])
+ends_now v = record (acts (ProcessEnded (v % 256) ∷ [])) { process = Some (process_action.End (v % 256)) }
 
 -- a thread that exits its process calls the functions registered with atexit, the newest first, each with 0 and as often as it was
 -- registered; then the process ends with the value of exit (XSH exit)
 unfoldable pub goes_on_exiting : List ℕ → Option ℕ → Transition
-goes_on_exiting (f ∷ functions) value = acts (action.TakeExit ∷ action.CallAlone f 0 kind.ExitFn ∷ []) (ExitRun f ∷ [])
+goes_on_exiting (f ∷ functions) value = record (acts (ExitRun f ∷ [])) { own = Some (own_action.RunExitFunction f); shared = Some shared_action.TakeExit }
 goes_on_exiting [] (Some v) = ends_now v
 goes_on_exiting [] None = no_change
 
@@ -50,5 +52,5 @@ may_register shared = nat_lt (length shared.exit_functions) MAX_EXIT_FUNCTIONS &
 
 -- atexit of a function, if it can be registered: the result is 0, or 1
 unfoldable pub registers_if : Bool → ℕ → Dest → ℕ → Transition
-registers_if true next result f = goes_on next (action.AddExit f ∷ action.Write result 0 ∷ []) []
-registers_if false next result f = goes_on next (action.Write result 1 ∷ []) (Answer caller.AtExit 1 ∷ [])
+registers_if true next result f = record (goes_on next []) { writes = (result, 0) ∷ []; shared = Some (shared_action.AddExit f) }
+registers_if false next result f = record (goes_on next (Answer caller.AtExit 1 ∷ [])) { writes = (result, 1) ∷ [] }

@@ -1,27 +1,27 @@
 -- The script language's own statements. `next` is the pc of the next statement.
-use Rattle.std.specs.Prelude.{ℕ, suc, ◌+◌, ◌%◌, if◌then◌else◌, List, [], ◌∷◌, unwrap_or, nat_eq, slice_index}
+use Rattle.std.specs.Prelude.{ℕ, suc, ◌+◌, ◌%◌, if◌then◌else◌, List, [], ◌∷◌, unwrap_or, nat_eq, slice_index, Some}
 use Rattle.pct_model.specs.declared.statement.Dest.{Dest}
 use Rattle.pct_model.specs.declared.statement.Dest.TheVariants as destination
 use Rattle.pct_model.specs.declared.statement.Stmt.{Stmt}
 use Rattle.pct_model.specs.declared.event.What.TheVariants.{Emit}
 use Rattle.pct_model.specs.declared.frame.Frame.{Frame}
 use Rattle.pct_model.specs.declared.state.FrameKind.TheVariants as kind
-use Rattle.pct_model.specs.declared.transition.Action.TheVariants as action
+use Rattle.pct_model.specs.declared.transition.OwnAction.TheVariants as own_action
 use Rattle.pct_model.specs.declared.transition.Transition.{Transition}
 use Rattle.pct_model.specs.Jumps.{holds, is_while, close_of}
 use Rattle.pct_model.specs.Transitions.{goes_on}
 
 -- `nop`, and each statement that only goes to a pc
 unfoldable pub jumps : ℕ → Transition
-jumps next = goes_on next [] []
+jumps next = goes_on next []
 
 -- `emit`: the event has the value
 unfoldable pub emits : ℕ → ℕ → Transition
-emits next v = goes_on next [] (Emit v ∷ [])
+emits next v = goes_on next (Emit v ∷ [])
 
 -- `set`: a variable gets a value
 unfoldable pub sets : ℕ → Dest → ℕ → Transition
-sets next d v = goes_on next (action.Write d v ∷ []) []
+sets next d v = record (goes_on next []) { writes = (d, v) ∷ [] }
 
 -- the value of a variable; `-`, which the grammar does not allow here, has the value 0
 unfoldable pub variable_value : List ℕ → Frame → Dest → ℕ
@@ -35,7 +35,7 @@ adds next d old v = sets next d ((old + v) % 4294967296)
 
 -- `do`: a call of a function
 unfoldable pub calls : ℕ → ℕ → ℕ → Transition
-calls next f v = goes_on next (action.Call f v kind.Call ∷ []) []
+calls next f v = record (goes_on next []) { own = Some (own_action.Call f v kind.Call) }
 
 -- ---- jumps
 

@@ -1,9 +1,11 @@
 -- Semaphores (XSH sem_wait, sem_post). The count of a semaphore is its value. `next` is the pc of the next statement.
-use Rattle.std.specs.Prelude.{ℕ, suc, ◌-◌, ◌%◌, [], ◌∷◌}
+use Rattle.std.specs.Prelude.{ℕ, suc, ◌-◌, ◌%◌, [], ◌∷◌, Some}
 use Rattle.pct_model.specs.declared.event.What.TheVariants as what
 use Rattle.pct_model.specs.declared.point.TheConstants.{SEM_WAIT_POINT}
+use Rattle.pct_model.specs.declared.state.Status.TheVariants as status
 use Rattle.pct_model.specs.declared.statement.Stmt.TheVariants as statement
-use Rattle.pct_model.specs.declared.transition.Action.TheVariants as action
+use Rattle.pct_model.specs.declared.transition.OwnAction.TheVariants as own_action
+use Rattle.pct_model.specs.declared.transition.SharedAction.TheVariants as shared_action
 use Rattle.pct_model.specs.declared.transition.Transition.{Transition}
 use Rattle.pct_model.specs.NextStatement.{NextStatement, StatementIn}
 use Rattle.pct_model.specs.Transitions.{goes_on, acts, no_change}
@@ -15,15 +17,15 @@ sem_wait_point = SEM_WAIT_POINT
 -- sem_wait: the thread is suspended until the count of semaphore s is above 0. That each sem_wait is two transitions, its call and its
 -- return, is a choice of this host
 unfoldable pub begins_sem_wait : ℕ → Transition
-begins_sem_wait s = acts (action.BeginSem s ∷ []) (what.Called sem_wait_point ∷ [])
+begins_sem_wait s = record (acts (what.Called sem_wait_point ∷ [])) { own = Some (own_action.SetStatus (status.InSem s)) }
 
 -- the thread decrements the count of semaphore s, and returns from sem_wait
 unfoldable pub takes : ℕ → ℕ → NextStatement → Transition
-takes s count (StatementIn frame (statement.SemWait sem)) = goes_on (suc frame.pc) (action.SetCount s (count - 1) ∷ []) (what.Taken s ∷ [])
+takes s count (StatementIn frame (statement.SemWait sem)) = record (goes_on (suc frame.pc) (what.Taken s ∷ [])) { shared = Some (shared_action.SetCount s (count - 1)) }
 takes s count next = no_change
 
 -- sem_post: the count of semaphore s is incremented. Which thread returns from sem_wait then, also one that calls it later, is not decided
 -- here: a choice of this host. The sum wraps, as every sum of this host does, but no run gets there: an initial count is small, and a run
 -- has few steps
 unfoldable pub posts : ℕ → ℕ → ℕ → Transition
-posts next s count = goes_on next (action.SetCount s (suc count % 4294967296) ∷ []) (what.Posted s ∷ [])
+posts next s count = record (goes_on next (what.Posted s ∷ [])) { shared = Some (shared_action.SetCount s (suc count % 4294967296)) }

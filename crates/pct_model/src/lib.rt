@@ -53,5 +53,5 @@ pub use state::{Cause, ForkAt, FrameKind, Mode, Phase, Reason, State, Status};
 pub use statement::{Dest, Operand, Stmt};
 pub use stop::{Verdict, Why};
 pub use syntax::line_kind_with;
-pub use transition::{Action, NewThread, Transition};
+pub use transition::{NamedAction, NewThread, OwnAction, ProcessAction, SharedAction, Transition};
 pub use up_to_three::UpToThree;

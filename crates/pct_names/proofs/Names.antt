@@ -141,14 +141,17 @@ pub use Rattle.pct_model.specs.declared.stop.Verdict.{Verdict}
 pub use Rattle.pct_model.specs.declared.stop.Verdict.TheVariants.{Budget, Complete, Deadlock, Open}
 pub use Rattle.pct_model.specs.declared.stop.Why.{Why}
 pub use Rattle.pct_model.specs.declared.stop.Why.TheVariants.{AsyncCall, ForkChildCall}
-pub use Rattle.pct_model.specs.declared.transition.Action.{Action}
+pub use Rattle.pct_model.specs.declared.transition.NamedAction.{NamedAction}
 pub use Rattle.pct_model.specs.declared.transition.NewThread.{NewThread}
+pub use Rattle.pct_model.specs.declared.transition.OwnAction.{OwnAction}
+pub use Rattle.pct_model.specs.declared.transition.ProcessAction.{ProcessAction}
+pub use Rattle.pct_model.specs.declared.transition.SharedAction.{SharedAction}
 pub use Rattle.pct_model.specs.declared.transition.Transition.{Transition}
-pub use Rattle.pct_model.specs.Actions.{as_reaped, at_pc, changed, for_each, frames_written, has_ended, in_child, is_live_process, moved}
-pub use Rattle.pct_model.specs.Actions.{orphaned, process_made, process_moved, replica_of, set_local, thread_created, thread_moved}
-pub use Rattle.pct_model.specs.Actions.{threads_moved, without_first}
+pub use Rattle.pct_model.specs.Actions.{as_reaped, at_pc, changed, frames_written, globals_written, has_ended, in_child, is_live_process, moved}
+pub use Rattle.pct_model.specs.Actions.{orphaned, process_made, process_moved, replica_of, set_local, shared_moved, thread_created}
+pub use Rattle.pct_model.specs.Actions.{thread_moved, threads_moved, without_first, written}
 unfoldable pub use Rattle.pct_model.specs.Actions.{after_transition, child_by, child_of, inherited, named_after, other_process_after}
-unfoldable pub use Rattle.pct_model.specs.Actions.{process_after, shared_after, stop_after, thread_after, thread_at}
+unfoldable pub use Rattle.pct_model.specs.Actions.{own_after, process_after, shared_after, stop_after, thread_at}
 pub use Rattle.pct_model.specs.CancelCalls.{is_optional, is_required, mode_if, mode_number, state_if, state_number, testcancel_point}
 unfoldable pub use Rattle.pct_model.specs.CancelCalls.{acts_on_request, called_kind, calls_point, may_return, passes_point, point_kind}
 unfoldable pub use Rattle.pct_model.specs.CancelCalls.{requests, sets_mode, sets_state, tests_cancel}

@@ -1,16 +1,16 @@
 -- After every run, the fork of each thread: in a fork handler a thread has the frame of a plain function on top, and the kept values of
 -- its fork; otherwise it has neither.
-use Rattle.pct_names.proofs.Names.{◌<◌, [], Action, All-from_recursion, and_parts, ap, arith, at_pc, body_at, Bool, cond, Config, Dest}
-use Rattle.pct_names.proofs.Names.{encode, false, false≢true, for_each, ForkAt, Frame, FrameKind, frames_written, inl, inr, is_fork_kind}
-use Rattle.pct_names.proofs.Names.{is_some, length, List, list_all, list_any, main_of, MAX_FRAMES, moved, names_of, new_frame, next_of}
-use Rattle.pct_names.proofs.Names.{NextStatement, None, not, not-true, Option, or_from, or_parts, Others, others_of, refl, Script}
-use Rattle.pct_names.proofs.Names.{set_local, SharedState, Some, Status, Stmt, subst, suc, sym, syntax_of, Thread, thread_after, thread_at}
-use Rattle.pct_names.proofs.Names.{Transition, true, value_of, without_first, ◌||◌, ℕ, ◌∙◌, ◌∷◌, ◌≡◌, ◌≤◌, ◌⊎◌}
+use Rattle.pct_names.proofs.Names.{◌<◌, [], All-from_recursion, ap, arith, at_pc, body_at, Bool, cond, Config, Dest, encode, false}
+use Rattle.pct_names.proofs.Names.{false≢true, ForkAt, Frame, FrameKind, frames_written, inl, inr, is_fork_kind, is_some, length, List}
+use Rattle.pct_names.proofs.Names.{list_any, main_of, MAX_FRAMES, moved, names_of, new_frame, next_of, NextStatement, None, Option, or_from}
+use Rattle.pct_names.proofs.Names.{or_parts, Others, others_of, own_after, OwnAction, refl, Script, set_local, SharedState, Some, Status}
+use Rattle.pct_names.proofs.Names.{Stmt, subst, suc, sym, syntax_of, Thread, thread_at, Transition, true, value_of, without_first, written}
+use Rattle.pct_names.proofs.Names.{◌||◌, ℕ, ◌∙◌, ◌∷◌, ◌≡◌, ◌≤◌, ◌⊎◌}
 use Rattle.std.proofs.lemmas.Bool.{leb-true}
 use Rattle.pct_model.specs.declared.state.FrameKind.TheVariants as kind
 use Rattle.pct_model.specs.declared.state.Status.TheVariants as status
 use Rattle.pct_model.specs.declared.statement.Dest.TheVariants as destination
-use Rattle.pct_model.specs.declared.transition.Action.TheVariants as action
+use Rattle.pct_model.specs.declared.transition.OwnAction.TheVariants as own_action
 use Rattle.pct_laws.specs.Kept.{is_in_fork_handler, IsPlainFunction, ForkKept, EachThread}
 use Rattle.pct_transition_cases.proofs.CaseOfTransition.{case_of}
 use Rattle.pct_transition_cases.proofs.PlacedStatements.{IsPlaced, is_placed}
@@ -101,29 +101,31 @@ called_outside pc f a k other (frame ∷ below) kept room out = record {
 }
 
 -- the action adds no frame to others, and none of a fork handler
-abbrev stays_outside : Action → Bool
-stays_outside (action.Call f a k) = false
-stays_outside (action.CallAlone f a k) = not (is_fork_kind k)
-stays_outside (action.KeepFork at) = false
+abbrev stays_outside : Option OwnAction → Bool
+stays_outside (Some (own_action.Call f a k)) = false
+stays_outside (Some (own_action.CallHandler f a)) = false
+stays_outside (Some (own_action.CallForkHandler at f)) = false
 stays_outside _ = true
 
--- such an action keeps a thread outside, and so do such actions
-action_outside : (a : Action) → stays_outside a ≡ true → (t : Thread) → Outside t.frames t.kept → Outside (thread_after a t).frames (thread_after a t).kept
-unfolding thread_after
-action_outside (action.Write d v) stays t out = written_outside d v t.frames t.kept out
-action_outside (action.Call f a k) stays t out = absurd (false≢true stays)
-action_outside (action.CallAlone f a k) stays t out = one_frame (new_frame f a k) (not-true (is_fork_kind k) stays) t.kept out.not_kept
-action_outside (action.Leave s) stays t out = left_outside t.frames t.kept out
-action_outside (action.KeepFork at) stays t out = absurd (false≢true stays)
-action_outside (action.BeginEnd why) stays t out = without_frames
-action_outside (action.BeginExit v) stays t out = without_frames
+-- such an action keeps a thread outside
+action_outside : (a : Option OwnAction) → stays_outside a ≡ true → (t : Thread) → Outside t.frames t.kept → Outside (own_after a t).frames (own_after a t).kept
+unfolding own_after
+action_outside (Some (own_action.Call f a k)) stays t out = absurd (false≢true stays)
+action_outside (Some (own_action.CallHandler f a)) stays t out = absurd (false≢true stays)
+action_outside (Some (own_action.RunHandler f a)) stays t out = one_frame (new_frame f a kind.Handler) refl t.kept out.not_kept
+action_outside (Some (own_action.RunDestructor k f v)) stays t out = one_frame (new_frame f v kind.Destructor) refl t.kept out.not_kept
+action_outside (Some (own_action.RunExitFunction f)) stays t out = one_frame (new_frame f 0 kind.ExitFn) refl t.kept out.not_kept
+action_outside (Some (own_action.CallForkHandler at f)) stays t out = absurd (false≢true stays)
+action_outside (Some (own_action.Leave s)) stays t out = left_outside t.frames t.kept out
+action_outside (Some (own_action.BeginEnd why)) stays t out = without_frames
+action_outside (Some own_action.BeginExit) stays t out = without_frames
+action_outside (Some own_action.EndLast) stays t out = without_frames
 action_outside _ stays t out = out
 
-actions_outside : (actions : List Action) → list_all stays_outside actions ≡ true → (t : Thread) → Outside t.frames t.kept → Outside (for_each thread_after actions t).frames (for_each thread_after actions t).kept
-actions_outside [] all t out = out
-actions_outside (a ∷ actions) all t out =
-    let parts = and_parts (stays_outside a) (list_all stays_outside actions) all in
-    actions_outside actions parts.1 (thread_after a t) (action_outside a parts.0 t out)
+-- and so do values that are written
+all_written_outside : (writes : List (Dest × ℕ)) (frames : List Frame) (kept : Option ForkAt) → Outside frames kept → Outside (written frames_written writes frames) kept
+all_written_outside [] frames kept out = out
+all_written_outside ((d, v) ∷ writes) frames kept out = all_written_outside writes (frames_written d v frames) kept (written_outside d v frames kept out)
 
 -- a thread that goes on at the next statement
 going_outside : (next : Option ℕ) (t : Thread) → Outside t.frames t.kept → Outside (thread_at next t).frames (thread_at next t).kept
@@ -131,16 +133,19 @@ unfolding thread_at
 going_outside None t out = out
 going_outside (Some pc) t out = pc_outside pc t.frames t.kept out
 
--- a thread after a transition of such actions
-moved_outside : (o : Transition) → list_all stays_outside o.actions ≡ true → (t : Thread) → Outside t.frames t.kept → Outside (moved o t).frames (moved o t).kept
-moved_outside o all t out = actions_outside o.actions all (thread_at o.next t) (going_outside o.next t out)
+-- a thread after a transition with such an action
+moved_outside : (o : Transition) → stays_outside o.own ≡ true → (t : Thread) → Outside t.frames t.kept → Outside (moved o t).frames (moved o t).kept
+moved_outside o stays t out =
+    let at : Thread = thread_at o.next t in
+    let frames : List Frame = written frames_written o.writes at.frames in
+    action_outside o.own stays (record at { frames = frames }) (all_written_outside o.writes at.frames at.kept (going_outside o.next t out))
 
 -- ---- transitions
 
 module _ (script : Script) (passes : ℕ) (shared : SharedState) (registered : RegistersPlain script shared) where
   -- a thread outside of fork handlers
   case_outside : (t : Thread) (others : Others) {body : List Stmt} {next : NextStatement} {s : Status} {o : Transition} → TransitionCase passes body shared t others true next s o → Outside t.frames t.kept → ForkFits script (view script (moved o t))
-  unfolding thread_at thread_after
+  unfolding thread_at own_after
   case_outside t others (function_called frame f v room) out = inl (called_outside (suc frame.pc) f (value_of shared.globals frame v) kind.Call refl t.frames t.kept room out)
   case_outside t others (handler_called frame v f a handlers is room not_zero) out = inl (called_outside (suc frame.pc) f a kind.PopHandler refl t.frames t.kept room out)
   case_outside t others (fork_handler_called next at call is) out = inr (record {
@@ -165,7 +170,7 @@ module _ (script : Script) (passes : ℕ) (shared : SharedState) (registered : R
 
     -- its transitions
     case_inside : {body : List Stmt} {next : NextStatement} {o : Transition} → TransitionCase passes body shared own others true next status.Running o → is_plain_next next ≡ true → ForkFits script (view script (moved o own))
-    unfolding thread_at thread_after encode syntax_of
+    unfolding thread_at own_after encode syntax_of
     case_inside (rests next s alive) plain = inr inside
     case_inside (stopped _ s why) plain = inr inside
     case_inside (jumped _ _ pc leads) plain = inr inside

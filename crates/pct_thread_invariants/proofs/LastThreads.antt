@@ -1,11 +1,11 @@
 -- The last thread of a process that ends goes on to exit it: each thread of the process has ended then.
 use Rattle.pct_names.proofs.Names.{◌&&◌, ap, body_at, Bool, changed, child_of, cond, cond_some, Config, Entry, false, false≢true, find}
-use Rattle.pct_names.proofs.Names.{holds_slot, inl, inr, is_ended_status, is_live_thread, List, moved, named_after, nat_eq, next_of, None}
-use Rattle.pct_names.proofs.Names.{none-some, not, Others, others_of, position_or_len, Process, refl, Script, Some, subst, sym, Thread}
-use Rattle.pct_names.proofs.Names.{thread_moved, thread_with, Transition, transition_by, true, World, ◌||◌, ℕ, ◌∙◌, ◌≡◌, ◌⊎◌}
+use Rattle.pct_names.proofs.Names.{holds_slot, inl, inr, is_ended_status, is_live_thread, List, moved, nat_eq, next_of, None, none-some}
+use Rattle.pct_names.proofs.Names.{not, Others, others_of, position_or_len, Process, refl, Script, Some, subst, sym, Thread, thread_moved}
+use Rattle.pct_names.proofs.Names.{thread_with, Transition, transition_by, true, World, ◌||◌, ℕ, ◌∙◌, ◌≡◌, ◌⊎◌}
 use Rattle.pct_laws.specs.ThreadSummary.{ThreadSummary}
 use Rattle.pct_thread_invariants.proofs.lift.KeyedLists.{found_at, item_passes}
-use Rattle.pct_thread_invariants.proofs.lift.ChangedThreads.{all_keep, same_settled, named_keeps, other_threads}
+use Rattle.pct_thread_invariants.proofs.lift.ChangedThreads.{same_settled, named_keeps, other_threads}
 use Rattle.pct_thread_invariants.proofs.lift.TakenSteps.{AfterEveryRun}
 use Rattle.pct_thread_invariants.proofs.lift.MadeThreads.{IsLive}
 use Rattle.pct_thread_invariants.proofs.lift.ThreadsAfter.{initial_thread, Moves, mover, is_mover, each_after}
@@ -40,7 +40,7 @@ view t = (t.gone, t.ended, is_ended_status t.status)
 -- a thread after a transition of the one with an id, if it is that one or not
 moved_view : (tid : ℕ) (o : Transition) (t : Thread) (live : Bool) → is_live_thread tid t ≡ live → view (thread_moved tid o t) ≡ view (cond live (moved o t) t)
 moved_view tid o t live is =
-    all_keep view named_after (named_keeps view (λ t j p d k s is. ap (λ (b : Bool). (t.gone, t.ended, b)) (same_settled is_ended_status (λ c m why. refl) s t.status is))) o.actions (cond (is_live_thread tid t) (moved o t) t) ∙ ap (λ (b : Bool). view (cond b (moved o t) t)) is
+    named_keeps view (λ t j p d k s is. ap (λ (b : Bool). (t.gone, t.ended, b)) (same_settled is_ended_status (λ c m why. refl) s t.status is)) o.named (cond (is_live_thread tid t) (moved o t) t) ∙ ap (λ (b : Bool). view (cond b (moved o t) t)) is
 
 -- a thread that is not the one with an id that holds its slot has ended, if each thread that holds its slot has ended or has the id
 ended_by : (here is_end reclaimed ended same : Bool) → here ≡ true → (is_end ≡ true → ended ≡ true) → (same && (here && not (is_end && reclaimed))) ≡ false → (not (here && not (is_end && reclaimed)) || (ended || same)) ≡ true → ended ≡ true

@@ -1,13 +1,13 @@
 -- What every run keeps of each thread: the rule of the thread, and so the sentences of Kept.antt.
-use Rattle.pct_names.proofs.Names.{◌&&◌, Action, Alt, ap, Bool, Cause, choices_of, cond, Config, Entry, false, false≢true, Frame}
-use Rattle.pct_names.proofs.Names.{has_left_wait, inl, inr, is_ended_status, is_forking, is_live_thread, is_waiting_on, key_place, List}
-use Rattle.pct_names.proofs.Names.{made_process, main_of, named_after, names_of, not, offers, option_and_then, Process, Reason, refl}
-use Rattle.pct_names.proofs.Names.{reverse, Run, run, Script, Some, Status, subst, sym, Thread, thread_with, transition_by, true, unblocked}
-use Rattle.pct_names.proofs.Names.{World, ℕ, ◌∙◌, ◌≡◌}
+use Rattle.pct_names.proofs.Names.{◌&&◌, Alt, ap, Bool, Cause, choices_of, cond, Config, Entry, false, false≢true, Frame, has_left_wait}
+use Rattle.pct_names.proofs.Names.{inl, inr, is_ended_status, is_forking, is_live_thread, is_waiting_on, key_place, List, made_process}
+use Rattle.pct_names.proofs.Names.{main_of, named_after, NamedAction, names_of, None, not, offers, Option, option_and_then, Process, Reason}
+use Rattle.pct_names.proofs.Names.{refl, reverse, Run, run, Script, Some, Status, subst, sym, Thread, thread_with, transition_by, true}
+use Rattle.pct_names.proofs.Names.{unblocked, World, ℕ, ◌∙◌, ◌≡◌}
 use Rattle.pct_model.specs.declared.state.Cause.TheVariants as cause
 use Rattle.pct_model.specs.declared.state.FrameKind.TheVariants as kind
 use Rattle.pct_model.specs.declared.state.Status.TheVariants as status
-use Rattle.pct_model.specs.declared.transition.Action.TheVariants as action
+use Rattle.pct_model.specs.declared.transition.NamedAction.TheVariants as named_action
 use Rattle.pct_laws.specs.Kept.{is_exiting, ThreadKept, KeysKept}
 use Rattle.pct_laws.specs.Each.{each}
 use Rattle.pct_laws.specs.Once.{may_come, allows}
@@ -51,20 +51,20 @@ module _ (script : Script) (passes : ℕ) where
   unblocked_fits : (why : Cause) → ((c m : ℕ) → has_left_wait (status.Reacquire c m why) ≡ false) → (t : Thread) (s : ThreadSummary) → FitsAny script passes t s → FitsAny script passes (record t { status = unblocked why t.status }) s
   unblocked_fits why stays t s fits = record { agrees = fits.agrees; placed = fits.placed; by_status = any_unblocked why stays t.status t.reason t.frames t.handlers s fits.by_status; in_passes = fits.in_passes }
 
-  named_fits : (a : Action) (t : Thread) (s : ThreadSummary) → FitsAny script passes t s → FitsAny script passes (named_after a t) s
+  named_fits : (a : Option NamedAction) (t : Thread) (s : ThreadSummary) → FitsAny script passes t s → FitsAny script passes (named_after a t) s
   unfolding named_after
-  named_fits (action.EndJoin id) t s fits = named_if (is_live_thread id t) (record t { joined = true }) t s fits fits
-  named_fits (action.Request id) t s fits = named_if (is_live_thread id t && not t.ended) (record t { pending = true }) t s fits fits
-  named_fits (action.Detach id) t s fits = named_if (is_live_thread id t) (record t { detached = true }) t s fits fits
-  named_fits (action.Wake id) t s fits = named_if (is_live_thread id t) (record t { status = unblocked cause.Signalled t.status }) t s (unblocked_fits cause.Signalled (λ c m. refl) t s fits) fits
-  named_fits (action.WakeAll c) t s fits = named_if (is_waiting_on c t.status) (record t { status = unblocked cause.Broadcast t.status }) t s (unblocked_fits cause.Broadcast (λ c m. refl) t s fits) fits
-  named_fits (action.DeleteKey k) t s fits = record {
+  named_fits (Some (named_action.EndJoin id)) t s fits = named_if (is_live_thread id t) (record t { joined = true }) t s fits fits
+  named_fits (Some (named_action.Request id)) t s fits = named_if (is_live_thread id t && not t.ended) (record t { pending = true }) t s fits fits
+  named_fits (Some (named_action.Detach id)) t s fits = named_if (is_live_thread id t) (record t { detached = true }) t s fits fits
+  named_fits (Some (named_action.Wake id)) t s fits = named_if (is_live_thread id t) (record t { status = unblocked cause.Signalled t.status }) t s (unblocked_fits cause.Signalled (λ c m. refl) t s fits) fits
+  named_fits (Some (named_action.WakeAll c)) t s fits = named_if (is_waiting_on c t.status) (record t { status = unblocked cause.Broadcast t.status }) t s (unblocked_fits cause.Broadcast (λ c m. refl) t s fits) fits
+  named_fits (Some (named_action.ForgetKey k)) t s fits = record {
     agrees = fits.agrees;
     placed = fits.placed;
     by_status = fits.by_status;
     in_passes = leaves_pass passes t.pass t.specific.in_pass s.passes s.destroyed fits.in_passes (key_place k);
   }
-  named_fits _ t s fits = fits
+  named_fits None t s fits = fits
 
 -- a thread that exits its process does not have the status of its end
 pub exiting_alive : (s : Status) (frames : List Frame) → is_exiting s frames ≡ true → is_ended_status s ≡ false

@@ -30,7 +30,9 @@ use Rattle.pct_model.specs.declared.state.FrameKind.TheVariants as kind
 use Rattle.pct_model.specs.declared.state.Phase.TheVariants.{Child as ChildPhase}
 use Rattle.pct_model.specs.declared.state.Status.TheVariants as status
 use Rattle.pct_model.specs.declared.statement.Stmt.TheVariants as statement
-use Rattle.pct_model.specs.declared.transition.Action.TheVariants as action
+use Rattle.pct_model.specs.declared.transition.NamedAction.TheVariants as named_action
+use Rattle.pct_model.specs.declared.transition.OwnAction.TheVariants as own_action
+use Rattle.pct_model.specs.declared.transition.SharedAction.TheVariants as shared_action
 use Rattle.pct_transition_cases.proofs.OfferedChoices.{is_acting, goes_at, Offered, offered_alive, may_go_on, act_delivered, act_where_it_may, heir_among, picked_among, id_among, key_among, left_among, offered_of, free_to_lock, gone_on_at_required, no_key_left}
 use Rattle.pct_transition_cases.proofs.TransitionCases.{past_nop, past_if, past_while, past_else, past_end, Returns, by_return, by_end, TransitionCase, rests, stopped, jumped, emitted, variable_set, variable_added, function_called, main_returned, start_returned, call_left, handler_left, exit_function_left, thread_made, thread_not_made, join_begun, join_ended, thread_detached, self_got, request_sent, state_set, mode_set, cancel_tested, point_begun, point_done, point_passed, canceled, canceled_at_point, canceled_in_join, canceled_in_sem_wait, canceled_in_waitpid, mutex_locked, mutex_unlocked, wait_begun, wait_ended, canceled_in_wait, canceled_after_wait, signal_handed_on, ended_in_wait, signal_sent, signal_lost, broadcast_sent, sem_wait_begun, sem_taken, sem_posted, fork_registered, fork_not_registered, fork_begun, fork_handler_called, fork_handler_left, process_forked, process_not_forked, fork_failed, fork_returned, waitpid_begun, child_reaped, no_child_found, child_lost, key_made, key_not_made, key_deleted, specific_set, specific_got, handler_pushed, handler_popped, handler_called, exit_called, handler_run, destructor_called, pass_begun, thread_ended, thread_ended_with_keys, last_ended, last_ended_with_keys, exit_registered, exit_not_registered, process_exited, process_ended_now, exit_function_called, process_ended}
 
@@ -191,7 +193,7 @@ module _ (passes : ℕ) (body : List Stmt) (shared : SharedState) (t : Thread) (
   -- pthread_atfork, by whether there is room for one more registration
   register_fork_case : (frame : Frame) (result : Dest) (prepare parent child : Option ℕ) (room : Bool) → nat_lt (length shared.fork_handlers) MAX_FORK_HANDLERS ≡ room
       → Case (StatementIn frame (statement.AtFork result prepare parent child)) status.Running
-      (cond room (goes_on (suc frame.pc) (action.AddForkHandlers (record { prepare = prepare; parent = parent; child = child }) ∷ action.Write result 0 ∷ []) []) (goes_on (suc frame.pc) (action.Write result 2 ∷ []) (what.Answer caller.AtFork 2 ∷ [])))
+      (cond room (record (goes_on (suc frame.pc) []) { writes = (result, 0) ∷ []; shared = Some (shared_action.AddForkHandlers (record { prepare = prepare; parent = parent; child = child })) }) (record (goes_on (suc frame.pc) (what.Answer caller.AtFork 2 ∷ [])) { writes = (result, 2) ∷ [] }))
   register_fork_case frame result prepare parent child true is = fork_registered frame result (record { prepare = prepare; parent = parent; child = child }) (ltb-true (length shared.fork_handlers) MAX_FORK_HANDLERS is)
   register_fork_case frame result prepare parent child false is = fork_not_registered frame result prepare parent child
 
@@ -201,7 +203,7 @@ module _ (passes : ℕ) (body : List Stmt) (shared : SharedState) (t : Thread) (
   waitpid_case frame result d pid unasked None = no_child_found frame result d pid unasked
 
   pop_by : (frame : Frame) (v : Operand) (f a : ℕ) (handlers : List (ℕ × ℕ)) → t.handlers ≡ (f, a) ∷ handlers → (drop : Bool) → nat_eq (value frame v) 0 ≡ drop → not drop && is_stack_full t.frames ≡ false
-      → Case (StatementIn frame (statement.Pop v)) status.Running (cond drop (goes_on (suc frame.pc) (action.PopHandler ∷ []) (what.Popped f a false ∷ [])) (goes_on (suc frame.pc) (action.PopHandler ∷ action.Call f a kind.PopHandler ∷ []) (what.Popped f a true ∷ [])))
+      → Case (StatementIn frame (statement.Pop v)) status.Running (cond drop (record (goes_on (suc frame.pc) (what.Popped f a false ∷ [])) { own = Some own_action.PopHandler }) (record (goes_on (suc frame.pc) (what.Popped f a true ∷ [])) { own = Some (own_action.CallHandler f a) }))
   pop_by frame v f a handlers is true zero none = handler_popped frame v f a handlers is zero
   pop_by frame v f a handlers is false not_zero none = handler_called frame v f a handlers is (below_limit (length t.frames) MAX_FRAMES none) not_zero
 
@@ -315,7 +317,7 @@ module _ (passes : ℕ) (body : List Stmt) (shared : SharedState) (t : Thread) (
   forked_case index length answer next None is = process_not_forked next index length answer
 
   parent_case : (frame : Frame) (result child : Dest) (index length pid : ℕ) (none : Bool)
-      → Case (StatementIn frame (statement.Fork result child)) (status.Forking Parent index length pid) (cond none (goes_on (suc frame.pc) (action.Write result 1 ∷ []) []) (goes_on (suc frame.pc) (action.Write result 0 ∷ action.Write child pid ∷ []) []))
+      → Case (StatementIn frame (statement.Fork result child)) (status.Forking Parent index length pid) (cond none (record (goes_on (suc frame.pc) []) { writes = (result, 1) ∷ [] }) (record (goes_on (suc frame.pc) []) { writes = (result, 0) ∷ (child, pid) ∷ [] }))
   parent_case frame result child index length pid true = fork_failed frame result child index length pid
   parent_case frame result child index length pid false = fork_returned frame result child Parent index length pid pid
 
@@ -356,12 +358,12 @@ module _ (passes : ℕ) (body : List Stmt) (shared : SharedState) (t : Thread) (
     destructor_case k among (Some key) is = destructor_by k key among is key.destructor refl
     destructor_case k among None is = rests next status.Ending (λ known. refl)
 
-    ended_by : NoneLeft → (left : ℕ) → left ≡ due → (0 < left → passes ≤ t.pass) → (none : Bool) → nat_eq left 0 ≡ none → Case next status.Ending (acts (action.EndThread (end_value t.reason) ∷ []) (cond none [] (what.Leftover left ∷ []) ++ what.EndedWith (end_value t.reason) ∷ []))
+    ended_by : NoneLeft → (left : ℕ) → left ≡ due → (0 < left → passes ≤ t.pass) → (none : Bool) → nat_eq left 0 ≡ none → Case next status.Ending (record (acts (cond none [] (what.Leftover left ∷ []) ++ what.EndedWith (end_value t.reason) ∷ [])) { own = Some (own_action.EndThread (end_value t.reason)) })
     ended_by none_left left all last true is = thread_ended next no_handlers (sym all ∙ eqb-true left 0 is) none_left
     ended_by none_left left all last false is = let some : 0 < left = pos_of_ne-zero (eqb-false left 0 is) in thread_ended_with_keys next left no_handlers some (last some) all none_left
 
     last_ended_by : NoneLeft → others.is_last ≡ true → (left : ℕ) → left ≡ due → (0 < left → passes ≤ t.pass) → (none : Bool) → nat_eq left 0 ≡ none
-        → Case next status.Ending (acts (action.MarkEnded ∷ action.BeginExit 0 ∷ []) (cond none [] (what.Leftover left ∷ []) ++ what.EndedWith (end_value t.reason) ∷ what.ExitBegun 0 ∷ []))
+        → Case next status.Ending (record (acts (cond none [] (what.Leftover left ∷ []) ++ what.EndedWith (end_value t.reason) ∷ what.ExitBegun 0 ∷ [])) { own = Some own_action.EndLast; shared = Some (shared_action.BeginExit 0) })
     last_ended_by none_left is_last left all last true is = last_ended next no_handlers is_last (sym all ∙ eqb-true left 0 is) none_left
     last_ended_by none_left is_last left all last false is = let some : 0 < left = pos_of_ne-zero (eqb-false left 0 is) in last_ended_with_keys next left no_handlers is_last some (last some) all none_left
 
@@ -372,7 +374,7 @@ module _ (passes : ℕ) (body : List Stmt) (shared : SharedState) (t : Thread) (
 
     -- keys are due, and the limit allows a pass
     pass_by : NoneLeft → (left : ℕ) → left ≡ due → (some more : Bool) → not (nat_eq left 0) ≡ some → nat_lt t.pass passes ≡ more
-        → Case next status.Ending (cond (some && more) (acts (action.BeginPass ∷ []) (what.PassBegun (suc t.pass) ∷ [])) (ends_thread others.is_last left (end_value t.reason)))
+        → Case next status.Ending (cond (some && more) (record (acts (what.PassBegun (suc t.pass) ∷ [])) { own = Some own_action.BeginPass }) (ends_thread others.is_last left (end_value t.reason)))
     pass_by none_left left all true true is below = pass_begun next no_handlers (ltb-true t.pass passes below) (subst (λ n. 0 < n) all (pos_of_ne-zero (eqb-false left 0 (not-true (nat_eq left 0) is)))) none_left
     pass_by none_left left all true false is past = ended_case none_left left all (λ some. ltb-false t.pass passes past) others.is_last refl
     pass_by none_left left all false more is limit =
@@ -413,7 +415,7 @@ module _ (passes : ℕ) (body : List Stmt) (shared : SharedState) (t : Thread) (
   going_case choice next s may = rests next s (λ known. offered_alive (offered_of body shared t others choice next s (may known).0))
 
   handing_case : (u : ℕ) (next : NextStatement) (c m : ℕ) → (offered ≡ true → Offered shared t others next (status.Reacquire c m cause.Signalled) (alt.Act u)) → (none : Bool) → nat_eq u 0 ≡ none
-      → Case next (status.Reacquire c m cause.Signalled) (cond none (leaves_wait c m) (acts (action.LeaveWait c m ∷ action.Wake u ∷ []) (what.WaitCanceled c ∷ what.HandedOn c u ∷ [])))
+      → Case next (status.Reacquire c m cause.Signalled) (cond none (leaves_wait c m) (record (acts (what.WaitCanceled c ∷ what.HandedOn c u ∷ [])) { own = Some (own_action.SetStatus (status.Reacquire c m cause.Canceled)); named = Some (named_action.Wake u) }))
   unfolding leaves_wait
   handing_case u next c m may true is = canceled_after_wait next c m cause.Signalled refl (λ known. act_delivered (may known))
   handing_case u next c m may false is = signal_handed_on next c m u (λ known. act_delivered (may known)) (λ known. heir_among (may known) is)

@@ -19,7 +19,10 @@ use Rattle.pct_model.specs.declared.state.FrameKind.TheVariants as kind
 use Rattle.pct_model.specs.declared.state.Reason.TheVariants as reason
 use Rattle.pct_model.specs.declared.state.Status.TheVariants as status
 use Rattle.pct_model.specs.declared.statement.Stmt.TheVariants as statement
-use Rattle.pct_model.specs.declared.transition.Action.TheVariants as action
+use Rattle.pct_model.specs.declared.transition.NamedAction.TheVariants as named_action
+use Rattle.pct_model.specs.declared.transition.OwnAction.TheVariants as own_action
+use Rattle.pct_model.specs.declared.transition.ProcessAction.TheVariants as process_action
+use Rattle.pct_model.specs.declared.transition.SharedAction.TheVariants as shared_action
 
 -- ---- jumps and returns
 
@@ -51,163 +54,163 @@ module _ (passes : ℕ) (body : List Stmt) (shared : SharedState) (t : Thread) (
     rests : (next : NextStatement) (s : Status) → (offered ≡ true → is_ended_status s ≡ false) → TransitionCase next s no_change
     stopped : (frame : Frame) (s : Stmt) (why : Why) → TransitionCase (StatementIn frame s) status.Running (stops why)
     -- statements of the script language
-    jumped : (frame : Frame) (s : Stmt) (pc : ℕ) → Leads body shared.globals frame s pc → TransitionCase (StatementIn frame s) status.Running (goes_on pc [] [])
-    emitted : (frame : Frame) (v : Operand) → TransitionCase (StatementIn frame (statement.Emit v)) status.Running (goes_on (suc frame.pc) [] (what.Emit (value frame v) ∷ []))
-    variable_set : (frame : Frame) (d : Dest) (v : Operand) → TransitionCase (StatementIn frame (statement.Set d v)) status.Running (goes_on (suc frame.pc) (action.Write d (value frame v) ∷ []) [])
+    jumped : (frame : Frame) (s : Stmt) (pc : ℕ) → Leads body shared.globals frame s pc → TransitionCase (StatementIn frame s) status.Running (goes_on pc [])
+    emitted : (frame : Frame) (v : Operand) → TransitionCase (StatementIn frame (statement.Emit v)) status.Running (goes_on (suc frame.pc) (what.Emit (value frame v) ∷ []))
+    variable_set : (frame : Frame) (d : Dest) (v : Operand) → TransitionCase (StatementIn frame (statement.Set d v)) status.Running (record (goes_on (suc frame.pc) []) { writes = (d, value frame v) ∷ [] })
     variable_added : (frame : Frame) (d : Dest) (v : Operand)
-        → TransitionCase (StatementIn frame (statement.Add d v)) status.Running (goes_on (suc frame.pc) (action.Write d ((variable_value shared.globals frame d + value frame v) % 4294967296) ∷ []) [])
+        → TransitionCase (StatementIn frame (statement.Add d v)) status.Running (record (goes_on (suc frame.pc) []) { writes = (d, (variable_value shared.globals frame d + value frame v) % 4294967296) ∷ [] })
     function_called : (frame : Frame) (f : ℕ) (v : Operand) → length t.frames < MAX_FRAMES
-        → TransitionCase (StatementIn frame (statement.Do f v)) status.Running (goes_on (suc frame.pc) (action.Call f (value frame v) kind.Call ∷ []) [])
+        → TransitionCase (StatementIn frame (statement.Do f v)) status.Running (record (goes_on (suc frame.pc) []) { own = Some (own_action.Call f (value frame v) kind.Call) })
     -- returns, by the kind of the frame
     main_returned : (frame : Frame) (s : Stmt) (v : ℕ) → Returns body shared.globals frame s v → frame.kind ≡ kind.Main → is_some shared.exit_value ≡ false
-        → TransitionCase (StatementIn frame s) status.Running (acts (action.BeginExit v ∷ []) (what.ExitBegun v ∷ []))
+        → TransitionCase (StatementIn frame s) status.Running (record (acts (what.ExitBegun v ∷ [])) { own = Some own_action.BeginExit; shared = Some (shared_action.BeginExit v) })
     start_returned : (frame : Frame) (s : Stmt) (v : ℕ) → Returns body shared.globals frame s v → frame.kind ≡ kind.Start
-        → TransitionCase (StatementIn frame s) status.Running (acts (action.BeginEnd (reason.Exit v) ∷ []) (what.EndingExit v ∷ []))
+        → TransitionCase (StatementIn frame s) status.Running (record (acts (what.EndingExit v ∷ [])) { own = Some (own_action.BeginEnd (reason.Exit v)) })
     call_left : (frame : Frame) (s : Stmt) (v : ℕ) → Returns body shared.globals frame s v → (frame.kind ≡ kind.Call) ⊎ (frame.kind ≡ kind.PopHandler)
-        → TransitionCase (StatementIn frame s) status.Running (acts (action.Leave status.Running ∷ []) [])
+        → TransitionCase (StatementIn frame s) status.Running (record (acts []) { own = Some (own_action.Leave status.Running) })
     handler_left : (frame : Frame) (s : Stmt) (v : ℕ) → Returns body shared.globals frame s v → (frame.kind ≡ kind.Handler) ⊎ (frame.kind ≡ kind.Destructor)
-        → TransitionCase (StatementIn frame s) status.Running (acts (action.Leave status.Ending ∷ []) [])
+        → TransitionCase (StatementIn frame s) status.Running (record (acts []) { own = Some (own_action.Leave status.Ending) })
     exit_function_left : (frame : Frame) (s : Stmt) (v : ℕ) → Returns body shared.globals frame s v → frame.kind ≡ kind.ExitFn
-        → TransitionCase (StatementIn frame s) status.Running (acts (action.Leave status.Exiting ∷ []) [])
+        → TransitionCase (StatementIn frame s) status.Running (record (acts []) { own = Some (own_action.Leave status.Exiting) })
     -- threads
     thread_made : (frame : Frame) (result id : Dest) (f : ℕ) (v : Operand) (detached : Bool) (new : ℕ) → (offered ≡ true → list_any (nat_eq new) others.new_ids ≡ true)
         → TransitionCase (StatementIn frame (statement.Create result id f v detached)) status.Running
-        (creates_thread (suc frame.pc) (record { id = new; detached = detached; func = f; arg = value frame v }) (action.Write result 0 ∷ action.Write id new ∷ []) (what.Created new detached ∷ []))
+        (record (creates_thread (suc frame.pc) (record { id = new; detached = detached; func = f; arg = value frame v }) (what.Created new detached ∷ [])) { writes = (result, 0) ∷ (id, new) ∷ [] })
     thread_not_made : (frame : Frame) (result id : Dest) (f : ℕ) (v : Operand) (detached : Bool)
-        → TransitionCase (StatementIn frame (statement.Create result id f v detached)) status.Running (goes_on (suc frame.pc) (action.Write result 1 ∷ []) (what.Answer caller.Create 1 ∷ []))
+        → TransitionCase (StatementIn frame (statement.Create result id f v detached)) status.Running (record (goes_on (suc frame.pc) (what.Answer caller.Create 1 ∷ [])) { writes = (result, 1) ∷ [] })
     join_begun : (frame : Frame) (id : Operand) (d : Dest) (target : Thread) → others.named (value frame id) ≡ Some target → nat_eq (value frame id) t.id ≡ false → target.detached ≡ false → others.another_joins (value frame id) ≡ false → (offered ≡ true → is_deliverable t.state t.pending ≡ false)
-        → TransitionCase (StatementIn frame (statement.Join id d)) status.Running (acts (action.BeginJoin (value frame id) ∷ []) (what.Called join_point ∷ []))
+        → TransitionCase (StatementIn frame (statement.Join id d)) status.Running (record (acts (what.Called join_point ∷ [])) { own = Some (own_action.SetStatus (status.Joining (value frame id))) })
     join_ended : (frame : Frame) (operand : Operand) (d : Dest) (id v : ℕ) (target : Thread) → others.named id ≡ Some target → target.status ≡ status.Ended v
-        → TransitionCase (StatementIn frame (statement.Join operand d)) (status.Joining id) (goes_on (suc frame.pc) (action.EndJoin id ∷ action.Write d v ∷ []) (what.Joined id v ∷ []))
+        → TransitionCase (StatementIn frame (statement.Join operand d)) (status.Joining id) (record (goes_on (suc frame.pc) (what.Joined id v ∷ [])) { writes = (d, v) ∷ []; named = Some (named_action.EndJoin id) })
     thread_detached : (frame : Frame) (id : Operand) (target : Thread) → others.named (value frame id) ≡ Some target → target.detached ≡ false → others.another_joins (value frame id) ≡ false
-        → TransitionCase (StatementIn frame (statement.Detach id)) status.Running (goes_on (suc frame.pc) (action.Detach (value frame id) ∷ []) (what.Detached (value frame id) ∷ []))
-    self_got : (frame : Frame) (d : Dest) → TransitionCase (StatementIn frame (statement.SelfId d)) status.Running (goes_on (suc frame.pc) (action.Write d t.id ∷ []) [])
+        → TransitionCase (StatementIn frame (statement.Detach id)) status.Running (record (goes_on (suc frame.pc) (what.Detached (value frame id) ∷ [])) { named = Some (named_action.Detach (value frame id)) })
+    self_got : (frame : Frame) (d : Dest) → TransitionCase (StatementIn frame (statement.SelfId d)) status.Running (record (goes_on (suc frame.pc) []) { writes = (d, t.id) ∷ [] })
     -- cancellation
     request_sent : (frame : Frame) (id : Operand) (target : Thread) → others.named (value frame id) ≡ Some target
-        → TransitionCase (StatementIn frame (statement.CancelThread id)) status.Running (goes_on (suc frame.pc) (action.Request (value frame id) ∷ []) (what.Request (value frame id) ∷ []))
+        → TransitionCase (StatementIn frame (statement.CancelThread id)) status.Running (record (goes_on (suc frame.pc) (what.Request (value frame id) ∷ [])) { named = Some (named_action.Request (value frame id)) })
     state_set : (frame : Frame) (enable : Bool) (old : Dest) → enable && is_in_handler t.frames ≡ false
-        → TransitionCase (StatementIn frame (statement.SetState enable old)) status.Running (goes_on (suc frame.pc) (action.SetState (state_if enable) ∷ action.Write old (state_number t.state) ∷ []) (what.StateSet enable ∷ []))
+        → TransitionCase (StatementIn frame (statement.SetState enable old)) status.Running (record (goes_on (suc frame.pc) (what.StateSet enable ∷ [])) { writes = (old, state_number t.state) ∷ []; own = Some (own_action.SetState (state_if enable)) })
     mode_set : (frame : Frame) (asynchronous : Bool) (old : Dest)
-        → TransitionCase (StatementIn frame (statement.SetMode asynchronous old)) status.Running (goes_on (suc frame.pc) (action.SetMode (mode_if asynchronous) ∷ action.Write old (mode_number t.mode) ∷ []) (what.ModeSet asynchronous ∷ []))
+        → TransitionCase (StatementIn frame (statement.SetMode asynchronous old)) status.Running (record (goes_on (suc frame.pc) (what.ModeSet asynchronous ∷ [])) { writes = (old, mode_number t.mode) ∷ []; own = Some (own_action.SetMode (mode_if asynchronous)) })
     cancel_tested : (frame : Frame) → (offered ≡ true → is_deliverable t.state t.pending ≡ false)
-        → TransitionCase (StatementIn frame statement.TestCancel) status.Running (goes_on (suc frame.pc) [] (what.Done testcancel_point ∷ []))
+        → TransitionCase (StatementIn frame statement.TestCancel) status.Running (goes_on (suc frame.pc) (what.Done testcancel_point ∷ []))
     point_begun : (frame : Frame) (index : ℕ) → point_kind index ≡ Some Required → (offered ≡ true → is_deliverable t.state t.pending ≡ false)
-        → TransitionCase (StatementIn frame (statement.PointCall index)) status.Running (acts (action.BeginPoint index ∷ []) (what.Called index ∷ []))
-    point_done : (frame : Frame) (index : ℕ) → is_required (point_kind index) ≡ false → TransitionCase (StatementIn frame (statement.PointCall index)) status.Running (goes_on (suc frame.pc) [] (what.Done index ∷ []))
-    point_passed : (frame : Frame) (index i : ℕ) → TransitionCase (StatementIn frame (statement.PointCall i)) (status.AtPoint index) (goes_on (suc frame.pc) [] (what.Done index ∷ []))
+        → TransitionCase (StatementIn frame (statement.PointCall index)) status.Running (record (acts (what.Called index ∷ [])) { own = Some (own_action.SetStatus (status.AtPoint index)) })
+    point_done : (frame : Frame) (index : ℕ) → is_required (point_kind index) ≡ false → TransitionCase (StatementIn frame (statement.PointCall index)) status.Running (goes_on (suc frame.pc) (what.Done index ∷ []))
+    point_passed : (frame : Frame) (index i : ℕ) → TransitionCase (StatementIn frame (statement.PointCall i)) (status.AtPoint index) (goes_on (suc frame.pc) (what.Done index ∷ []))
     canceled : (next : NextStatement) → (offered ≡ true → is_deliverable t.state t.pending ≡ true) → (offered ≡ true → calls_cancellation_point next ≡ false → t.mode ≡ Asynchronous)
-        → TransitionCase next status.Running (acts (action.BeginEnd reason.Canceled ∷ []) (what.EndingCanceled ∷ []))
+        → TransitionCase next status.Running (record (acts (what.EndingCanceled ∷ [])) { own = Some (own_action.BeginEnd reason.Canceled) })
     canceled_at_point : (next : NextStatement) (index : ℕ) → (offered ≡ true → is_deliverable t.state t.pending ≡ true)
-        → TransitionCase next (status.AtPoint index) (acts (action.BeginEnd reason.Canceled ∷ []) (what.EndingCanceled ∷ []))
+        → TransitionCase next (status.AtPoint index) (record (acts (what.EndingCanceled ∷ [])) { own = Some (own_action.BeginEnd reason.Canceled) })
     canceled_in_join : (next : NextStatement) (id : ℕ) → (offered ≡ true → is_deliverable t.state t.pending ≡ true)
-        → TransitionCase next (status.Joining id) (acts (action.BeginEnd reason.Canceled ∷ []) (what.EndingCanceled ∷ []))
+        → TransitionCase next (status.Joining id) (record (acts (what.EndingCanceled ∷ [])) { own = Some (own_action.BeginEnd reason.Canceled) })
     canceled_in_sem_wait : (next : NextStatement) (sem : ℕ) → (offered ≡ true → is_deliverable t.state t.pending ≡ true)
-        → TransitionCase next (status.InSem sem) (acts (action.BeginEnd reason.Canceled ∷ []) (what.EndingCanceled ∷ []))
+        → TransitionCase next (status.InSem sem) (record (acts (what.EndingCanceled ∷ [])) { own = Some (own_action.BeginEnd reason.Canceled) })
     canceled_in_waitpid : (next : NextStatement) (pid : ℕ) → (offered ≡ true → is_deliverable t.state t.pending ≡ true)
-        → TransitionCase next (status.InWaitPid pid) (acts (action.BeginEnd reason.Canceled ∷ []) (what.EndingCanceled ∷ []))
+        → TransitionCase next (status.InWaitPid pid) (record (acts (what.EndingCanceled ∷ [])) { own = Some (own_action.BeginEnd reason.Canceled) })
     -- mutexes
     mutex_locked : (frame : Frame) (m : ℕ) → (offered ≡ true → is_free_mutex m shared ≡ true)
-        → TransitionCase (StatementIn frame (statement.Lock m)) status.Running (goes_on (suc frame.pc) (action.OwnMutex m t.id ∷ []) (what.Acquired m ∷ []))
+        → TransitionCase (StatementIn frame (statement.Lock m)) status.Running (record (goes_on (suc frame.pc) (what.Acquired m ∷ [])) { shared = Some (shared_action.OwnMutex m t.id) })
     mutex_unlocked : (frame : Frame) (m : ℕ) → owns t.id m shared ≡ true
-        → TransitionCase (StatementIn frame (statement.Unlock m)) status.Running (goes_on (suc frame.pc) (action.OwnMutex m 0 ∷ []) (what.Released m ∷ []))
+        → TransitionCase (StatementIn frame (statement.Unlock m)) status.Running (record (goes_on (suc frame.pc) (what.Released m ∷ [])) { shared = Some (shared_action.OwnMutex m 0) })
     -- condition waits: the call; the return, by a signal or a broadcast; and the two steps by which a request ends one
     wait_begun : (frame : Frame) (c m : ℕ) → owns t.id m shared ≡ true → waits_with_another_mutex c m others ≡ false → (offered ≡ true → is_deliverable t.state t.pending ≡ false)
-        → TransitionCase (StatementIn frame (statement.CondWait c m)) status.Running (acts (action.BeginWait c m ∷ action.OwnMutex m 0 ∷ []) (what.Called cond_wait_point ∷ what.Released m ∷ []))
+        → TransitionCase (StatementIn frame (statement.CondWait c m)) status.Running (record (acts (what.Called cond_wait_point ∷ what.Released m ∷ [])) { own = Some (own_action.SetStatus (status.Waiting c m)); shared = Some (shared_action.OwnMutex m 0) })
     wait_ended : (frame : Frame) (cond mutex c m : ℕ) (why : Cause) → has_left_wait (status.Reacquire c m why) ≡ false → (offered ≡ true → is_free_mutex m shared ≡ true)
-        → TransitionCase (StatementIn frame (statement.CondWait cond mutex)) (status.Reacquire c m why) (goes_on (suc frame.pc) (action.OwnMutex m t.id ∷ []) (what.Acquired m ∷ what.Done cond_wait_point ∷ []))
+        → TransitionCase (StatementIn frame (statement.CondWait cond mutex)) (status.Reacquire c m why) (record (goes_on (suc frame.pc) (what.Acquired m ∷ what.Done cond_wait_point ∷ [])) { shared = Some (shared_action.OwnMutex m t.id) })
     canceled_in_wait : (next : NextStatement) (c m : ℕ) → (offered ≡ true → is_deliverable t.state t.pending ≡ true)
-        → TransitionCase next (status.Waiting c m) (acts (action.LeaveWait c m ∷ []) (what.WaitCanceled c ∷ []))
+        → TransitionCase next (status.Waiting c m) (record (acts (what.WaitCanceled c ∷ [])) { own = Some (own_action.SetStatus (status.Reacquire c m cause.Canceled)) })
     canceled_after_wait : (next : NextStatement) (c m : ℕ) (why : Cause) → has_left_wait (status.Reacquire c m why) ≡ false → (offered ≡ true → is_deliverable t.state t.pending ≡ true)
-        → TransitionCase next (status.Reacquire c m why) (acts (action.LeaveWait c m ∷ []) (what.WaitCanceled c ∷ []))
+        → TransitionCase next (status.Reacquire c m why) (record (acts (what.WaitCanceled c ∷ [])) { own = Some (own_action.SetStatus (status.Reacquire c m cause.Canceled)) })
     signal_handed_on : (next : NextStatement) (c m u : ℕ) → (offered ≡ true → is_deliverable t.state t.pending ≡ true) → (offered ≡ true → list_any (λ waiter. nat_eq u waiter.id) (others.waiters c) ≡ true)
-        → TransitionCase next (status.Reacquire c m cause.Signalled) (acts (action.LeaveWait c m ∷ action.Wake u ∷ []) (what.WaitCanceled c ∷ what.HandedOn c u ∷ []))
+        → TransitionCase next (status.Reacquire c m cause.Signalled) (record (acts (what.WaitCanceled c ∷ what.HandedOn c u ∷ [])) { own = Some (own_action.SetStatus (status.Reacquire c m cause.Canceled)); named = Some (named_action.Wake u) })
     ended_in_wait : (next : NextStatement) (c m : ℕ) → (offered ≡ true → is_free_mutex m shared ≡ true)
-        → TransitionCase next (status.Reacquire c m cause.Canceled) (acts (action.OwnMutex m t.id ∷ action.BeginEnd reason.Canceled ∷ []) (what.Acquired m ∷ what.EndingInWait c m ∷ []))
+        → TransitionCase next (status.Reacquire c m cause.Canceled) (record (acts (what.Acquired m ∷ what.EndingInWait c m ∷ [])) { own = Some (own_action.BeginEnd reason.Canceled); shared = Some (shared_action.OwnMutex m t.id) })
     -- signals and broadcasts
     signal_sent : (frame : Frame) (c u : ℕ) → (offered ≡ true → list_any (λ waiter. nat_eq u waiter.id) (others.waiters c) ≡ true)
-        → TransitionCase (StatementIn frame (statement.Signal c)) status.Running (goes_on (suc frame.pc) (action.Wake u ∷ []) (what.Signalled c u ∷ []))
-    signal_lost : (frame : Frame) (c : ℕ) → TransitionCase (StatementIn frame (statement.Signal c)) status.Running (goes_on (suc frame.pc) [] (what.Signalled c 0 ∷ []))
+        → TransitionCase (StatementIn frame (statement.Signal c)) status.Running (record (goes_on (suc frame.pc) (what.Signalled c u ∷ [])) { named = Some (named_action.Wake u) })
+    signal_lost : (frame : Frame) (c : ℕ) → TransitionCase (StatementIn frame (statement.Signal c)) status.Running (goes_on (suc frame.pc) (what.Signalled c 0 ∷ []))
     broadcast_sent : (frame : Frame) (c : ℕ)
-        → TransitionCase (StatementIn frame (statement.Broadcast c)) status.Running (goes_on (suc frame.pc) (action.WakeAll c ∷ []) (what.BroadcastTo c (length (others.waiters c)) ∷ []))
+        → TransitionCase (StatementIn frame (statement.Broadcast c)) status.Running (record (goes_on (suc frame.pc) (what.BroadcastTo c (length (others.waiters c)) ∷ [])) { named = Some (named_action.WakeAll c) })
     -- semaphores
     sem_wait_begun : (frame : Frame) (sem : ℕ) → (offered ≡ true → is_deliverable t.state t.pending ≡ false)
-        → TransitionCase (StatementIn frame (statement.SemWait sem)) status.Running (acts (action.BeginSem sem ∷ []) (what.Called sem_wait_point ∷ []))
+        → TransitionCase (StatementIn frame (statement.SemWait sem)) status.Running (record (acts (what.Called sem_wait_point ∷ [])) { own = Some (own_action.SetStatus (status.InSem sem)) })
     sem_taken : (frame : Frame) (s sem : ℕ) → (offered ≡ true → nat_lt 0 (slice_index shared.counts sem) ≡ true)
-        → TransitionCase (StatementIn frame (statement.SemWait s)) (status.InSem sem) (goes_on (suc frame.pc) (action.SetCount sem (slice_index shared.counts sem - 1) ∷ []) (what.Taken sem ∷ []))
+        → TransitionCase (StatementIn frame (statement.SemWait s)) (status.InSem sem) (record (goes_on (suc frame.pc) (what.Taken sem ∷ [])) { shared = Some (shared_action.SetCount sem (slice_index shared.counts sem - 1)) })
     sem_posted : (frame : Frame) (sem : ℕ)
-        → TransitionCase (StatementIn frame (statement.SemPost sem)) status.Running (goes_on (suc frame.pc) (action.SetCount sem (suc (slice_index shared.counts sem) % 4294967296) ∷ []) (what.Posted sem ∷ []))
+        → TransitionCase (StatementIn frame (statement.SemPost sem)) status.Running (record (goes_on (suc frame.pc) (what.Posted sem ∷ [])) { shared = Some (shared_action.SetCount sem (suc (slice_index shared.counts sem) % 4294967296)) })
     -- processes: pthread_atfork, the steps of fork with the calls of its handlers, and waitpid
     fork_registered : (frame : Frame) (result : Dest) (handlers : ForkHandlers) → length shared.fork_handlers < MAX_FORK_HANDLERS
-        → TransitionCase (StatementIn frame (statement.AtFork result handlers.prepare handlers.parent handlers.child)) status.Running (goes_on (suc frame.pc) (action.AddForkHandlers handlers ∷ action.Write result 0 ∷ []) [])
+        → TransitionCase (StatementIn frame (statement.AtFork result handlers.prepare handlers.parent handlers.child)) status.Running (record (goes_on (suc frame.pc) []) { writes = (result, 0) ∷ []; shared = Some (shared_action.AddForkHandlers handlers) })
     fork_not_registered : (frame : Frame) (result : Dest) (prepare parent child : Option ℕ)
-        → TransitionCase (StatementIn frame (statement.AtFork result prepare parent child)) status.Running (goes_on (suc frame.pc) (action.Write result 2 ∷ []) (what.Answer caller.AtFork 2 ∷ []))
+        → TransitionCase (StatementIn frame (statement.AtFork result prepare parent child)) status.Running (record (goes_on (suc frame.pc) (what.Answer caller.AtFork 2 ∷ [])) { writes = (result, 2) ∷ [] })
     fork_begun : (frame : Frame) (result child : Dest) → has_begun_to_end t.reason ≡ false
-        → TransitionCase (StatementIn frame (statement.Fork result child)) status.Running (acts (action.EnterFork (record { phase = Prepare; next = length shared.fork_handlers; length = length shared.fork_handlers; answer = 0 }) ∷ []) [])
+        → TransitionCase (StatementIn frame (statement.Fork result child)) status.Running (record (acts []) { own = Some (own_action.SetStatus (in_fork (record { phase = Prepare; next = length shared.fork_handlers; length = length shared.fork_handlers; answer = 0 }))) })
     fork_handler_called : (next : NextStatement) (at : ForkAt) (call : HandlerCall) → next_handler shared.fork_handlers at ≡ Some call
-        → TransitionCase next (in_fork at) (acts (action.KeepFork (while_called at call.index) ∷ action.Call call.func 0 kind.ForkFn ∷ []) (handler_event at.phase call.func ∷ []))
+        → TransitionCase next (in_fork at) (record (acts (handler_event at.phase call.func ∷ [])) { own = Some (own_action.CallForkHandler (while_called at call.index) call.func) })
     fork_handler_left : (frame : Frame) (s : Stmt) (v : ℕ) (at : ForkAt) → Returns body shared.globals frame s v → frame.kind ≡ kind.ForkFn → t.kept ≡ Some at
-        → TransitionCase (StatementIn frame s) status.Running (acts (action.Leave (in_fork at) ∷ []) [])
+        → TransitionCase (StatementIn frame s) status.Running (record (acts []) { own = Some (own_action.Leave (in_fork at)) })
     process_forked : (next : NextStatement) (index length answer new : ℕ) → others.family.new_pid ≡ Some new
-        → TransitionCase next (status.Forking Prepare index length answer) (acts (action.EnterFork (record { phase = Parent; next = 0; length = length; answer = new }) ∷ action.MakeChild new ∷ []) (what.Forked new ∷ []))
+        → TransitionCase next (status.Forking Prepare index length answer) (record (acts (what.Forked new ∷ [])) { own = Some (own_action.SetStatus (in_fork (record { phase = Parent; next = 0; length = length; answer = new }))); process = Some (process_action.Make new) })
     process_not_forked : (next : NextStatement) (index length answer : ℕ)
-        → TransitionCase next (status.Forking Prepare index length answer) (acts (action.EnterFork (record { phase = Parent; next = 0; length = length; answer = 0 }) ∷ []) (what.Answer caller.Fork 1 ∷ []))
+        → TransitionCase next (status.Forking Prepare index length answer) (record (acts (what.Answer caller.Fork 1 ∷ [])) { own = Some (own_action.SetStatus (in_fork (record { phase = Parent; next = 0; length = length; answer = 0 }))) })
     fork_failed : (frame : Frame) (result child : Dest) (index length pid : ℕ)
-        → TransitionCase (StatementIn frame (statement.Fork result child)) (status.Forking Parent index length pid) (goes_on (suc frame.pc) (action.Write result 1 ∷ []) [])
+        → TransitionCase (StatementIn frame (statement.Fork result child)) (status.Forking Parent index length pid) (record (goes_on (suc frame.pc) []) { writes = (result, 1) ∷ [] })
     fork_returned : (frame : Frame) (result child : Dest) (phase : Phase) (index length pid value : ℕ)
-        → TransitionCase (StatementIn frame (statement.Fork result child)) (status.Forking phase index length pid) (goes_on (suc frame.pc) (action.Write result 0 ∷ action.Write child value ∷ []) [])
+        → TransitionCase (StatementIn frame (statement.Fork result child)) (status.Forking phase index length pid) (record (goes_on (suc frame.pc) []) { writes = (result, 0) ∷ (child, value) ∷ [] })
     waitpid_begun : (frame : Frame) (result d : Dest) (pid : Operand) → (offered ≡ true → is_deliverable t.state t.pending ≡ false)
-        → TransitionCase (StatementIn frame (statement.WaitPid result pid d)) status.Running (acts (action.BeginWaitPid (value frame pid) ∷ []) (what.Called waitpid_point ∷ []))
+        → TransitionCase (StatementIn frame (statement.WaitPid result pid d)) status.Running (record (acts (what.Called waitpid_point ∷ [])) { own = Some (own_action.SetStatus (status.InWaitPid (value frame pid))) })
     child_reaped : (frame : Frame) (result d : Dest) (operand : Operand) (pid n : ℕ) (child : Child) → others.family.child pid ≡ Some child → child.ended ≡ Some n
-        → TransitionCase (StatementIn frame (statement.WaitPid result operand d)) (status.InWaitPid pid) (goes_on (suc frame.pc) (action.Reap pid ∷ action.Write result 0 ∷ action.Write d n ∷ []) (what.Reaped pid n ∷ []))
+        → TransitionCase (StatementIn frame (statement.WaitPid result operand d)) (status.InWaitPid pid) (record (goes_on (suc frame.pc) (what.Reaped pid n ∷ [])) { writes = (result, 0) ∷ (d, n) ∷ []; process = Some (process_action.Reap pid) })
     no_child_found : (frame : Frame) (result d : Dest) (operand : Operand) → (offered ≡ true → is_deliverable t.state t.pending ≡ false)
-        → TransitionCase (StatementIn frame (statement.WaitPid result operand d)) status.Running (goes_on (suc frame.pc) (action.Write result 3 ∷ []) (what.Answer caller.WaitPid 3 ∷ []))
+        → TransitionCase (StatementIn frame (statement.WaitPid result operand d)) status.Running (record (goes_on (suc frame.pc) (what.Answer caller.WaitPid 3 ∷ [])) { writes = (result, 3) ∷ [] })
     child_lost : (frame : Frame) (result d : Dest) (operand : Operand) (pid : ℕ)
-        → TransitionCase (StatementIn frame (statement.WaitPid result operand d)) (status.InWaitPid pid) (goes_on (suc frame.pc) (action.Write result 3 ∷ []) (what.Answer caller.WaitPid 3 ∷ []))
+        → TransitionCase (StatementIn frame (statement.WaitPid result operand d)) (status.InWaitPid pid) (record (goes_on (suc frame.pc) (what.Answer caller.WaitPid 3 ∷ [])) { writes = (result, 3) ∷ [] })
     -- keys
     key_made : (frame : Frame) (result key : Dest) (destructor : Option ℕ) (k : ℕ) → (offered ≡ true → list_any (nat_eq k) (new_keys shared.keys) ≡ true)
-        → TransitionCase (StatementIn frame (statement.KeyCreate result key destructor)) status.Running (goes_on (suc frame.pc) (action.MakeKey k destructor ∷ action.Write result 0 ∷ action.Write key k ∷ []) (what.KeyMade k ∷ []))
+        → TransitionCase (StatementIn frame (statement.KeyCreate result key destructor)) status.Running (record (goes_on (suc frame.pc) (what.KeyMade k ∷ [])) { writes = (result, 0) ∷ (key, k) ∷ []; shared = Some (shared_action.MakeKey k destructor) })
     key_not_made : (frame : Frame) (result key : Dest) (destructor : Option ℕ)
-        → TransitionCase (StatementIn frame (statement.KeyCreate result key destructor)) status.Running (goes_on (suc frame.pc) (action.Write result 1 ∷ []) (what.Answer caller.KeyCreate 1 ∷ []))
+        → TransitionCase (StatementIn frame (statement.KeyCreate result key destructor)) status.Running (record (goes_on (suc frame.pc) (what.Answer caller.KeyCreate 1 ∷ [])) { writes = (result, 1) ∷ [] })
     key_deleted : (frame : Frame) (key : Operand) → is_none (key_with (value frame key) shared.keys) ≡ false
-        → TransitionCase (StatementIn frame (statement.KeyDelete key)) status.Running (goes_on (suc frame.pc) (action.DeleteKey (value frame key) ∷ []) (what.KeyGone (value frame key) ∷ []))
+        → TransitionCase (StatementIn frame (statement.KeyDelete key)) status.Running (record (goes_on (suc frame.pc) (what.KeyGone (value frame key) ∷ [])) { shared = Some (shared_action.DeleteKey (value frame key)); named = Some (named_action.ForgetKey (value frame key)) })
     specific_set : (frame : Frame) (key v : Operand) → is_none (key_with (value frame key) shared.keys) ≡ false
-        → TransitionCase (StatementIn frame (statement.SetSpecific key v)) status.Running (goes_on (suc frame.pc) (action.SetSpecific (value frame key) (value frame v) ∷ []) [])
+        → TransitionCase (StatementIn frame (statement.SetSpecific key v)) status.Running (record (goes_on (suc frame.pc) []) { own = Some (own_action.SetSpecific (value frame key) (value frame v)) })
     specific_got : (frame : Frame) (d : Dest) (key : Operand)
-        → TransitionCase (StatementIn frame (statement.GetSpecific d key)) status.Running (goes_on (suc frame.pc) (action.Write d (value_at (key_place (value frame key)) t.specific) ∷ []) [])
+        → TransitionCase (StatementIn frame (statement.GetSpecific d key)) status.Running (record (goes_on (suc frame.pc) []) { writes = (d, value_at (key_place (value frame key)) t.specific) ∷ [] })
     -- cleanup handlers
     handler_pushed : (frame : Frame) (f : ℕ) (v : Operand) → length t.handlers < MAX_HANDLERS
-        → TransitionCase (StatementIn frame (statement.Push f v)) status.Running (goes_on (suc frame.pc) (action.PushHandler f (value frame v) ∷ []) (what.Pushed f (value frame v) ∷ []))
+        → TransitionCase (StatementIn frame (statement.Push f v)) status.Running (record (goes_on (suc frame.pc) (what.Pushed f (value frame v) ∷ [])) { own = Some (own_action.PushHandler f (value frame v)) })
     handler_popped : (frame : Frame) (v : Operand) (f a : ℕ) (handlers : List (ℕ × ℕ)) → t.handlers ≡ (f, a) ∷ handlers → nat_eq (value frame v) 0 ≡ true
-        → TransitionCase (StatementIn frame (statement.Pop v)) status.Running (goes_on (suc frame.pc) (action.PopHandler ∷ []) (what.Popped f a false ∷ []))
+        → TransitionCase (StatementIn frame (statement.Pop v)) status.Running (record (goes_on (suc frame.pc) (what.Popped f a false ∷ [])) { own = Some own_action.PopHandler })
     handler_called : (frame : Frame) (v : Operand) (f a : ℕ) (handlers : List (ℕ × ℕ)) → t.handlers ≡ (f, a) ∷ handlers → length t.frames < MAX_FRAMES → nat_eq (value frame v) 0 ≡ false
-        → TransitionCase (StatementIn frame (statement.Pop v)) status.Running (goes_on (suc frame.pc) (action.PopHandler ∷ action.Call f a kind.PopHandler ∷ []) (what.Popped f a true ∷ []))
+        → TransitionCase (StatementIn frame (statement.Pop v)) status.Running (record (goes_on (suc frame.pc) (what.Popped f a true ∷ [])) { own = Some (own_action.CallHandler f a) })
     -- the end of a thread
     exit_called : (frame : Frame) (v : Operand) → has_begun_to_end t.reason ≡ false
-        → TransitionCase (StatementIn frame (statement.ThreadExit v)) status.Running (acts (action.BeginEnd (reason.Exit (value frame v)) ∷ []) (what.EndingExit (value frame v) ∷ []))
+        → TransitionCase (StatementIn frame (statement.ThreadExit v)) status.Running (record (acts (what.EndingExit (value frame v) ∷ [])) { own = Some (own_action.BeginEnd (reason.Exit (value frame v))) })
     handler_run : (next : NextStatement) (f a : ℕ) (handlers : List (ℕ × ℕ)) → t.handlers ≡ (f, a) ∷ handlers
-        → TransitionCase next status.Ending (acts (action.PopHandler ∷ action.CallAlone f a kind.Handler ∷ []) (what.HandlerRun f a ∷ []))
+        → TransitionCase next status.Ending (record (acts (what.HandlerRun f a ∷ [])) { own = Some (own_action.RunHandler f a) })
     destructor_called : (next : NextStatement) (k f : ℕ) (key : Key) → t.handlers ≡ [] → key_with k shared.keys ≡ Some key → key.destructor ≡ Some f → (offered ≡ true → list_any (nat_eq k) (left_keys shared.keys t.specific) ≡ true)
-        → TransitionCase next status.Ending (acts (action.TakeKey k ∷ action.CallAlone f (value_at (key_place k) t.specific) kind.Destructor ∷ []) (what.DtorRun t.pass k f (value_at (key_place k) t.specific) ∷ []))
+        → TransitionCase next status.Ending (record (acts (what.DtorRun t.pass k f (value_at (key_place k) t.specific) ∷ [])) { own = Some (own_action.RunDestructor k f (value_at (key_place k) t.specific)) })
     pass_begun : (next : NextStatement) → t.handlers ≡ [] → t.pass < passes → 0 < due_keys shared.keys t → (offered ≡ true → left_keys shared.keys t.specific ≡ [])
-        → TransitionCase next status.Ending (acts (action.BeginPass ∷ []) (what.PassBegun (suc t.pass) ∷ []))
+        → TransitionCase next status.Ending (record (acts (what.PassBegun (suc t.pass) ∷ [])) { own = Some own_action.BeginPass })
     thread_ended : (next : NextStatement) → t.handlers ≡ [] → due_keys shared.keys t ≡ 0 → (offered ≡ true → left_keys shared.keys t.specific ≡ [])
-        → TransitionCase next status.Ending (acts (action.EndThread (end_value t.reason) ∷ []) (what.EndedWith (end_value t.reason) ∷ []))
+        → TransitionCase next status.Ending (record (acts (what.EndedWith (end_value t.reason) ∷ [])) { own = Some (own_action.EndThread (end_value t.reason)) })
     thread_ended_with_keys : (next : NextStatement) (left : ℕ) → t.handlers ≡ [] → 0 < left → passes ≤ t.pass → left ≡ due_keys shared.keys t → (offered ≡ true → left_keys shared.keys t.specific ≡ [])
-        → TransitionCase next status.Ending (acts (action.EndThread (end_value t.reason) ∷ []) (what.Leftover left ∷ what.EndedWith (end_value t.reason) ∷ []))
+        → TransitionCase next status.Ending (record (acts (what.Leftover left ∷ what.EndedWith (end_value t.reason) ∷ [])) { own = Some (own_action.EndThread (end_value t.reason)) })
     last_ended : (next : NextStatement) → t.handlers ≡ [] → others.is_last ≡ true → due_keys shared.keys t ≡ 0 → (offered ≡ true → left_keys shared.keys t.specific ≡ [])
-        → TransitionCase next status.Ending (acts (action.MarkEnded ∷ action.BeginExit 0 ∷ []) (what.EndedWith (end_value t.reason) ∷ what.ExitBegun 0 ∷ []))
+        → TransitionCase next status.Ending (record (acts (what.EndedWith (end_value t.reason) ∷ what.ExitBegun 0 ∷ [])) { own = Some own_action.EndLast; shared = Some (shared_action.BeginExit 0) })
     last_ended_with_keys : (next : NextStatement) (left : ℕ) → t.handlers ≡ [] → others.is_last ≡ true → 0 < left → passes ≤ t.pass → left ≡ due_keys shared.keys t → (offered ≡ true → left_keys shared.keys t.specific ≡ [])
-        → TransitionCase next status.Ending (acts (action.MarkEnded ∷ action.BeginExit 0 ∷ []) (what.Leftover left ∷ what.EndedWith (end_value t.reason) ∷ what.ExitBegun 0 ∷ []))
+        → TransitionCase next status.Ending (record (acts (what.Leftover left ∷ what.EndedWith (end_value t.reason) ∷ what.ExitBegun 0 ∷ [])) { own = Some own_action.EndLast; shared = Some (shared_action.BeginExit 0) })
     -- the exit of a process, and its end
     exit_registered : (frame : Frame) (result : Dest) (f : ℕ) → may_register shared ≡ true
-        → TransitionCase (StatementIn frame (statement.AtExit result f)) status.Running (goes_on (suc frame.pc) (action.AddExit f ∷ action.Write result 0 ∷ []) [])
+        → TransitionCase (StatementIn frame (statement.AtExit result f)) status.Running (record (goes_on (suc frame.pc) []) { writes = (result, 0) ∷ []; shared = Some (shared_action.AddExit f) })
     exit_not_registered : (frame : Frame) (result : Dest) (f : ℕ)
-        → TransitionCase (StatementIn frame (statement.AtExit result f)) status.Running (goes_on (suc frame.pc) (action.Write result 1 ∷ []) (what.Answer caller.AtExit 1 ∷ []))
+        → TransitionCase (StatementIn frame (statement.AtExit result f)) status.Running (record (goes_on (suc frame.pc) (what.Answer caller.AtExit 1 ∷ [])) { writes = (result, 1) ∷ [] })
     process_exited : (frame : Frame) (v : Operand) → is_some shared.exit_value ≡ false
-        → TransitionCase (StatementIn frame (statement.ProcExit v)) status.Running (acts (action.BeginExit (value frame v) ∷ []) (what.ExitBegun (value frame v) ∷ []))
+        → TransitionCase (StatementIn frame (statement.ProcExit v)) status.Running (record (acts (what.ExitBegun (value frame v) ∷ [])) { own = Some own_action.BeginExit; shared = Some (shared_action.BeginExit (value frame v)) })
     process_ended_now : (frame : Frame) (v : Operand)
-        → TransitionCase (StatementIn frame (statement.ProcExitNow v)) status.Running (acts (action.EndProcess (value frame v % 256) ∷ []) (what.ProcessEnded (value frame v % 256) ∷ []))
+        → TransitionCase (StatementIn frame (statement.ProcExitNow v)) status.Running (record (acts (what.ProcessEnded (value frame v % 256) ∷ [])) { process = Some (process_action.End (value frame v % 256)) })
     exit_function_called : (next : NextStatement) (f : ℕ) (functions : List ℕ) → shared.exit_functions ≡ f ∷ functions
-        → TransitionCase next status.Exiting (acts (action.TakeExit ∷ action.CallAlone f 0 kind.ExitFn ∷ []) (what.ExitRun f ∷ []))
+        → TransitionCase next status.Exiting (record (acts (what.ExitRun f ∷ [])) { own = Some (own_action.RunExitFunction f); shared = Some shared_action.TakeExit })
     process_ended : (next : NextStatement) (v : ℕ) → shared.exit_value ≡ Some v → shared.exit_functions ≡ []
-        → TransitionCase next status.Exiting (acts (action.EndProcess (v % 256) ∷ []) (what.ProcessEnded (v % 256) ∷ []))
+        → TransitionCase next status.Exiting (record (acts (what.ProcessEnded (v % 256) ∷ [])) { process = Some (process_action.End (v % 256)) })

@@ -1,8 +1,8 @@
 -- What each transition does with the owners of mutexes, by the tables: it sets those that its events report, a mutex that it acquires has
 -- no owner before, and one that it releases is owned by its thread.
 use Rattle.pct_names.proofs.Names.{◌++◌, ◌<◌, [], and_from, ap, ap₂, Bool, cond, cond_wait_point, Entry, eqb-false, Event, event_of, false}
-use Rattle.pct_names.proofs.Names.{for_each, Frame, length, List, map, nat_eq, NextStatement, Others, owns, refl, reverse, Script}
-use Rattle.pct_names.proofs.Names.{shared_after, SharedState, slice_index, slice_set, Status, Stmt, subst, sym, Thread, Transition, true}
+use Rattle.pct_names.proofs.Names.{Frame, length, List, map, nat_eq, NextStatement, Others, owns, refl, reverse, Script, shared_after}
+use Rattle.pct_names.proofs.Names.{shared_moved, SharedState, slice_index, slice_set, Status, Stmt, subst, sym, Thread, Transition, true}
 use Rattle.pct_names.proofs.Names.{What, ℕ, ◌∙◌, ◌∷◌, ◌≡◌}
 use Rattle.std.proofs.Common.{eqb-true}
 use Rattle.std.proofs.lemmas.List.{get_or-set_same, get_or-set_other, length-set}
@@ -55,7 +55,7 @@ module _ (script : Script) (passes : ℕ) (shared : SharedState) (t : Thread) (o
     -- the owners after a transition
     pub case_fits : {frames : List Frame} {body : List Stmt} {next : NextStatement} {s : Status} {o : Transition}
         → IsPlaced script frames body next → IsSuspendedAt next s → TransitionCase passes body shared t others true next s o
-        → OwnersFit script (for_each shared_after o.actions shared).owners (λ m. after_own (owner m) (map (event_of e) (reverse o.events)) (reported m))
+        → OwnersFit script (shared_moved o shared).owners (λ m. after_own (owner m) (map (event_of e) (reverse o.events)) (reported m))
     unfolding shared_after
     case_fits placed at (mutex_locked frame m free) = set_fits m (locked_mutex script frame m (statement_placed placed)) t.id e.tid is_own
     case_fits placed at (mutex_unlocked frame m is) = set_fits m (unlocked_mutex script frame m (statement_placed placed)) 0 0 refl

@@ -1,7 +1,7 @@
 -- A thread that has neither begun to end nor begun to exit its process has the cancelability state and type that its events report.
-use Rattle.pct_names.proofs.Names.{◌&&◌, [], Action, and_parts, ap, ap₂, body_at, Bool, cond, Config, Event, false, false≢true}
-use Rattle.pct_names.proofs.Names.{has_begun_to_end, is_forking, List, mode_if, moved, named_after, next_of, NextStatement, not, Others}
-use Rattle.pct_names.proofs.Names.{others_of, refl, reverse, Script, SharedState, state_if, Status, Stmt, subst, sym, Thread, thread_after}
+use Rattle.pct_names.proofs.Names.{◌&&◌, [], and_parts, ap, ap₂, body_at, Bool, cond, Config, Event, false, false≢true, has_begun_to_end}
+use Rattle.pct_names.proofs.Names.{is_forking, List, mode_if, moved, named_after, NamedAction, next_of, NextStatement, not, Option, Others}
+use Rattle.pct_names.proofs.Names.{others_of, own_after, refl, reverse, Script, SharedState, state_if, Status, Stmt, subst, sym, Thread}
 use Rattle.pct_names.proofs.Names.{thread_at, Transition, transition_by, true, What, ℕ, ◌∙◌, ◌∷◌, ◌≡◌}
 use Rattle.pct_laws.specs.CancelEvents.{enabled_after, is_enabled_last, asynchronous_after, is_asynchronous_last, has_not_begun}
 use Rattle.pct_laws.specs.Kept.{EachThread}
@@ -83,7 +83,7 @@ begun_by_exit s alive = false≢true (and_parts (not (has_begun_to_end s.reason)
 module _ (passes : ℕ) (body : List Stmt) (shared : SharedState) (t : Thread) (others : Others) (offered : Bool) where
   -- the thread after a transition
   case_kept : {next : NextStatement} {s : Status} {o : Transition} (k : CancelState) → TransitionCase passes body shared t others offered next s o → AsSet t k → AsSet (moved o t) (after_all cancel_state (reverse o.events) k)
-  unfolding thread_at thread_after
+  unfolding thread_at own_after
   case_kept k (main_returned frame s v returns is once) as_set alive = absurd (begun_by_exit k.summary alive)
   case_kept k (process_exited frame v alone) as_set alive = absurd (begun_by_exit k.summary alive)
   case_kept k (last_ended next none is_last nothing none_left) as_set alive = absurd (begun_by_exit k.summary alive)
@@ -103,7 +103,7 @@ module _ (passes : ℕ) (body : List Stmt) (shared : SharedState) (t : Thread) (
   case_kept k _ as_set alive = as_set alive
 
 -- a thread that another one names
-named_as_set : (a : Action) (t : Thread) (k : CancelState) → AsSet t k → AsSet (named_after a t) k
+named_as_set : (a : Option NamedAction) (t : Thread) (k : CancelState) → AsSet t k → AsSet (named_after a t) k
 named_as_set a t k as_set alive =
     let is = as_set alive in
     (named_keeps (λ (u : Thread). u.state) (λ t j p d k s same. refl) a t ∙ is.0, named_keeps (λ (u : Thread). u.mode) (λ t j p d k s same. refl) a t ∙ is.1)

@@ -4,8 +4,8 @@
 use Rattle.pct_names.proofs.Names.{◌&&◌, ◌++◌, and_from, and_parts, ap, Bool, Cause, cond, cond_wait_point, Config, Disable, Enable, Entry}
 use Rattle.pct_names.proofs.Names.{Event, event_of, false, false≢true, Frame, has_begun_to_end, has_left_wait, is_deliverable, is_required}
 use Rattle.pct_names.proofs.Names.{List, made_thread, map, moved, nat_eq, next_of, NextStatement, not, Option, option_map_or, or_left}
-use Rattle.pct_names.proofs.Names.{or_right, others_of, point_kind, Process, refl, reverse, Run, run, Script, sem_wait_point, Some}
-use Rattle.pct_names.proofs.Names.{statement_at, StatementIn, Status, Stmt, subst, sym, testcancel_point, Thread, thread_after, thread_at}
+use Rattle.pct_names.proofs.Names.{or_right, others_of, own_after, point_kind, Process, refl, reverse, Run, run, Script, sem_wait_point}
+use Rattle.pct_names.proofs.Names.{Some, statement_at, StatementIn, Status, Stmt, subst, sym, testcancel_point, Thread, thread_at}
 use Rattle.pct_names.proofs.Names.{Transition, transition_by, true, waitpid_point, What, ◌||◌, ℕ, ◌∙◌, ◌∷◌, ◌≡◌}
 use Rattle.std.proofs.Common.{eq-eqb, eqb-true}
 use Rattle.std.proofs.lemmas.Bool.{true≢false}
@@ -150,7 +150,7 @@ module _ (script : Script) (config : Config) (before : List Entry) (r : Run) (is
   case_lawful : {body : List Stmt} {next : NextStatement} {s : Status} {o : Transition} → IsPlaced script t.frames body next → next_of script t.frames ≡ next → t.status ≡ s
       → FitsAny script config.passes (moved o t) (after_all summary (reverse o.events) (summary_of e.pid e.tid r.events))
       → TransitionCase config.passes body p.shared t (others_of config.slots r.world p t.id) true next s o → each allows (map (event_of e) (reverse o.events) ++ r.events) ≡ true
-  unfolding thread_at thread_after
+  unfolding thread_at own_after
   case_lawful place next_is status_is fits (canceled next asked where_it_may) = and_from _ _ (cancels asked) law
   case_lawful place next_is status_is fits (canceled_at_point next index asked) = and_from _ _ (cancels asked) law
   case_lawful place next_is status_is fits (canceled_in_join next id asked) = and_from _ _ (cancels asked) law

@@ -1,12 +1,12 @@
 -- A thread that acted upon a request in a condition wait, and does not own its mutex yet, has the request pending and its cancelability
 -- enabled.
-use Rattle.pct_names.proofs.Names.{◌&&◌, Action, ap, body_at, Bool, Cause, cond, Config, false, false≢true, has_left_wait, in_child}
-use Rattle.pct_names.proofs.Names.{is_deliverable, is_live_thread, is_waiting_on, List, moved, named_after, next_of, NextStatement, not}
-use Rattle.pct_names.proofs.Names.{Others, others_of, refl, Script, SharedState, State, Status, Stmt, sym, Thread, thread_after, thread_at}
-use Rattle.pct_names.proofs.Names.{Transition, true, unblocked, ℕ, ◌∙◌, ◌≡◌}
+use Rattle.pct_names.proofs.Names.{◌&&◌, ap, body_at, Bool, Cause, cond, Config, false, false≢true, has_left_wait, in_child, is_deliverable}
+use Rattle.pct_names.proofs.Names.{is_live_thread, is_waiting_on, List, moved, named_after, NamedAction, next_of, NextStatement, not}
+use Rattle.pct_names.proofs.Names.{Option, Others, others_of, own_after, refl, Script, SharedState, Some, State, Status, Stmt, sym, Thread}
+use Rattle.pct_names.proofs.Names.{thread_at, Transition, true, unblocked, ℕ, ◌∙◌, ◌≡◌}
 use Rattle.pct_model.specs.declared.state.Cause.TheVariants as cause
 use Rattle.pct_model.specs.declared.state.Status.TheVariants as status
-use Rattle.pct_model.specs.declared.transition.Action.TheVariants as action
+use Rattle.pct_model.specs.declared.transition.NamedAction.TheVariants as named_action
 use Rattle.pct_laws.specs.Kept.{EachThread}
 use Rattle.pct_transition_cases.proofs.CaseOfTransition.{case_of}
 use Rattle.pct_transition_cases.proofs.OfferedChoices.{deliverable_enabled}
@@ -42,13 +42,13 @@ sent_again : (state : State) (pending : Bool) → is_deliverable state pending �
 sent_again state pending is = ap (λ (s : State). is_deliverable s true) (deliverable_enabled state pending is)
 
 -- an action that names the thread
-named_has : (a : Action) (t : Thread) → HasRequest t → HasRequest (named_after a t)
+named_has : (a : Option NamedAction) (t : Thread) → HasRequest t → HasRequest (named_after a t)
 unfolding named_after
-named_has (action.EndJoin id) t has = either (is_live_thread id t) (record t { joined = true }) t has has
-named_has (action.Request id) t has = either (is_live_thread id t && not t.ended) (record t { pending = true }) t (λ left. sent_again t.state t.pending (has left)) has
-named_has (action.Detach id) t has = either (is_live_thread id t) (record t { detached = true }) t has has
-named_has (action.Wake id) t has = either (is_live_thread id t) (record t { status = unblocked cause.Signalled t.status }) t (λ left. has (not_left cause.Signalled refl t.status left)) has
-named_has (action.WakeAll c) t has = either (is_waiting_on c t.status) (record t { status = unblocked cause.Broadcast t.status }) t (λ left. has (not_left cause.Broadcast refl t.status left)) has
+named_has (Some (named_action.EndJoin id)) t has = either (is_live_thread id t) (record t { joined = true }) t has has
+named_has (Some (named_action.Request id)) t has = either (is_live_thread id t && not t.ended) (record t { pending = true }) t (λ left. sent_again t.state t.pending (has left)) has
+named_has (Some (named_action.Detach id)) t has = either (is_live_thread id t) (record t { detached = true }) t has has
+named_has (Some (named_action.Wake id)) t has = either (is_live_thread id t) (record t { status = unblocked cause.Signalled t.status }) t (λ left. has (not_left cause.Signalled refl t.status left)) has
+named_has (Some (named_action.WakeAll c)) t has = either (is_waiting_on c t.status) (record t { status = unblocked cause.Broadcast t.status }) t (λ left. has (not_left cause.Broadcast refl t.status left)) has
 named_has _ t has = has
 
 -- ---- its own transition
@@ -56,7 +56,7 @@ named_has _ t has = has
 module _ (passes : ℕ) (body : List Stmt) (shared : SharedState) (t : Thread) (others : Others) where
   -- the thread after a transition
   case_has : {next : NextStatement} {s : Status} {o : Transition} → TransitionCase passes body shared t others true next s o → HasRequest (record t { status = s }) → HasRequest (moved o (record t { status = s }))
-  unfolding thread_at thread_after
+  unfolding thread_at own_after
   case_has (rests next s alive) has = has
   case_has (canceled_in_wait next c m asked) has = λ left. asked refl
   case_has (canceled_after_wait next c m why stays asked) has = λ left. asked refl

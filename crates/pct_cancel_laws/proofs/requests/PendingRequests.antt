@@ -1,9 +1,9 @@
 -- A request is pending for a thread that has not ended exactly if the events report one.
-use Rattle.pct_names.proofs.Names.{◌&&◌, [], Action, Alt, and_from, and_left, ap, ap₂, body_at, Bool, changed, cond, Config, Entry, Event}
-use Rattle.pct_names.proofs.Names.{event_of, false, false≢true, find, for_each, holds_slot, inl, inr, is_live_thread, is_waiting_on, List}
-use Rattle.pct_names.proofs.Names.{list_all, list_any, made_process, map, moved, named_after, nat_eq, next_of, NextStatement, None}
-use Rattle.pct_names.proofs.Names.{none-some, not, Option, option_and_then, or_from, others_of, Process, refl, requests, reverse, same_Some}
-use Rattle.pct_names.proofs.Names.{Script, SharedState, Some, Status, Stmt, subst, suc, sym, Thread, thread_after, thread_at, thread_moved}
+use Rattle.pct_names.proofs.Names.{◌&&◌, [], Alt, and_from, and_left, ap, ap₂, body_at, Bool, changed, cond, Config, Entry, Event, event_of}
+use Rattle.pct_names.proofs.Names.{false, false≢true, find, holds_slot, inl, inr, is_live_thread, is_waiting_on, List, list_any}
+use Rattle.pct_names.proofs.Names.{made_process, map, moved, named_after, NamedAction, nat_eq, next_of, NextStatement, None, none-some, not}
+use Rattle.pct_names.proofs.Names.{Option, option_and_then, or_from, others_of, own_after, OwnAction, Process, refl, requests, reverse}
+use Rattle.pct_names.proofs.Names.{same_Some, Script, SharedState, Some, Status, Stmt, subst, suc, sym, Thread, thread_at, thread_moved}
 use Rattle.pct_names.proofs.Names.{thread_with, Transition, transition_by, true, unblocked, value_of, What, with_id, World, ◌||◌, ℕ, ◌∙◌}
 use Rattle.pct_names.proofs.Names.{◌∷◌, ◌≡◌, ◌⊎◌}
 use mathlib.Core.Bool.{or-false, or_assoc}
@@ -11,7 +11,8 @@ use Rattle.std.proofs.Common.{eqb-true, eq-eqb, ne_eqb}
 use Rattle.std.proofs.lemmas.Bool.{true≢false}
 use Rattle.pct_model.specs.declared.state.Cause.TheVariants as cause
 use Rattle.pct_model.specs.declared.state.Status.TheVariants as status
-use Rattle.pct_model.specs.declared.transition.Action.TheVariants as action
+use Rattle.pct_model.specs.declared.transition.NamedAction.TheVariants as named_action
+use Rattle.pct_model.specs.declared.transition.OwnAction.TheVariants as own_action
 use Rattle.pct_laws.specs.CancelEvents.{requests_id, is_requested}
 use Rattle.pct_laws.specs.Kept.{EachThread}
 use Rattle.pct_laws.specs.KnownThreads.{is_in}
@@ -19,12 +20,10 @@ use Rattle.pct_transition_cases.proofs.CaseOfTransition.{case_of}
 use Rattle.pct_transition_cases.proofs.TransitionCases.{TransitionCase, request_sent, fork_handler_called}
 use Rattle.pct_thread_invariants.proofs.lift.KeyedLists.{found_passes}
 use Rattle.pct_thread_invariants.proofs.lift.TakenSteps.{AfterEveryRun}
-use Rattle.pct_thread_invariants.proofs.lift.ChangedThreads.{all_keep, all_keep_if, either_keeps, going_on_keeps, other_threads}
-use Rattle.pct_thread_invariants.proofs.lift.ChangedThreads.{named_keeps}
+use Rattle.pct_thread_invariants.proofs.lift.ChangedThreads.{either_keeps, going_on_keeps, other_threads, named_keeps}
 use Rattle.pct_thread_invariants.proofs.lift.HandlerEvents.{of_each_phase}
 use Rattle.pct_thread_invariants.proofs.lift.ReportedBy.{Reading, reported_by, is_reading, after_own}
-use Rattle.pct_thread_invariants.proofs.lift.ThreadsAfter.{initial_thread, Moves, mover, After, was_made, is_new, is_absent, after}
-use Rattle.pct_thread_invariants.proofs.lift.ThreadsAfter.{same_gone}
+use Rattle.pct_thread_invariants.proofs.lift.ThreadsAfter.{initial_thread, Moves, mover, After, was_made, is_new, is_absent, after, same_gone}
 use Rattle.pct_thread_invariants.proofs.lift.InheritedThreads.{Heir, is_replica, is_gone, has_none, heir}
 use Rattle.pct_thread_invariants.proofs.lift.MadeThreads.{live_thread}
 use Rattle.pct_thread_invariants.proofs.lift.EveryProcess.{FitsReports, IsProcessRule, every_process, moves_of_run}
@@ -33,13 +32,13 @@ use Rattle.pct_thread_invariants.proofs.thread.NamedThreads.{swapped, unnamed, u
 -- ---- transitions
 
 -- the action sends no request
-abbrev sends_none : Action → Bool
-sends_none (action.Request id) = false
+abbrev sends_none : Option NamedAction → Bool
+sends_none (Some (named_action.Request id)) = false
 sends_none _ = true
 
 -- the transition sends no request
 record SendsNone (o : Transition) : Type 0 where
-  actions : list_all sends_none o.actions ≡ true
+  named : sends_none o.named ≡ true
   events : (id : ℕ) → list_any (requests_id id) (reverse o.events) ≡ false
 
 -- the transition sends a request to a thread that holds its slot, and nothing else
@@ -55,8 +54,8 @@ module _ (slots : ℕ) (w : World) (p : Process) (passes : ℕ) (body : List Stm
   case_sends : {next : NextStatement} {s : Status} {o : Transition} → TransitionCase passes body shared t (others_of slots w p t.id) false next s o → SendsNone o ⊎ SendsOne p.threads o
   unfolding others_of requests
   case_sends (request_sent frame id target is) = inr (record { next = suc frame.pc; id = value_of shared.globals frame id; target = target; is_target = is; is = refl })
-  case_sends (fork_handler_called next at call is) = inl (record { actions = refl; events = λ id. of_each_phase (λ (w : What). list_any (requests_id id) (w ∷ []) ≡ false) call.func refl refl refl at.phase })
-  case_sends _ = inl (record { actions = refl; events = λ id. refl })
+  case_sends (fork_handler_called next at call is) = inl (record { named = refl; events = λ id. of_each_phase (λ (w : What). list_any (requests_id id) (w ∷ []) ≡ false) call.func refl refl refl at.phase })
+  case_sends _ = inl (record { named = refl; events = λ id. refl })
 
 -- each transition sends one request, or none
 sends : (script : Script) (config : Config) (w : World) (p : Process) (t : Thread) (choice : Alt) → SendsNone (transition_by script config w p t choice) ⊎ SendsOne p.threads (transition_by script config w p t choice)
@@ -67,27 +66,27 @@ sends script config w p t choice =
 -- ---- a thread
 
 -- an action of a thread's own transition changes no pending request
-after_action : (a : Action) (t : Thread) → (thread_after a t).pending ≡ t.pending
-unfolding thread_after
-after_action (action.Write d v) t = refl
+after_action : (a : Option OwnAction) (t : Thread) → (own_after a t).pending ≡ t.pending
+unfolding own_after
+after_action (Some own_action.PopHandler) t = refl
 after_action _ t = refl
 
 -- nor does its whole transition
 own_pending : (o : Transition) (t : Thread) → (moved o t).pending ≡ t.pending
-own_pending o t = all_keep (λ (u : Thread). u.pending) thread_after after_action o.actions (thread_at o.next t) ∙ going_on_keeps (λ (u : Thread). u.pending) (λ t s frames. refl) o.next t
+own_pending o t = after_action o.own _ ∙ going_on_keeps (λ (u : Thread). u.pending) (λ t s frames. refl) o.next t
 
 -- an action that sends no request changes none
-quiet_action : (a : Action) → sends_none a ≡ true → (t : Thread) → (named_after a t).pending ≡ t.pending
+quiet_action : (a : Option NamedAction) → sends_none a ≡ true → (t : Thread) → (named_after a t).pending ≡ t.pending
 unfolding named_after
-quiet_action (action.EndJoin id) is t = either_keeps (λ (u : Thread). u.pending) (is_live_thread id t) (record t { joined = true }) t t refl refl
-quiet_action (action.Request id) is t = absurd (false≢true is)
-quiet_action (action.Detach id) is t = either_keeps (λ (u : Thread). u.pending) (is_live_thread id t) (record t { detached = true }) t t refl refl
-quiet_action (action.Wake id) is t = either_keeps (λ (u : Thread). u.pending) (is_live_thread id t) (record t { status = unblocked cause.Signalled t.status }) t t refl refl
-quiet_action (action.WakeAll c) is t = either_keeps (λ (u : Thread). u.pending) (is_waiting_on c t.status) (record t { status = unblocked cause.Broadcast t.status }) t t refl refl
+quiet_action (Some (named_action.EndJoin id)) is t = either_keeps (λ (u : Thread). u.pending) (is_live_thread id t) (record t { joined = true }) t t refl refl
+quiet_action (Some (named_action.Request id)) is t = absurd (false≢true is)
+quiet_action (Some (named_action.Detach id)) is t = either_keeps (λ (u : Thread). u.pending) (is_live_thread id t) (record t { detached = true }) t t refl refl
+quiet_action (Some (named_action.Wake id)) is t = either_keeps (λ (u : Thread). u.pending) (is_live_thread id t) (record t { status = unblocked cause.Signalled t.status }) t t refl refl
+quiet_action (Some (named_action.WakeAll c)) is t = either_keeps (λ (u : Thread). u.pending) (is_waiting_on c t.status) (record t { status = unblocked cause.Broadcast t.status }) t t refl refl
 quiet_action _ is t = refl
 
 -- a request becomes pending for the thread that it names, unless that has ended
-request_action : (id : ℕ) (t : Thread) → (named_after (action.Request id) t).pending ≡ ((is_live_thread id t && not t.ended) || t.pending)
+request_action : (id : ℕ) (t : Thread) → (named_after (Some (named_action.Request id)) t).pending ≡ ((is_live_thread id t && not t.ended) || t.pending)
 unfolding named_after
 request_action id t = by (is_live_thread id t && not t.ended)
   where
@@ -96,26 +95,21 @@ request_action id t = by (is_live_thread id t && not t.ended)
     by false = refl
 
 -- a thread that has not ended after an action of its own had not ended before it
-unended_before : (a : Action) (t : Thread) → (thread_after a t).ended ≡ false → t.ended ≡ false
-unfolding thread_after
-unended_before (action.EndThread v) t alive = absurd (true≢false alive)
-unended_before action.MarkEnded t alive = absurd (true≢false alive)
+unended_before : (a : Option OwnAction) (t : Thread) → (own_after a t).ended ≡ false → t.ended ≡ false
+unfolding own_after
+unended_before (Some (own_action.EndThread v)) t alive = absurd (true≢false alive)
+unended_before (Some own_action.EndLast) t alive = absurd (true≢false alive)
 unended_before _ t alive = alive
-
--- and so of several
-all_unended : (actions : List Action) (t : Thread) → (for_each thread_after actions t).ended ≡ false → t.ended ≡ false
-all_unended [] t alive = alive
-all_unended (a ∷ actions) t alive = unended_before a t (all_unended actions (thread_after a t) alive)
 
 module _ (tid : ℕ) (o : Transition) (u : Thread) where
   -- its own transition, if it is the thread that moves
   moved_unended : (live : Bool) → (cond live (moved o u) u).ended ≡ false → u.ended ≡ false
-  moved_unended true alive = sym (going_on_keeps (λ (x : Thread). x.ended) (λ t s frames. refl) o.next u) ∙ all_unended o.actions (thread_at o.next u) alive
+  moved_unended true alive = sym (going_on_keeps (λ (x : Thread). x.ended) (λ t s frames. refl) o.next u) ∙ unended_before o.own _ alive
   moved_unended false alive = alive
 
   -- an action that names a thread does not end it
   same_end : (thread_moved tid o u).ended ≡ (unnamed tid o u).ended
-  same_end = all_keep (λ (x : Thread). x.ended) named_after (named_keeps (λ (x : Thread). x.ended) (λ t j p d k s is. refl)) o.actions (unnamed tid o u)
+  same_end = named_keeps (λ (x : Thread). x.ended) (λ t j p d k s is. refl) o.named (unnamed tid o u)
 
   -- a thread that has not ended after a transition had not ended before it
   unended : (thread_moved tid o u).ended ≡ false → u.ended ≡ false
@@ -176,7 +170,7 @@ module _ (script : Script) (config : Config) (w : World) (p : Process) (e : Entr
     -- a transition that sends no request keeps the requests
     none_by : (id : ℕ) {found : Option Thread} → After script config w p e t moves id found → IsPending found (sent id || k id)
     none_by id (was_made u is new) = λ here alive.
-        all_keep_if (λ (x : Thread). x.pending) named_after sends_none quiet_action o.actions none.actions (unnamed e.tid o u) ∙ same_pending e.tid o u ∙ made_before id u is here alive ∙ ap (λ (b : Bool). b || k id) (sym (none.events id))
+        quiet_action o.named none.named (unnamed e.tid o u) ∙ same_pending e.tid o u ∙ made_before id u is here alive ∙ ap (λ (b : Bool). b || k id) (sym (none.events id))
     none_by id (is_new new is makes named) = λ here alive. sym (or_from (sent id) (k id) (none.events id) (before id None is))
     none_by id (is_absent is new) = or_from (sent id) (k id) (none.events id) (before id None is)
 
@@ -188,7 +182,7 @@ module _ (script : Script) (config : Config) (w : World) (p : Process) (e : Entr
 
     -- the thread that sends a request runs on
     runs : (u : Thread) → (moved o u).status ≡ status.Running
-    unfolding requests thread_at thread_after
+    unfolding requests thread_at own_after
     runs u = ap (λ (x : Transition). (moved x u).status) (sym one.is)
 
     -- the target was made
@@ -216,7 +210,7 @@ module _ (script : Script) (config : Config) (w : World) (p : Process) (e : Entr
     one_by : (id : ℕ) {found : Option Thread} → After script config w p e t moves id found → IsPending found (sent id || k id)
     unfolding requests
     one_by id (was_made u is new) = λ here alive.
-        ap (λ (x : Transition). (for_each named_after x.actions (unnamed e.tid o u)).pending) (sym one.is) ∙ request_action one.id (unnamed e.tid o u)
+        ap (λ (x : Transition). (named_after x.named (unnamed e.tid o u)).pending) (sym one.is) ∙ request_action one.id (unnamed e.tid o u)
         ∙ ap (λ (b : Bool). (is_live_thread one.id (unnamed e.tid o u) && not (unnamed e.tid o u).ended) || b) (same_pending e.tid o u)
         ∙ named_pending id u is (sym (same_end e.tid o u) ∙ alive) (nat_eq one.id id) refl
         ∙ ap₂ (λ (a b : Bool). a || b) (sym (is_sent id)) (made_before id u is here alive)

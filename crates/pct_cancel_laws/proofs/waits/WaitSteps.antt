@@ -1,16 +1,17 @@
 -- A transition of a thread, and the condition wait of the thread: its events follow in the wait, and the wait is unfinished after it exactly
 -- if the thread is in it then.
-use Rattle.pct_names.proofs.Names.{◌&&◌, [], Action, acts, Alt, and_from, and_parts, ap, ap₂, body_at, Bool, Cause, cond, Config, false}
-use Rattle.pct_names.proofs.Names.{false≢true, Frame, has_left_wait, in_fork, is_live_thread, is_waiting_on, List, moved, named_after}
-use Rattle.pct_names.proofs.Names.{nat_eq, next_of, NextStatement, not, Others, others_of, Process, refl, reverse, Script, SharedState}
-use Rattle.pct_names.proofs.Names.{Status, Stmt, subst, subst₂, sym, Thread, thread_after, thread_at, Transition, transition_by, true}
-use Rattle.pct_names.proofs.Names.{unblocked, What, while_called, World, ◌||◌, ℕ, ◌∙◌, ◌∷◌, ◌≡◌}
+use Rattle.pct_names.proofs.Names.{◌&&◌, [], acts, Alt, and_from, and_parts, ap, ap₂, body_at, Bool, Cause, cond, Config, false, false≢true}
+use Rattle.pct_names.proofs.Names.{Frame, has_left_wait, in_fork, is_live_thread, is_waiting_on, List, moved, named_after, NamedAction}
+use Rattle.pct_names.proofs.Names.{nat_eq, next_of, NextStatement, not, Option, Others, others_of, own_after, Process, refl, reverse}
+use Rattle.pct_names.proofs.Names.{Script, SharedState, Some, Status, Stmt, subst, subst₂, sym, Thread, thread_at, Transition}
+use Rattle.pct_names.proofs.Names.{transition_by, true, unblocked, What, while_called, World, ◌||◌, ℕ, ◌∙◌, ◌∷◌, ◌≡◌}
 use Rattle.std.proofs.Common.{eq-eqb, eqb-true}
 use Rattle.pct_model.specs.declared.event.What.TheVariants as what
 use Rattle.pct_model.specs.declared.state.Cause.TheVariants as cause
 use Rattle.pct_model.specs.declared.state.FrameKind.TheVariants as kind
 use Rattle.pct_model.specs.declared.state.Status.TheVariants as status
-use Rattle.pct_model.specs.declared.transition.Action.TheVariants as action
+use Rattle.pct_model.specs.declared.transition.NamedAction.TheVariants as named_action
+use Rattle.pct_model.specs.declared.transition.OwnAction.TheVariants as own_action
 use Rattle.pct_laws.specs.Kept.{WaitKept, is_leaving}
 use Rattle.pct_laws.specs.WaitStages.{WaitStage, NoWait, AtCall, InWait, Leaving, LeavingSignal, stage_after, wait_stage, may_follow}
 use Rattle.pct_transition_cases.proofs.CaseOfTransition.{case_of}
@@ -84,7 +85,7 @@ module _ (script : Script) (passes : ℕ) (shared : SharedState) (t : Thread) (o
 
   case_keeps : {frames : List Frame} {body : List Stmt} {next : NextStatement} {s : Status} {o : Transition} (k : WaitStage) → IsPlaced script frames body next
       → TransitionCase passes body shared t others false next s o → WaitKept s k → KeepsWait (own s frames) k o
-  unfolding thread_at thread_after
+  unfolding thread_at own_after
   case_keeps k place (rests next s alive) is = record { own = is; lawful = refl }
   case_keeps {frames} k place (point_begun frame index required unasked) is =
       at_stage (own status.Running frames) _ NoWait is
@@ -99,7 +100,7 @@ module _ (script : Script) (passes : ℕ) (shared : SharedState) (t : Thread) (o
       at_stage (own (status.Reacquire c m cause.Signalled) frames) _ (InWait m) is (record { own = ap (λ (same : Bool). is_leaving c m (cond same (LeavingSignal c m) NoWait)) (eq-eqb c c refl) ∙ same_pair c m; lawful = ap (λ (same : Bool). same && true) (eq-eqb c c refl) })
   case_keeps k place (ended_in_wait next c m free) is = record { own = wait_is_over c m k is; lawful = ends_wait c m k is }
   case_keeps {frames} k place (fork_handler_called next at call handler) is =
-      let keeps : (w : What) → Type 0 = λ w. KeepsWait (own (in_fork at) frames) NoWait (acts (action.KeepFork (while_called at call.index) ∷ action.Call call.func 0 kind.ForkFn ∷ []) (w ∷ [])) in
+      let keeps : (w : What) → Type 0 = λ w. KeepsWait (own (in_fork at) frames) NoWait (record (acts (w ∷ [])) { own = Some (own_action.CallForkHandler (while_called at call.index) call.func) }) in
       at_stage (own (in_fork at) frames) _ NoWait is (of_each_phase keeps call.func (record { own = refl; lawful = refl }) (record { own = refl; lawful = refl }) (record { own = refl; lawful = refl }) at.phase)
   case_keeps {frames} {s = s} {o = o} k place _ is = at_stage (own s frames) o NoWait is (record { own = refl; lawful = refl })
 
@@ -122,11 +123,11 @@ either true changed t k first second = first
 either false changed t k first second = second
 
 -- an action of another thread
-pub named_keeps_wait : (a : Action) (t : Thread) (k : WaitStage) → WaitKept t.status k → WaitKept (named_after a t).status k
+pub named_keeps_wait : (a : Option NamedAction) (t : Thread) (k : WaitStage) → WaitKept t.status k → WaitKept (named_after a t).status k
 unfolding named_after
-named_keeps_wait (action.EndJoin id) t k is = either (is_live_thread id t) (record t { joined = true }) t k is is
-named_keeps_wait (action.Request id) t k is = either (is_live_thread id t && not t.ended) (record t { pending = true }) t k is is
-named_keeps_wait (action.Detach id) t k is = either (is_live_thread id t) (record t { detached = true }) t k is is
-named_keeps_wait (action.Wake id) t k is = either (is_live_thread id t) (record t { status = unblocked cause.Signalled t.status }) t k (unblocked_stays cause.Signalled refl t.status k is) is
-named_keeps_wait (action.WakeAll c) t k is = either (is_waiting_on c t.status) (record t { status = unblocked cause.Broadcast t.status }) t k (unblocked_stays cause.Broadcast refl t.status k is) is
+named_keeps_wait (Some (named_action.EndJoin id)) t k is = either (is_live_thread id t) (record t { joined = true }) t k is is
+named_keeps_wait (Some (named_action.Request id)) t k is = either (is_live_thread id t && not t.ended) (record t { pending = true }) t k is is
+named_keeps_wait (Some (named_action.Detach id)) t k is = either (is_live_thread id t) (record t { detached = true }) t k is is
+named_keeps_wait (Some (named_action.Wake id)) t k is = either (is_live_thread id t) (record t { status = unblocked cause.Signalled t.status }) t k (unblocked_stays cause.Signalled refl t.status k is) is
+named_keeps_wait (Some (named_action.WakeAll c)) t k is = either (is_waiting_on c t.status) (record t { status = unblocked cause.Broadcast t.status }) t k (unblocked_stays cause.Broadcast refl t.status k is) is
 named_keeps_wait _ t k is = is

@@ -1,27 +1,26 @@
 -- The law of the stages of an end, of a step: what each event of an end begins with.
-use Rattle.pct_names.proofs.Names.{◌&&◌, ◌++◌, [], Action, acts, acts_on_request, acts_or, Alt, and_from, and_parts, ap, ap₂, arith}
-use Rattle.pct_names.proofs.Names.{body_at, Bool, calls_destructor, cond, Config, due_places, end_value, ends_thread, Entry, false}
-use Rattle.pct_names.proofs.Names.{false≢true, filter, Frame, goes_on_ending, is_due, is_empty, is_last, is_left, is_some, Key, key_at}
-use Rattle.pct_names.proofs.Names.{KeyPlace, KeyValues, left_keys, left_places, length, List, list_all, list_any, map, MAX_KEYS, nat_eq}
-use Rattle.pct_names.proofs.Names.{nat_le, next_of, NextStatement, None, NoStatement, not, number_at, Option, option_and_then, option_map}
-use Rattle.pct_names.proofs.Names.{option_map_or, or_left, or_right, Others, others_of, Process, range_with_len, Reason, refl, Run, run}
-use Rattle.pct_names.proofs.Names.{Script, SharedState, slice_get, slice_get-map, Some, StatementIn, Status, Stmt, subst, suc, sym, Thread}
-use Rattle.pct_names.proofs.Names.{thread_moved, thread_with, Transition, transition_at, transition_by, true, unwrap_or}
-use Rattle.pct_names.proofs.Names.{unwrap_or-slice_get, value_at, was_reclaimed, What, with_pass, without_first, ◌||◌, ℕ, ◌∙◌, ◌∷◌, ◌≡◌}
+use Rattle.pct_names.proofs.Names.{◌&&◌, ◌++◌, [], acts, acts_on_request, acts_or, Alt, and_from, and_parts, ap, ap₂, arith, body_at, Bool}
+use Rattle.pct_names.proofs.Names.{calls_destructor, cond, Config, due_places, end_value, ends_thread, Entry, false, false≢true, filter}
+use Rattle.pct_names.proofs.Names.{Frame, goes_on_ending, is_due, is_empty, is_last, is_left, is_some, Key, key_at, KeyPlace, KeyValues}
+use Rattle.pct_names.proofs.Names.{left_keys, left_places, length, List, list_all, list_any, map, MAX_KEYS, NamedAction, nat_eq, nat_le}
+use Rattle.pct_names.proofs.Names.{next_of, NextStatement, None, NoStatement, not, number_at, Option, option_and_then, option_map}
+use Rattle.pct_names.proofs.Names.{option_map_or, or_left, or_right, Others, others_of, OwnAction, Process, range_with_len, Reason, refl}
+use Rattle.pct_names.proofs.Names.{Run, run, Script, SharedState, slice_get, slice_get-map, Some, StatementIn, Status, Stmt, subst, suc}
+use Rattle.pct_names.proofs.Names.{sym, Thread, thread_moved, thread_with, Transition, transition_at, transition_by, true, unwrap_or}
+use Rattle.pct_names.proofs.Names.{unwrap_or-slice_get, value_at, was_reclaimed, What, with_pass, ◌||◌, ℕ, ◌∙◌, ◌∷◌, ◌≡◌}
 use Rattle.std.proofs.Common.{eq-eqb}
 use Rattle.std.proofs.lemmas.Bool.{eq-eqb, lt-ltb, le-leb}
 use Rattle.pct_model.specs.declared.event.What.TheVariants as what
 use Rattle.pct_model.specs.declared.schedule.Alt.TheVariants as alt
 use Rattle.pct_model.specs.declared.state.Status.TheVariants as status
-use Rattle.pct_model.specs.declared.transition.Action.TheVariants as action
+use Rattle.pct_model.specs.declared.transition.OwnAction.TheVariants as own_action
 use Rattle.pct_laws.specs.AfterEnd.{begins_exit_with_0}
 use Rattle.pct_laws.specs.Ends.{count_due, is_in_pass, none_left, takes_due, reports_left, is_status_ending, is_at_stage, has_run_handlers}
 use Rattle.pct_laws.specs.Ends.{others_have_ended, thread_may_end, each_may_begin}
 use Rattle.pct_laws.specs.KnownThreads.{reports_end}
 use Rattle.pct_laws.specs.ThreadSteps.{ThreadStep}
 use Rattle.pct_laws.specs.ThreadSummary.{ThreadSummary}
-use Rattle.pct_transition_cases.proofs.TransitionCases.{TransitionCase, fork_handler_called, handler_run, destructor_called, pass_begun}
-use Rattle.pct_transition_cases.proofs.TransitionCases.{thread_ended, thread_ended_with_keys, last_ended, last_ended_with_keys}
+use Rattle.pct_transition_cases.proofs.TransitionCases.{TransitionCase, fork_handler_called, handler_run, destructor_called, pass_begun, thread_ended, thread_ended_with_keys, last_ended, last_ended_with_keys}
 use Rattle.pct_thread_invariants.proofs.ThreadsOfRun.{threads_fit}
 use Rattle.pct_thread_invariants.proofs.lift.EveryProcess.{process_taken, moves_of_run}
 use Rattle.pct_thread_invariants.proofs.lift.EveryThread.{of_made_thread}
@@ -30,7 +29,6 @@ use Rattle.pct_thread_invariants.proofs.lift.MadeThreads.{IsLive}
 use Rattle.pct_thread_invariants.proofs.lift.TakenSteps.{IsTaken}
 use Rattle.pct_thread_invariants.proofs.lift.ThreadsAfter.{Moves, mover}
 use Rattle.pct_thread_invariants.proofs.keys.KeptKeys.{own_data, named_data}
-use Rattle.pct_thread_invariants.proofs.keys.KeyActions.{is_keyless, first_of, key_actions}
 use Rattle.pct_thread_invariants.proofs.keys.KeysOfProcesses.{data_moved}
 use Rattle.pct_thread_invariants.proofs.lift.ReportedBy.{reported_by, of_thread}
 use Rattle.pct_thread_invariants.proofs.thread.ThreadRule.{summary, ByAnyStatus, FitsAny, outside_exit}
@@ -96,7 +94,7 @@ module _ (passes : ℕ) (body : List Stmt) (shared : SharedState) (t : Thread) (
   destructor_exits k value (Some f) = refl
   destructor_exits k value None = refl
 
-  stage_exits : (more last : Bool) → last ≡ true → (left v : ℕ) → exits_if_ends (cond more (acts (action.BeginPass ∷ []) (what.PassBegun (suc t.pass) ∷ [])) (ends_thread last left v)).events ≡ true
+  stage_exits : (more last : Bool) → last ≡ true → (left v : ℕ) → exits_if_ends (cond more (record (acts (what.PassBegun (suc t.pass) ∷ [])) { own = Some own_action.BeginPass }) (ends_thread last left v)).events ≡ true
   unfolding ends_thread
   stage_exits true last is left v = refl
   stage_exits false true is left v = ends_and_exits left v (nat_eq left 0)
@@ -174,13 +172,13 @@ module _ (passes : ℕ) (step : ThreadStep) (others : Others) (frames : is_statu
   end = what.EndedWith (end_value t.reason)
 
   -- each event of a transition may come in its step
-  case_begins : {body : List Stmt} {next : NextStatement} {s : Status} {o : Transition} → t.status ≡ s → (others.is_last ≡ true → s ≡ status.Ending → exits_if_ends o.events ≡ true) → (o.actions ≡ action.BeginPass ∷ [] → step.after.specific ≡ with_pass t.specific)
+  case_begins : {body : List Stmt} {next : NextStatement} {s : Status} {o : Transition} → t.status ≡ s → (others.is_last ≡ true → s ≡ status.Ending → exits_if_ends o.events ≡ true) → (o.own ≡ Some own_action.BeginPass → o.named ≡ None → step.after.specific ≡ with_pass t.specific)
       → TransitionCase passes body p.shared t others true next s o → each_may_begin passes (step_with o.events) ≡ true
   unfolding due_places
   case_begins is alone pass (handler_run next f a handlers has) = and_from _ _ (at_stage is) refl
   case_begins is alone pass (destructor_called next k f key none found named among) = and_from _ _ (and_from _ _ (has_run is none) (eq-eqb t.pass t.pass refl)) refl
   case_begins is alone pass (pass_begun next none more some_due none_left) =
-      and_from _ _ (and_from _ _ (and_from _ _ (and_from _ _ (and_from _ _ (has_run is none) (none_due p.shared.keys t (none_left refl))) (lt-ltb 0 due some_due)) (eq-eqb (suc t.pass) (suc t.pass) refl)) (all_taken p.shared.keys t step.after (pass refl))) refl
+      and_from _ _ (and_from _ _ (and_from _ _ (and_from _ _ (and_from _ _ (has_run is none) (none_due p.shared.keys t (none_left refl))) (lt-ltb 0 due some_due)) (eq-eqb (suc t.pass) (suc t.pass) refl)) (all_taken p.shared.keys t step.after (pass refl refl))) refl
   case_begins is alone pass (thread_ended next none nothing_due none_left) =
       let nothing : nat_eq due 0 ≡ true = eq-eqb due 0 nothing_due in
       and_from _ _ (ends_with (end ∷ []) is none (none_left refl) (or_left (nat_eq due 0) _ nothing) (or_left (nat_eq due 0) _ nothing) (λ is_last. absurd (false≢true (alone is_last refl)))) refl
@@ -215,9 +213,8 @@ module _ (script : Script) (config : Config) where
       let next : NextStatement = next_of script t.frames in
       let exits : others.is_last ≡ true → t.status ≡ status.Ending → exits_if_ends o.events ≡ true = λ alone ending.
       subst (λ (st : Status). exits_if_ends (acts_or e.alt st (transition_at passes body p.shared t others e.alt next st)).events ≡ true) (sym ending) (last_exits passes body p.shared t others alone e.alt next) in
-      let rest : list_all is_keyless (without_first o.actions) ≡ true = (key_actions script config r.world p t e.alt moves.offered).rest in
-      let pass : o.actions ≡ action.BeginPass ∷ [] → (thread_moved e.tid o t).specific ≡ with_pass t.specific = λ begins.
-      data_moved e.tid o rest t ∙ ap₂ (λ (a : Action) (live : Bool). named_data a (cond live (own_data a t.specific) t.specific)) (ap first_of begins) it.live in
+      let pass : o.own ≡ Some own_action.BeginPass → o.named ≡ None → (thread_moved e.tid o t).specific ≡ with_pass t.specific = λ begins none.
+      data_moved e.tid o t ∙ ap (λ (live : Bool). named_data o.named (cond live (own_data o.own t.specific) t.specific)) it.live ∙ ap₂ (λ (a : Option OwnAction) (n : Option NamedAction). named_data n (own_data a t.specific)) begins none in
       case_begins passes (step_of script config r p e t) others (no_frames script t.status t.reason t.frames t.handlers reported fits.by_status) (last_of_others t.id p.threads) refl exits pass (case_of_step script config r.world p e t moves)
 
   -- each event of a step may come in it

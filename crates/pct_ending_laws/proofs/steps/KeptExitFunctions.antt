@@ -1,7 +1,7 @@
 -- The law of calls, of a step: the functions that are registered with atexit change by atexit alone, unless one of them is called.
-use Rattle.pct_names.proofs.Names.{body_at, Config, Entry, false, for_each, inl, inr, List, list_any, next_of, NextStatement, Others}
-use Rattle.pct_names.proofs.Names.{others_of, Process, refl, Run, run, Script, shared_after, SharedState, Some, StatementIn, Status, Stmt}
-use Rattle.pct_names.proofs.Names.{subst, sym, Thread, Transition, transition_by, true, ℕ, ◌≡◌}
+use Rattle.pct_names.proofs.Names.{body_at, Config, Entry, false, inl, inr, List, list_any, next_of, NextStatement, Others, others_of}
+use Rattle.pct_names.proofs.Names.{Process, refl, Run, run, Script, shared_after, shared_moved, SharedState, Some, StatementIn, Status}
+use Rattle.pct_names.proofs.Names.{Stmt, subst, sym, Thread, Transition, transition_by, true, ℕ, ◌≡◌}
 use Rattle.std.proofs.lemmas.Bool.{true≢false}
 use Rattle.pct_model.specs.declared.statement.Stmt.TheVariants as statement
 use Rattle.pct_laws.specs.Calls.{calls_exit_function, KeepsExits, KeepsExitFunctions}
@@ -20,7 +20,7 @@ same_kept _ functions = refl
 module _ (passes : ℕ) (body : List Stmt) (shared : SharedState) (t : Thread) (others : Others) where
   -- the registered functions after a transition that calls none of them
   case_kept : {next : NextStatement} {s : Status} {o : Transition} → TransitionCase passes body shared t others true next s o
-      → list_any calls_exit_function o.events ≡ false → KeepsExits next shared.exit_functions (for_each shared_after o.actions shared).exit_functions
+      → list_any calls_exit_function o.events ≡ false → KeepsExits next shared.exit_functions (shared_moved o shared).exit_functions
   unfolding shared_after
   case_kept (exit_registered frame result f may) none = inl refl
   case_kept (exit_function_called next f functions is) none = absurd (true≢false none)

@@ -1,8 +1,8 @@
 -- The law of calls, of a step: the key on each place stays, unless an event says that a key on it is made or deleted.
-use Rattle.pct_names.proofs.Names.{◌+◌, ap, body_at, Config, Entry, eqb-false, false, for_each, key_at, key_place, KeyPlace, List, list_any}
-use Rattle.pct_names.proofs.Names.{nat_eq, NextStatement, None, on_place, Option, option_map_or, or_parts, Others, others_of, Process, refl}
-use Rattle.pct_names.proofs.Names.{Run, run, Script, set, shared_after, SharedState, slice_get, Some, Status, Stmt, Thread, Transition}
-use Rattle.pct_names.proofs.Names.{transition_by, true, value_of, ◌||◌, ℕ, ◌∙◌, ◌≡◌, ◌≢◌}
+use Rattle.pct_names.proofs.Names.{◌+◌, ap, body_at, Config, Entry, eqb-false, false, key_at, key_place, KeyPlace, List, list_any, nat_eq}
+use Rattle.pct_names.proofs.Names.{NextStatement, None, on_place, Option, option_map_or, or_parts, Others, others_of, Process, refl, Run}
+use Rattle.pct_names.proofs.Names.{run, Script, set, shared_after, shared_moved, SharedState, slice_get, Some, Status, Stmt, Thread}
+use Rattle.pct_names.proofs.Names.{Transition, transition_by, true, value_of, ◌||◌, ℕ, ◌∙◌, ◌≡◌, ◌≢◌}
 use Rattle.pct_laws.specs.Calls.{changes_key, KeepsKeys}
 use Rattle.pct_transition_cases.proofs.TransitionCases.{TransitionCase, key_made, key_deleted}
 use Rattle.pct_ending_laws.proofs.KeyEvents.{key_set_other}
@@ -27,7 +27,7 @@ other_place k place none = eqb-false (key_place k) place (or_parts (nat_eq (key_
 module _ (passes : ℕ) (body : List Stmt) (shared : SharedState) (t : Thread) (others : Others) (place : ℕ) where
   -- the key on the place after a transition without an event of a key on it
   case_kept : {next : NextStatement} {s : Status} {o : Transition} → TransitionCase passes body shared t others true next s o
-      → list_any (changes_key place) o.events ≡ false → key_at (for_each shared_after o.actions shared).keys place ≡ key_at shared.keys place
+      → list_any (changes_key place) o.events ≡ false → key_at (shared_moved o shared).keys place ≡ key_at shared.keys place
   unfolding shared_after
   case_kept (key_made frame result key destructor k among) none =
       key_on_other shared.keys (key_place k) place (λ p. record { made = p.made + 1; key = Some (record { number = k; destructor = destructor }) }) (other_place k place none)

@@ -1,15 +1,15 @@
 -- The law of calls, of a step: a frame is made by a statement that calls a function, or in a step with an event that says so.
-use Rattle.pct_names.proofs.Names.{[], Action, and_parts, ap, arith, at_pc, body_at, Bool, cond, Config, Dest, Entry, false, false≢true}
-use Rattle.pct_names.proofs.Names.{for_each, Frame, frames_written, is_live_thread, length, List, list_all, list_any, moved, named_after}
-use Rattle.pct_names.proofs.Names.{nat_le, next_of, NextStatement, None, Option, Others, others_of, Process, refl, Run, run, Script}
-use Rattle.pct_names.proofs.Names.{SharedState, Some, Status, Stmt, Thread, thread_after, thread_at, thread_moved, Transition}
-use Rattle.pct_names.proofs.Names.{transition_by, true, What, without_first, ◌||◌, ℕ, ◌∷◌, ◌≡◌, ◌≤◌}
+use Rattle.pct_names.proofs.Names.{[], ap, arith, at_pc, body_at, Bool, cond, Config, Dest, Entry, false, false≢true, Frame, frames_written}
+use Rattle.pct_names.proofs.Names.{is_live_thread, length, List, list_any, moved, nat_le, next_of, NextStatement, None, Option, Others}
+use Rattle.pct_names.proofs.Names.{others_of, own_after, OwnAction, Process, refl, Run, run, Script, SharedState, Some, Status, Stmt}
+use Rattle.pct_names.proofs.Names.{Thread, thread_at, thread_moved, Transition, transition_by, true, What, without_first, written, ◌||◌, ℕ}
+use Rattle.pct_names.proofs.Names.{◌∙◌, ◌∷◌, ◌≡◌, ◌≤◌}
 use Rattle.std.proofs.lemmas.Bool.{le-leb}
 use Rattle.pct_model.specs.declared.statement.Dest.TheVariants as destination
-use Rattle.pct_model.specs.declared.transition.Action.TheVariants as action
+use Rattle.pct_model.specs.declared.transition.OwnAction.TheVariants as own_action
 use Rattle.pct_laws.specs.Calls.{says_call, calls_function, says_calls}
 use Rattle.pct_transition_cases.proofs.TransitionCases.{TransitionCase, fork_handler_called}
-use Rattle.pct_thread_invariants.proofs.lift.ChangedThreads.{all_keep, named_keeps}
+use Rattle.pct_thread_invariants.proofs.lift.ChangedThreads.{named_keeps}
 use Rattle.pct_thread_invariants.proofs.lift.EveryProcess.{moves_of_run}
 use Rattle.pct_thread_invariants.proofs.lift.HandlerEvents.{of_each_phase}
 use Rattle.pct_thread_invariants.proofs.lift.TakenSteps.{IsTaken}
@@ -19,9 +19,13 @@ use Rattle.pct_thread_invariants.proofs.lift.MovedThreads.{EveryStep, step_of, c
 -- ---- actions
 
 -- the action makes no frame
-abbrev makes_no_frame : Action → Bool
-makes_no_frame (action.Call f a kind) = false
-makes_no_frame (action.CallAlone f a kind) = false
+abbrev makes_no_frame : Option OwnAction → Bool
+makes_no_frame (Some (own_action.Call f a kind)) = false
+makes_no_frame (Some (own_action.CallHandler f a)) = false
+makes_no_frame (Some (own_action.RunHandler f a)) = false
+makes_no_frame (Some (own_action.RunDestructor k f v)) = false
+makes_no_frame (Some (own_action.RunExitFunction f)) = false
+makes_no_frame (Some (own_action.CallForkHandler at f)) = false
 makes_no_frame _ = true
 
 -- the number of frames of a thread
@@ -33,6 +37,10 @@ written_depth : (d : Dest) (v : ℕ) (frames : List Frame) → length (frames_wr
 written_depth (destination.Local i) v [] = refl
 written_depth (destination.Local i) v (frame ∷ below) = refl
 written_depth _ v frames = refl
+
+all_written_depth : (writes : List (Dest × ℕ)) (frames : List Frame) → length (written frames_written writes frames) ≡ length frames
+all_written_depth [] frames = refl
+all_written_depth ((d, v) ∷ writes) frames = all_written_depth writes (frames_written d v frames) ∙ written_depth d v frames
 
 -- the frames without the top one are no more
 left_depth : (frames : List Frame) → length (without_first frames) ≤ length frames
@@ -51,38 +59,34 @@ start_depth None t = refl
 start_depth (Some pc) t = at_depth pc t.frames
 
 -- after an action that makes no frame, a thread has no more frames
-no_deeper : (a : Action) → makes_no_frame a ≡ true → (t : Thread) → depth (thread_after a t) ≤ depth t
-unfolding thread_after
-no_deeper (action.Write d v) none t = omega (arith, written_depth d v t.frames)
-no_deeper (action.Call f a kind) none t = absurd (false≢true none)
-no_deeper (action.CallAlone f a kind) none t = absurd (false≢true none)
-no_deeper (action.Leave status) none t = left_depth t.frames
-no_deeper (action.BeginEnd why) none t = omega arith
-no_deeper (action.BeginExit v) none t = omega arith
+no_deeper : (a : Option OwnAction) → makes_no_frame a ≡ true → (t : Thread) → depth (own_after a t) ≤ depth t
+unfolding own_after
+no_deeper (Some (own_action.Call f a kind)) none t = absurd (false≢true none)
+no_deeper (Some (own_action.CallHandler f a)) none t = absurd (false≢true none)
+no_deeper (Some (own_action.RunHandler f a)) none t = absurd (false≢true none)
+no_deeper (Some (own_action.RunDestructor k f v)) none t = absurd (false≢true none)
+no_deeper (Some (own_action.RunExitFunction f)) none t = absurd (false≢true none)
+no_deeper (Some (own_action.CallForkHandler at f)) none t = absurd (false≢true none)
+no_deeper (Some (own_action.Leave status)) none t = left_depth t.frames
 no_deeper _ none t = omega arith
-
--- the same, after some actions
-all_no_deeper : (actions : List Action) → list_all makes_no_frame actions ≡ true → (t : Thread) → depth (for_each thread_after actions t) ≤ depth t
-all_no_deeper [] none t = omega arith
-all_no_deeper (a ∷ actions) none t =
-    let parts : (makes_no_frame a ≡ true) × (list_all makes_no_frame actions ≡ true) = and_parts (makes_no_frame a) (list_all makes_no_frame actions) none in
-    omega (arith, all_no_deeper actions parts.1 (thread_after a t), no_deeper a parts.0 t)
 
 -- ---- a transition
 
 module _ (passes : ℕ) (body : List Stmt) (shared : SharedState) (t : Thread) (others : Others) where
   -- a transition makes no frame, or an event says that it does, or its statement calls a function
   case_says : {next : NextStatement} {s : Status} {o : Transition} → TransitionCase passes body shared t others true next s o
-      → (list_all makes_no_frame o.actions || (list_any says_call o.events || calls_function next)) ≡ true
+      → (makes_no_frame o.own || (list_any says_call o.events || calls_function next)) ≡ true
   case_says (fork_handler_called next at call is) = of_each_phase (λ (w : What). (list_any says_call (w ∷ []) || calls_function next) ≡ true) call.func refl refl refl at.phase
   case_says _ = refl
 
 -- a transition of a thread which makes no frame leaves it with no more frames
-moved_depth : (tid : ℕ) (o : Transition) (t : Thread) → is_live_thread tid t ≡ true → list_all makes_no_frame o.actions ≡ true → depth (thread_moved tid o t) ≤ depth t
+moved_depth : (tid : ℕ) (o : Transition) (t : Thread) → is_live_thread tid t ≡ true → makes_no_frame o.own ≡ true → depth (thread_moved tid o t) ≤ depth t
 moved_depth tid o t live none =
-    let named : depth (thread_moved tid o t) ≡ depth (cond (is_live_thread tid t) (moved o t) t) = all_keep depth named_after (named_keeps depth (λ t joined pending detached specific s same. refl)) o.actions (cond (is_live_thread tid t) (moved o t) t) in
+    let named : depth (thread_moved tid o t) ≡ depth (cond (is_live_thread tid t) (moved o t) t) = named_keeps depth (λ t joined pending detached specific s same. refl) o.named (cond (is_live_thread tid t) (moved o t) t) in
     let own : depth (cond (is_live_thread tid t) (moved o t) t) ≡ depth (moved o t) = ap (λ (b : Bool). depth (cond b (moved o t) t)) live in
-    omega (arith, named, own, all_no_deeper o.actions none (thread_at o.next t), start_depth o.next t)
+    let at : Thread = thread_at o.next t in
+    let frames : List Frame = written frames_written o.writes at.frames in
+    omega (arith, named, own, no_deeper o.own none (record at { frames = frames }), all_written_depth o.writes at.frames, start_depth o.next t)
 
 -- ---- each step of a run
 
@@ -92,7 +96,7 @@ module _ (script : Script) (config : Config) where
   says_of_step before r is e p t taken =
       let o : Transition = transition_by script config r.world p t e.alt in
       let moves : Moves script config r.world p e t = moves_of_run script config before r is e p t taken in
-      by_test (nat_le (depth (thread_moved e.tid o t)) (depth t)) (list_all makes_no_frame o.actions) (list_any says_call o.events) (calls_function (next_of script t.frames))
+      by_test (nat_le (depth (thread_moved e.tid o t)) (depth t)) (makes_no_frame o.own) (list_any says_call o.events) (calls_function (next_of script t.frames))
       (λ none. le-leb _ _ (moved_depth e.tid o t (mover script config r.world p e t moves).live none))
       (case_says config.passes (body_at script t.frames) p.shared t (others_of config.slots r.world p t.id) (case_of_step script config r.world p e t moves))
     where

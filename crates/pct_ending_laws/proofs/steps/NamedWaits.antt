@@ -1,10 +1,9 @@
 -- A call suspends its thread for what the operands of the statement name, and the events by which a thread leaves a call name what it was
 -- suspended for.
-use Rattle.pct_names.proofs.Names.{◌&&◌, [], and_from, body_at, Bool, Cause, cond, Config, Entry, false, false≢true, for_each}
-use Rattle.pct_names.proofs.Names.{has_left_wait, is_live_thread, List, list_all, list_any, moved, named_after, nat_eq, next_of}
-use Rattle.pct_names.proofs.Names.{NextStatement, not, Others, others_of, Process, refl, Run, run, Script, SharedState, Some, Status}
-use Rattle.pct_names.proofs.Names.{Stmt, subst, sym, Thread, thread_after, thread_at, Transition, transition_by, true, value_of, What}
-use Rattle.pct_names.proofs.Names.{◌||◌, ℕ, ◌∷◌, ◌≡◌}
+use Rattle.pct_names.proofs.Names.{◌&&◌, [], and_from, body_at, Bool, Cause, cond, Config, Entry, false, false≢true, has_left_wait}
+use Rattle.pct_names.proofs.Names.{is_live_thread, List, list_all, list_any, moved, named_after, nat_eq, next_of, NextStatement, not}
+use Rattle.pct_names.proofs.Names.{Others, others_of, own_after, Process, refl, Run, run, Script, SharedState, Some, Status, Stmt, subst}
+use Rattle.pct_names.proofs.Names.{sym, Thread, thread_at, Transition, transition_by, true, value_of, What, ◌||◌, ℕ, ◌∷◌, ◌≡◌}
 use Rattle.std.proofs.Common.{eq-eqb}
 use Rattle.pct_model.specs.declared.state.Cause.TheVariants as cause
 use Rattle.pct_model.specs.declared.state.Status.TheVariants as status
@@ -37,11 +36,11 @@ first_of a is = and_from a true is refl
 module _ (passes : ℕ) (body : List Stmt) (shared : SharedState) (t : Thread) (others : Others) where
   -- the status of the thread after its transition
   abbrev status_after : Transition → Status
-  status_after o = (for_each named_after o.actions (moved o t)).status
+  status_after o = (named_after o.named (moved o t)).status
 
   -- a call suspends the thread at its statement
   case_suspends : {next : NextStatement} {s : Status} {o : Transition} → TransitionCase passes body shared t others true next s o → (not (list_any is_call o.events) || is_suspended_at shared.globals next (status_after o)) ≡ true
-  unfolding thread_at thread_after named_after
+  unfolding thread_at own_after named_after
   case_suspends (join_begun frame id d target is other joinable alone unasked) = same (value_of shared.globals frame id)
   case_suspends (point_begun frame index required unasked) = same index
   case_suspends (wait_begun frame c m owns one unasked) = both_same c m
@@ -74,7 +73,7 @@ module _ (script : Script) (config : Config) where
       let o : Transition = transition_by script config r.world p t e.alt in
       let moves : Moves script config r.world p e t = moves_of_run script config before r is e p t taken in
       let live : is_live_thread e.tid t ≡ true = (mover script config r.world p e t moves).live in
-      subst (λ (b : Bool). (not (list_any is_call o.events) || is_suspended_at p.shared.globals (next_of script t.frames) (for_each named_after o.actions (cond b (moved o t) t)).status) ≡ true) (sym live)
+      subst (λ (b : Bool). (not (list_any is_call o.events) || is_suspended_at p.shared.globals (next_of script t.frames) (named_after o.named (cond b (moved o t) t)).status) ≡ true) (sym live)
       (case_suspends config.passes (body_at script t.frames) p.shared t (others_of config.slots r.world p t.id) (case_of_step script config r.world p e t moves))
 
   names_of_step : (before : List Entry) (r : Run) → run script config before ≡ Some r → (e : Entry) (p : Process) (t : Thread) → IsTaken script config r.world e p t → each_names_its_wait (step_of script config r p e t) ≡ true

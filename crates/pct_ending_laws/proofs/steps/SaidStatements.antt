@@ -3,18 +3,18 @@ use Rattle.pct_names.proofs.Names.{◌&&◌, ◌<◌, [], act_if, acts_on_reques
 use Rattle.pct_names.proofs.Names.{begins_join, begins_sem_wait, begins_wait, begins_waitpid, body_at, Bool, broadcasts, by_slot}
 use Rattle.pct_names.proofs.Names.{called_kind, calls, calls_point, ChoiceRow, choices_at, cond, Config, count_by, count_by-le-length}
 use Rattle.pct_names.proofs.Names.{creates, creates_by, creates_key, creates_key_by, deletes_key, Dest, detaches, emits, ends_block}
-use Rattle.pct_names.proofs.Names.{ends_by_exit, ends_now, Entry, eqb-false, exits, fails_to_create, fails_to_create_key, false}
-use Rattle.pct_names.proofs.Names.{false≢true, finds_no_child, first_row, ForkAt, Frame, FrameKind, free_ids, gets_self, gets_specific}
-use Rattle.pct_names.proofs.Names.{goes_on, is_allowed_asynchronously, is_asynchronous, is_blocked, is_create, is_deliverable}
-use Rattle.pct_names.proofs.Names.{is_forbidden_in_child, is_key_create, is_none, is_optional, is_required, is_signal, jumps}
-use Rattle.pct_names.proofs.Names.{leaves_handler, length, List, list_any, locks, map, MAX_FORK_HANDLERS, may_register, nat_eq, nat_lt}
-use Rattle.pct_names.proofs.Names.{new_keys, new_or_go, next_of, NextStatement, None, NoStatement, not, offers, open_of, Operand, Option}
-use Rattle.pct_names.proofs.Names.{Optional, or_right, Others, others_of, pick_or_go, point_kind, PointKind, pops, pos_of_ne-zero, posts}
-use Rattle.pct_names.proofs.Names.{Process, pushes, refl, registers_fork, registers_if, requests, Required, returns_by, Run, run}
-use Rattle.pct_names.proofs.Names.{running_choices, running_rows, runs, same_choice, Script, sets, sets_mode, sets_specific, sets_state}
-use Rattle.pct_names.proofs.Names.{SharedState, signals_by, Some, StatementIn, Status, Stmt, stop_at, stops_or, subst, suc, sym}
-use Rattle.pct_names.proofs.Names.{tests_cancel, Thread, Transition, transition_at, true, unlocks, value_of, Waiter, waiters_among}
-use Rattle.pct_names.proofs.Names.{waiters_to_signal, What, Why, World, ◌||◌, ℕ, ◌∙◌, ◌∷◌, ◌≡◌}
+use Rattle.pct_names.proofs.Names.{ends_by_exit, ends_now, Entry, eqb-false, exits, fails_to_create, fails_to_create_key, false, false≢true}
+use Rattle.pct_names.proofs.Names.{finds_no_child, first_row, ForkAt, Frame, FrameKind, free_ids, gets_self, gets_specific, goes_on}
+use Rattle.pct_names.proofs.Names.{is_allowed_asynchronously, is_asynchronous, is_blocked, is_create, is_deliverable, is_forbidden_in_child}
+use Rattle.pct_names.proofs.Names.{is_key_create, is_none, is_optional, is_required, is_signal, jumps, leaves_handler, length, List}
+use Rattle.pct_names.proofs.Names.{list_any, locks, map, MAX_FORK_HANDLERS, may_register, nat_eq, nat_lt, new_keys, new_or_go, next_of}
+use Rattle.pct_names.proofs.Names.{NextStatement, None, NoStatement, not, offers, open_of, Operand, Option, Optional, or_right, Others}
+use Rattle.pct_names.proofs.Names.{others_of, pick_or_go, point_kind, PointKind, pops, pos_of_ne-zero, posts, Process, pushes, refl}
+use Rattle.pct_names.proofs.Names.{registers_fork, registers_if, requests, Required, returns_by, Run, run, running_choices, running_rows}
+use Rattle.pct_names.proofs.Names.{runs, same_choice, Script, sets, sets_mode, sets_specific, sets_state, SharedState, signals_by, Some}
+use Rattle.pct_names.proofs.Names.{StatementIn, Status, Stmt, stop_at, stops_or, subst, suc, sym, tests_cancel, Thread, Transition}
+use Rattle.pct_names.proofs.Names.{transition_at, true, unlocks, value_of, Waiter, waiters_among, waiters_to_signal, What, Why, World, ◌||◌}
+use Rattle.pct_names.proofs.Names.{ℕ, ◌∙◌, ◌∷◌, ◌≡◌}
 use Rattle.std.proofs.Common.{eqb-true, eq-eqb}
 use Rattle.std.proofs.lemmas.Bool.{true≢false}
 use Rattle.pct_model.specs.declared.event.Caller.TheVariants as caller
@@ -24,7 +24,8 @@ use Rattle.pct_model.specs.declared.schedule.Alt.TheVariants as alt
 use Rattle.pct_model.specs.declared.state.FrameKind.TheVariants as kind
 use Rattle.pct_model.specs.declared.state.Status.TheVariants as status
 use Rattle.pct_model.specs.declared.statement.Stmt.TheVariants as statement
-use Rattle.pct_model.specs.declared.transition.Action.TheVariants as action
+use Rattle.pct_model.specs.declared.transition.OwnAction.TheVariants as own_action
+use Rattle.pct_model.specs.declared.transition.SharedAction.TheVariants as shared_action
 use Rattle.pct_model.specs.LineParsing.{is_empty}
 use Rattle.pct_laws.specs.CancelLaw.{is_running, acts_or_stops}
 use Rattle.pct_laws.specs.StatementLaw.{agree, of_return, of_pop, is_among, waits_on, unblocks, asked, asked_at, says_statement}
@@ -111,7 +112,7 @@ end_said body kept frame (Some opened) = refl
 end_said body kept frame None = return_said kept frame.kind 0
 
 pop_by : (next v f a : ℕ) (handlers : List (ℕ × ℕ)) (zero : Bool) → nat_eq v 0 ≡ zero
-    → of_pop v ((f, a) ∷ handlers) (cond zero (goes_on next (action.PopHandler ∷ []) (what.Popped f a false ∷ [])) (goes_on next (action.PopHandler ∷ action.Call f a kind.PopHandler ∷ []) (what.Popped f a true ∷ []))).events ≡ true
+    → of_pop v ((f, a) ∷ handlers) (cond zero (record (goes_on next (what.Popped f a false ∷ [])) { own = Some own_action.PopHandler }) (record (goes_on next (what.Popped f a true ∷ [])) { own = Some (own_action.CallHandler f a) })).events ≡ true
 pop_by next v f a handlers true is = and_from (nat_eq f f && nat_eq a a) (agree false (not (nat_eq v 0))) (both_same f a) (ap (λ (b : Bool). not (not b)) is)
 pop_by next v f a handlers false is = and_from (nat_eq f f && nat_eq a a) (agree true (not (nat_eq v 0))) (both_same f a) (ap not is)
 
@@ -203,7 +204,7 @@ module _ (slots passes : ℕ) (body : List Stmt) (shared : SharedState) (threads
   -- pthread_atfork and atexit, by whether there is room
   register_fork_said : (frame : Frame) (result : Dest) (prepare parent child : Option ℕ) (room : Bool) → nat_lt (length shared.fork_handlers) MAX_FORK_HANDLERS ≡ room
       → IsSaid frame (statement.AtFork result prepare parent child)
-      (cond room (goes_on (suc frame.pc) (action.AddForkHandlers (record { prepare = prepare; parent = parent; child = child }) ∷ action.Write result 0 ∷ []) []) (goes_on (suc frame.pc) (action.Write result 2 ∷ []) (what.Answer caller.AtFork 2 ∷ []))).events
+      (cond room (record (goes_on (suc frame.pc) []) { writes = (result, 0) ∷ []; shared = Some (shared_action.AddForkHandlers (record { prepare = prepare; parent = parent; child = child })) }) (record (goes_on (suc frame.pc) (what.Answer caller.AtFork 2 ∷ [])) { writes = (result, 2) ∷ [] })).events
   register_fork_said frame result prepare parent child true is = is
   register_fork_said frame result prepare parent child false is = ap not is
 

@@ -1,25 +1,24 @@
 -- Each thread that is suspended in pthread_join joins another thread of its process, which is neither joined nor detached, and it is
 -- the only one that joins it.
-use Rattle.pct_names.proofs.Names.{◌&&◌, and_parts, any_passes_from_place, ap, Bool, changed, child_of, cond, cond_some, Config, Entry}
-use Rattle.pct_names.proofs.Names.{eqb-false, false, false_from_ne_true, false≢true, find, first_process, holds_slot, in_child, inl, inr}
-use Rattle.pct_names.proofs.Names.{is_ended_status, is_joined_by_one, is_joining, is_live_thread, List, moved, named_after, nat_eq, not}
-use Rattle.pct_names.proofs.Names.{Option, option_map, option_or, or_cases, or_parts, position_or_len, Process, refl, same_Some, Script}
-use Rattle.pct_names.proofs.Names.{Some, Status, subst, sym, Thread, thread_created, thread_moved, Transition, transition_by, true, World}
-use Rattle.pct_names.proofs.Names.{◌||◌, ℕ, ◌∙◌, ◌≡◌, ◌≢◌}
+use Rattle.pct_names.proofs.Names.{◌&&◌, acts_on_request, and_parts, any_passes_from_place, ap, begins_join, Bool, changed, child_of, cond}
+use Rattle.pct_names.proofs.Names.{cond_some, Config, creates, detaches, ends_join, Entry, eqb-false, false, false_from_ne_true, false≢true}
+use Rattle.pct_names.proofs.Names.{find, first_process, holds_slot, in_child, inl, inr, is_ended_status, is_joined_by_one, is_joining}
+use Rattle.pct_names.proofs.Names.{is_live_thread, List, moved, nat_eq, not, Option, option_map, option_or, or_cases, or_left, or_parts}
+use Rattle.pct_names.proofs.Names.{position_or_len, Process, refl, requests, same_Some, Script, Some, Status, subst, sym, Thread}
+use Rattle.pct_names.proofs.Names.{thread_created, thread_moved, Transition, transition_by, true, World, ◌||◌, ℕ, ◌∙◌, ◌≡◌, ◌≢◌}
 use mathlib.Core.Bool.{or-false}
 use Rattle.std.proofs.Common.{eqb-true, eq-eqb}
 use Rattle.std.proofs.lemmas.Bool.{true≢false}
 use Rattle.pct_model.specs.declared.state.Status.TheVariants as status
 use Rattle.pct_thread_invariants.proofs.lift.KeyedLists.{found_at, found_passes}
 use Rattle.pct_thread_invariants.proofs.lift.TakenSteps.{AfterEveryRun}
-use Rattle.pct_thread_invariants.proofs.lift.ChangedThreads.{all_keep, settled, same_settled, named_keeps, other_threads}
+use Rattle.pct_thread_invariants.proofs.lift.ChangedThreads.{settled, same_settled, named_keeps, other_threads}
 use Rattle.pct_thread_invariants.proofs.lift.MadeThreads.{own_thread_with, IsLive, live_thread}
 use Rattle.pct_thread_invariants.proofs.lift.ThreadsAfter.{initial_thread, Moves, mover, is_mover, each_after, same_gone}
 use Rattle.pct_thread_invariants.proofs.lift.InheritedThreads.{each_heir}
 use Rattle.pct_thread_invariants.proofs.lift.EveryProcess.{OfEveryProcess, IsProcessRule, unread, every_process_keeps, moves_of_run}
-use Rattle.pct_thread_invariants.proofs.thread.JoinTransitions.{is_in_join, MayJoin, Kind, ends, detaches_one, kind_of, moves_alive}
-use Rattle.pct_thread_invariants.proofs.thread.NamedThreads.{names_join, names_detach, releases, naming, unnamed, joined_after}
-use Rattle.pct_thread_invariants.proofs.thread.NamedThreads.{detached_after}
+use Rattle.pct_thread_invariants.proofs.thread.JoinTransitions.{is_in_join, MayJoin, Kind, ends, detaches_one, kind_of, moves_alive, names_join, releases, names_detach, quiet}
+use Rattle.pct_thread_invariants.proofs.thread.NamedThreads.{unnamed, joined_after, detached_after}
 use Rattle.pct_join_laws.proofs.joins.ThreadsInJoin.{InJoin, stays, begun, in_join_after}
 
 -- ---- the rule of a process
@@ -86,14 +85,14 @@ module _ (script : Script) (config : Config) (w : World) (p : Process) (e : Entr
   it = mover script config w p e t moves
 
   status_after : (u : Thread) (live : Bool) → is_live_thread e.tid u ≡ live → settled (thread_moved e.tid o u).status ≡ settled (cond live (moved o u) u).status
-  status_after u live is = all_keep (λ (x : Thread). settled x.status) named_after (named_keeps (λ (x : Thread). settled x.status) (λ t j p d k s same. same)) o.actions (unnamed e.tid o u) ∙ ap (λ (b : Bool). settled (cond b (moved o u) u).status) is
+  status_after u live is = named_keeps (λ (x : Thread). settled x.status) (λ t j p d k s same. same) o.named (unnamed e.tid o u) ∙ ap (λ (b : Bool). settled (cond b (moved o u) u).status) is
 
   -- ---- threads in pthread_join
 
   -- a thread that joins one after the transition joined it before, or begins to; the transition neither joins nor detaches that one
   data Before (second id : ℕ) (u : Thread) : Type 0 where
-    still : u.status ≡ status.Joining id → releases id (naming k) ≡ false → Before second id u
-    now : second ≡ e.tid → MayJoin t.id p.threads id → releases id (naming k) ≡ false → Before second id u
+    still : u.status ≡ status.Joining id → releases id o.named ≡ false → Before second id u
+    now : second ≡ e.tid → MayJoin t.id p.threads id → releases id o.named ≡ false → Before second id u
 
   -- the thread that moves
   mover_before : (id : ℕ) → (moved o t).status ≡ status.Joining id → InJoin k t → Before e.tid id t
@@ -101,7 +100,8 @@ module _ (script : Script) (config : Config) (w : World) (p : Process) (e : Entr
   mover_before id joins (begun n now_joins may is keeps) = now refl (subst (MayJoin t.id p.threads) (ap joined_id (sym now_joins ∙ joins)) may) (keeps id)
 
   -- another thread joins none that the transition joins or detaches
-  not_released : {x : Transition} (j : Kind t.id p.threads t.status x) (second id : ℕ) (u : Thread) → with second p.threads ≡ Some u → u.gone ≡ false → u.status ≡ status.Joining id → is_live_thread e.tid u ≡ false → releases id (naming j) ≡ true → ⊥
+  not_released : {x : Transition} (j : Kind t.id p.threads t.status x) (second id : ℕ) (u : Thread) → with second p.threads ≡ Some u → u.gone ≡ false → u.status ≡ status.Joining id → is_live_thread e.tid u ≡ false → releases id x.named ≡ true → ⊥
+  unfolding creates begins_join ends_join detaches requests acts_on_request
   not_released (ends pc d n v target s is_target ended) second id u is_u present joins other names =
       let same : id ≡ n = eqb-true id n (sym (or-false (nat_eq id n)) ∙ names) in
       let its = rule.joins e.tid t it.found it.here n s in
@@ -111,6 +111,7 @@ module _ (script : Script) (config : Config) (w : World) (p : Process) (e : Entr
   not_released (detaches_one pc n target s is_target alone) second id u is_u present joins other names =
       let same : id ≡ n = eqb-true id n names in
       false≢true (sym alone ∙ ap (λ (i : ℕ). is_joined_by_one i p.threads) (sym same) ∙ is_seen p.threads second u id is_u present joins)
+  not_released (quiet is nothing) second id u is_u present joins other names = false≢true (sym (is.named id) ∙ names)
   not_released j second id u is_u present joins other names = false≢true names
 
   before_by : (second id : ℕ) (u : Thread) → with second p.threads ≡ Some u → u.gone ≡ false → (live : Bool) → is_live_thread e.tid u ≡ live → (cond live (moved o u) u).status ≡ status.Joining id → Before second id u
@@ -119,7 +120,7 @@ module _ (script : Script) (config : Config) (w : World) (p : Process) (e : Entr
       let joins_t : (moved o t).status ≡ status.Joining id = ap (λ (x : Thread). (moved o x).status) (sym it.0) ∙ joins in
       subst (λ (x : Thread). Before second id x) (sym it.0) (subst (λ (n : ℕ). Before n id t) (sym it.1) (mover_before id joins_t (in_join_after t k (ap is_in_join joins_t))))
   before_by second id u is_u present false other joins =
-      still joins (false_from_ne_true (releases id (naming k)) (λ names. not_released k second id u is_u present joins other names))
+      still joins (false_from_ne_true (releases id o.named) (λ names. not_released k second id u is_u present joins other names))
 
   before : (second id : ℕ) (u : Thread) → with second p.threads ≡ Some u → u.gone ≡ false → (thread_moved e.tid o u).status ≡ status.Joining id → Before second id u
   before second id u is_u present joins = before_by second id u is_u present (is_live_thread e.tid u) refl (settled_joins id (cond (is_live_thread e.tid u) (moved o u) u).status (sym (status_after u (is_live_thread e.tid u) refl) ∙ ap settled joins))
@@ -145,7 +146,7 @@ module _ (script : Script) (config : Config) (w : World) (p : Process) (e : Entr
   one_before second id u is_u present (still joins keeps) = rule.joins second u is_u present id joins
   one_before second id u is_u present (now same may keeps) = subst (λ (n : ℕ). JoinsOne p.threads n id) (sym same) (begins_one id may)
 
-  not_released_after : (second id : ℕ) (u : Thread) → Before second id u → releases id (naming k) ≡ false
+  not_released_after : (second id : ℕ) (u : Thread) → Before second id u → releases id o.named ≡ false
   not_released_after second id u (still joins keeps) = keeps
   not_released_after second id u (now same may keeps) = keeps
 
@@ -159,7 +160,7 @@ module _ (script : Script) (config : Config) (w : World) (p : Process) (e : Entr
   moved_one second id u is_u present before_u =
       let one = one_before second id u is_u present before_u in
       let x : Thread = one.target in
-      let keeps : (names_join id (naming k) ≡ false) × (names_detach id (naming k) ≡ false) = or_parts (names_join id (naming k)) (names_detach id (naming k)) (not_released_after second id u before_u) in
+      let keeps : (names_join id o.named ≡ false) × (names_detach id o.named ≡ false) = or_parts (names_join id o.named) (names_detach id o.named) (not_released_after second id u before_u) in
       let x_id : x.id ≡ id = eqb-true x.id id (found_passes (λ (y : Thread). nat_eq y.id id) p.threads x one.made) in
       let holds : Bool = holds_slot (unnamed e.tid o x) in
       record {
@@ -167,8 +168,8 @@ module _ (script : Script) (config : Config) (w : World) (p : Process) (e : Entr
         made = own_thread_with p.pid e.tid o p id ∙ ap (λ (before : Option Thread). option_or (option_map (thread_moved e.tid o) before) (find (λ (y : Thread). nat_eq y.id id) (thread_created o.created))) one.made;
         here = same_gone e.tid o x ∙ one.here;
         other = one.other;
-        not_joined = joined_after e.tid o k x ∙ ap (λ (n : ℕ). (names_join n (naming k) && holds) || x.joined) x_id ∙ ap (λ (b : Bool). (b && holds) || x.joined) keeps.0 ∙ one.not_joined;
-        joinable = detached_after e.tid o k x ∙ ap (λ (n : ℕ). (names_detach n (naming k) && holds) || x.detached) x_id ∙ ap (λ (b : Bool). (b && holds) || x.detached) keeps.1 ∙ one.joinable;
+        not_joined = joined_after e.tid o x ∙ ap (λ (n : ℕ). (names_join n o.named && holds) || x.joined) x_id ∙ ap (λ (b : Bool). (b && holds) || x.joined) keeps.0 ∙ one.not_joined;
+        joinable = detached_after e.tid o x ∙ ap (λ (n : ℕ). (names_detach n o.named && holds) || x.detached) x_id ∙ ap (λ (b : Bool). (b && holds) || x.detached) keeps.1 ∙ one.joinable;
         alone = each_after script config w p e t moves (λ other w. w.gone ≡ false → w.status ≡ status.Joining id → other ≡ second)
             (λ other v is_v present_w joins.
             let here_v : v.gone ≡ false = sym (same_gone e.tid o v) ∙ present_w in
@@ -190,18 +191,20 @@ module _ (script : Script) (config : Config) (w : World) (p : Process) (e : Entr
   ended_stays id u is_u ended false other = same_settled is_ended_status (λ c m why. refl) (thread_moved e.tid o u).status u.status (status_after u false other) ∙ ended
 
   -- one that is joined has ended
-  target_ended : {x : Transition} (j : Kind t.id p.threads t.status x) (id : ℕ) (u : Thread) → with id p.threads ≡ Some u → names_join u.id (naming j) ≡ true → is_ended_status u.status ≡ true
+  target_ended : {x : Transition} (j : Kind t.id p.threads t.status x) (id : ℕ) (u : Thread) → with id p.threads ≡ Some u → names_join u.id x.named ≡ true → is_ended_status u.status ≡ true
+  unfolding creates begins_join ends_join detaches requests acts_on_request
   target_ended (ends pc d n v target s is_target ended) id u is_u names =
       let u_id : u.id ≡ id = eqb-true u.id id (found_passes (λ (x : Thread). nat_eq x.id id) p.threads u is_u) in
       let same : u ≡ target = same_Some u target (sym is_u ∙ ap (λ (i : ℕ). with i p.threads) (sym u_id ∙ eqb-true u.id n names) ∙ (live_thread n p target moves.ids.distinct is_target).found) in
       ap (λ (x : Thread). is_ended_status x.status) same ∙ ap is_ended_status ended
+  target_ended {x} (quiet is nothing) id u is_u names = absurd (false≢true (sym (is.named u.id) ∙ or_left (names_join u.id x.named) (names_detach u.id x.named) names))
   target_ended j id u is_u names = absurd (false≢true names)
 
   ended_by : (id : ℕ) (u : Thread) → with id p.threads ≡ Some u → (thread_moved e.tid o u).joined ≡ true → is_ended_status (thread_moved e.tid o u).status ≡ true
   ended_by id u is_u joined =
       let holds : Bool = holds_slot (unnamed e.tid o u) in
-      let ended : is_ended_status u.status ≡ true = elim (or_cases (names_join u.id (naming k) && holds) u.joined (sym (joined_after e.tid o k u) ∙ joined)) [
-        | inl names ↦ target_ended k id u is_u (and_parts (names_join u.id (naming k)) holds names).0
+      let ended : is_ended_status u.status ≡ true = elim (or_cases (names_join u.id o.named && holds) u.joined (sym (joined_after e.tid o u) ∙ joined)) [
+        | inl names ↦ target_ended k id u is_u (and_parts (names_join u.id o.named) holds names).0
         | inr before ↦ rule.ended id u is_u before
       ] in
       ended_stays id u is_u ended (is_live_thread e.tid u) refl

@@ -1,27 +1,24 @@
 -- A thread that was made, and that its process inherited, is known, and it is joined or detached exactly if the events report so.
-use Rattle.pct_names.proofs.Names.{◌&&◌, [], Action, and_comm, and_right, ap, ap₂, Bool, changed, cond, Config, Entry, Event, event_of}
-use Rattle.pct_names.proofs.Names.{false, false_from_ne_true, false≢true, find, holds_slot, List, list_any, made_process, made_thread, map}
-use Rattle.pct_names.proofs.Names.{nat_eq, NewThread, None, none-some, not, Option, option_and_then, option_map_or, or_left, or_right}
-use Rattle.pct_names.proofs.Names.{Process, refl, replica_of, reverse, Run, run, same_Some, Script, Some, subst, sym, Thread, thread_moved}
-use Rattle.pct_names.proofs.Names.{thread_with, Transition, transition_by, true, What, World, ◌||◌, ℕ, ◌∙◌, ◌∷◌, ◌≡◌}
+use Rattle.pct_names.proofs.Names.{◌&&◌, [], and_comm, and_right, ap, ap₂, Bool, changed, cond, Config, Entry, Event, event_of, false}
+use Rattle.pct_names.proofs.Names.{false_from_ne_true, false≢true, find, holds_slot, List, list_any, made_process, made_thread, map}
+use Rattle.pct_names.proofs.Names.{NamedAction, nat_eq, NewThread, None, none-some, not, Option, option_and_then, option_map_or, or_left}
+use Rattle.pct_names.proofs.Names.{or_right, Process, refl, replica_of, reverse, Run, run, same_Some, Script, Some, subst, sym, Thread}
+use Rattle.pct_names.proofs.Names.{thread_moved, thread_with, Transition, transition_by, true, What, World, ◌||◌, ℕ, ◌∙◌, ◌∷◌, ◌≡◌}
 use mathlib.Core.Bool.{and-true, and-false, or-false, or_assoc}
 use mathlib.Core.Path.{fun_ext}
 use Rattle.std.proofs.Common.{eqb-true}
-use Rattle.pct_laws.specs.KnownThreads.{makes_process, is_in, is_fork_of, creates_id, is_known, detaches_id, is_detached, joins_id}
-use Rattle.pct_laws.specs.KnownThreads.{is_joined}
+use Rattle.pct_laws.specs.KnownThreads.{makes_process, is_in, is_fork_of, creates_id, is_known, detaches_id, is_detached, joins_id, is_joined}
 use Rattle.pct_thread_invariants.proofs.lift.KeyedLists.{found_passes}
 use Rattle.pct_thread_invariants.proofs.lift.TakenSteps.{AfterEveryRun}
 use Rattle.pct_thread_invariants.proofs.lift.CreatedThreads.{reports_created}
 use Rattle.pct_thread_invariants.proofs.lift.ChangedThreads.{other_threads}
 use Rattle.pct_thread_invariants.proofs.lift.ReportedBy.{Reading, reported_by, is_reading, after_own}
-use Rattle.pct_thread_invariants.proofs.lift.ThreadsAfter.{initial_thread, created_thread, Moves, mover, After, was_made, is_new, is_absent}
-use Rattle.pct_thread_invariants.proofs.lift.ThreadsAfter.{after, same_gone}
+use Rattle.pct_thread_invariants.proofs.lift.ThreadsAfter.{initial_thread, created_thread, Moves, mover, After, was_made, is_new, is_absent, after, same_gone}
 use Rattle.pct_thread_invariants.proofs.lift.InheritedThreads.{Heir, is_replica, is_gone, has_none, heir}
 use Rattle.pct_thread_invariants.proofs.lift.MadeThreads.{IsLive}
 use Rattle.pct_thread_invariants.proofs.lift.EveryProcess.{FitsReports, IsProcessRule, every_process, moves_of_run}
-use Rattle.pct_thread_invariants.proofs.thread.JoinTransitions.{Kind, kind_of}
-use Rattle.pct_thread_invariants.proofs.thread.NamedThreads.{names_join, names_detach, releases, naming, joined_reported, detached_reported}
-use Rattle.pct_thread_invariants.proofs.thread.NamedThreads.{unnamed, joined_after, detached_after, IsNamed, is_named}
+use Rattle.pct_thread_invariants.proofs.thread.JoinTransitions.{Kind, kind_of, its_case, names_detach, names_join, releases}
+use Rattle.pct_thread_invariants.proofs.thread.NamedThreads.{joined_reported, detached_reported, unnamed, joined_after, detached_after, IsNamed, is_named}
 
 -- ---- a flag of threads
 
@@ -31,7 +28,7 @@ pub record Flag : Type 0 where
   of : Thread → Bool
   new : NewThread → Bool
   sets : ℕ → Event → Bool
-  names : ℕ → Action → Bool
+  names : ℕ → Option NamedAction → Bool
   inherits : Bool
   replica : Bool → Bool → Bool
   -- what is reported of the initial thread, or of another one, before any event
@@ -40,9 +37,9 @@ pub record Flag : Type 0 where
   initial : (script : Script) → start true ≡ of (initial_thread script)
   created : (n : NewThread) → of (created_thread n) ≡ new n
   reports : (script : Script) (config : Config) (w : World) (p : Process) (e : Entry) (t : Thread) → Moves script config w p e t → (id : ℕ) → list_any (λ w. sets id (event_of e w)) (reverse (transition_by script config w p t e.alt).events)
-      ≡ (names id (naming (kind_of script config w p t e.alt)) || option_map_or (λ n. nat_eq n.id id && new n) (transition_by script config w p t e.alt).created false)
-  changes : (script : Script) (config : Config) (w : World) (p : Process) (e : Entry) (t u : Thread) → of (thread_moved e.tid (transition_by script config w p t e.alt) u) ≡ ((names u.id (naming (kind_of script config w p t e.alt)) && holds_slot (unnamed e.tid (transition_by script config w p t e.alt) u)) || of u)
-  named : (id : ℕ) (a : Action) → names id a ≡ true → releases id a ≡ true
+      ≡ (names id (transition_by script config w p t e.alt).named || option_map_or (λ n. nat_eq n.id id && new n) (transition_by script config w p t e.alt).created false)
+  changes : (script : Script) (config : Config) (w : World) (p : Process) (e : Entry) (t u : Thread) → of (thread_moved e.tid (transition_by script config w p t e.alt) u) ≡ ((names u.id (transition_by script config w p t e.alt).named && holds_slot (unnamed e.tid (transition_by script config w p t e.alt) u)) || of u)
+  named : (id : ℕ) (a : Option NamedAction) → names id a ≡ true → releases id a ≡ true
   of_replica : (t : Thread) → cond inherits (replica (of t) false) false ≡ of (replica_of t)
 
 module _ (flag : Flag) where
@@ -78,14 +75,14 @@ module _ (flag : Flag) where
     its_kind = kind_of script config w p t e.alt
 
     abbrev names : ℕ → Bool
-    names id = flag.names id (naming its_kind)
+    names id = flag.names id o.named
 
     -- the flag is set of the thread that the transition creates, if that has the id
     abbrev creates : ℕ → Bool
     creates id = option_map_or (λ (n : NewThread). nat_eq n.id id && flag.new n) o.created false
 
     named_holds : (id : ℕ) → names id ≡ true → IsNamed p e.tid t moves.ids.distinct o id
-    named_holds id is = is_named p e.tid t moves.ids.distinct its_kind id (flag.named id (naming its_kind) is)
+    named_holds id is = is_named p e.tid t moves.ids.distinct its_kind id (flag.named id o.named is)
 
     -- what the events of the step report, and those before it
     abbrev later : ℕ → Bool
@@ -105,7 +102,7 @@ module _ (flag : Flag) where
         let set : Bool = flag.of u in
         let holds : Bool = holds_slot (unnamed e.tid o u) in
         let u_id : u.id ≡ id = eqb-true u.id id (found_passes (λ (x : Thread). nat_eq x.id id) p.threads u is) in
-        let changed_to : flag.of (thread_moved e.tid o u) ≡ ((names id && holds) || set) = flag.changes script config w p e t u ∙ ap (λ (n : ℕ). (flag.names n (naming its_kind) && holds) || set) u_id in
+        let changed_to : flag.of (thread_moved e.tid o u) ≡ ((names id && holds) || set) = flag.changes script config w p e t u ∙ ap (λ (n : ℕ). (flag.names n o.named && holds) || set) u_id in
         ap (λ (b : Bool). b || k id) (reports id ∙ ap (λ (b : Bool). names id || b) (none flag.new) ∙ or-false (names id)) ∙ ap (λ (b : Bool). names id || b) (reported id ∙ ap is_set is)
         ∙ named_set u.gone (names id) holds set (λ named.
         let it = named_holds id named in
@@ -212,9 +209,9 @@ joined_flag = record {
   initial = λ script. refl;
   created = λ n. refl;
   reports = λ script config w p e t moves id.
-      let k : Kind t.id p.threads t.status (transition_by script config w p t e.alt) = kind_of script config w p t e.alt in
-      joined_reported id k ∙ sym (or-false (names_join id (naming k))) ∙ ap (λ (b : Bool). names_join id (naming k) || b) (sym (none_created id (transition_by script config w p t e.alt).created));
-  changes = λ script config w p e t u. joined_after e.tid (transition_by script config w p t e.alt) (kind_of script config w p t e.alt) u;
+      let o : Transition = transition_by script config w p t e.alt in
+      joined_reported id (its_case script config w p t e.alt) ∙ sym (or-false (names_join id o.named)) ∙ ap (λ (b : Bool). names_join id o.named || b) (sym (none_created id o.created));
+  changes = λ script config w p e t u. joined_after e.tid (transition_by script config w p t e.alt) u;
   named = λ id a names. or_left (names_join id a) (names_detach id a) names;
   of_replica = λ t. refl;
 }
@@ -240,8 +237,8 @@ detached_flag = record {
   none = refl;
   initial = λ script. refl;
   created = λ n. refl;
-  reports = λ script config w p e t moves id. detached_reported id (kind_of script config w p t e.alt);
-  changes = λ script config w p e t u. detached_after e.tid (transition_by script config w p t e.alt) (kind_of script config w p t e.alt) u;
+  reports = λ script config w p e t moves id. detached_reported id (its_case script config w p t e.alt);
+  changes = λ script config w p e t u. detached_after e.tid (transition_by script config w p t e.alt) u;
   named = λ id a names. or_right (names_join id a) (names_detach id a) names;
   of_replica = λ t. or-false t.detached;
 }

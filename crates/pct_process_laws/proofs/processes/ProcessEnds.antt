@@ -1,16 +1,15 @@
 -- The exit value and the status of each process are those that the events report.
-use Rattle.pct_names.proofs.Names.{Action, and_parts, ap, as_reaped, body_at, Bool, changed, child_of, cond, Config, Entry, event_of, false}
+use Rattle.pct_names.proofs.Names.{and_parts, ap, as_reaped, body_at, Bool, changed, child_of, cond, Config, Entry, event_of, false}
 use Rattle.pct_names.proofs.Names.{false≢true, has_ended, is_live_process, is_none, is_some, List, map, nat_eq, next_of, NextStatement}
 use Rattle.pct_names.proofs.Names.{None, not, Option, option_map, orphaned, other_process_after, Others, others_of, Process, process_after}
-use Rattle.pct_names.proofs.Names.{ProcessEnd, refl, reverse, Run, run, Script, shared_after, SharedState, Some, Status, Stmt, subst, sym}
-use Rattle.pct_names.proofs.Names.{Thread, Transition, true, What, ℕ, ◌∙◌, ◌≡◌}
-use Rattle.pct_model.specs.declared.transition.Action.TheVariants as action
+use Rattle.pct_names.proofs.Names.{ProcessAction, ProcessEnd, refl, reverse, Run, run, Script, shared_after, SharedState, Some, Status}
+use Rattle.pct_names.proofs.Names.{Stmt, subst, sym, Thread, Transition, true, What, ℕ, ◌∙◌, ◌≡◌}
+use Rattle.pct_model.specs.declared.transition.ProcessAction.TheVariants as process_action
 use Rattle.pct_laws.specs.Kept.{EachProcess, status_of_end}
 use Rattle.pct_laws.specs.ProcessEnds.{status_after, end_status, exit_after, exit_value}
 use Rattle.pct_transition_cases.proofs.CaseOfTransition.{case_of}
-use Rattle.pct_transition_cases.proofs.TransitionCases.{TransitionCase, fork_handler_called, process_ended_now, process_ended}
-use Rattle.pct_transition_cases.proofs.TransitionCases.{main_returned, last_ended, last_ended_with_keys, process_exited}
-use Rattle.pct_thread_invariants.proofs.lift.ChangedThreads.{either_keeps, all_keep, other_shared}
+use Rattle.pct_transition_cases.proofs.TransitionCases.{TransitionCase, fork_handler_called, process_ended_now, process_ended, main_returned, last_ended, last_ended_with_keys, process_exited}
+use Rattle.pct_thread_invariants.proofs.lift.ChangedThreads.{either_keeps, other_shared}
 use Rattle.pct_thread_invariants.proofs.lift.EveryProcess.{process_taken, of_made, IsProcessRule, every_process}
 use Rattle.pct_thread_invariants.proofs.lift.HandlerEvents.{of_each_phase}
 use Rattle.pct_thread_invariants.proofs.lift.KeyedLists.{found_passes}
@@ -31,10 +30,10 @@ reaped_status None = refl
 reaped_status (Some end) = refl
 
 -- each action of a thread of another process keeps it
-other_action : (pid : ℕ) (a : Action) (p : Process) → status_of_end (other_process_after pid a p) ≡ status_of_end p
+other_action : (pid : ℕ) (a : Option ProcessAction) (p : Process) → status_of_end (other_process_after pid a p) ≡ status_of_end p
 unfolding other_process_after
-other_action pid (action.Reap child) p = either_keeps status_of_end (nat_eq p.pid child) (record p { ended = as_reaped p.ended }) p p (reaped_status p.ended) refl
-other_action pid (action.EndProcess n) p = either_keeps status_of_end (nat_eq p.parent pid) (orphaned p.ended p) p p (orphan_status p.ended p refl) refl
+other_action pid (Some (process_action.Reap child)) p = either_keeps status_of_end (nat_eq p.pid child) (record p { ended = as_reaped p.ended }) p p (reaped_status p.ended) refl
+other_action pid (Some (process_action.End n)) p = either_keeps status_of_end (nat_eq p.parent pid) (orphaned p.ended p) p p (orphan_status p.ended p refl) refl
 other_action pid _ p = refl
 
 -- ---- the process of the thread that moves
@@ -78,7 +77,7 @@ module _ (script : Script) (config : Config) where
         let others : Others = others_of config.slots w p t.id in
         case_ends config.passes (body_at script t.frames) t others false e p (k 0) same (case_of config.passes (body_at script t.frames) p.shared t others false e.alt (next_of script t.frames) t.status (λ known. absurd (false≢true known)));
     born = λ w p e t k new known fork same. (refl, refl);
-    other = λ pid o p k same. (ap (λ (s : SharedState). s.exit_value) (other_shared pid o p) ∙ same.0, all_keep status_of_end (other_process_after pid) (other_action pid) o.actions p ∙ same.1);
+    other = λ pid o p k same. (ap (λ (s : SharedState). s.exit_value) (other_shared pid o p) ∙ same.0, other_action pid o.process p ∙ same.1);
   }
 
   reported_of_run : AfterEveryRun script config (λ r. EachProcess r.world (λ pid p. AreReported p (exit_value pid r.events, end_status pid r.events)))

@@ -1,27 +1,27 @@
 -- waitpid gives the status of a child that a fork of the process made, that has ended, and that was not reaped before: the parent of a
 -- process forked it, its end is that of an event, and it was reaped if an event reports so.
-use Rattle.pct_names.proofs.Names.{◌&&◌, ◌+◌, [], Action, after_transition, and_from, and_parts, and_right, ap, arith, as_reaped, body_at}
-use Rattle.pct_names.proofs.Names.{Bool, changed, child_of, cond, Config, Entry, Event, event_of, false, false_from_ne_true, false≢true}
-use Rattle.pct_names.proofs.Names.{family_among, family_of, filter, find, for_each, has_ended, inl, inr, is_live_process, is_some}
-use Rattle.pct_names.proofs.Names.{is_unreaped, List, list_any, list_any-append, made_process, map, nat_eq, next_of, NextStatement, None}
-use Rattle.pct_names.proofs.Names.{none-some, not, not-true, Option, option_map, option_or, or_cases, or_right, orphaned}
-use Rattle.pct_names.proofs.Names.{other_process_after, Others, others_of, position_or_len, Process, process_after, process_moved}
-use Rattle.pct_names.proofs.Names.{ProcessEnd, refl, Relative, relative_of, reverse, Run, run, same_Some, Script, shared_after, SharedState}
-use Rattle.pct_names.proofs.Names.{Some, Status, Stmt, subst, sym, Thread, threads_moved, Transition, transition_by, true, was_reaped, What}
-use Rattle.pct_names.proofs.Names.{World, ◌||◌, ℕ, ◌∙◌, ◌∷◌, ◌≡◌, ◌≢◌, ◌⊎◌}
+use Rattle.pct_names.proofs.Names.{◌&&◌, ◌+◌, [], after_transition, and_from, and_parts, and_right, ap, arith, as_reaped, body_at, Bool}
+use Rattle.pct_names.proofs.Names.{changed, child_of, cond, Config, Entry, Event, event_of, false, false_from_ne_true, false≢true}
+use Rattle.pct_names.proofs.Names.{family_among, family_of, filter, find, has_ended, inl, inr, is_live_process, is_some, is_unreaped, List}
+use Rattle.pct_names.proofs.Names.{list_any, list_any-append, made_process, map, nat_eq, next_of, NextStatement, None, none-some, not}
+use Rattle.pct_names.proofs.Names.{not-true, Option, option_map, option_or, or_cases, or_right, orphaned, other_process_after, Others}
+use Rattle.pct_names.proofs.Names.{others_of, position_or_len, Process, process_after, process_moved, ProcessAction, ProcessEnd, refl}
+use Rattle.pct_names.proofs.Names.{Relative, relative_of, reverse, Run, run, same_Some, Script, shared_moved, SharedState, Some, Status}
+use Rattle.pct_names.proofs.Names.{Stmt, subst, sym, Thread, threads_moved, Transition, transition_by, true, was_reaped, What, World, ◌||◌}
+use Rattle.pct_names.proofs.Names.{ℕ, ◌∙◌, ◌∷◌, ◌≡◌, ◌≢◌, ◌⊎◌}
 use mathlib.Core.Bool.{or-false}
 use Rattle.std.proofs.Common.{eq-eqb, eqb-true}
 use Rattle.std.specs.Option.{IsSomeAnd}
 use Rattle.std.proofs.lemmas.Bool.{true≢false}
 use Rattle.pct_model.specs.declared.event.What.TheVariants as what
 use Rattle.pct_model.specs.declared.process.Child.{Child}
-use Rattle.pct_model.specs.declared.transition.Action.TheVariants as action
+use Rattle.pct_model.specs.declared.transition.ProcessAction.TheVariants as process_action
 use Rattle.pct_laws.specs.Kept.{EachProcess}
 use Rattle.pct_laws.specs.KnownThreads.{is_in, makes_process}
 use Rattle.pct_laws.specs.ProcessLaw.{has_status, has_in, reaps_process, may_change}
 use Rattle.pct_transition_cases.proofs.CaseOfTransition.{case_of}
 use Rattle.pct_transition_cases.proofs.TransitionCases.{TransitionCase, fork_handler_called, child_reaped}
-use Rattle.pct_thread_invariants.proofs.lift.ChangedThreads.{all_keep, pids_of}
+use Rattle.pct_thread_invariants.proofs.lift.ChangedThreads.{pids_of}
 use Rattle.pct_thread_invariants.proofs.lift.EveryProcess.{process_taken, of_made, IsProcessRule, every_process}
 use Rattle.pct_thread_invariants.proofs.lift.HandlerEvents.{of_each_phase}
 use Rattle.pct_thread_invariants.proofs.lift.KeyedLists.{AreDistinct, found_at, found_passes, not_found, mapped_some}
@@ -41,17 +41,12 @@ module _ (P : Process → Type 0) (reaped : (p : Process) → P p → P (record 
   if_then true x y first second = first
   if_then false x y first second = second
 
-  -- one action
-  one_keeps : (pid : ℕ) (a : Action) (p : Process) → P p → P (other_process_after pid a p)
+  -- the action of the transition
+  other_keeps : (pid : ℕ) (a : Option ProcessAction) (p : Process) → P p → P (other_process_after pid a p)
   unfolding other_process_after
-  one_keeps pid (action.Reap child) p holds = if_then (nat_eq p.pid child) (record p { ended = as_reaped p.ended }) p (reaped p holds) holds
-  one_keeps pid (action.EndProcess n) p holds = if_then (nat_eq p.parent pid) (orphaned p.ended p) p (orphan p holds) holds
-  one_keeps pid _ p holds = holds
-
-  -- all actions of a transition
-  other_keeps : (pid : ℕ) (actions : List Action) (p : Process) → P p → P (for_each (other_process_after pid) actions p)
-  other_keeps pid [] p holds = holds
-  other_keeps pid (a ∷ actions) p holds = other_keeps pid actions (other_process_after pid a p) (one_keeps pid a p holds)
+  other_keeps pid (Some (process_action.Reap child)) p holds = if_then (nat_eq p.pid child) (record p { ended = as_reaped p.ended }) p (reaped p holds) holds
+  other_keeps pid (Some (process_action.End n)) p holds = if_then (nat_eq p.parent pid) (orphaned p.ended p) p (orphan p holds) holds
+  other_keeps pid _ p holds = holds
 
 -- ---- parents
 
@@ -69,9 +64,9 @@ reading_stays n [] k = refl
 reading_stays n (e ∷ added) k = reading_stays n added k
 
 -- no action of a thread of the process changes its parent
-own_parent : (a : Action) (p : Process) → (process_after a p).parent ≡ p.parent
+own_parent : (a : Option ProcessAction) (p : Process) → (process_after a p).parent ≡ p.parent
 unfolding process_after
-own_parent (action.EndProcess n) p = refl
+own_parent (Some (process_action.End n)) p = refl
 own_parent _ p = refl
 
 -- a process whose parent ends has no parent, or keeps it
@@ -109,13 +104,13 @@ module _ (script : Script) (config : Config) where
     initial = inl refl;
     own = λ w p e t k known holds.
         let o : Transition = transition_by script config w p t e.alt in
-        let same : (changed e.tid o p).parent ≡ p.parent = all_keep (λ (q : Process). q.parent) process_after own_parent o.actions (record p { threads = threads_moved e.tid o p.threads; shared = for_each shared_after o.actions p.shared }) in
+        let same : (changed e.tid o p).parent ≡ p.parent = own_parent o.process (record p { threads = threads_moved e.tid o p.threads; shared = shared_moved o p.shared }) in
         elim holds [
           | inl none ↦ inl (same ∙ none)
           | inr made ↦ inr (reading_stays (changed e.tid o p).parent (map (event_of e) (reverse o.events)) (k (changed e.tid o p).parent) ∙ ap k same ∙ made)
         ];
     born = λ w p e t k new known fork holds. inr (ap (λ (b : Bool). cond b true false) (eq-eqb e.pid p.pid (sym known)));
-    other = λ pid o p k holds. other_keeps (λ q. MadeByParent q k) (λ q made. made) (λ q made. orphan_parent k q.ended q made) pid o.actions p holds;
+    other = λ pid o p k holds. other_keeps (λ q. MadeByParent q k) (λ q made. made) (λ q made. orphan_parent k q.ended q made) pid o.process p holds;
   }
 
   -- the parent of a process, if it has one, made it by a fork
@@ -195,7 +190,7 @@ record Reaps (others : Others) (pid : ℕ) (e : Entry) (o : Transition) : Type 0
   is_child : others.family.child pid ≡ Some child
   status : ℕ
   ended : child.ended ≡ Some status
-  reaps : (q : Process) → q.pid ≡ pid → for_each (other_process_after e.pid) o.actions q ≡ record q { ended = as_reaped q.ended }
+  reaps : (q : Process) → q.pid ≡ pid → other_process_after e.pid o.process q ≡ record q { ended = as_reaped q.ended }
 
 module _ (passes : ℕ) (body : List Stmt) (shared : SharedState) (t : Thread) (others : Others) (offered : Bool) (e : Entry) (pid : ℕ) where
   -- a transition with the event that a process is reaped, reaps it
@@ -239,17 +234,17 @@ module _ (script : Script) (config : Config) where
     o = transition_by script config r.world p t e.alt
 
     -- a process that has ended is not that of the thread
-    not_live : (q : Process) → has_ended q ≡ true → process_moved e.pid e.tid o q ≡ for_each (other_process_after e.pid) o.actions q
-    not_live q ended = ap (λ (b : Bool). cond b (changed e.tid o q) (for_each (other_process_after e.pid) o.actions q)) (and_right (nat_eq q.pid e.pid) (not (has_ended q)) (ap not ended))
+    not_live : (q : Process) → has_ended q ≡ true → process_moved e.pid e.tid o q ≡ other_process_after e.pid o.process q
+    not_live q ended = ap (λ (b : Bool). cond b (changed e.tid o q) (other_process_after e.pid o.process q)) (and_right (nat_eq q.pid e.pid) (not (has_ended q)) (ap not ended))
 
     -- one that was reaped stays so
     stays_reaped : (q : Process) → was_reaped q.ended ≡ true → was_reaped (process_moved e.pid e.tid o q).ended ≡ true
     stays_reaped q is =
         ap (λ (x : Process). was_reaped x.ended) (not_live q (reaped_has_ended q.ended is))
-        ∙ other_keeps (λ x. was_reaped x.ended ≡ true) (λ x reaped. as_reaped_is x.ended (reaped_has_ended x.ended reaped)) (λ x reaped. orphan_reaped x.ended x reaped) e.pid o.actions q is
+        ∙ other_keeps (λ x. was_reaped x.ended ≡ true) (λ x reaped. as_reaped_is x.ended (reaped_has_ended x.ended reaped)) (λ x reaped. orphan_reaped x.ended x reaped) e.pid o.process q is
 
     -- and one that has ended is reaped, if the actions reap it
-    becomes_reaped : (q : Process) → has_ended q ≡ true → for_each (other_process_after e.pid) o.actions q ≡ record q { ended = as_reaped q.ended } → was_reaped (process_moved e.pid e.tid o q).ended ≡ true
+    becomes_reaped : (q : Process) → has_ended q ≡ true → other_process_after e.pid o.process q ≡ record q { ended = as_reaped q.ended } → was_reaped (process_moved e.pid e.tid o q).ended ≡ true
     becomes_reaped q ended reaps = ap (λ (x : Process). was_reaped x.ended) (not_live q ended ∙ reaps) ∙ as_reaped_is q.ended ended
 
     -- the process with an id after the step

@@ -1,8 +1,8 @@
 -- A run that was not stopped has no event of a stop; and of the events of a step only the last one stops the run or ends the process.
 use Rattle.pct_names.proofs.Names.{◌++◌, [], after_transition, Alt, ap, body_at, Bool, Config, Entry, Event, event_of, false, false≢true}
-use Rattle.pct_names.proofs.Names.{for_each, List, list_any, list_any-append, map, next_of, NextStatement, None, none-some, Option, or_from}
-use Rattle.pct_names.proofs.Names.{Others, others_of, Process, refl, reverse, Run, Script, SharedState, Status, Stmt, stop_after, sym}
-use Rattle.pct_names.proofs.Names.{Thread, Transition, transition_by, true, What, Why, without_first, World, ◌||◌, ℕ, ◌∙◌, ◌∷◌, ◌≡◌}
+use Rattle.pct_names.proofs.Names.{List, list_any, list_any-append, map, next_of, NextStatement, None, none-some, Option, or_from, Others}
+use Rattle.pct_names.proofs.Names.{others_of, Process, refl, reverse, Run, Script, SharedState, Status, Stmt, stop_after, sym, Thread}
+use Rattle.pct_names.proofs.Names.{Transition, transition_by, true, What, Why, without_first, World, ◌||◌, ℕ, ◌∙◌, ◌∷◌, ◌≡◌}
 use Rattle.pct_model.specs.declared.event.What.TheVariants as what
 use Rattle.pct_laws.specs.ProcessLaw.{is_stop}
 use Rattle.pct_transition_cases.proofs.CaseOfTransition.{case_of}
@@ -36,7 +36,7 @@ is_closing w = is_stop w || ends_process w
 
 module _ (passes : ℕ) (body : List Stmt) (shared : SharedState) (t : Thread) (others : Others) (offered : Bool) where
   -- a transition that leads to no stop has no event of one
-  case_stops : {next : NextStatement} {s : Status} {o : Transition} → TransitionCase passes body shared t others offered next s o → for_each stop_after o.actions None ≡ None → list_any is_stop (reverse o.events) ≡ false
+  case_stops : {next : NextStatement} {s : Status} {o : Transition} → TransitionCase passes body shared t others offered next s o → stop_after o.stop None ≡ None → list_any is_stop (reverse o.events) ≡ false
   unfolding stop_after
   case_stops (stopped frame s why) none = absurd (none-some why (sym none))
   case_stops (fork_handler_called next at call is) none = of_each_phase (λ (w : What). list_any is_stop (w ∷ []) ≡ false) call.func refl refl refl at.phase
@@ -56,7 +56,7 @@ module _ (script : Script) (config : Config) (w : World) (p : Process) (t : Thre
   its_case = case_of config.passes (body_at script t.frames) p.shared t (others_of config.slots w p t.id) false choice (next_of script t.frames) t.status (λ known. absurd (false≢true known))
 
   -- it has no event of a stop, if it leads to none
-  stops : for_each stop_after o.actions None ≡ None → list_any is_stop (reverse o.events) ≡ false
+  stops : stop_after o.stop None ≡ None → list_any is_stop (reverse o.events) ≡ false
   stops = case_stops config.passes (body_at script t.frames) p.shared t (others_of config.slots w p t.id) false its_case
 
   -- only the last event of a step stops the run or ends the process
@@ -75,4 +75,4 @@ unfolding after_transition
 running_of_run script config =
     every_run script config NoStop (λ before r is e p t taken none later.
     let o : Transition = transition_by script config r.world p t e.alt in
-    none_later is_stop e (reverse o.events) r.events (stops script config r.world p t e.alt (ap (λ (stop : Option Why). for_each stop_after o.actions stop) (sym taken.running) ∙ later)) (none taken.running)) (λ some none. refl)
+    none_later is_stop e (reverse o.events) r.events (stops script config r.world p t e.alt (ap (λ (stop : Option Why). stop_after o.stop stop) (sym taken.running) ∙ later)) (none taken.running)) (λ some none. refl)

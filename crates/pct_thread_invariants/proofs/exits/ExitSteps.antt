@@ -1,13 +1,14 @@
 -- A thread that exits its process, in a function registered with atexit: the function is plain, so that it goes on, jumps or returns.
 use Rattle.pct_names.proofs.Names.{◌<◌, [], acts, ap, body_of, Dest, encode, false, false≢true, Frame, FrameKind, frames_written}
-use Rattle.pct_names.proofs.Names.{has_begun_to_end, inl, inr, length, List, NextStatement, or_right, Others, refl, Script, SharedState}
-use Rattle.pct_names.proofs.Names.{Stmt, suc, sym, syntax_of, Thread, thread_after, thread_at, Transition, true, ℕ, ◌∙◌, ◌∷◌, ◌≡◌}
+use Rattle.pct_names.proofs.Names.{has_begun_to_end, inl, inr, length, List, NextStatement, or_right, Others, own_after, refl, Script}
+use Rattle.pct_names.proofs.Names.{SharedState, Some, Stmt, suc, sym, syntax_of, Thread, thread_at, Transition, true, ℕ, ◌∙◌, ◌∷◌, ◌≡◌}
 use Rattle.pct_model.specs.declared.event.What.TheVariants as what
 use Rattle.pct_model.specs.declared.state.FrameKind.TheVariants as kind
 use Rattle.pct_model.specs.declared.state.Status.TheVariants as status
 use Rattle.pct_model.specs.declared.statement.Dest.TheVariants as destination
 use Rattle.pct_model.specs.declared.statement.Stmt.TheVariants as statement
-use Rattle.pct_model.specs.declared.transition.Action.TheVariants as action
+use Rattle.pct_model.specs.declared.transition.OwnAction.TheVariants as own_action
+use Rattle.pct_model.specs.declared.transition.SharedAction.TheVariants as shared_action
 use Rattle.pct_laws.specs.Kept.{is_exit_kind, IsPlainFunction}
 use Rattle.pct_laws.specs.ThreadSummary.{ThreadSummary}
 use Rattle.pct_transition_cases.proofs.OfferedChoices.{deliverable_enabled}
@@ -25,8 +26,8 @@ use Rattle.pct_thread_invariants.proofs.thread.ThreadRule.{RunsExitFunction, Fit
 module _ (script : Script) (passes : ℕ) (matches : PushesMatch script) (t : Thread) where
   -- the next registered function is called
   pub exit_function_keeps : (frames : List Frame) (reported : ThreadSummary) (f : ℕ) → IsPlainFunction script f → Fits script passes (record t { status = status.Exiting; frames = frames }) reported
-      → KeepsAny script passes (record t { status = status.Exiting; frames = frames }) reported (acts (action.TakeExit ∷ action.CallAlone f 0 kind.ExitFn ∷ []) (what.ExitRun f ∷ []))
-  unfolding thread_at thread_after
+      → KeepsAny script passes (record t { status = status.Exiting; frames = frames }) reported (record (acts (what.ExitRun f ∷ [])) { own = Some (own_action.RunExitFunction f); shared = Some shared_action.TakeExit })
+  unfolding thread_at own_after
   exit_function_keeps frames reported f plain fits = record {
     own = record {
       agrees = fits.agrees;
@@ -54,7 +55,7 @@ module _ (script : Script) (passes : ℕ) (matches : PushesMatch script) (t : Th
     -- its transitions
     pub exit_step_keeps : {shared : SharedState} {others : Others} {body : List Stmt} {next : NextStatement} {o : Transition} → IsPlaced script (frame ∷ []) body next
         → TransitionCase passes body shared (running t (frame ∷ [])) others true next status.Running o → is_plain_next next ≡ true → KeepsAny script passes (running t (frame ∷ [])) reported o
-    unfolding thread_at thread_after encode syntax_of
+    unfolding thread_at own_after encode syntax_of
     exit_step_keeps place (rests next s alive) plain = record { own = fits; lawful = refl }
     exit_step_keeps place (stopped _ s why) plain = record { own = fits; lawful = refl }
     exit_step_keeps {shared} (on_top _ _ s at) (jumped _ _ pc leads) plain = record { own = at_pc_fits pc (leads_within script passes matches frame shared.globals at leads); lawful = refl }

@@ -1,10 +1,10 @@
 -- After every run, the functions that are registered with atexit and with pthread_atfork in a process are plain functions of the script.
-use Rattle.pct_names.proofs.Names.{◌++◌, [], All, All-nil, All-push, AllByRecursion, ap, body_at, changed, child_of, Config, Entry}
-use Rattle.pct_names.proofs.Names.{for_each, ForkAt, ForkHandlers, get_or_from_slice_get, handler_at, handler_for, HandlerCall}
-use Rattle.pct_names.proofs.Names.{handlers_among, indexes_left, List, next_handler, next_of, NextStatement, None, none-some, Option}
-use Rattle.pct_names.proofs.Names.{option_and_then_some, option_map, Others, others_of, Parent, Phase, Prepare, Process, refl, same_Some}
-use Rattle.pct_names.proofs.Names.{Script, shared_after, SharedState, slice_get, slice_get_within, Some, Status, Stmt, subst, sym, Thread}
-use Rattle.pct_names.proofs.Names.{Transition, transition_by, true, without_first, World, ℕ, ◌∷◌, ◌≡◌}
+use Rattle.pct_names.proofs.Names.{◌++◌, [], All, All-nil, All-push, AllByRecursion, ap, body_at, changed, child_of, Config, Entry, ForkAt}
+use Rattle.pct_names.proofs.Names.{ForkHandlers, get_or_from_slice_get, handler_at, handler_for, HandlerCall, handlers_among, indexes_left}
+use Rattle.pct_names.proofs.Names.{List, next_handler, next_of, NextStatement, None, none-some, Option, option_and_then_some, option_map}
+use Rattle.pct_names.proofs.Names.{Others, others_of, Parent, Phase, Prepare, Process, refl, same_Some, Script, shared_after, shared_moved}
+use Rattle.pct_names.proofs.Names.{SharedState, slice_get, slice_get_within, Some, Status, Stmt, subst, sym, Thread, Transition}
+use Rattle.pct_names.proofs.Names.{transition_by, true, without_first, World, ℕ, ◌∷◌, ◌≡◌}
 use Rattle.std.specs.Prelude.{option_to_list}
 use Rattle.pct_model.specs.declared.state.Phase.TheVariants.{Child}
 use Rattle.pct_laws.specs.Kept.{IsPlainFunction, IsPlainIfSome, ArePlainHandlers}
@@ -35,7 +35,7 @@ module _ (script : Script) where
 
   -- the registered functions after a transition
   case_plain : (passes : ℕ) (shared : SharedState) (t : Thread) (others : Others) {body : List Stmt} {next : NextStatement} {s : Status} {o : Transition} → IsPlaced script t.frames body next → TransitionCase passes body shared t others true next s o
-      → RegistersPlain shared → RegistersPlain (for_each shared_after o.actions shared)
+      → RegistersPlain shared → RegistersPlain (shared_moved o shared)
   unfolding shared_after
   case_plain passes shared t others placed (exit_registered frame result f may) plain = record { exit_functions = (registered_plain script frame result f (statement_placed placed), plain.exit_functions); fork_handlers = plain.fork_handlers }
   case_plain passes shared t others placed (exit_function_called next f functions is) plain = record { exit_functions = rest_plain shared.exit_functions plain.exit_functions; fork_handlers = plain.fork_handlers }

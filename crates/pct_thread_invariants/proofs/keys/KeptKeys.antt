@@ -1,36 +1,35 @@
--- An action keeps what is kept of keys, and that the data of a thread are empty at each place without a key.
-use Rattle.pct_names.proofs.Names.{◌*◌, ◌+◌, ◌<◌, [], Action, ap, arith, Bool, cond, false, false≢true, get_or, inl, inr, is_none, Key}
-use Rattle.pct_names.proofs.Names.{key_at, key_place, KeyPlace, KeyValues, length, length-replicate, List, list_any, MAX_KEYS, nat_eq}
-use Rattle.pct_names.proofs.Names.{new_keys, next_key, no_keys, no_values, None, none-some, not, Option, option_and_then}
-use Rattle.pct_names.proofs.Names.{option_and_then_some, option_map_or, refl, same_Some, Script, set, slice_get, Some, subst, suc, sym}
-use Rattle.pct_names.proofs.Names.{true, value_at, with_key, with_pass, with_value, without_key, without_value, zero, ℕ, ◌∙◌, ◌∷◌, ◌≡◌, ◌⊎◌}
+-- A transition keeps what is kept of keys, and that the data of a thread are empty at each place without a key.
+use Rattle.pct_names.proofs.Names.{◌*◌, ◌+◌, ◌<◌, [], ap, arith, Bool, cond, Dest, false, false≢true, Frame, get_or, if_number, inl, inr}
+use Rattle.pct_names.proofs.Names.{is_none, Key, key_at, key_place, key_with, KeyPlace, KeyValues, length, length-replicate, List, list_any}
+use Rattle.pct_names.proofs.Names.{MAX_KEYS, NamedAction, nat_eq, new_keys, next_key, NextStatement, no_keys, no_values, None, none-some}
+use Rattle.pct_names.proofs.Names.{not, Option, option_and_then, option_and_then_some, option_map_or, Others, OwnAction, refl, same_Some}
+use Rattle.pct_names.proofs.Names.{Script, set, shared_after, shared_moved, SharedState, slice_get, Some, statement_at, Status, Stmt, subst}
+use Rattle.pct_names.proofs.Names.{suc, sym, Thread, Transition, true, value_at, value_of, with_key, with_pass, with_value, without_value}
+use Rattle.pct_names.proofs.Names.{zero, ℕ, ◌∙◌, ◌∷◌, ◌≡◌, ◌⊎◌}
 use Rattle.std.proofs.Common.{get_or-set_other, length-set}
 use Rattle.std.proofs.Math.ListN.{get_or-map}
-use Rattle.pct_model.specs.declared.transition.Action.TheVariants as action
+use Rattle.pct_model.specs.declared.transition.NamedAction.TheVariants as named_action
+use Rattle.pct_model.specs.declared.transition.OwnAction.TheVariants as own_action
+use Rattle.pct_model.specs.declared.statement.Stmt.TheVariants as statement
 use Rattle.pct_laws.specs.Kept.{KeysKept, IsLastMade}
 use Rattle.pct_thread_invariants.proofs.lift.OfferedNumbers.{IsNumberOf, new_key_of}
-use Rattle.pct_thread_invariants.proofs.keys.KeyPlaces.{default_set, default_stays, default_of_replicate, item_of_replicate, item_set}
-use Rattle.pct_thread_invariants.proofs.keys.KeyPlaces.{place_of_next}
-use Rattle.pct_thread_invariants.proofs.keys.KeyActions.{MayChange}
+use Rattle.pct_thread_invariants.proofs.keys.KeyPlaces.{default_set, default_stays, default_of_replicate, item_of_replicate, item_set, place_of_next}
+use Rattle.pct_transition_cases.proofs.PlacedStatements.{IsPlaced, statement_placed}
+use Rattle.pct_transition_cases.proofs.TransitionCases.{TransitionCase, key_made, key_deleted, specific_set, pass_begun, destructor_called}
+use Rattle.pct_thread_invariants.proofs.thread.NamedFunctions.{NamesFunctions}
 
--- ---- the state after an action
-
--- the keys of the process
-abbrev pub keys_after : Action → List KeyPlace → List KeyPlace
-keys_after (action.MakeKey k destructor) keys = with_key (key_place k) k destructor keys
-keys_after (action.DeleteKey k) keys = without_key (key_place k) keys
-keys_after _ keys = keys
+-- ---- the data after an action
 
 -- the data of the thread that acts
-abbrev pub own_data : Action → KeyValues → KeyValues
-own_data (action.SetSpecific k v) own = with_value (key_place k) v own
-own_data action.BeginPass own = with_pass own
-own_data (action.TakeKey k) own = without_value (key_place k) own
+abbrev pub own_data : Option OwnAction → KeyValues → KeyValues
+own_data (Some (own_action.SetSpecific k v)) own = with_value (key_place k) v own
+own_data (Some own_action.BeginPass) own = with_pass own
+own_data (Some (own_action.RunDestructor k f v)) own = without_value (key_place k) own
 own_data _ own = own
 
 -- the data of any thread of the process
-abbrev pub named_data : Action → KeyValues → KeyValues
-named_data (action.DeleteKey k) own = without_value (key_place k) own
+abbrev pub named_data : Option NamedAction → KeyValues → KeyValues
+named_data (Some (named_action.ForgetKey k)) own = without_value (key_place k) own
 named_data _ own = own
 
 -- ---- the keys
@@ -78,12 +77,6 @@ module _ (script : Script) where
         let place_is : key_place k ≡ of.item = ap key_place of.is ∙ place_of_next of.item (option_map_or (λ p. p.made) (slice_get keys of.item) 0) of.low in
         subst (λ (n : ℕ). KeysKept script (with_key n k destructor keys)) (sym place_is) (made_at of.item k destructor (slice_get keys of.item) of.is named)
 
-    -- the keys after an action
-    pub kept_after : (a : Action) → MayChange script keys a → KeysKept script (keys_after a keys)
-    kept_after (action.MakeKey k destructor) may = made_kept k destructor may.0 may.1
-    kept_after (action.DeleteKey k) may = deleted_at (key_place k) (slice_get keys (key_place k))
-    kept_after _ may = kept
-
   -- no keys
   pub no_keys_kept : KeysKept script no_keys
   no_keys_kept =
@@ -108,17 +101,6 @@ new_empty keys place none = (default_of_replicate MAX_KEYS place 0, default_of_r
 -- a value is taken away
 cleared : (keys : List KeyPlace) (at : ℕ) (own : KeyValues) → AreEmpty keys own → AreEmpty keys (without_value at own)
 cleared keys at own empty place none = (default_stays own.values at place 0 (empty place none).0, default_stays own.in_pass at place false (empty place none).1)
-
--- the data of the thread that acts
-own_empty : (script : Script) (keys : List KeyPlace) (a : Action) → MayChange script keys a → (own : KeyValues) → AreEmpty keys own → AreEmpty keys (own_data a own)
-own_empty script keys (action.SetSpecific k v) may own empty place none =
-    let other : place ≡ key_place k → ⊥ = λ same. false≢true (sym may ∙ ap (λ (n : ℕ). is_none (key_at keys n)) (sym same) ∙ ap is_none none) in
-    (get_or-set_other own.values (key_place k) place v 0 other ∙ (empty place none).0, (empty place none).1)
-own_empty script keys action.BeginPass may own empty place none =
-    let marked : ℕ → Bool = λ value. not (nat_eq value 0) in
-    ((empty place none).0, get_or-map marked own.values place 0 ∙ ap marked (empty place none).0)
-own_empty script keys (action.TakeKey k) may own empty place none = cleared keys (key_place k) own empty place none
-own_empty script keys _ may own empty place none = empty place none
 
 -- a place without a key, after one place changed
 none_set : (keys : List KeyPlace) (i j : ℕ) (q : KeyPlace) → key_at (set keys i q) j ≡ None → (key_at keys j ≡ None) ⊎ ((i ≡ j) × (q.key ≡ None))
@@ -145,16 +127,55 @@ none_deleted keys at (Some p) place none = elim (none_set keys at place (record 
   | inr new ↦ inr new.0
 ]
 
--- the data of any thread of the process
-named_empty : (keys : List KeyPlace) (a : Action) (own : KeyValues) → AreEmpty keys own → AreEmpty (keys_after a keys) (named_data a own)
-named_empty keys (action.MakeKey k destructor) own empty place none = empty place (none_made keys (key_place k) k destructor (slice_get keys (key_place k)) place none)
-named_empty keys (action.DeleteKey k) own empty place none = elim (none_deleted keys (key_place k) (slice_get keys (key_place k)) place none) [
-  | inl before ↦ cleared keys (key_place k) own empty place before
-  | inr same ↦ subst (λ (j : ℕ). (value_at j (without_value (key_place k) own) ≡ 0) × (get_or (without_value (key_place k) own).in_pass j false ≡ false)) same (default_set own.values (key_place k) 0, default_set own.in_pass (key_place k) false)
-]
-named_empty keys _ own empty place none = empty place none
+-- where a key with a number was made and not deleted, a key is on its place
+is_on_place : (n : ℕ) (found : Option Key) → is_none (if_number n found) ≡ false → is_none found ≡ false
+is_on_place n None is = is
+is_on_place n (Some key) is = refl
 
--- the data of a thread that acts, or of another one, after an action
-pub empty_after : (script : Script) (keys : List KeyPlace) (a : Action) → MayChange script keys a → (own : KeyValues) (acts : Bool) → AreEmpty keys own → AreEmpty (keys_after a keys) (named_data a (cond acts (own_data a own) own))
-empty_after script keys a may own true empty = named_empty keys a (own_data a own) (own_empty script keys a may own empty)
-empty_after script keys a may own false empty = named_empty keys a own empty
+named_key : (n : ℕ) (keys : List KeyPlace) → is_none (key_with n keys) ≡ false → is_none (key_at keys (key_place n)) ≡ false
+unfolding key_with
+named_key n keys is = is_on_place n (key_at keys (key_place n)) is
+
+-- ---- a transition
+
+module _ (script : Script) (names : NamesFunctions script) (passes : ℕ) (shared : SharedState) (t : Thread) (others : Others) where
+  -- the destructor that a statement names
+  destructor_of : (frame : Frame) (result key : Dest) (destructor : Option ℕ) → statement_at script frame ≡ Some (statement.KeyCreate result key destructor) → (f : ℕ) → destructor ≡ Some f → f < length script.funcs
+  destructor_of frame result key None at f is = absurd (none-some f is)
+  destructor_of frame result key (Some g) at f is = subst (λ (n : ℕ). n < length script.funcs) (same_Some g f is) (names.destructor frame result key g at)
+
+  -- the keys after a transition
+  pub case_kept : KeysKept script shared.keys → {frames : List Frame} {body : List Stmt} {next : NextStatement} {s : Status} {o : Transition} → IsPlaced script frames body next → TransitionCase passes body shared t others true next s o → KeysKept script (shared_moved o shared).keys
+  unfolding shared_after
+  case_kept kept placed (key_made frame result key destructor k among) = made_kept script shared.keys kept k destructor (among refl) (destructor_of frame result key destructor (statement_placed placed))
+  case_kept kept placed (key_deleted frame key named) = let place : ℕ = key_place (value_of shared.globals frame key) in deleted_at script shared.keys kept place (slice_get shared.keys place)
+  case_kept kept placed _ = kept
+
+  -- the data of the thread that acts
+  own_empty : {body : List Stmt} {next : NextStatement} {s : Status} {o : Transition} → TransitionCase passes body shared t others true next s o → (own : KeyValues) → AreEmpty shared.keys own → AreEmpty shared.keys (own_data o.own own)
+  own_empty (specific_set frame key v named) own empty place none =
+      let k : ℕ = value_of shared.globals frame key in
+      let other : place ≡ key_place k → ⊥ = λ same. false≢true (sym (named_key k shared.keys named) ∙ ap (λ (n : ℕ). is_none (key_at shared.keys n)) (sym same) ∙ ap is_none none) in
+      (get_or-set_other own.values (key_place k) place (value_of shared.globals frame v) 0 other ∙ (empty place none).0, (empty place none).1)
+  own_empty (pass_begun next no_handlers below due none_left) own empty place none =
+      let marked : ℕ → Bool = λ value. not (nat_eq value 0) in
+      ((empty place none).0, get_or-map marked own.values place 0 ∙ ap marked (empty place none).0)
+  own_empty (destructor_called next k f key no_handlers is named among) own empty place none = cleared shared.keys (key_place k) own empty place none
+  own_empty _ own empty place none = empty place none
+
+  -- the data of any thread of the process
+  named_empty : {body : List Stmt} {next : NextStatement} {s : Status} {o : Transition} → TransitionCase passes body shared t others true next s o → (own : KeyValues) → AreEmpty shared.keys own → AreEmpty (shared_moved o shared).keys (named_data o.named own)
+  unfolding shared_after
+  named_empty (key_made frame result key destructor k among) own empty place none = empty place (none_made shared.keys (key_place k) k destructor (slice_get shared.keys (key_place k)) place none)
+  named_empty (key_deleted frame key named) own empty place none =
+      let at : ℕ = key_place (value_of shared.globals frame key) in
+      elim (none_deleted shared.keys at (slice_get shared.keys at) place none) [
+        | inl before ↦ cleared shared.keys at own empty place before
+        | inr same ↦ subst (λ (j : ℕ). (value_at j (without_value at own) ≡ 0) × (get_or (without_value at own).in_pass j false ≡ false)) same (default_set own.values at 0, default_set own.in_pass at false)
+      ]
+  named_empty _ own empty place none = empty place none
+
+  -- the data of a thread that acts, or of another one, after a transition
+  pub empty_after : {body : List Stmt} {next : NextStatement} {s : Status} {o : Transition} → TransitionCase passes body shared t others true next s o → (own : KeyValues) (acts : Bool) → AreEmpty shared.keys own → AreEmpty (shared_moved o shared).keys (named_data o.named (cond acts (own_data o.own own) own))
+  empty_after {o = o} c own true empty = named_empty c (own_data o.own own) (own_empty c own empty)
+  empty_after c own false empty = named_empty c own empty

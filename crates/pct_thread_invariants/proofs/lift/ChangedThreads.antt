@@ -1,13 +1,15 @@
 -- What no transition changes: the numbers of processes and threads, and which threads a process did not inherit. And what no action of
 -- another thread changes: the status of a thread, unless it waits on a condition variable.
-use Rattle.pct_names.proofs.Names.{◌&&◌, [], Action, and_parts, ap, as_reaped, at_pc, Bool, Cause, changed, cond, false, for_each, Frame}
-use Rattle.pct_names.proofs.Names.{is_live_process, is_live_thread, is_waiting_on, key_place, KeyValues, List, list_all, map, moved}
-use Rattle.pct_names.proofs.Names.{named_after, nat_eq, None, not, Option, orphaned, other_process_after, Process, process_after}
-use Rattle.pct_names.proofs.Names.{process_moved, ProcessEnd, Reacquire, refl, Running, shared_after, SharedState, Some, Status, sym}
-use Rattle.pct_names.proofs.Names.{Thread, thread_after, thread_at, thread_moved, threads_moved, Transition, true, unblocked, Waiting}
-use Rattle.pct_names.proofs.Names.{without_value, ℕ, ◌∙◌, ◌∷◌, ◌≡◌}
+use Rattle.pct_names.proofs.Names.{◌&&◌, ap, as_reaped, at_pc, Bool, Cause, changed, cond, false, Frame, is_live_process, is_live_thread}
+use Rattle.pct_names.proofs.Names.{is_waiting_on, key_place, KeyValues, List, map, moved, named_after, NamedAction, nat_eq, None, not}
+use Rattle.pct_names.proofs.Names.{Option, orphaned, other_process_after, own_after, OwnAction, Process, process_after, process_moved}
+use Rattle.pct_names.proofs.Names.{ProcessAction, ProcessEnd, Reacquire, refl, Running, shared_moved, SharedState, Some, Status, sym}
+use Rattle.pct_names.proofs.Names.{Thread, thread_at, thread_moved, threads_moved, Transition, true, unblocked, Waiting, without_value, ℕ}
+use Rattle.pct_names.proofs.Names.{◌∙◌, ◌≡◌}
 use Rattle.pct_model.specs.declared.state.Cause.TheVariants as cause
-use Rattle.pct_model.specs.declared.transition.Action.TheVariants as action
+use Rattle.pct_model.specs.declared.transition.NamedAction.TheVariants as named_action
+use Rattle.pct_model.specs.declared.transition.OwnAction.TheVariants as own_action
+use Rattle.pct_model.specs.declared.transition.ProcessAction.TheVariants as process_action
 
 -- ---- any change
 
@@ -15,18 +17,6 @@ use Rattle.pct_model.specs.declared.transition.Action.TheVariants as action
 pub either_keeps : {T V : Type 0} (view : T → V) (b : Bool) (x y t : T) → view x ≡ view t → view y ≡ view t → view (cond b x y) ≡ view t
 either_keeps view true x y t first second = first
 either_keeps view false x y t first second = second
-
--- a view that no action changes is not changed by a list of actions
-pub all_keep : {T V : Type 0} (view : T → V) (change : Action → T → T) → ((a : Action) (t : T) → view (change a t) ≡ view t) → (actions : List Action) (t : T) → view (for_each change actions t) ≡ view t
-all_keep view change keeps [] t = refl
-all_keep view change keeps (a ∷ actions) t = all_keep view change keeps actions (change a t) ∙ keeps a t
-
--- the same, for actions that pass a test, if none that does changes the view
-pub all_keep_if : {T V : Type 0} (view : T → V) (change : Action → T → T) (test : Action → Bool) → ((a : Action) → test a ≡ true → (t : T) → view (change a t) ≡ view t) → (actions : List Action) → list_all test actions ≡ true → (t : T) → view (for_each change actions t) ≡ view t
-all_keep_if view change test keeps [] all t = refl
-all_keep_if view change test keeps (a ∷ actions) all t =
-    let parts = and_parts (test a) (list_all test actions) all in
-    all_keep_if view change test keeps actions parts.1 (change a t) ∙ keeps a parts.0 t
 
 -- ---- threads
 
@@ -48,15 +38,15 @@ pub same_settled : {V : Type 0} (view : Status → V) → ((c m : ℕ) (why : Ca
 same_settled view same s before is = settled_view view same s ∙ ap view is ∙ sym (settled_view view same before)
 
 -- a view of a thread that does not see what an action may change of a thread that it names, or unblocks
-pub named_keeps : {V : Type 0} (view : Thread → V) → ((t : Thread) (joined pending detached : Bool) (specific : KeyValues) (s : Status) → settled s ≡ settled t.status → view (record t { joined = joined; pending = pending; detached = detached; specific = specific; status = s }) ≡ view t) → (a : Action) (t : Thread) → view (named_after a t) ≡ view t
+pub named_keeps : {V : Type 0} (view : Thread → V) → ((t : Thread) (joined pending detached : Bool) (specific : KeyValues) (s : Status) → settled s ≡ settled t.status → view (record t { joined = joined; pending = pending; detached = detached; specific = specific; status = s }) ≡ view t) → (a : Option NamedAction) (t : Thread) → view (named_after a t) ≡ view t
 unfolding named_after
-named_keeps view same (action.EndJoin id) t = either_keeps view (is_live_thread id t) (record t { joined = true }) t t (same t true t.pending t.detached t.specific t.status refl) refl
-named_keeps view same (action.Request id) t = either_keeps view (is_live_thread id t && not t.ended) (record t { pending = true }) t t (same t t.joined true t.detached t.specific t.status refl) refl
-named_keeps view same (action.Detach id) t = either_keeps view (is_live_thread id t) (record t { detached = true }) t t (same t t.joined t.pending true t.specific t.status refl) refl
-named_keeps view same (action.Wake id) t = let s : Status = unblocked cause.Signalled t.status in either_keeps view (is_live_thread id t) (record t { status = s }) t t (same t t.joined t.pending t.detached t.specific s (settled_unblocked cause.Signalled t.status)) refl
-named_keeps view same (action.WakeAll c) t = let s : Status = unblocked cause.Broadcast t.status in either_keeps view (is_waiting_on c t.status) (record t { status = s }) t t (same t t.joined t.pending t.detached t.specific s (settled_unblocked cause.Broadcast t.status)) refl
-named_keeps view same (action.DeleteKey k) t = same t t.joined t.pending t.detached (without_value (key_place k) t.specific) t.status refl
-named_keeps view same _ t = refl
+named_keeps view same (Some (named_action.EndJoin id)) t = either_keeps view (is_live_thread id t) (record t { joined = true }) t t (same t true t.pending t.detached t.specific t.status refl) refl
+named_keeps view same (Some (named_action.Request id)) t = either_keeps view (is_live_thread id t && not t.ended) (record t { pending = true }) t t (same t t.joined true t.detached t.specific t.status refl) refl
+named_keeps view same (Some (named_action.Detach id)) t = either_keeps view (is_live_thread id t) (record t { detached = true }) t t (same t t.joined t.pending true t.specific t.status refl) refl
+named_keeps view same (Some (named_action.Wake id)) t = let s : Status = unblocked cause.Signalled t.status in either_keeps view (is_live_thread id t) (record t { status = s }) t t (same t t.joined t.pending t.detached t.specific s (settled_unblocked cause.Signalled t.status)) refl
+named_keeps view same (Some (named_action.WakeAll c)) t = let s : Status = unblocked cause.Broadcast t.status in either_keeps view (is_waiting_on c t.status) (record t { status = s }) t t (same t t.joined t.pending t.detached t.specific s (settled_unblocked cause.Broadcast t.status)) refl
+named_keeps view same (Some (named_action.ForgetKey k)) t = same t t.joined t.pending t.detached (without_value (key_place k) t.specific) t.status refl
+named_keeps view same None t = refl
 
 -- one that does not see where the thread runs, as it goes on
 pub going_on_keeps : {V : Type 0} (view : Thread → V) → ((t : Thread) (s : Status) (frames : List Frame) → view (record t { status = s; frames = frames }) ≡ view t) → (next : Option ℕ) (t : Thread) → view (thread_at next t) ≡ view t
@@ -68,14 +58,14 @@ going_on_keeps view same (Some pc) t = same t Running (at_pc pc t.frames)
 abbrev pub flags : Thread → ℕ × Bool × Bool × Bool
 flags t = (t.id, t.gone, t.joined, t.detached)
 
-action_flags : (a : Action) (t : Thread) → flags (thread_after a t) ≡ flags t
-unfolding thread_after
-action_flags (action.Write i v) t = refl
-action_flags _ t = refl
+own_flags : (a : Option OwnAction) (t : Thread) → flags (own_after a t) ≡ flags t
+unfolding own_after
+own_flags (Some own_action.PopHandler) t = refl
+own_flags _ t = refl
 
 -- its own transition does not change them
 pub moved_flags : (o : Transition) (t : Thread) → flags (moved o t) ≡ flags t
-moved_flags o t = all_keep flags thread_after action_flags o.actions (thread_at o.next t) ∙ going_on_keeps flags (λ t s frames. refl) o.next t
+moved_flags o t = own_flags o.own _ ∙ going_on_keeps flags (λ t s frames. refl) o.next t
 
 -- its id, and whether its process did not inherit it
 abbrev pub identity : Thread → ℕ × Bool
@@ -84,7 +74,7 @@ identity t = (t.id, t.gone)
 -- a thread after a transition of the one with an id
 pub thread_moved_keeps : (tid : ℕ) (o : Transition) (t : Thread) → identity (thread_moved tid o t) ≡ identity t
 thread_moved_keeps tid o t =
-    all_keep identity named_after (named_keeps identity (λ t j p d k s same. refl)) o.actions (cond (is_live_thread tid t) (moved o t) t)
+    named_keeps identity (λ t j p d k s same. refl) o.named (cond (is_live_thread tid t) (moved o t) t)
     ∙ either_keeps identity (is_live_thread tid t) (moved o t) t t (ap (λ (f : ℕ × Bool × Bool × Bool). (f.0, f.1)) (moved_flags o t)) refl
 
 -- ---- processes
@@ -97,45 +87,42 @@ pids_of processes = map (λ p. p.pid) processes
 abbrev contents : Process → ℕ × List Thread × SharedState
 contents p = (p.pid, p.threads, p.shared)
 
-own_action_keeps : (a : Action) (p : Process) → contents (process_after a p) ≡ contents p
+own_action_keeps : (a : Option ProcessAction) (p : Process) → contents (process_after a p) ≡ contents p
 unfolding process_after
-own_action_keeps (action.EndProcess n) p = refl
+own_action_keeps (Some (process_action.End n)) p = refl
 own_action_keeps _ p = refl
 
 orphan_keeps : (end : Option ProcessEnd) (p : Process) → contents (orphaned end p) ≡ contents p
 orphan_keeps None p = refl
 orphan_keeps (Some end) p = refl
 
-other_action_keeps : (pid : ℕ) (a : Action) (p : Process) → contents (other_process_after pid a p) ≡ contents p
+other_action_keeps : (pid : ℕ) (a : Option ProcessAction) (p : Process) → contents (other_process_after pid a p) ≡ contents p
 unfolding other_process_after
-other_action_keeps pid (action.Reap child) p = either_keeps contents (nat_eq p.pid child) (record p { ended = as_reaped p.ended }) p p refl refl
-other_action_keeps pid (action.EndProcess n) p = either_keeps contents (nat_eq p.parent pid) (orphaned p.ended p) p p (orphan_keeps p.ended p) refl
+other_action_keeps pid (Some (process_action.Reap child)) p = either_keeps contents (nat_eq p.pid child) (record p { ended = as_reaped p.ended }) p p refl refl
+other_action_keeps pid (Some (process_action.End n)) p = either_keeps contents (nat_eq p.parent pid) (orphaned p.ended p) p p (orphan_keeps p.ended p) refl
 other_action_keeps pid _ p = refl
 
-changed_keeps : (tid : ℕ) (o : Transition) (p : Process) → contents (changed tid o p) ≡ (p.pid, threads_moved tid o p.threads, for_each shared_after o.actions p.shared)
-changed_keeps tid o p = all_keep contents process_after own_action_keeps o.actions (record p { threads = threads_moved tid o p.threads; shared = for_each shared_after o.actions p.shared })
+changed_keeps : (tid : ℕ) (o : Transition) (p : Process) → contents (changed tid o p) ≡ (p.pid, threads_moved tid o p.threads, shared_moved o p.shared)
+changed_keeps tid o p = own_action_keeps o.process (record p { threads = threads_moved tid o p.threads; shared = shared_moved o p.shared })
 
 -- the threads of the thread's own process
 pub changed_threads : (tid : ℕ) (o : Transition) (p : Process) → (changed tid o p).threads ≡ threads_moved tid o p.threads
 changed_threads tid o p = ap (λ (c : ℕ × List Thread × SharedState). c.1) (changed_keeps tid o p)
 
 -- the state that they share
-pub changed_shared : (tid : ℕ) (o : Transition) (p : Process) → (changed tid o p).shared ≡ for_each shared_after o.actions p.shared
+pub changed_shared : (tid : ℕ) (o : Transition) (p : Process) → (changed tid o p).shared ≡ shared_moved o p.shared
 changed_shared tid o p = ap (λ (c : ℕ × List Thread × SharedState). c.2) (changed_keeps tid o p)
 
-other_keeps : (pid : ℕ) (o : Transition) (p : Process) → contents (for_each (other_process_after pid) o.actions p) ≡ contents p
-other_keeps pid o p = all_keep contents (other_process_after pid) (other_action_keeps pid) o.actions p
-
 -- the threads of another process
-pub other_threads : (pid : ℕ) (o : Transition) (p : Process) → (for_each (other_process_after pid) o.actions p).threads ≡ p.threads
-other_threads pid o p = ap (λ (c : ℕ × List Thread × SharedState). c.1) (other_keeps pid o p)
+pub other_threads : (pid : ℕ) (o : Transition) (p : Process) → (other_process_after pid o.process p).threads ≡ p.threads
+other_threads pid o p = ap (λ (c : ℕ × List Thread × SharedState). c.1) (other_action_keeps pid o.process p)
 
 -- the state that they share
-pub other_shared : (pid : ℕ) (o : Transition) (p : Process) → (for_each (other_process_after pid) o.actions p).shared ≡ p.shared
-other_shared pid o p = ap (λ (c : ℕ × List Thread × SharedState). c.2) (other_keeps pid o p)
+pub other_shared : (pid : ℕ) (o : Transition) (p : Process) → (other_process_after pid o.process p).shared ≡ p.shared
+other_shared pid o p = ap (λ (c : ℕ × List Thread × SharedState). c.2) (other_action_keeps pid o.process p)
 
 pub process_moved_pid : (pid tid : ℕ) (o : Transition) (p : Process) → (process_moved pid tid o p).pid ≡ p.pid
 process_moved_pid pid tid o p =
-    either_keeps (λ (q : Process). q.pid) (is_live_process pid p) (changed tid o p) (for_each (other_process_after pid) o.actions p) p
+    either_keeps (λ (q : Process). q.pid) (is_live_process pid p) (changed tid o p) (other_process_after pid o.process p) p
     (ap (λ (c : ℕ × List Thread × SharedState). c.0) (changed_keeps tid o p))
-    (ap (λ (c : ℕ × List Thread × SharedState). c.0) (other_keeps pid o p))
+    (ap (λ (c : ℕ × List Thread × SharedState). c.0) (other_action_keeps pid o.process p))

@@ -1,9 +1,9 @@
 -- The process that a fork makes: it inherits its parent as that was before the step.
 use Rattle.pct_names.proofs.Names.{◌&&◌, ◌++◌, [], AllByRecursion, and_from, and_parts, ap, ap₂, Bool, changed, child_of, cond, false}
 use Rattle.pct_names.proofs.Names.{false≢true, Forking, forks_by, holds_slot, in_child, inherited, is_last, is_live_thread, List, list_any}
-use Rattle.pct_names.proofs.Names.{map, moved, named_after, nat_eq, None, none-some, not, or_parts, Process, process_after, refl}
-use Rattle.pct_names.proofs.Names.{replica_of, same_Some, shared_after, Some, Status, subst, sym, Thread, thread_after, thread_at}
-use Rattle.pct_names.proofs.Names.{thread_moved, Transition, true, was_reclaimed, with_id, World, ◌||◌, ℕ, ◌∙◌, ◌∷◌, ◌≡◌}
+use Rattle.pct_names.proofs.Names.{map, moved, named_after, nat_eq, None, none-some, not, or_parts, own_after, Process, process_after, refl}
+use Rattle.pct_names.proofs.Names.{replica_of, same_Some, shared_after, Some, Status, subst, sym, Thread, thread_at, thread_moved}
+use Rattle.pct_names.proofs.Names.{Transition, true, was_reclaimed, with_id, World, ◌||◌, ℕ, ◌∙◌, ◌∷◌, ◌≡◌}
 use Rattle.std.proofs.Common.{eqb-true}
 use Rattle.pct_model.specs.declared.state.Phase.TheVariants.{Child}
 use Rattle.pct_thread_invariants.proofs.lift.CreatedThreads.{Forks}
@@ -22,7 +22,7 @@ module _ (tid count new : ℕ) where
 
   -- the replica of a thread is the same after the step
   inherited_by : (u : Thread) (live : Bool) → is_live_thread tid u ≡ live → ForksIfIt tid count u → inherited tid (thread_moved tid o u) ≡ inherited tid u
-  unfolding forks_by inherited thread_at thread_after named_after
+  unfolding forks_by inherited thread_at own_after named_after
   inherited_by u true live forks =
       let after : Thread = moved o u in
       let parts = and_parts (nat_eq u.id tid) (holds_slot u) live in
@@ -71,7 +71,7 @@ module _ (tid count new : ℕ) where
       ends_in_true false false = refl
 
   ended_by : (u : Thread) (live : Bool) → is_live_thread tid u ≡ live → is_ended_or_it (thread_moved tid o u) ≡ is_ended_or_it u
-  unfolding forks_by thread_at thread_after named_after
+  unfolding forks_by thread_at own_after named_after
   ended_by u true live =
       let named : nat_eq u.id tid ≡ true = (and_parts (nat_eq u.id tid) (holds_slot u) live).0 in
       ap (λ (b : Bool). is_ended_or_it (cond b (moved o u) u)) live ∙ it_counts (moved o u) named ∙ sym (it_counts u named)

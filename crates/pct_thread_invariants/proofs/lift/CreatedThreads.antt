@@ -1,10 +1,10 @@
 -- What each transition creates, by the tables: a process only as a thread forks, and a thread only with an id that is offered.
 use Rattle.pct_names.proofs.Names.{◌&&◌, ◌+◌, [], Alt, and_left, arith, body_at, Bool, child_by, choices_of, cond_some, Config, false}
-use Rattle.pct_names.proofs.Names.{family_among, filter, flat_map, Forking, forks_by, free_ids, IfSome, is_unreaped, length, List, list_any}
-use Rattle.pct_names.proofs.Names.{map, MAX_PROCESSES, nat_eq, nat_lt, NewThread, next_of, NextStatement, None, offers, Option}
-use Rattle.pct_names.proofs.Names.{option_map_or, Others, others_of, Prepare, Process, refl, Relative, relative_of, reverse, Script}
-use Rattle.pct_names.proofs.Names.{SharedState, Some, Status, Stmt, subst, suc, sym, Thread, Transition, transition_by, true, What, World}
-use Rattle.pct_names.proofs.Names.{◌||◌, ℕ, ◌∙◌, ◌∷◌, ◌≡◌, ◌≤◌}
+use Rattle.pct_names.proofs.Names.{family_among, filter, Forking, forks_by, free_ids, IfSome, is_unreaped, length, List, list_any, map}
+use Rattle.pct_names.proofs.Names.{MAX_PROCESSES, nat_eq, nat_lt, NewThread, next_of, NextStatement, None, offers, Option, option_map_or}
+use Rattle.pct_names.proofs.Names.{Others, others_of, Prepare, Process, refl, Relative, relative_of, reverse, Script, SharedState, Some}
+use Rattle.pct_names.proofs.Names.{Status, Stmt, subst, suc, sym, Thread, Transition, transition_by, true, What, World, ◌||◌, ℕ, ◌∙◌, ◌∷◌}
+use Rattle.pct_names.proofs.Names.{◌≡◌, ◌≤◌}
 use mathlib.Core.Bool.{and-true, or-false}
 use Rattle.std.proofs.Common.{ne_eqb}
 use Rattle.pct_laws.specs.KnownThreads.{creates_id, makes_process}
@@ -25,7 +25,7 @@ pub record Forks (w : World) (s : Status) (new : ℕ) (o : Transition) : Type 0 
 
 -- the id of the process that a transition of a thread with a status makes, if it makes one
 pub data Makes (w : World) (s : Status) (o : Transition) : Option ℕ → Type 0 where
-  makes_none : ((tid : ℕ) (p : Process) → flat_map (child_by tid p) o.actions ≡ []) → ((pid : ℕ) → list_any (makes_process pid) (reverse o.events) ≡ false) → Makes w s o None
+  makes_none : ((tid : ℕ) (p : Process) → child_by tid p o.process ≡ []) → ((pid : ℕ) → list_any (makes_process pid) (reverse o.events) ≡ false) → Makes w s o None
   forks : (new : ℕ) → Forks w s new o → Makes w s o (Some new)
 
 -- a transition that creates a thread only with one of these ids, and with the event that reports it

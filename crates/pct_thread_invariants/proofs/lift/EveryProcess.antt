@@ -1,10 +1,10 @@
 -- The lift from steps to runs: a relation between a process and what the events report of it, which each step keeps, and which a fork
 -- passes on to the process that it makes, holds of every process after every run.
 use Rattle.pct_names.proofs.Names.{◌++◌, [], after_transition, ap, Bool, changed, child_of, cond, Config, Entry, Event, event_of, false}
-use Rattle.pct_names.proofs.Names.{find, first_process, for_each, Forked, forks_by, List, list_any, made_process, map, nat_eq, None}
-use Rattle.pct_names.proofs.Names.{none-some, opening, Option, option_map, option_or, or_from, other_process_after, Process, process_moved}
-use Rattle.pct_names.proofs.Names.{refl, reverse, Run, same_Some, Script, Some, subst, subst₂, sym, Thread, Transition, transition_by, true}
-use Rattle.pct_names.proofs.Names.{What, World, ℕ, ◌∙◌, ◌∷◌, ◌≡◌}
+use Rattle.pct_names.proofs.Names.{find, first_process, Forked, forks_by, List, list_any, made_process, map, nat_eq, None, none-some}
+use Rattle.pct_names.proofs.Names.{opening, Option, option_map, option_or, or_from, other_process_after, Process, process_moved, refl}
+use Rattle.pct_names.proofs.Names.{reverse, Run, same_Some, Script, Some, subst, subst₂, sym, Thread, Transition, transition_by, true, What}
+use Rattle.pct_names.proofs.Names.{World, ℕ, ◌∙◌, ◌∷◌, ◌≡◌}
 use mathlib.Core.Path.{fun_ext}
 use Rattle.std.proofs.Common.{eqb-true, ne_eqb}
 use Rattle.pct_laws.specs.KnownThreads.{makes_process}
@@ -59,7 +59,7 @@ module _ {T : Type 0} (f : ℕ → Reading T) (R : Process → (ℕ → T) → T
       pub born : (w : World) (p : Process) (e : Entry) (t : Thread) (k : ℕ → T) (new : ℕ) → M w p e t → Forks w t.status new (transition_by script config w p t e.alt) → R p k
           → R (child_of e.tid new p) (λ n. at_birth (f n) e new (k n) ((f n).start false))
       -- a transition of a thread of another process
-      pub other : (pid : ℕ) (o : Transition) (p : Process) (k : ℕ → T) → R p k → R (for_each (other_process_after pid) o.actions p) k
+      pub other : (pid : ℕ) (o : Transition) (p : Process) (k : ℕ → T) → R p k → R (other_process_after pid o.process p) k
 
     module _ (rule : IsProcessRule) where
       first_by : (initial : Bool) → FitsReports (cond initial (Some (first_process script)) None) (λ n. (f n).start initial)

@@ -1,10 +1,10 @@
 -- A relation between a thread and what the events report of it, that each transition keeps where a rule of its process holds, holds of
 -- every thread after every run.
-use Rattle.pct_names.proofs.Names.{◌&&◌, [], Action, Alt, and_left, ap, Bool, changed, child_of, choices_of, cond, Config, Entry, eqb-false}
-use Rattle.pct_names.proofs.Names.{event_of, false, false≢true, find, for_each, Forking, holds_slot, is_live_thread, List, made_process}
-use Rattle.pct_names.proofs.Names.{made_thread, map, moved, named_after, nat_eq, NewThread, None, none-some, offers, Option}
-use Rattle.pct_names.proofs.Names.{option_and_then, Prepare, Process, refl, replica_of, reverse, Run, same_Some, Script, Some, subst}
-use Rattle.pct_names.proofs.Names.{subst₂, sym, Thread, thread_moved, thread_with, Transition, transition_by, true, World, ℕ, ◌∙◌, ◌∷◌, ◌≡◌}
+use Rattle.pct_names.proofs.Names.{◌&&◌, Alt, and_left, ap, Bool, changed, child_of, choices_of, cond, Config, Entry, eqb-false, event_of}
+use Rattle.pct_names.proofs.Names.{false, false≢true, find, Forking, holds_slot, is_live_thread, List, made_process, made_thread, map}
+use Rattle.pct_names.proofs.Names.{moved, named_after, NamedAction, nat_eq, NewThread, None, none-some, offers, Option, option_and_then}
+use Rattle.pct_names.proofs.Names.{Prepare, Process, refl, replica_of, reverse, Run, same_Some, Script, Some, subst, subst₂, sym, Thread}
+use Rattle.pct_names.proofs.Names.{thread_moved, thread_with, Transition, transition_by, true, World, ℕ, ◌∙◌, ◌≡◌}
 use mathlib.Core.Bool.{and-true, and-false}
 use Rattle.std.proofs.Common.{ne_eqb, eqb-true}
 use Rattle.std.proofs.lemmas.Bool.{true≢false}
@@ -71,7 +71,7 @@ module _ {T : Type 0} (g : ThreadReading T) (L : Thread → T → Type 0) where
       -- the thread that a transition of a thread creates
       pub created : (w : World) (p : Process) (t : Thread) (k : T) (choice : Alt) (new : NewThread) → K p → offers (choices_of script config w p t) choice ≡ true → L t k → (transition_by script config w p t choice).created ≡ Some new → L (created_thread new) g.start
       -- an action of another thread of the process, which may name the thread
-      pub named : (a : Action) (t : Thread) (k : T) → L t k → L (named_after a t) k
+      pub named : (a : Option NamedAction) (t : Thread) (k : T) → L t k → L (named_after a t) k
       -- a transition of the thread
       pub kept : (w : World) (p : Process) (t : Thread) (k : T) (choice : Alt) → K p → offers (choices_of script config w p t) choice ≡ true → L t k → L (moved (transition_by script config w p t choice) t) (after_all g (reverse (transition_by script config w p t choice).events) k)
       -- the replica of the thread, in the process that its fork makes
@@ -84,10 +84,6 @@ module _ {T : Type 0} (g : ThreadReading T) (L : Thread → T → Type 0) where
 
       -- ---- a step
 
-      named_all : (actions : List Action) (t : Thread) (k : T) → L t k → L (for_each named_after actions t) k
-      named_all [] t k holds = holds
-      named_all (a ∷ actions) t k holds = named_all actions (named_after a t) k (rule.named a t k holds)
-
       module _ (w : World) (p : Process) (e : Entry) (t : Thread) (in_process : K p) (moves : Moves script config w p e t) where
         abbrev o : Transition
         o = transition_by script config w p t e.alt
@@ -97,7 +93,7 @@ module _ {T : Type 0} (g : ThreadReading T) (L : Thread → T → Type 0) where
         own_moved k of =
             let present : t.gone ≡ false = (mover script config w p e t moves).here in
             record {
-              here = λ here. named_all o.actions (cond (is_live_thread e.tid t) (moved o t) t) (after_all g (reverse o.events) k)
+              here = λ here. rule.named o.named (cond (is_live_thread e.tid t) (moved o t) t) (after_all g (reverse o.events) k)
                   (subst (λ b. L (cond b (moved o t) t) (after_all g (reverse o.events) k)) (sym (mover script config w p e t moves).live) (rule.kept w p t k e.alt in_process moves.offered (of.here present)));
               gone = λ gone. absurd (true≢false (sym gone ∙ same_gone e.tid o t ∙ present));
             }
@@ -105,7 +101,7 @@ module _ {T : Type 0} (g : ThreadReading T) (L : Thread → T → Type 0) where
         -- another thread
         other_moved : (u : Thread) (k : T) → is_live_thread e.tid u ≡ false → OfMade u k → OfMade (thread_moved e.tid o u) k
         other_moved u k other of = record {
-          here = λ here. named_all o.actions (cond (is_live_thread e.tid u) (moved o u) u) k (subst (λ b. L (cond b (moved o u) u) k) (sym other) (of.here (sym (same_gone e.tid o u) ∙ here)));
+          here = λ here. rule.named o.named (cond (is_live_thread e.tid u) (moved o u) u) k (subst (λ b. L (cond b (moved o u) u) k) (sym other) (of.here (sym (same_gone e.tid o u) ∙ here)));
           gone = λ gone. of.gone (sym (same_gone e.tid o u) ∙ gone);
         }
 

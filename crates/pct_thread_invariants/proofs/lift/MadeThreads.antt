@@ -1,6 +1,6 @@
 -- The processes and threads that were made, after a step.
 use Rattle.pct_names.proofs.Names.{◌&&◌, ◌++◌, [], after_transition, and_left, and_parts, ap, Bool, changed, child_by, child_of, cond}
-use Rattle.pct_names.proofs.Names.{Config, Entry, eqb-false, false, find, find-append, flat_map, for_each, forks_by, has_ended, holds_slot}
+use Rattle.pct_names.proofs.Names.{Config, Entry, eqb-false, false, find, find-append, flat_map, forks_by, has_ended, holds_slot}
 use Rattle.pct_names.proofs.Names.{is_ended_status, is_live_process, is_live_thread, List, made_process, map, nat_eq, None, not, not-true}
 use Rattle.pct_names.proofs.Names.{Option, option_map, option_or, other_process_after, Process, process_made, process_moved, Script, Some}
 use Rattle.pct_names.proofs.Names.{sym, Thread, thread_created, thread_moved, thread_with, Transition, transition_by, true, with_id, World}
@@ -20,10 +20,10 @@ abbrev pub child_made : ℕ → Process → Option ℕ → List Process
 child_made tid p None = []
 child_made tid p (Some new) = child_of tid new p ∷ []
 
-child_is : (tid : ℕ) (p : Process) (w : World) (t : Thread) (o : Transition) → AreDistinct (ids_of p.threads) → with_id tid p.threads ≡ Some t → {made : Option ℕ} → Makes w t.status o made → flat_map (child_by tid (changed tid o p)) o.actions ≡ child_made tid p made
+child_is : (tid : ℕ) (p : Process) (w : World) (t : Thread) (o : Transition) → AreDistinct (ids_of p.threads) → with_id tid p.threads ≡ Some t → {made : Option ℕ} → Makes w t.status o made → child_by tid (changed tid o p) o.process ≡ child_made tid p made
 unfolding forks_by child_by
 child_is tid p w t o distinct is (makes_none nothing quiet) = nothing tid (changed tid o p)
-child_is tid p w t o distinct is (forks new fork) = ap (λ (x : Transition). flat_map (child_by tid (changed tid o p)) x.actions) fork.is ∙ ap (λ (child : Process). child ∷ []) (same_child w t new o fork tid p distinct is)
+child_is tid p w t o distinct is (forks new fork) = ap (λ (x : Transition). child_by tid (changed tid o p) x.process) fork.is ∙ ap (λ (child : Process). child ∷ []) (same_child w t new o fork tid p distinct is)
 
 -- a step of an entry, by a transition of thread t of process p, leads to a state
 pub record IsStep (e : Entry) (p : Process) (t : Thread) (o : Transition) (w after : World) : Type 0 where
@@ -38,9 +38,9 @@ unfolding after_transition
 is_step script config w e p t distinct distinct_ids taken =
     let o : Transition = transition_by script config w p t e.alt in
     let its = its_process script config w p t e.alt taken.offered in
-    let children : flat_map (process_made e.pid e.tid o) w.processes ≡ flat_map (child_by e.tid (changed e.tid o p)) o.actions =
-    only_one_gives (λ (q : Process). q.pid) (process_made e.pid e.tid o) (λ q. not (has_ended q)) e.pid (λ q other. ap (λ b. cond b (flat_map (child_by e.tid (changed e.tid o q)) o.actions) []) other) w.processes p distinct taken.is_process
-    ∙ ap (λ b. cond b (flat_map (child_by e.tid (changed e.tid o p)) o.actions) []) (found_passes (is_live_process e.pid) w.processes p taken.is_process) in
+    let children : flat_map (process_made e.pid e.tid o) w.processes ≡ child_by e.tid (changed e.tid o p) o.process =
+    only_one_gives (λ (q : Process). q.pid) (process_made e.pid e.tid o) (λ q. not (has_ended q)) e.pid (λ q other. ap (λ b. cond b (child_by e.tid (changed e.tid o q) o.process) []) other) w.processes p distinct taken.is_process
+    ∙ ap (λ b. cond b (child_by e.tid (changed e.tid o p) o.process) []) (found_passes (is_live_process e.pid) w.processes p taken.is_process) in
     record { made = its.0; makes = its.1; processes = ap (λ (made : List Process). map (process_moved e.pid e.tid o) w.processes ++ made) (children ∙ child_is e.tid p w t o distinct_ids taken.is_thread its.1) }
 
 -- a process that was made
@@ -54,10 +54,10 @@ process_after_step e p t o w after step pid =
 
 module _ (pid tid : ℕ) (o : Transition) where
   -- a process with another id
-  pub other_process_is : (q : Process) (other : ℕ) → nat_eq q.pid other ≡ true → nat_eq pid other ≡ false → process_moved pid tid o q ≡ for_each (other_process_after pid) o.actions q
+  pub other_process_is : (q : Process) (other : ℕ) → nat_eq q.pid other ≡ true → nat_eq pid other ≡ false → process_moved pid tid o q ≡ other_process_after pid o.process q
   other_process_is q other named differs =
       let apart : nat_eq q.pid pid ≡ false = ne_eqb q.pid pid (λ same. eqb-false pid other differs (sym same ∙ eqb-true q.pid other named)) in
-      ap (λ b. cond b (changed tid o q) (for_each (other_process_after pid) o.actions q)) (and_left (nat_eq q.pid pid) (not (has_ended q)) apart)
+      ap (λ b. cond b (changed tid o q) (other_process_after pid o.process q)) (and_left (nat_eq q.pid pid) (not (has_ended q)) apart)
 
   -- a thread with an id, of the process of the thread that moves
   pub own_thread_with : (p : Process) (id : ℕ) → thread_with id (changed tid o p) ≡ option_or (option_map (thread_moved tid o) (thread_with id p)) (find (λ t. nat_eq t.id id) (thread_created o.created))
@@ -95,4 +95,4 @@ module _ (pid tid : ℕ) (w : World) (p : Process) (distinct : AreDistinct (pids
 
   -- the process after the transition
   pub own_process_is : (o : Transition) → process_moved pid tid o p ≡ changed tid o p
-  own_process_is o = ap (λ b. cond b (changed tid o p) (for_each (other_process_after pid) o.actions p)) (found_passes (is_live_process pid) w.processes p is_process)
+  own_process_is o = ap (λ b. cond b (changed tid o p) (other_process_after pid o.process p)) (found_passes (is_live_process pid) w.processes p is_process)

@@ -1,7 +1,7 @@
 -- The pids of processes and the ids of their threads after every run: the pids are numbered in the order in which the processes were made,
 -- the ids on each slot, and no two are the same.
 use Rattle.pct_names.proofs.Names.{◌+◌, ◌++◌, ◌<◌, [], after_transition, All-map, and_parts, ap, arith, Bool, changed, child_of, cond}
-use Rattle.pct_names.proofs.Names.{Config, Entry, false, first_process, for_each, free_ids, get_or, has_ended, HasProcessNumbers, inl, inr}
+use Rattle.pct_names.proofs.Names.{Config, creates, Entry, false, first_process, free_ids, get_or, has_ended, HasProcessNumbers, inl, inr}
 use Rattle.pct_names.proofs.Names.{is_live_process, length, length-map, List, list_any, list_any_none, made_process, map, map-append}
 use Rattle.pct_names.proofs.Names.{mul-zero, nat_eq, NewThread, none-some, not, opening, Option, other_process_after, position_or_len}
 use Rattle.pct_names.proofs.Names.{Process, process_moved, refl, same_Some, Script, slice_get, slice_get-get_or, slice_get-map}
@@ -95,7 +95,7 @@ module _ (slots : ℕ) (e : Entry) (p : Process) (t : Thread) (o : Transition) (
       subst (HaveIds slots) (sym (changed_threads e.tid o p)) (ids_after slots (thread_moved e.tid o) (λ u. ap (λ (i : ℕ × Bool). i.0) (thread_moved_keeps e.tid o u)) p.threads o.created pids.some creates ids_before)
 
   -- those of each process that was made before
-  ids_moved : (k : ℕ) (q : Process) → slice_get w.processes k ≡ Some q → (live : Bool) → is_live_process e.pid q ≡ live → HaveIds slots (cond live (changed e.tid o q) (for_each (other_process_after e.pid) o.actions q)).threads
+  ids_moved : (k : ℕ) (q : Process) → slice_get w.processes k ≡ Some q → (live : Bool) → is_live_process e.pid q ≡ live → HaveIds slots (cond live (changed e.tid o q) (other_process_after e.pid o.process q)).threads
   ids_moved k q at true live =
       let of_p = made_at w e.pid p made_is in
       let number : q.pid ≡ 1 + k = pids.numbers k q at in

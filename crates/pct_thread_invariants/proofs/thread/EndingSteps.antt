@@ -1,14 +1,14 @@
 -- Which transitions let a thread end, and what a thread does that exits its process.
-use Rattle.pct_names.proofs.Names.{[], Action, Alt, ap, body_at, Bool, choices_of, Config, Disable, encode, false, false≢true, Frame}
+use Rattle.pct_names.proofs.Names.{[], Alt, ap, body_at, Bool, choices_of, Config, Disable, encode, false, false≢true, Frame}
 use Rattle.pct_names.proofs.Names.{has_begun_to_end, inl, inr, is_ended_status, is_some, List, list_all, moved, next_of, NextStatement}
-use Rattle.pct_names.proofs.Names.{None, not, offers, or_right, Others, others_of, Process, Reason, refl, reverse, Script, SharedState}
-use Rattle.pct_names.proofs.Names.{Status, Stmt, sym, syntax_of, Thread, thread_after, thread_at, Transition, transition_by, true, World}
-use Rattle.pct_names.proofs.Names.{◌||◌, ℕ, ◌∙◌, ◌∷◌, ◌≡◌, ◌⊎◌}
+use Rattle.pct_names.proofs.Names.{None, not, offers, Option, or_right, Others, others_of, own_after, OwnAction, Process, Reason, refl}
+use Rattle.pct_names.proofs.Names.{reverse, Script, SharedState, Some, Status, Stmt, sym, syntax_of, Thread, thread_at, Transition}
+use Rattle.pct_names.proofs.Names.{transition_by, true, World, ◌||◌, ℕ, ◌∙◌, ◌∷◌, ◌≡◌, ◌⊎◌}
 use Rattle.std.proofs.lemmas.Bool.{true≢false}
 use mathlib.Core.Bool.{or-false}
 use Rattle.pct_model.specs.declared.state.FrameKind.TheVariants as kind
 use Rattle.pct_model.specs.declared.state.Status.TheVariants as status
-use Rattle.pct_model.specs.declared.transition.Action.TheVariants as action
+use Rattle.pct_model.specs.declared.transition.OwnAction.TheVariants as own_action
 use Rattle.pct_laws.specs.AfterEnd.{is_of_exit}
 use Rattle.pct_laws.specs.Kept.{is_exit_kind}
 use Rattle.pct_laws.specs.ThreadSummary.{ThreadSummary}
@@ -18,7 +18,7 @@ use Rattle.pct_transition_cases.proofs.TransitionCases.{last_ended_with_keys}
 use Rattle.pct_transition_cases.proofs.CaseOfTransition.{case_of}
 use Rattle.pct_transition_cases.proofs.OfferedChoices.{deliverable_enabled}
 use Rattle.pct_transition_cases.proofs.PlacedStatements.{IsPlaced, on_top, is_placed}
-use Rattle.pct_thread_invariants.proofs.lift.ChangedThreads.{all_keep_if, going_on_keeps}
+use Rattle.pct_thread_invariants.proofs.lift.ChangedThreads.{going_on_keeps}
 use Rattle.pct_thread_invariants.proofs.exits.PlainFunctions.{is_plain_next, plain_next}
 use Rattle.pct_thread_invariants.proofs.thread.JoinTransitions.{names_none}
 use Rattle.pct_thread_invariants.proofs.thread.Ends.{not_both}
@@ -27,24 +27,24 @@ use Rattle.pct_thread_invariants.proofs.thread.ThreadRule.{HasFrames, ByStatus, 
 -- ---- actions
 
 -- the action does not end the thread
-abbrev pub keeps_end : Action → Bool
-keeps_end (action.EndThread v) = false
-keeps_end action.MarkEnded = false
+abbrev pub keeps_end : Option OwnAction → Bool
+keeps_end (Some (own_action.EndThread v)) = false
+keeps_end (Some own_action.EndLast) = false
 keeps_end _ = true
 
--- no action of the transition ends the thread
+-- the action of the transition does not end the thread
 abbrev pub NeverEnds : Transition → Type 0
-NeverEnds o = list_all keeps_end o.actions ≡ true
+NeverEnds o = keeps_end o.own ≡ true
 
-action_end : (a : Action) → keeps_end a ≡ true → (t : Thread) → (thread_after a t).ended ≡ t.ended
-unfolding thread_after
-action_end (action.EndThread v) keeps t = absurd (false≢true keeps)
-action_end action.MarkEnded keeps t = absurd (false≢true keeps)
+action_end : (a : Option OwnAction) → keeps_end a ≡ true → (t : Thread) → (own_after a t).ended ≡ t.ended
+unfolding own_after
+action_end (Some (own_action.EndThread v)) keeps t = absurd (false≢true keeps)
+action_end (Some own_action.EndLast) keeps t = absurd (false≢true keeps)
 action_end _ keeps t = refl
 
 -- such a transition leaves it open whether the thread has ended
 pub moved_end : (o : Transition) → NeverEnds o → (t : Thread) → (moved o t).ended ≡ t.ended
-moved_end o never t = all_keep_if (λ (u : Thread). u.ended) thread_after keeps_end action_end o.actions never (thread_at o.next t) ∙ going_on_keeps (λ (u : Thread). u.ended) (λ t s frames. refl) o.next t
+moved_end o never t = action_end o.own never _ ∙ going_on_keeps (λ (u : Thread). u.ended) (λ t s frames. refl) o.next t
 
 -- ---- transitions
 
@@ -64,7 +64,7 @@ pub record GoesOn (s : Status) (o : Transition) : Type 0 where
 module _ (passes : ℕ) (body : List Stmt) (shared : SharedState) (t : Thread) (others : Others) where
   -- a transition does not end its thread, or is the end of the thread
   pub ends_only : {next : NextStatement} {s : Status} {o : Transition} → TransitionCase passes body shared t others true next s o → NeverEnds o ⊎ EndsThread t others o
-  unfolding thread_at thread_after
+  unfolding thread_at own_after
   ends_only (thread_ended next no_handlers nothing_due none_left) = inr (record { none = refl; last = λ alive. absurd (true≢false alive) })
   ends_only (thread_ended_with_keys next left no_handlers some limit all none_left) = inr (record { none = refl; last = λ alive. absurd (true≢false alive) })
   ends_only (last_ended next no_handlers is_last nothing_due none_left) = inr (record { none = refl; last = λ alive. is_last })

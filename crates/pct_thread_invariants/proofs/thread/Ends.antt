@@ -1,16 +1,17 @@
 -- The end of a thread, and the exit of its process.
 use Rattle.pct_names.proofs.Names.{◌&&◌, ◌++◌, ◌<◌, [], acts, and_from, ap, arith, body_of, Bool, Disable, Enable, end_value, ending_mode}
 use Rattle.pct_names.proofs.Names.{ending_state, false, false≢true, Frame, has_begun_to_end, is_deliverable, is_empty, is_none, key_place}
-use Rattle.pct_names.proofs.Names.{le_antisymm, length, List, map, next_of, None, not, Reason, refl, Script, Some, State, Status, subst}
-use Rattle.pct_names.proofs.Names.{suc, sym, Thread, thread_after, thread_at, true, value_at, with_pass, without_first, ◌||◌, ℕ, ◌∙◌, ◌∷◌}
-use Rattle.pct_names.proofs.Names.{◌≡◌, ◌≤◌}
+use Rattle.pct_names.proofs.Names.{le_antisymm, length, List, map, next_of, None, not, own_after, Reason, refl, Script, Some, State, Status}
+use Rattle.pct_names.proofs.Names.{subst, suc, sym, Thread, thread_at, true, value_at, with_pass, without_first, ◌||◌, ℕ, ◌∙◌, ◌∷◌, ◌≡◌}
+use Rattle.pct_names.proofs.Names.{◌≤◌}
 use Rattle.std.proofs.Common.{eq-eqb}
 use Rattle.pct_model.specs.declared.event.What.TheVariants as what
 use Rattle.pct_model.specs.declared.state.FrameKind.TheVariants as kind
 use Rattle.pct_model.specs.declared.state.Reason.TheVariants as reason
 use Rattle.pct_model.specs.declared.state.Cause.TheVariants as cause
 use Rattle.pct_model.specs.declared.state.Status.TheVariants as status
-use Rattle.pct_model.specs.declared.transition.Action.TheVariants as action
+use Rattle.pct_model.specs.declared.transition.OwnAction.TheVariants as own_action
+use Rattle.pct_model.specs.declared.transition.SharedAction.TheVariants as shared_action
 use Rattle.pct_laws.specs.Kept.{AreOpen, open_functions, IsSuspendedAt}
 use Rattle.pct_laws.specs.Once.{is_newest, may_come}
 use Rattle.pct_laws.specs.OpenPushes.{open_pushes}
@@ -84,22 +85,22 @@ module _ (script : Script) (passes : ℕ) where
     has_not_begun enabled = enabled_not_begun t.reason reported.exiting t.state fits.agrees.disabled enabled
 
     -- it begins to end then
-    pub cancel_keeps : t.state ≡ Enable → Keeps script passes (record t { status = s; frames = frames }) reported (acts (action.BeginEnd reason.Canceled ∷ []) (what.EndingCanceled ∷ []))
-    unfolding thread_at thread_after
+    pub cancel_keeps : t.state ≡ Enable → Keeps script passes (record t { status = s; frames = frames }) reported (record (acts (what.EndingCanceled ∷ [])) { own = Some (own_action.BeginEnd reason.Canceled) })
+    unfolding thread_at own_after
     cancel_keeps enabled = record { own = begun_fits t reported reason.Canceled refl fits.agrees fits.in_passes has.not_ended has.not_exiting; lawful = ap not_reported (fits.agrees.reason ∙ has_not_begun enabled) }
 
     -- in a condition wait it does so once it owns its mutex again
     pub leave_fits : (c m : ℕ) → IsSuspendedAt (next_of script frames) (status.Waiting c m) → t.state ≡ Enable → Fits script passes (record t { status = status.Reacquire c m cause.Canceled; frames = frames }) reported
     leave_fits c m at enabled = suspends (status.Reacquire c m cause.Canceled) (has, at, λ leaves. ap has_begun_to_end (has_not_begun enabled))
 
-    pub end_in_wait_keeps : (c m : ℕ) → has_begun_to_end t.reason ≡ false → Keeps script passes (record t { status = s; frames = frames }) reported (acts (action.OwnMutex m t.id ∷ action.BeginEnd reason.Canceled ∷ []) (what.Acquired m ∷ what.EndingInWait c m ∷ []))
-    unfolding thread_at thread_after
+    pub end_in_wait_keeps : (c m : ℕ) → has_begun_to_end t.reason ≡ false → Keeps script passes (record t { status = s; frames = frames }) reported (record (acts (what.Acquired m ∷ what.EndingInWait c m ∷ [])) { own = Some (own_action.BeginEnd reason.Canceled); shared = Some (shared_action.OwnMutex m t.id) })
+    unfolding thread_at own_after
     end_in_wait_keeps c m alive = record { own = begun_fits t reported reason.Canceled refl fits.agrees fits.in_passes has.not_ended has.not_exiting; lawful = ap not_reported (fits.agrees.reason ∙ not_begun t.reason alive) }
 
   module _ (t : Thread) (frames : List Frame) (reported : ThreadSummary) (fits : Fits script passes (running t frames) reported) where
     -- a running thread begins to exit its process
-    pub exit_keeps : (v : ℕ) → Keeps script passes (running t frames) reported (acts (action.BeginExit v ∷ []) (what.ExitBegun v ∷ []))
-    unfolding thread_at thread_after
+    pub exit_keeps : (v : ℕ) → Keeps script passes (running t frames) reported (record (acts (what.ExitBegun v ∷ [])) { own = Some own_action.BeginExit; shared = Some (shared_action.BeginExit v) })
+    unfolding thread_at own_after
     exit_keeps v = record {
       own = record {
         agrees = record {
@@ -118,8 +119,8 @@ module _ (script : Script) (passes : ℕ) where
     }
 
     -- a running thread that has not begun to end begins to
-    pub begin_keeps : (v : ℕ) → t.reason ≡ reason.None → Keeps script passes (running t frames) reported (acts (action.BeginEnd (reason.Exit v) ∷ []) (what.EndingExit v ∷ []))
-    unfolding thread_at thread_after
+    pub begin_keeps : (v : ℕ) → t.reason ≡ reason.None → Keeps script passes (running t frames) reported (record (acts (what.EndingExit v ∷ [])) { own = Some (own_action.BeginEnd (reason.Exit v)) })
+    unfolding thread_at own_after
     begin_keeps v not_begun = record { own = begun_fits t reported (reason.Exit v) refl fits.agrees fits.in_passes fits.by_status.not_ended fits.by_status.not_exiting; lawful = ap not_reported (fits.agrees.reason ∙ not_begun) }
 
   -- ---- returns
@@ -173,8 +174,8 @@ module _ (script : Script) (passes : ℕ) where
 
     -- the next handler runs
     pub handler_keeps : (f a : ℕ) (handlers : List (ℕ × ℕ)) → Fits script passes (ending ((f, a) ∷ handlers)) reported
-        → Keeps script passes (ending ((f, a) ∷ handlers)) reported (acts (action.PopHandler ∷ action.CallAlone f a kind.Handler ∷ []) (what.HandlerRun f a ∷ []))
-    unfolding thread_at thread_after
+        → Keeps script passes (ending ((f, a) ∷ handlers)) reported (record (acts (what.HandlerRun f a ∷ [])) { own = Some (own_action.RunHandler f a) })
+    unfolding thread_at own_after
     handler_keeps f a handlers fits = record {
       own = record {
         agrees = record {
@@ -205,8 +206,8 @@ module _ (script : Script) (passes : ℕ) where
       -- ---- destructors
 
       -- the destructor of a key is called, where the key is left in its pass
-      pub destructor_keeps : (k f : ℕ) → f < length script.funcs → is_in t.specific.in_pass (key_place k) ≡ true → Keeps script passes (ending []) reported (acts (action.TakeKey k ∷ action.CallAlone f (value_at (key_place k) t.specific) kind.Destructor ∷ []) (what.DtorRun t.pass k f (value_at (key_place k) t.specific) ∷ []))
-      unfolding thread_at thread_after
+      pub destructor_keeps : (k f : ℕ) → f < length script.funcs → is_in t.specific.in_pass (key_place k) ≡ true → Keeps script passes (ending []) reported (record (acts (what.DtorRun t.pass k f (value_at (key_place k) t.specific) ∷ [])) { own = Some (own_action.RunDestructor k f (value_at (key_place k) t.specific)) })
+      unfolding thread_at own_after
       destructor_keeps k f in_script in_pass =
           let pass : PassesFit passes t.pass t.specific.in_pass reported.passes reported.destroyed = fits.in_passes in
           record {
@@ -226,8 +227,8 @@ module _ (script : Script) (passes : ℕ) where
           }
 
       -- the next pass begins
-      pub pass_keeps : t.pass < passes → Keeps script passes (ending []) reported (acts (action.BeginPass ∷ []) (what.PassBegun (suc t.pass) ∷ []))
-      unfolding thread_at thread_after
+      pub pass_keeps : t.pass < passes → Keeps script passes (ending []) reported (record (acts (what.PassBegun (suc t.pass) ∷ [])) { own = Some own_action.BeginPass })
+      unfolding thread_at own_after
       pass_keeps more =
           let pass : PassesFit passes t.pass t.specific.in_pass reported.passes reported.destroyed = fits.in_passes in
           record {

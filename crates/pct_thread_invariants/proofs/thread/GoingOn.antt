@@ -1,36 +1,23 @@
 -- Statements after which a thread goes on, with the handlers that it had.
-use Rattle.pct_names.proofs.Names.{◌++◌, ◌<◌, [], Action, body_of, Bool, Dest, false, false≢true, for_each, Frame, frames_written, goes_on}
-use Rattle.pct_names.proofs.Names.{key_place, length, List, list_all, reverse, Running, Script, set_local, Status, Stmt, subst, sym, Thread}
-use Rattle.pct_names.proofs.Names.{thread_after, thread_at, Transition, true, What, with_value, ℕ, ◌∷◌, ◌≡◌}
+use Rattle.pct_names.proofs.Names.{◌++◌, ◌<◌, [], body_of, Bool, Dest, false, false≢true, Frame, frames_written, length, List, moved, None}
+use Rattle.pct_names.proofs.Names.{Option, own_after, OwnAction, reverse, Running, Script, set_local, Some, Status, Stmt, subst, sym}
+use Rattle.pct_names.proofs.Names.{Thread, thread_at, Transition, true, written, ℕ, ◌∷◌, ◌≡◌}
 use Rattle.pct_model.specs.declared.statement.Dest.TheVariants as destination
-use Rattle.pct_model.specs.declared.transition.Action.TheVariants as action
+use Rattle.pct_model.specs.declared.transition.OwnAction.TheVariants as own_action
 use Rattle.pct_laws.specs.Kept.{AreOpen, open_functions}
 use Rattle.pct_laws.specs.OpenPushes.{open_pushes}
 use Rattle.pct_laws.specs.ThreadSummary.{ThreadSummary}
 use Rattle.pct_thread_invariants.proofs.lift.ReportedBy.{after_all}
 use Rattle.pct_thread_invariants.proofs.thread.ThreadRule.{summary, AllMayCome, Fits, Keeps}
 
--- ---- actions that write
+-- ---- own actions
 
--- the action writes a variable, sets a cancelability type, changes a thread, a key, a mutex or a semaphore that it names, unblocks
--- threads, makes a key, sets a value of one, registers functions, or reaps a process
-abbrev pub writes : Action → Bool
-writes (action.Write d v) = true
-writes (action.SetMode mode) = true
-writes (action.EndJoin id) = true
-writes (action.Request id) = true
-writes (action.Detach id) = true
-writes (action.Wake id) = true
-writes (action.WakeAll c) = true
-writes (action.OwnMutex m id) = true
-writes (action.SetCount sem n) = true
-writes (action.MakeKey k destructor) = true
-writes (action.DeleteKey k) = true
-writes (action.SetSpecific k v) = true
-writes (action.AddForkHandlers handlers) = true
-writes (action.AddExit f) = true
-writes (action.Reap pid) = true
-writes _ = false
+-- the action, if there is one, sets a cancelability type, or a value of a key
+abbrev pub stays : Option OwnAction → Bool
+stays None = true
+stays (Some (own_action.SetMode mode)) = true
+stays (Some (own_action.SetSpecific k v)) = true
+stays _ = false
 
 -- the thread as it runs with these frames
 abbrev pub running : Thread → List Frame → Thread
@@ -45,26 +32,17 @@ module _ (script : Script) (passes : ℕ) where
   written_fits (destination.Local i) v t frames s fits = local_fits i v t frames s fits
   written_fits _ v t frames s fits = fits
 
-  -- a running thread after actions that write
-  pub writes_fit : (actions : List Action) → list_all writes actions ≡ true → (t : Thread) (frames : List Frame) (s : ThreadSummary) → Fits script passes (running t frames) s → Fits script passes (for_each thread_after actions (running t frames)) s
-  unfolding thread_after
-  writes_fit [] all t frames s fits = fits
-  writes_fit (action.Write d v ∷ actions) all t frames s fits = writes_fit actions all t (frames_written d v frames) s (written_fits d v t frames s fits)
-  writes_fit (action.SetMode mode ∷ actions) all t frames s fits = writes_fit actions all (record t { mode = mode }) frames s fits
-  writes_fit (action.EndJoin id ∷ actions) all t frames s fits = writes_fit actions all t frames s fits
-  writes_fit (action.Request id ∷ actions) all t frames s fits = writes_fit actions all t frames s fits
-  writes_fit (action.Detach id ∷ actions) all t frames s fits = writes_fit actions all t frames s fits
-  writes_fit (action.Wake id ∷ actions) all t frames s fits = writes_fit actions all t frames s fits
-  writes_fit (action.WakeAll c ∷ actions) all t frames s fits = writes_fit actions all t frames s fits
-  writes_fit (action.OwnMutex m id ∷ actions) all t frames s fits = writes_fit actions all t frames s fits
-  writes_fit (action.SetCount sem n ∷ actions) all t frames s fits = writes_fit actions all t frames s fits
-  writes_fit (action.MakeKey k destructor ∷ actions) all t frames s fits = writes_fit actions all t frames s fits
-  writes_fit (action.DeleteKey k ∷ actions) all t frames s fits = writes_fit actions all t frames s fits
-  writes_fit (action.SetSpecific k v ∷ actions) all t frames s fits = writes_fit actions all (record t { specific = with_value (key_place k) v t.specific }) frames s fits
-  writes_fit (action.AddForkHandlers handlers ∷ actions) all t frames s fits = writes_fit actions all t frames s fits
-  writes_fit (action.AddExit f ∷ actions) all t frames s fits = writes_fit actions all t frames s fits
-  writes_fit (action.Reap pid ∷ actions) all t frames s fits = writes_fit actions all t frames s fits
-  writes_fit (_ ∷ actions) all t frames s fits = absurd (false≢true all)
+  all_written_fit : (writes : List (Dest × ℕ)) (t : Thread) (frames : List Frame) (s : ThreadSummary) → Fits script passes (running t frames) s → Fits script passes (running t (written frames_written writes frames)) s
+  all_written_fit [] t frames s fits = fits
+  all_written_fit ((d, v) ∷ writes) t frames s fits = all_written_fit writes t (frames_written d v frames) s (written_fits d v t frames s fits)
+
+  -- a running thread after such an action
+  own_fits : (a : Option OwnAction) → stays a ≡ true → (t : Thread) (frames : List Frame) (s : ThreadSummary) → Fits script passes (running t frames) s → Fits script passes (own_after a (running t frames)) s
+  unfolding own_after
+  own_fits None is t frames s fits = fits
+  own_fits (Some (own_action.SetMode mode)) is t frames s fits = fits
+  own_fits (Some (own_action.SetSpecific k v)) is t frames s fits = fits
+  own_fits _ is t frames s fits = absurd (false≢true is)
 
   -- ---- transitions
 
@@ -94,7 +72,14 @@ module _ (script : Script) (passes : ℕ) where
       in_passes = fits.in_passes;
     }
 
-    -- the same, after actions that write and events that do not change the summary
-    pub going_on_keeps : (status : Status) (reported : ThreadSummary) (pc : ℕ) (actions : List Action) (added : List What) → open_pushes body pc ≡ open_pushes body frame.pc → pc < length body → list_all writes actions ≡ true → after_all summary (reverse added) reported ≡ reported → AllMayCome passes (reverse added) reported → Fits script passes (running t (frame ∷ below)) reported → Keeps script passes (record t { status = status; frames = frame ∷ below }) reported (goes_on pc actions added)
+    -- the same, with values written and such an action, and with events that do not change the summary
+    pub going_on_keeps : (status : Status) (reported : ThreadSummary) (pc : ℕ) (o : Transition) → o.next ≡ Some pc → open_pushes body pc ≡ open_pushes body frame.pc → pc < length body → stays o.own ≡ true → after_all summary (reverse o.events) reported ≡ reported → AllMayCome passes (reverse o.events) reported → Fits script passes (running t (frame ∷ below)) reported → Keeps script passes (record t { status = status; frames = frame ∷ below }) reported o
     unfolding thread_at
-    going_on_keeps status reported pc actions added same within all unchanged lawful fits = record { own = writes_fit actions all t (record frame { pc = pc } ∷ below) (after_all summary (reverse added) reported) (subst (λ (s : ThreadSummary). Fits script passes (running t (record frame { pc = pc } ∷ below)) s) (sym unchanged) (at_pc_fits pc same within reported fits)); lawful = lawful }
+    going_on_keeps status reported pc o goes same within quiet unchanged lawful fits = record {
+      own =
+        let frames : List Frame = record frame { pc = pc } ∷ below in
+        subst (λ (next : Option ℕ). Fits script passes (moved (record o { next = next }) (record t { status = status; frames = frame ∷ below })) (after_all summary (reverse o.events) reported)) (sym goes)
+        (own_fits o.own quiet t (written frames_written o.writes frames) (after_all summary (reverse o.events) reported)
+        (all_written_fit o.writes t frames (after_all summary (reverse o.events) reported) (subst (λ (s : ThreadSummary). Fits script passes (running t frames) s) (sym unchanged) (at_pc_fits pc same within reported fits))));
+      lawful = lawful;
+    }

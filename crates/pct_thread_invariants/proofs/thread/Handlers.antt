@@ -1,12 +1,12 @@
 -- Cleanup handlers that are pushed and popped, and calls of functions.
 use Rattle.pct_names.proofs.Names.{◌&&◌, ◌+◌, ◌++◌, ◌<◌, [], and_from, ap, arith, body_of, Bool, false, Frame, FrameKind, goes_on}
-use Rattle.pct_names.proofs.Names.{has_begun_to_end, length, List, map, nat_eq, nat_lt, new_frame, not, Operand, or_right, Popped, Pushed}
-use Rattle.pct_names.proofs.Names.{refl, Script, Some, statement_at, subst, suc, sym, Thread, thread_after, thread_at, true, without_first}
-use Rattle.pct_names.proofs.Names.{ℕ, ◌∙◌, ◌∷◌, ◌≡◌}
+use Rattle.pct_names.proofs.Names.{has_begun_to_end, length, List, map, nat_eq, nat_lt, new_frame, not, Operand, or_right, own_after}
+use Rattle.pct_names.proofs.Names.{Popped, Pushed, refl, Script, Some, statement_at, subst, suc, sym, Thread, thread_at, true}
+use Rattle.pct_names.proofs.Names.{without_first, ℕ, ◌∙◌, ◌∷◌, ◌≡◌}
 use Rattle.std.proofs.Common.{length-append, eq-eqb}
 use Rattle.pct_model.specs.declared.state.FrameKind.TheVariants as kind
 use Rattle.pct_model.specs.declared.statement.Stmt.TheVariants as statement
-use Rattle.pct_model.specs.declared.transition.Action.TheVariants as action
+use Rattle.pct_model.specs.declared.transition.OwnAction.TheVariants as own_action
 use Rattle.pct_laws.specs.Kept.{AreOpen, open_functions}
 use Rattle.std.proofs.lemmas.Bool.{lt-ltb}
 use Rattle.pct_laws.specs.Once.{is_newest}
@@ -54,15 +54,15 @@ module _ (script : Script) (passes : ℕ) (matches : PushesMatch script) where
 
   module _ (t : Thread) (frame : Frame) (below : List Frame) (reported : ThreadSummary) where
     -- `do`
-    pub call_keeps : (f : ℕ) (x : Operand) (v : ℕ) → statement_at script frame ≡ Some (statement.Do f x) → f < length script.funcs → Fits script passes (running t (frame ∷ below)) reported → Keeps script passes (running t (frame ∷ below)) reported (goes_on (suc frame.pc) (action.Call f v kind.Call ∷ []) [])
-    unfolding thread_at thread_after
+    pub call_keeps : (f : ℕ) (x : Operand) (v : ℕ) → statement_at script frame ≡ Some (statement.Do f x) → f < length script.funcs → Fits script passes (running t (frame ∷ below)) reported → Keeps script passes (running t (frame ∷ below)) reported (record (goes_on (suc frame.pc) []) { own = Some (own_action.Call f v kind.Call) })
+    unfolding thread_at own_after
     call_keeps f x v at in_script fits =
         let next : Fits script passes (running t (record frame { pc = suc frame.pc } ∷ below)) reported = at_pc_fits script passes t frame below (suc frame.pc) (matches.next frame (statement.Do f x) at) (matches.next_within frame (statement.Do f x) at refl) reported fits in
         record { own = call_fits f v kind.Call t (record frame { pc = suc frame.pc } ∷ below) reported in_script next.by_status.fit next; lawful = refl }
 
     -- pthread_cleanup_push
-    pub push_keeps : (f : ℕ) (x : Operand) (v : ℕ) → statement_at script frame ≡ Some (statement.Push f x) → f < length script.funcs → Fits script passes (running t (frame ∷ below)) reported → Keeps script passes (running t (frame ∷ below)) reported (goes_on (suc frame.pc) (action.PushHandler f v ∷ []) (Pushed f v ∷ []))
-    unfolding thread_at thread_after
+    pub push_keeps : (f : ℕ) (x : Operand) (v : ℕ) → statement_at script frame ≡ Some (statement.Push f x) → f < length script.funcs → Fits script passes (running t (frame ∷ below)) reported → Keeps script passes (running t (frame ∷ below)) reported (record (goes_on (suc frame.pc) (Pushed f v ∷ [])) { own = Some (own_action.PushHandler f v) })
+    unfolding thread_at own_after
     push_keeps f x v at in_script fits = record {
       own = record {
         agrees = record {
@@ -127,10 +127,10 @@ module _ (script : Script) (passes : ℕ) (matches : PushesMatch script) where
           and_from _ _ (and_from _ _ (ap (is_newest f a) fits.agrees.handlers_agree ∙ same_pair f a) (or_right (not (has_begun_to_end reported.reason)) _ (ap (λ (hs : List (ℕ × ℕ)). nat_lt (length reported.left) (length hs)) fits.agrees.handlers_agree ∙ lt-ltb _ _ fewer))) refl
 
       -- the handler is removed, and called
-      pub drop_keeps : Keeps script passes (running (record t { handlers = (f, a) ∷ handlers }) (frame ∷ below)) reported (goes_on (suc frame.pc) (action.PopHandler ∷ []) (Popped f a false ∷ []))
-      unfolding thread_at thread_after
+      pub drop_keeps : Keeps script passes (running (record t { handlers = (f, a) ∷ handlers }) (frame ∷ below)) reported (record (goes_on (suc frame.pc) (Popped f a false ∷ [])) { own = Some own_action.PopHandler })
+      unfolding thread_at own_after
       drop_keeps = record { own = pop_fits false; lawful = pop_lawful false }
 
-      pub run_keeps : Keeps script passes (running (record t { handlers = (f, a) ∷ handlers }) (frame ∷ below)) reported (goes_on (suc frame.pc) (action.PopHandler ∷ action.Call f a kind.PopHandler ∷ []) (Popped f a true ∷ []))
-      unfolding thread_at thread_after
+      pub run_keeps : Keeps script passes (running (record t { handlers = (f, a) ∷ handlers }) (frame ∷ below)) reported (record (goes_on (suc frame.pc) (Popped f a true ∷ [])) { own = Some (own_action.CallHandler f a) })
+      unfolding thread_at own_after
       run_keeps = record { own = call_fits f a kind.PopHandler (record t { handlers = handlers }) (record frame { pc = suc frame.pc } ∷ below) (with_event (Popped f a true) reported) fits.agrees.functions.0 fits.by_status.fit (pop_fits true); lawful = pop_lawful true }

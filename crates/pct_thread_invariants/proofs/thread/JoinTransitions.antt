@@ -1,13 +1,14 @@
 -- What each transition does with the threads that it names, by the tables: at most one action names a thread, which holds its slot,
 -- and an event reports it.
-use Rattle.pct_names.proofs.Names.{[], Action, acts_on_request, Alt, begins_join, body_at, Bool, choices_of, Config, creates, Dest}
-use Rattle.pct_names.proofs.Names.{detaches, ends_join, false, false≢true, is_ended_status, is_joined_by_one, List, list_all, nat_eq}
-use Rattle.pct_names.proofs.Names.{next_of, NextStatement, None, not, offers, others_of, Process, refl, requests, reverse, Script}
-use Rattle.pct_names.proofs.Names.{SharedState, Some, Status, Stmt, suc, Thread, Transition, transition_by, true, value_of, What, with_id}
-use Rattle.pct_names.proofs.Names.{World, ℕ, ◌∷◌, ◌≡◌}
+use Rattle.pct_names.proofs.Names.{[], acts_on_request, Alt, begins_join, body_at, Bool, choices_of, Config, creates, Dest, detaches}
+use Rattle.pct_names.proofs.Names.{ends_join, false, false≢true, is_ended_status, is_joined_by_one, List, NamedAction, nat_eq, next_of}
+use Rattle.pct_names.proofs.Names.{NextStatement, not, offers, Option, others_of, OwnAction, Process, refl, requests, Script, SharedState}
+use Rattle.pct_names.proofs.Names.{Some, Status, Stmt, suc, Thread, Transition, transition_by, true, value_of, What, with_id, World, ◌||◌}
+use Rattle.pct_names.proofs.Names.{ℕ, ◌≡◌}
 use Rattle.pct_model.specs.declared.event.What.TheVariants as what
 use Rattle.pct_model.specs.declared.state.Status.TheVariants as status
-use Rattle.pct_model.specs.declared.transition.Action.TheVariants as action
+use Rattle.pct_model.specs.declared.transition.NamedAction.TheVariants as named_action
+use Rattle.pct_model.specs.declared.transition.OwnAction.TheVariants as own_action
 use Rattle.pct_transition_cases.proofs.CaseOfTransition.{case_of}
 use Rattle.pct_transition_cases.proofs.OfferedChoices.{offered_alive, offered_of}
 use Rattle.pct_transition_cases.proofs.TransitionCases.{TransitionCase, rests, thread_made, join_begun, join_ended, thread_detached}
@@ -21,14 +22,25 @@ abbrev pub is_in_join : Status → Bool
 is_in_join (status.Joining id) = true
 is_in_join _ = false
 
--- the action names no thread, and begins no join
-abbrev pub is_quiet : Action → Bool
-is_quiet (action.Leave s) = not (is_in_join s)
-is_quiet (action.BeginJoin id) = false
-is_quiet (action.EndJoin id) = false
-is_quiet (action.Request id) = false
-is_quiet (action.Detach id) = false
-is_quiet _ = true
+-- the action does not begin a join
+abbrev pub begins_none : Option OwnAction → Bool
+begins_none (Some (own_action.Leave s)) = not (is_in_join s)
+begins_none (Some (own_action.SetStatus s)) = not (is_in_join s)
+begins_none _ = true
+
+-- the action joins the thread with an id
+abbrev pub names_join : ℕ → Option NamedAction → Bool
+names_join id (Some (named_action.EndJoin n)) = nat_eq id n
+names_join id _ = false
+
+-- the action detaches the thread with an id
+abbrev pub names_detach : ℕ → Option NamedAction → Bool
+names_detach id (Some (named_action.Detach n)) = nat_eq id n
+names_detach id _ = false
+
+-- the action joins or detaches the thread with an id: the thread may be reclaimed once it has ended
+abbrev pub releases : ℕ → Option NamedAction → Bool
+releases id a = names_join id a || names_detach id a
 
 -- the event names no thread of its process
 abbrev pub names_none : What → Bool
@@ -38,11 +50,10 @@ names_none (what.Detached id) = false
 names_none (what.Joined id v) = false
 names_none _ = true
 
--- the transition names no thread, begins no join and creates no thread
+-- the transition begins no join, and joins and detaches no thread
 pub record IsQuiet (o : Transition) : Type 0 where
-  pub actions : list_all is_quiet o.actions ≡ true
-  pub events : list_all names_none (reverse o.events) ≡ true
-  pub none : o.created ≡ None
+  pub own : begins_none o.own ≡ true
+  pub named : (id : ℕ) → releases id o.named ≡ false
 
 -- ---- kinds of transitions
 
@@ -75,23 +86,22 @@ pub data Kind (tid : ℕ) (threads : List Thread) (s : Status) : Transition → 
 module _ (slots : ℕ) (w : World) (p : Process) (passes : ℕ) (body : List Stmt) (shared : SharedState) (t : Thread) where
   case_kind : {next : NextStatement} {s : Status} {o : Transition} → TransitionCase passes body shared t (others_of slots w p t.id) false next s o → Kind t.id p.threads s o
   unfolding others_of creates begins_join ends_join detaches requests acts_on_request
-  case_kind (rests next s alive) = quiet (record { actions = refl; events = refl; none = refl }) (λ joins. refl)
+  case_kind (rests next s alive) = quiet (record { own = refl; named = λ id. refl }) (λ joins. refl)
   case_kind (thread_made frame result id f v detached new among) = creates_one (suc frame.pc) result id new f (value_of shared.globals frame v) detached refl
   case_kind (join_begun frame id d target is other joinable alone unasked) = begins (value_of shared.globals frame id) refl (record { target = target; is_target = is; other = other; joinable = joinable; alone = alone })
   case_kind (join_ended frame operand d id v target is ended) = ends (suc frame.pc) d id v target refl is ended
   case_kind (thread_detached frame id target is joinable alone) = detaches_one (suc frame.pc) (value_of shared.globals frame id) target refl is alone
   case_kind (request_sent frame id target is) = requests_one (suc frame.pc) (value_of shared.globals frame id) target refl is
   case_kind (canceled_in_join next id delivered) = cancels id refl
-  case_kind (fork_handler_called next at call is) =
-      quiet (record { actions = refl; events = of_each_phase (λ (w : What). list_all names_none (w ∷ []) ≡ true) call.func refl refl refl at.phase; none = refl }) (λ joins. absurd (false≢true joins))
-  case_kind _ = quiet (record { actions = refl; events = refl; none = refl }) (λ joins. absurd (false≢true joins))
+  case_kind _ = quiet (record { own = refl; named = λ id. refl }) (λ joins. absurd (false≢true joins))
 
--- the kind of each transition of a thread of a process
+-- the case of each transition of a thread of a process
+pub its_case : (script : Script) (config : Config) (w : World) (p : Process) (t : Thread) (choice : Alt) → TransitionCase config.passes (body_at script t.frames) p.shared t (others_of config.slots w p t.id) false (next_of script t.frames) t.status (transition_by script config w p t choice)
+its_case script config w p t choice = case_of config.passes (body_at script t.frames) p.shared t (others_of config.slots w p t.id) false choice (next_of script t.frames) t.status (λ known. absurd (false≢true known))
+
+-- and its kind
 pub kind_of : (script : Script) (config : Config) (w : World) (p : Process) (t : Thread) (choice : Alt) → Kind t.id p.threads t.status (transition_by script config w p t choice)
-kind_of script config w p t choice =
-    let next : NextStatement = next_of script t.frames in
-    let body : List Stmt = body_at script t.frames in
-    case_kind config.slots w p config.passes body p.shared t (case_of config.passes body p.shared t (others_of config.slots w p t.id) false choice next t.status (λ known. absurd (false≢true known)))
+kind_of script config w p t choice = case_kind config.slots w p config.passes (body_at script t.frames) p.shared t (its_case script config w p t choice)
 
 -- ---- a thread that moves
 

@@ -1,25 +1,24 @@
 -- A running thread at a statement keeps the rule of the thread as it goes on, jumps or returns.
-use Rattle.pct_names.proofs.Names.{◌&&◌, ◌<◌, [], Action, acts, ap, body_of, Bool, Dest, Disable, Enable, false, false≢true, Frame}
-use Rattle.pct_names.proofs.Names.{FrameKind, goes_on, has_begun_to_end, inl, inr, is_handler_kind, is_in_handler, length, List, list_all}
-use Rattle.pct_names.proofs.Names.{new_frame, new_thread, Reason, refl, reverse, Script, Some, State, state_if, state_number, statement_at}
-use Rattle.pct_names.proofs.Names.{Status, Stmt, subst, suc, sym, Thread, thread_after, thread_at, true, value_of, What, ◌||◌, ℕ, ◌∙◌, ◌∷◌}
-use Rattle.pct_names.proofs.Names.{◌≡◌, ◌⊎◌}
+use Rattle.pct_names.proofs.Names.{◌&&◌, ◌<◌, [], acts, ap, body_of, Bool, Dest, Disable, Enable, false, false≢true, Frame, FrameKind}
+use Rattle.pct_names.proofs.Names.{goes_on, has_begun_to_end, inl, inr, is_handler_kind, is_in_handler, length, List, new_frame, new_thread}
+use Rattle.pct_names.proofs.Names.{None, own_after, Reason, refl, reverse, Script, Some, State, state_if, state_number, statement_at}
+use Rattle.pct_names.proofs.Names.{Status, Stmt, subst, suc, sym, Thread, thread_at, Transition, true, value_of, ◌||◌, ℕ, ◌∙◌, ◌∷◌, ◌≡◌}
+use Rattle.pct_names.proofs.Names.{◌⊎◌}
 use Rattle.pct_model.specs.declared.event.What.TheVariants as what
 use Rattle.pct_model.specs.declared.state.FrameKind.TheVariants as kind
 use Rattle.pct_model.specs.declared.state.Reason.TheVariants as reason
 use Rattle.pct_model.specs.declared.state.Status.TheVariants as status
 use Rattle.pct_model.specs.declared.statement.Stmt.TheVariants as statement
-use Rattle.pct_model.specs.declared.transition.Action.TheVariants as action
+use Rattle.pct_model.specs.declared.transition.OwnAction.TheVariants as own_action
 use Rattle.pct_model.specs.Jumps.{is_end}
 use Rattle.pct_laws.specs.OpenPushes.{pushes_after, open_pushes}
 use Rattle.pct_laws.specs.ThreadSummary.{ThreadSummary, no_events}
-use Rattle.pct_transition_cases.proofs.TransitionCases.{Leads, past_nop, past_if, past_while, past_else, past_end, Returns, by_return}
-use Rattle.pct_transition_cases.proofs.TransitionCases.{by_end}
+use Rattle.pct_transition_cases.proofs.TransitionCases.{Leads, past_nop, past_if, past_while, past_else, past_end, Returns, by_return, by_end}
 use Rattle.pct_thread_invariants.proofs.StaticPushes.{PushesMatch}
 use Rattle.pct_thread_invariants.proofs.lift.ReportedBy.{after_all}
 use Rattle.pct_thread_invariants.proofs.thread.Passes.{first_pass}
 use Rattle.pct_thread_invariants.proofs.thread.ThreadRule.{summary, AllMayCome, Below, FramesFit, Fits, Keeps}
-use Rattle.pct_thread_invariants.proofs.thread.GoingOn.{writes, running, going_on_keeps}
+use Rattle.pct_thread_invariants.proofs.thread.GoingOn.{running, going_on_keeps, stays}
 use Rattle.pct_thread_invariants.proofs.thread.Ends.{leaves, leaves_handler}
 
 -- ---- handlers
@@ -92,15 +91,15 @@ module _ (script : Script) (passes : ℕ) (matches : PushesMatch script) where
     -- ---- it goes on
 
     -- a thread that has any status goes on at the next statement
-    pub next_keeps : (before : Status) (s : Stmt) → statement_at script frame ≡ Some s → pushes_after (s ∷ []) (open_pushes body frame.pc) ≡ open_pushes body frame.pc → is_end s ≡ false → (actions : List Action) (added : List What) → list_all writes actions ≡ true → after_all summary (reverse added) reported ≡ reported
-        → AllMayCome passes (reverse added) reported → Keeps script passes (record t { status = before; frames = frame ∷ below }) reported (goes_on (suc frame.pc) actions added)
-    next_keeps before s at same inner actions added all unchanged added_lawful =
-        going_on_keeps script passes t frame below before reported (suc frame.pc) actions added (matches.next frame s at ∙ same) (matches.next_within frame s at inner) all unchanged added_lawful fits
+    pub next_keeps : (before : Status) (s : Stmt) → statement_at script frame ≡ Some s → pushes_after (s ∷ []) (open_pushes body frame.pc) ≡ open_pushes body frame.pc → is_end s ≡ false → {o : Transition} → o.next ≡ Some (suc frame.pc) → stays o.own ≡ true → after_all summary (reverse o.events) reported ≡ reported
+        → AllMayCome passes (reverse o.events) reported → Keeps script passes (record t { status = before; frames = frame ∷ below }) reported o
+    next_keeps before s at same inner {o} goes quiet unchanged lawful =
+        going_on_keeps script passes t frame below before reported (suc frame.pc) o goes (matches.next frame s at ∙ same) (matches.next_within frame s at inner) quiet unchanged lawful fits
 
-    jump_keeps : (pc : ℕ) → open_pushes body pc ≡ open_pushes body frame.pc → pc < length body → Keeps script passes own reported (goes_on pc [] [])
-    jump_keeps pc same within = going_on_keeps script passes t frame below status.Running reported pc [] [] same within refl refl refl fits
+    jump_keeps : (pc : ℕ) → open_pushes body pc ≡ open_pushes body frame.pc → pc < length body → Keeps script passes own reported (goes_on pc [])
+    jump_keeps pc same within = going_on_keeps script passes t frame below status.Running reported pc (goes_on pc []) refl same within refl refl refl fits
 
-    pub leads_keeps : (globals : List ℕ) {s : Stmt} {pc : ℕ} → statement_at script frame ≡ Some s → Leads body globals frame s pc → Keeps script passes own reported (goes_on pc [] [])
+    pub leads_keeps : (globals : List ℕ) {s : Stmt} {pc : ℕ} → statement_at script frame ≡ Some s → Leads body globals frame s pc → Keeps script passes own reported (goes_on pc [])
     leads_keeps globals {pc = pc} at leads = jump_keeps pc (leads_same frame globals at leads) (leads_within frame globals at leads)
 
     -- ---- it returns
@@ -113,13 +112,13 @@ module _ (script : Script) (passes : ℕ) (matches : PushesMatch script) where
     pub kind_fits : (k : FrameKind) → frame.kind ≡ k → Below script k t.reason below (FramesFit script t.reason below)
     kind_fits k is = subst (λ (x : FrameKind). Below script x t.reason below (FramesFit script t.reason below)) is fits.by_status.fit
 
-    pub call_left_keeps : (globals : List ℕ) {s : Stmt} {v : ℕ} → statement_at script frame ≡ Some s → Returns body globals frame s v → (frame.kind ≡ kind.Call) ⊎ (frame.kind ≡ kind.PopHandler) → Keeps script passes own reported (acts (action.Leave status.Running ∷ []) [])
-    unfolding thread_at thread_after
+    pub call_left_keeps : (globals : List ℕ) {s : Stmt} {v : ℕ} → statement_at script frame ≡ Some s → Returns body globals frame s v → (frame.kind ≡ kind.Call) ⊎ (frame.kind ≡ kind.PopHandler) → Keeps script passes own reported (record (acts []) { own = Some (own_action.Leave status.Running) })
+    unfolding thread_at own_after
     call_left_keeps globals at returns (inl is) = record { own = leaves script passes t frame below reported fits (none_open globals at returns) (kind_fits kind.Call is); lawful = refl }
     call_left_keeps globals at returns (inr is) = record { own = leaves script passes t frame below reported fits (none_open globals at returns) (kind_fits kind.PopHandler is); lawful = refl }
 
-    pub handler_left_keeps : (globals : List ℕ) {s : Stmt} {v : ℕ} → statement_at script frame ≡ Some s → Returns body globals frame s v → (frame.kind ≡ kind.Handler) ⊎ (frame.kind ≡ kind.Destructor) → Keeps script passes own reported (acts (action.Leave status.Ending ∷ []) [])
-    unfolding thread_at thread_after
+    pub handler_left_keeps : (globals : List ℕ) {s : Stmt} {v : ℕ} → statement_at script frame ≡ Some s → Returns body globals frame s v → (frame.kind ≡ kind.Handler) ⊎ (frame.kind ≡ kind.Destructor) → Keeps script passes own reported (record (acts []) { own = Some (own_action.Leave status.Ending) })
+    unfolding thread_at own_after
     handler_left_keeps globals at returns (inl is) = let fit = kind_fits kind.Handler is in record { own = leaves_handler script passes t frame below reported fits (none_open globals at returns) fit.0 fit.1; lawful = refl }
     handler_left_keeps globals at returns (inr is) = let fit = kind_fits kind.Destructor is in record { own = leaves_handler script passes t frame below reported fits (none_open globals at returns) fit.0 fit.1; lawful = refl }
 
@@ -134,12 +133,12 @@ module _ (script : Script) (passes : ℕ) (matches : PushesMatch script) where
     state_allowed false outside = λ any. refl
 
     pub state_keeps : (enable : Bool) (old : Dest) → statement_at script frame ≡ Some (statement.SetState enable old) → enable && is_in_handler (frame ∷ below) ≡ false
-        → Keeps script passes own reported (goes_on (suc frame.pc) (action.SetState (state_if enable) ∷ action.Write old (state_number t.state) ∷ []) (what.StateSet enable ∷ []))
-    unfolding thread_at thread_after
+        → Keeps script passes own reported (record (goes_on (suc frame.pc) (what.StateSet enable ∷ [])) { writes = (old, state_number t.state) ∷ []; own = Some (own_action.SetState (state_if enable)) })
+    unfolding thread_at own_after
     state_keeps enable old at outside =
         let s : Stmt = statement.SetState enable old in
         let keeps =
-        going_on_keeps script passes (record t { state = state_if enable }) frame below status.Running reported (suc frame.pc) (action.Write old (state_number t.state) ∷ []) (what.StateSet enable ∷ []) (matches.next frame s at) (matches.next_within frame s at refl) refl refl refl
+        going_on_keeps script passes (record t { state = state_if enable }) frame below status.Running reported (suc frame.pc) (record (goes_on (suc frame.pc) (what.StateSet enable ∷ [])) { writes = (old, state_number t.state) ∷ [] }) refl (matches.next frame s at) (matches.next_within frame s at refl) refl refl refl
         (record {
           agrees = record { handlers_agree = fits.agrees.handlers_agree; reason = fits.agrees.reason; end = fits.agrees.end; functions = fits.agrees.functions; disabled = state_allowed enable outside; none_left = fits.agrees.none_left };
           placed = fits.placed;

@@ -1,8 +1,9 @@
 -- The newest event of a thread that is suspended at a generic cancellation point, in pthread_join, in sem_wait or in waitpid is that of the
 -- call.
 use Rattle.pct_names.proofs.Names.{ap, body_at, Called, Config, Event, false, in_child, join_point, List, moved, next_of, NextStatement}
-use Rattle.pct_names.proofs.Names.{None, none-some, Option, Others, others_of, refl, reverse, Script, sem_wait_point, SharedState, Some}
-use Rattle.pct_names.proofs.Names.{Status, Stmt, sym, Thread, thread_after, thread_at, Transition, true, waitpid_point, What, ℕ, ◌∙◌, ◌≡◌}
+use Rattle.pct_names.proofs.Names.{None, none-some, Option, Others, others_of, own_after, refl, reverse, Script, sem_wait_point}
+use Rattle.pct_names.proofs.Names.{SharedState, Some, Status, Stmt, sym, Thread, thread_at, Transition, true, waitpid_point, What, ℕ, ◌∙◌}
+use Rattle.pct_names.proofs.Names.{◌≡◌}
 use Rattle.pct_model.specs.declared.state.Status.TheVariants as status
 use Rattle.pct_laws.specs.Kept.{EachThread}
 use Rattle.pct_laws.specs.NewestEvents.{newest_event}
@@ -41,7 +42,7 @@ module _ (passes : ℕ) (body : List Stmt) (shared : SharedState) (t : Thread) (
   -- the thread after a transition
   case_newest : {next : NextStatement} {s : Status} {o : Transition} (k : Option What) → TransitionCase passes body shared t others true next s o → NewestIsCall (record t { status = s }) k
       → NewestIsCall (moved o (record t { status = s })) (after_all newest (reverse o.events) k)
-  unfolding thread_at thread_after
+  unfolding thread_at own_after
   case_newest k (rests next s alive) newest_is = newest_is
   case_newest k (join_begun frame id d target is other joinable alone unasked) newest_is = λ w called. called
   case_newest k (point_begun frame index required unasked) newest_is = λ w called. called

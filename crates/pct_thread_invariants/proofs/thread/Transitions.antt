@@ -1,10 +1,9 @@
 -- Each transition of a thread keeps the rule of the thread.
-use Rattle.pct_names.proofs.Names.{[], Alt, and_from, ap, body_at, Bool, choices_of, cond_wait_point, Config, end_value, false, Frame}
-use Rattle.pct_names.proofs.Names.{in_fork, inl, inr, is_required, length, List, mode_if, mode_number, nat_eq, new_frame, new_thread}
-use Rattle.pct_names.proofs.Names.{NewThread, next_in, next_of, NextStatement, none-some, offers, Operand, Option, Others, others_of}
-use Rattle.pct_names.proofs.Names.{Parent, point_kind, Prepare, Process, refl, same_Some, Script, SharedState, Some, Status, Stmt, subst}
-use Rattle.pct_names.proofs.Names.{sym, testcancel_point, Thread, thread_after, thread_at, Transition, transition_by, true, value_of, What}
-use Rattle.pct_names.proofs.Names.{World, ℕ, ◌∙◌, ◌∷◌, ◌≡◌}
+use Rattle.pct_names.proofs.Names.{[], Alt, and_from, ap, body_at, Bool, choices_of, Config, end_value, false, Frame, in_fork, inl, inr}
+use Rattle.pct_names.proofs.Names.{is_required, length, List, nat_eq, new_frame, new_thread, NewThread, next_in, next_of, NextStatement}
+use Rattle.pct_names.proofs.Names.{none-some, offers, Operand, Option, Others, others_of, own_after, Parent, point_kind, Prepare, Process}
+use Rattle.pct_names.proofs.Names.{refl, same_Some, Script, SharedState, Some, Status, Stmt, subst, sym, Thread, thread_at, Transition}
+use Rattle.pct_names.proofs.Names.{transition_by, true, value_of, What, World, ℕ, ◌∙◌, ◌∷◌, ◌≡◌}
 use Rattle.std.proofs.Common.{eq-eqb}
 use Rattle.pct_model.specs.declared.event.Caller.TheVariants as caller
 use Rattle.pct_model.specs.declared.event.What.TheVariants as what
@@ -12,7 +11,6 @@ use Rattle.pct_model.specs.declared.state.Cause.TheVariants as cause
 use Rattle.pct_model.specs.declared.state.FrameKind.TheVariants as kind
 use Rattle.pct_model.specs.declared.state.Status.TheVariants as status
 use Rattle.pct_model.specs.declared.statement.Stmt.TheVariants as statement
-use Rattle.pct_model.specs.declared.transition.Action.TheVariants as action
 use Rattle.pct_laws.specs.Kept.{is_join, is_call_of, is_sem_wait_of, is_at_fork, is_at_waitpid, is_cond_wait_of, KeysKept, IsPlainFunction}
 use Rattle.pct_laws.specs.ThreadSummary.{ThreadSummary, no_events}
 use Rattle.pct_transition_cases.proofs.CaseOfTransition.{case_of}
@@ -68,14 +66,14 @@ module _ (script : Script) (passes : ℕ) (matches : PushesMatch script) (names 
   first_plain f functions is = (subst (ArePlain script) is registered.exit_functions).0
 
   case_keeps : {frames : List Frame} {body : List Stmt} {next : NextStatement} {s : Status} {o : Transition} → IsPlaced script frames body next → TransitionCase passes body shared (own s frames) others true next s o → Fits script passes (own s frames) reported → KeepsBy script passes (FitsIf script passes (calls_exit_function o.events)) (own s frames) reported o
-  unfolding thread_at thread_after
+  unfolding thread_at own_after
   case_keeps {frames} place (rests next s alive) rule = record { own = rule; lawful = refl }
   case_keeps {frames} place (stopped frame s why) rule = record { own = rule; lawful = refl }
   -- statements of the script language
   case_keeps (on_top frame below s at) (jumped _ _ pc leads) rule = leads_keeps script passes matches t frame below reported rule shared.globals at leads
-  case_keeps (on_top frame below s at) (emitted _ v) rule = next_keeps script passes matches t frame below reported rule status.Running (statement.Emit v) at refl refl [] (what.Emit (value frame v) ∷ []) refl refl refl
-  case_keeps (on_top frame below s at) (variable_set _ d v) rule = next_keeps script passes matches t frame below reported rule status.Running (statement.Set d v) at refl refl (action.Write d _ ∷ []) [] refl refl refl
-  case_keeps (on_top frame below s at) (variable_added _ d v) rule = next_keeps script passes matches t frame below reported rule status.Running (statement.Add d v) at refl refl (action.Write d _ ∷ []) [] refl refl refl
+  case_keeps (on_top frame below s at) (emitted _ v) rule = next_keeps script passes matches t frame below reported rule status.Running (statement.Emit v) at refl refl refl refl refl refl
+  case_keeps (on_top frame below s at) (variable_set _ d v) rule = next_keeps script passes matches t frame below reported rule status.Running (statement.Set d v) at refl refl refl refl refl refl
+  case_keeps (on_top frame below s at) (variable_added _ d v) rule = next_keeps script passes matches t frame below reported rule status.Running (statement.Add d v) at refl refl refl refl refl refl
   case_keeps (on_top frame below s at) (function_called _ f v room) rule = call_keeps script passes matches t frame below reported f v (value frame v) at (names.called frame f v at) rule
   case_keeps (on_top frame below s at) (main_returned _ _ v returns is once) rule = exit_keeps script passes t (frame ∷ below) reported rule v
   case_keeps (on_top frame below s at) (start_returned _ _ v returns is) rule = begin_keeps script passes t (frame ∷ below) reported rule v (kind_fits script passes matches t frame below reported rule kind.Start is).0
@@ -83,56 +81,56 @@ module _ (script : Script) (passes : ℕ) (matches : PushesMatch script) (names 
   case_keeps (on_top frame below s at) (handler_left _ _ v returns kinds) rule = handler_left_keeps script passes matches t frame below reported rule shared.globals at returns kinds
   case_keeps (on_top frame below s at) (exit_function_left _ _ v returns is) rule = absurd (kind_fits script passes matches t frame below reported rule kind.ExitFn is)
   -- threads
-  case_keeps (on_top frame below s at) (thread_made _ result id f v detached new among) rule = let keeps = next_keeps script passes matches t frame below reported rule status.Running (statement.Create result id f v detached) at refl refl (action.Write result 0 ∷ action.Write id new ∷ []) (what.Created new detached ∷ []) refl refl refl in record { own = keeps.own; lawful = keeps.lawful }
-  case_keeps (on_top frame below s at) (thread_not_made _ result id f v detached) rule = next_keeps script passes matches t frame below reported rule status.Running (statement.Create result id f v detached) at refl refl (action.Write result 1 ∷ []) (what.Answer caller.Create 1 ∷ []) refl refl refl
+  case_keeps (on_top frame below s at) (thread_made _ result id f v detached new among) rule = next_keeps script passes matches t frame below reported rule status.Running (statement.Create result id f v detached) at refl refl refl refl refl refl
+  case_keeps (on_top frame below s at) (thread_not_made _ result id f v detached) rule = next_keeps script passes matches t frame below reported rule status.Running (statement.Create result id f v detached) at refl refl refl refl refl refl
   case_keeps (on_top frame below s at) (join_begun _ id d target seen other joinable unjoined unasked) rule = record { own = suspends script passes t status.Running (frame ∷ below) reported rule rule.by_status (status.Joining (value frame id)) (rule.by_status, ap (λ (x : Option Stmt). is_join (next_in frame x)) at); lawful = refl }
   case_keeps (on_top frame below s at) (join_ended _ operand d id v target seen ended) rule =
-      next_keeps script passes matches t frame below reported (awake script passes t (status.Joining id) (frame ∷ below) reported rule rule.by_status.0) (status.Joining id) (statement.Join operand d) at refl refl (action.EndJoin id ∷ action.Write d v ∷ []) (what.Joined id v ∷ []) refl refl refl
-  case_keeps (on_top frame below s at) (thread_detached _ id target seen joinable unjoined) rule = next_keeps script passes matches t frame below reported rule status.Running (statement.Detach id) at refl refl (action.Detach (value frame id) ∷ []) (what.Detached (value frame id) ∷ []) refl refl refl
-  case_keeps (on_top frame below s at) (self_got _ d) rule = next_keeps script passes matches t frame below reported rule status.Running (statement.SelfId d) at refl refl (action.Write d t.id ∷ []) [] refl refl refl
+      next_keeps script passes matches t frame below reported (awake script passes t (status.Joining id) (frame ∷ below) reported rule rule.by_status.0) (status.Joining id) (statement.Join operand d) at refl refl refl refl refl refl
+  case_keeps (on_top frame below s at) (thread_detached _ id target seen joinable unjoined) rule = next_keeps script passes matches t frame below reported rule status.Running (statement.Detach id) at refl refl refl refl refl refl
+  case_keeps (on_top frame below s at) (self_got _ d) rule = next_keeps script passes matches t frame below reported rule status.Running (statement.SelfId d) at refl refl refl refl refl refl
   -- cancellation
-  case_keeps (on_top frame below s at) (request_sent _ id target seen) rule = next_keeps script passes matches t frame below reported rule status.Running (statement.CancelThread id) at refl refl (action.Request (value frame id) ∷ []) (what.Request (value frame id) ∷ []) refl refl refl
+  case_keeps (on_top frame below s at) (request_sent _ id target seen) rule = next_keeps script passes matches t frame below reported rule status.Running (statement.CancelThread id) at refl refl refl refl refl refl
   case_keeps (on_top frame below s at) (state_set _ enable old outside) rule = state_keeps script passes matches t frame below reported rule enable old at outside
-  case_keeps (on_top frame below s at) (mode_set _ asynchronous old) rule = next_keeps script passes matches t frame below reported rule status.Running (statement.SetMode asynchronous old) at refl refl (action.SetMode (mode_if asynchronous) ∷ action.Write old (mode_number t.mode) ∷ []) (what.ModeSet asynchronous ∷ []) refl refl refl
-  case_keeps (on_top frame below s at) (cancel_tested _ unasked) rule = next_keeps script passes matches t frame below reported rule status.Running statement.TestCancel at refl refl [] (what.Done testcancel_point ∷ []) refl refl refl
+  case_keeps (on_top frame below s at) (mode_set _ asynchronous old) rule = next_keeps script passes matches t frame below reported rule status.Running (statement.SetMode asynchronous old) at refl refl refl refl refl refl
+  case_keeps (on_top frame below s at) (cancel_tested _ unasked) rule = next_keeps script passes matches t frame below reported rule status.Running statement.TestCancel at refl refl refl refl refl refl
   case_keeps (on_top frame below s at) (point_begun _ index is unasked) rule =
       let called : is_call_of index (next_of script (frame ∷ below)) ≡ true = ap (λ (x : Option Stmt). is_call_of index (next_in frame x)) at ∙ and_from (nat_eq index index) (is_required (point_kind index)) (eq-eqb index index refl) (ap is_required is) in
       record { own = suspends script passes t status.Running (frame ∷ below) reported rule rule.by_status (status.AtPoint index) (rule.by_status, called); lawful = refl }
-  case_keeps (on_top frame below s at) (point_done _ index optional) rule = next_keeps script passes matches t frame below reported rule status.Running (statement.PointCall index) at refl refl [] (what.Done index ∷ []) refl refl refl
+  case_keeps (on_top frame below s at) (point_done _ index optional) rule = next_keeps script passes matches t frame below reported rule status.Running (statement.PointCall index) at refl refl refl refl refl refl
   case_keeps (on_top frame below s at) (point_passed _ index i) rule =
-      next_keeps script passes matches t frame below reported (awake script passes t (status.AtPoint index) (frame ∷ below) reported rule rule.by_status.0) (status.AtPoint index) (statement.PointCall i) at refl refl [] (what.Done index ∷ []) refl refl refl
+      next_keeps script passes matches t frame below reported (awake script passes t (status.AtPoint index) (frame ∷ below) reported rule rule.by_status.0) (status.AtPoint index) (statement.PointCall i) at refl refl refl refl refl refl
   case_keeps {frames} place (canceled next delivered where_it_may) rule = cancel_keeps script passes t status.Running frames reported rule rule.by_status (deliverable_enabled t.state t.pending (delivered refl))
   case_keeps {frames} place (canceled_at_point next index delivered) rule = cancel_keeps script passes t (status.AtPoint index) frames reported rule rule.by_status.0 (deliverable_enabled t.state t.pending (delivered refl))
   case_keeps {frames} place (canceled_in_join next id delivered) rule = cancel_keeps script passes t (status.Joining id) frames reported rule rule.by_status.0 (deliverable_enabled t.state t.pending (delivered refl))
   case_keeps {frames} place (canceled_in_sem_wait next sem delivered) rule = cancel_keeps script passes t (status.InSem sem) frames reported rule rule.by_status.0 (deliverable_enabled t.state t.pending (delivered refl))
   case_keeps {frames} place (canceled_in_waitpid next pid delivered) rule = cancel_keeps script passes t (status.InWaitPid pid) frames reported rule rule.by_status.0 (deliverable_enabled t.state t.pending (delivered refl))
   -- mutexes
-  case_keeps (on_top frame below s at) (mutex_locked _ m free) rule = next_keeps script passes matches t frame below reported rule status.Running (statement.Lock m) at refl refl (action.OwnMutex m t.id ∷ []) (what.Acquired m ∷ []) refl refl refl
-  case_keeps (on_top frame below s at) (mutex_unlocked _ m owned) rule = next_keeps script passes matches t frame below reported rule status.Running (statement.Unlock m) at refl refl (action.OwnMutex m 0 ∷ []) (what.Released m ∷ []) refl refl refl
+  case_keeps (on_top frame below s at) (mutex_locked _ m free) rule = next_keeps script passes matches t frame below reported rule status.Running (statement.Lock m) at refl refl refl refl refl refl
+  case_keeps (on_top frame below s at) (mutex_unlocked _ m owned) rule = next_keeps script passes matches t frame below reported rule status.Running (statement.Unlock m) at refl refl refl refl refl refl
   -- condition waits
   case_keeps (on_top frame below s at) (wait_begun _ c m owned one unasked) rule =
       let called : is_cond_wait_of c m (next_of script (frame ∷ below)) ≡ true = ap (λ (x : Option Stmt). is_cond_wait_of c m (next_in frame x)) at ∙ and_from (nat_eq c c) (nat_eq m m) (eq-eqb c c refl) (eq-eqb m m refl) in
       record { own = suspends script passes t status.Running (frame ∷ below) reported rule rule.by_status (status.Waiting c m) (rule.by_status, called); lawful = refl }
   case_keeps (on_top frame below s at) (wait_ended _ cond mutex c m why returns free) rule =
-      next_keeps script passes matches t frame below reported (awake script passes t (status.Reacquire c m why) (frame ∷ below) reported rule rule.by_status.0) (status.Reacquire c m why) (statement.CondWait cond mutex) at refl refl (action.OwnMutex m t.id ∷ []) (what.Acquired m ∷ what.Done cond_wait_point ∷ []) refl refl refl
+      next_keeps script passes matches t frame below reported (awake script passes t (status.Reacquire c m why) (frame ∷ below) reported rule rule.by_status.0) (status.Reacquire c m why) (statement.CondWait cond mutex) at refl refl refl refl refl refl
   case_keeps {frames} place (canceled_in_wait next c m delivered) rule = record { own = leave_fits script passes t (status.Waiting c m) frames reported rule rule.by_status.0 c m rule.by_status.1 (deliverable_enabled t.state t.pending (delivered refl)); lawful = refl }
   case_keeps {frames} place (canceled_after_wait next c m why returns delivered) rule = record { own = leave_fits script passes t (status.Reacquire c m why) frames reported rule rule.by_status.0 c m rule.by_status.1 (deliverable_enabled t.state t.pending (delivered refl)); lawful = refl }
   case_keeps {frames} place (signal_handed_on next c m u delivered waits) rule = record { own = leave_fits script passes t (status.Reacquire c m cause.Signalled) frames reported rule rule.by_status.0 c m rule.by_status.1 (deliverable_enabled t.state t.pending (delivered refl)); lawful = refl }
   case_keeps {frames} place (ended_in_wait next c m free) rule = end_in_wait_keeps script passes t (status.Reacquire c m cause.Canceled) frames reported rule rule.by_status.0 c m (rule.by_status.2 refl)
   -- signals and broadcasts
-  case_keeps (on_top frame below s at) (signal_sent _ c u waits) rule = next_keeps script passes matches t frame below reported rule status.Running (statement.Signal c) at refl refl (action.Wake u ∷ []) (what.Signalled c u ∷ []) refl refl refl
-  case_keeps (on_top frame below s at) (signal_lost _ c) rule = next_keeps script passes matches t frame below reported rule status.Running (statement.Signal c) at refl refl [] (what.Signalled c 0 ∷ []) refl refl refl
-  case_keeps (on_top frame below s at) (broadcast_sent _ c) rule = next_keeps script passes matches t frame below reported rule status.Running (statement.Broadcast c) at refl refl (action.WakeAll c ∷ []) (what.BroadcastTo c _ ∷ []) refl refl refl
+  case_keeps (on_top frame below s at) (signal_sent _ c u waits) rule = next_keeps script passes matches t frame below reported rule status.Running (statement.Signal c) at refl refl refl refl refl refl
+  case_keeps (on_top frame below s at) (signal_lost _ c) rule = next_keeps script passes matches t frame below reported rule status.Running (statement.Signal c) at refl refl refl refl refl refl
+  case_keeps (on_top frame below s at) (broadcast_sent _ c) rule = next_keeps script passes matches t frame below reported rule status.Running (statement.Broadcast c) at refl refl refl refl refl refl
   -- semaphores
   case_keeps (on_top frame below s at) (sem_wait_begun _ sem unasked) rule = record { own = suspends script passes t status.Running (frame ∷ below) reported rule rule.by_status (status.InSem sem) (rule.by_status, ap (λ (x : Option Stmt). is_sem_wait_of sem (next_in frame x)) at ∙ eq-eqb sem sem refl); lawful = refl }
   case_keeps (on_top frame below s at) (sem_taken _ n sem some) rule =
-      next_keeps script passes matches t frame below reported (awake script passes t (status.InSem sem) (frame ∷ below) reported rule rule.by_status.0) (status.InSem sem) (statement.SemWait n) at refl refl (action.SetCount sem _ ∷ []) (what.Taken sem ∷ []) refl refl refl
-  case_keeps (on_top frame below s at) (sem_posted _ sem) rule = next_keeps script passes matches t frame below reported rule status.Running (statement.SemPost sem) at refl refl (action.SetCount sem _ ∷ []) (what.Posted sem ∷ []) refl refl refl
+      next_keeps script passes matches t frame below reported (awake script passes t (status.InSem sem) (frame ∷ below) reported rule rule.by_status.0) (status.InSem sem) (statement.SemWait n) at refl refl refl refl refl refl
+  case_keeps (on_top frame below s at) (sem_posted _ sem) rule = next_keeps script passes matches t frame below reported rule status.Running (statement.SemPost sem) at refl refl refl refl refl refl
   -- fork and its handlers, and waitpid
   case_keeps (on_top frame below s at) (fork_registered _ result handlers room) rule =
-      next_keeps script passes matches t frame below reported rule status.Running (statement.AtFork result handlers.prepare handlers.parent handlers.child) at refl refl (action.AddForkHandlers handlers ∷ action.Write result 0 ∷ []) [] refl refl refl
+      next_keeps script passes matches t frame below reported rule status.Running (statement.AtFork result handlers.prepare handlers.parent handlers.child) at refl refl refl refl refl refl
   case_keeps (on_top frame below s at) (fork_not_registered _ result prepare parent child) rule =
-      next_keeps script passes matches t frame below reported rule status.Running (statement.AtFork result prepare parent child) at refl refl (action.Write result 2 ∷ []) (what.Answer caller.AtFork 2 ∷ []) refl refl refl
+      next_keeps script passes matches t frame below reported rule status.Running (statement.AtFork result prepare parent child) at refl refl refl refl refl refl
   case_keeps (on_top frame below s at) (fork_begun _ result child alive) rule =
       let count : ℕ = length shared.fork_handlers in
       record { own = suspends script passes t status.Running (frame ∷ below) reported rule rule.by_status (status.Forking Prepare count count 0) (rule.by_status, ap (λ (x : Option Stmt). is_at_fork (next_in frame x)) at, alive); lawful = refl }
@@ -146,22 +144,22 @@ module _ (script : Script) (passes : ℕ) (matches : PushesMatch script) (names 
   case_keeps {frames} place (process_not_forked next index count answer) rule =
       record { own = suspends script passes t (status.Forking Prepare index count answer) frames reported rule rule.by_status.0 (status.Forking Parent 0 count 0) rule.by_status; lawful = refl }
   case_keeps (on_top frame below s at) (fork_failed _ result child index length pid) rule =
-      next_keeps script passes matches t frame below reported (awake script passes t (status.Forking Parent index length pid) (frame ∷ below) reported rule rule.by_status.0) (status.Forking Parent index length pid) (statement.Fork result child) at refl refl (action.Write result 1 ∷ []) [] refl refl refl
+      next_keeps script passes matches t frame below reported (awake script passes t (status.Forking Parent index length pid) (frame ∷ below) reported rule rule.by_status.0) (status.Forking Parent index length pid) (statement.Fork result child) at refl refl refl refl refl refl
   case_keeps (on_top frame below s at) (fork_returned _ result child phase index length pid n) rule =
-      next_keeps script passes matches t frame below reported (awake script passes t (status.Forking phase index length pid) (frame ∷ below) reported rule rule.by_status.0) (status.Forking phase index length pid) (statement.Fork result child) at refl refl (action.Write result 0 ∷ action.Write child n ∷ []) [] refl refl refl
+      next_keeps script passes matches t frame below reported (awake script passes t (status.Forking phase index length pid) (frame ∷ below) reported rule rule.by_status.0) (status.Forking phase index length pid) (statement.Fork result child) at refl refl refl refl refl refl
   case_keeps (on_top frame below s at) (waitpid_begun _ result d pid unasked) rule =
       record { own = suspends script passes t status.Running (frame ∷ below) reported rule rule.by_status (status.InWaitPid (value frame pid)) (rule.by_status, ap (λ (x : Option Stmt). is_at_waitpid (next_in frame x)) at); lawful = refl }
   case_keeps (on_top frame below s at) (child_reaped _ result d operand pid n child is ended) rule =
-      next_keeps script passes matches t frame below reported (awake script passes t (status.InWaitPid pid) (frame ∷ below) reported rule rule.by_status.0) (status.InWaitPid pid) (statement.WaitPid result operand d) at refl refl (action.Reap pid ∷ action.Write result 0 ∷ action.Write d n ∷ []) (what.Reaped pid n ∷ []) refl refl refl
-  case_keeps (on_top frame below s at) (no_child_found _ result d operand unasked) rule = next_keeps script passes matches t frame below reported rule status.Running (statement.WaitPid result operand d) at refl refl (action.Write result 3 ∷ []) (what.Answer caller.WaitPid 3 ∷ []) refl refl refl
+      next_keeps script passes matches t frame below reported (awake script passes t (status.InWaitPid pid) (frame ∷ below) reported rule rule.by_status.0) (status.InWaitPid pid) (statement.WaitPid result operand d) at refl refl refl refl refl refl
+  case_keeps (on_top frame below s at) (no_child_found _ result d operand unasked) rule = next_keeps script passes matches t frame below reported rule status.Running (statement.WaitPid result operand d) at refl refl refl refl refl refl
   case_keeps (on_top frame below s at) (child_lost _ result d operand pid) rule =
-      next_keeps script passes matches t frame below reported (awake script passes t (status.InWaitPid pid) (frame ∷ below) reported rule rule.by_status.0) (status.InWaitPid pid) (statement.WaitPid result operand d) at refl refl (action.Write result 3 ∷ []) (what.Answer caller.WaitPid 3 ∷ []) refl refl refl
+      next_keeps script passes matches t frame below reported (awake script passes t (status.InWaitPid pid) (frame ∷ below) reported rule rule.by_status.0) (status.InWaitPid pid) (statement.WaitPid result operand d) at refl refl refl refl refl refl
   -- keys
-  case_keeps (on_top frame below s at) (key_made _ result key destructor k among) rule = next_keeps script passes matches t frame below reported rule status.Running (statement.KeyCreate result key destructor) at refl refl (action.MakeKey k destructor ∷ action.Write result 0 ∷ action.Write key k ∷ []) (what.KeyMade k ∷ []) refl refl refl
-  case_keeps (on_top frame below s at) (key_not_made _ result key destructor) rule = next_keeps script passes matches t frame below reported rule status.Running (statement.KeyCreate result key destructor) at refl refl (action.Write result 1 ∷ []) (what.Answer caller.KeyCreate 1 ∷ []) refl refl refl
-  case_keeps (on_top frame below s at) (key_deleted _ key named) rule = next_keeps script passes matches t frame below reported rule status.Running (statement.KeyDelete key) at refl refl (action.DeleteKey (value frame key) ∷ []) (what.KeyGone (value frame key) ∷ []) refl refl refl
-  case_keeps (on_top frame below s at) (specific_set _ key v named) rule = next_keeps script passes matches t frame below reported rule status.Running (statement.SetSpecific key v) at refl refl (action.SetSpecific (value frame key) (value frame v) ∷ []) [] refl refl refl
-  case_keeps (on_top frame below s at) (specific_got _ d key) rule = next_keeps script passes matches t frame below reported rule status.Running (statement.GetSpecific d key) at refl refl (action.Write d _ ∷ []) [] refl refl refl
+  case_keeps (on_top frame below s at) (key_made _ result key destructor k among) rule = next_keeps script passes matches t frame below reported rule status.Running (statement.KeyCreate result key destructor) at refl refl refl refl refl refl
+  case_keeps (on_top frame below s at) (key_not_made _ result key destructor) rule = next_keeps script passes matches t frame below reported rule status.Running (statement.KeyCreate result key destructor) at refl refl refl refl refl refl
+  case_keeps (on_top frame below s at) (key_deleted _ key named) rule = next_keeps script passes matches t frame below reported rule status.Running (statement.KeyDelete key) at refl refl refl refl refl refl
+  case_keeps (on_top frame below s at) (specific_set _ key v named) rule = next_keeps script passes matches t frame below reported rule status.Running (statement.SetSpecific key v) at refl refl refl refl refl refl
+  case_keeps (on_top frame below s at) (specific_got _ d key) rule = next_keeps script passes matches t frame below reported rule status.Running (statement.GetSpecific d key) at refl refl refl refl refl refl
   -- cleanup handlers
   case_keeps (on_top frame below s at) (handler_pushed _ f v room) rule = push_keeps script passes matches t frame below reported f v (value frame v) at (names.pushed frame f v at) rule
   case_keeps (on_top frame below s at) (handler_popped _ v f a handlers is zero) rule =
@@ -179,8 +177,8 @@ module _ (script : Script) (passes : ℕ) (matches : PushesMatch script) (names 
   case_keeps {frames} place (last_ended next none is_last nothing_due none_left) rule = by_handlers script passes t status.Ending frames reported _ [] none (λ r. record { own = exits_fit script passes matches t frames reported r (end_value t.reason); lawful = and_from _ _ (end_lawful script passes matches t frames reported r) refl }) rule
   case_keeps {frames} place (last_ended_with_keys next left none is_last some limit all none_left) rule = by_handlers script passes t status.Ending frames reported _ [] none (λ r. record { own = exits_fit script passes matches t frames reported r (end_value t.reason); lawful = and_from _ _ (end_lawful script passes matches t frames reported r) (leftover_lawful script passes matches t frames reported r left some limit) }) rule
   -- the exit of a process
-  case_keeps (on_top frame below s at) (exit_registered _ result f may) rule = next_keeps script passes matches t frame below reported rule status.Running (statement.AtExit result f) at refl refl (action.AddExit f ∷ action.Write result 0 ∷ []) [] refl refl refl
-  case_keeps (on_top frame below s at) (exit_not_registered _ result f) rule = next_keeps script passes matches t frame below reported rule status.Running (statement.AtExit result f) at refl refl (action.Write result 1 ∷ []) (what.Answer caller.AtExit 1 ∷ []) refl refl refl
+  case_keeps (on_top frame below s at) (exit_registered _ result f may) rule = next_keeps script passes matches t frame below reported rule status.Running (statement.AtExit result f) at refl refl refl refl refl refl
+  case_keeps (on_top frame below s at) (exit_not_registered _ result f) rule = next_keeps script passes matches t frame below reported rule status.Running (statement.AtExit result f) at refl refl refl refl refl refl
   case_keeps (on_top frame below s at) (process_exited _ v alone) rule = exit_keeps script passes t (frame ∷ below) reported rule (value frame v)
   case_keeps {frames} place (process_ended_now frame v) rule = record { own = rule; lawful = refl }
   case_keeps {frames} place (exit_function_called next f functions is) rule = exit_function_keeps script passes matches t frames reported f (first_plain f functions is) rule
