@@ -4,7 +4,7 @@ use Rattle.pct_names.proofs.Names.{[], acts, Alt, Asynchronous, Bool, child_of, 
 use Rattle.pct_names.proofs.Names.{goes_on, goes_on_forking, HandlerCall, is_safe_point, List, map, new_frame, new_shared, next_handler}
 use Rattle.pct_names.proofs.Names.{no_change, None, NoStatement, Option, Parent, Phase, point_name, Prepare, range_with_len, refl}
 use Rattle.pct_names.proofs.Names.{registers_fork, replicate, returns_by, running_choices, SharedState, Some, Stmt, stop_at, Thread}
-use Rattle.pct_names.proofs.Names.{Transition, true, Why, ℕ, ◌∷◌, ◌≡◌}
+use Rattle.pct_names.proofs.Names.{Transition, true, What, Why, ℕ, ◌∷◌, ◌≡◌}
 use Rattle.pct_model.specs.declared.event.Caller.TheVariants as caller
 use Rattle.pct_model.specs.declared.event.What.TheVariants as what
 use Rattle.pct_model.specs.declared.schedule.Alt.TheVariants as alt
@@ -15,7 +15,9 @@ use Rattle.pct_model.specs.declared.statement.Dest.TheVariants as destination
 use Rattle.pct_model.specs.declared.statement.Operand.TheVariants as operand
 use Rattle.pct_model.specs.declared.statement.Stmt.TheVariants as statement
 use Rattle.pct_model.specs.declared.stop.Why.TheVariants as why
-use Rattle.pct_model.specs.declared.transition.Action.TheVariants as action
+use Rattle.pct_model.specs.declared.transition.OwnAction.TheVariants as own_action
+use Rattle.pct_model.specs.declared.transition.ProcessAction.TheVariants as process_action
+use Rattle.pct_model.specs.declared.transition.SharedAction.TheVariants as shared_action
 use Rattle.pct_rows.proofs.OnLiterals.{runs_on_literals}
 use Rattle.pct_rows.proofs.ExampleScripts.{smallest}
 use Rattle.pct_rows.proofs.ChoiceRows.{ready, in_status, process, nobody}
@@ -65,26 +67,29 @@ fixed_length = (refl, refl, refl, refl)
 abbrev goes_on_in : Phase → ℕ → Transition
 goes_on_in phase next = goes_on_forking (next_handler registered (in_phase phase 3 next)) (in_phase phase 3 next) (Some 9) NoStatement
 
--- a handler is called with 0, and the thread keeps how far its fork has come
-handler_calls : map (λ phase. goes_on_in phase 1) (Prepare ∷ Parent ∷ Child ∷ []) ≡ acts (action.KeepFork (in_phase Prepare 3 0) ∷ action.Call 10 0 kind.ForkFn ∷ []) (what.PrepareRun 10 ∷ []) ∷ acts (action.KeepFork (in_phase Parent 3 2) ∷ action.Call 21 0 kind.ForkFn ∷ []) (what.ParentRun 21 ∷ []) ∷ acts (action.KeepFork (in_phase Child 3 3) ∷ action.Call 32 0 kind.ForkFn ∷ []) (what.ChildRun 32 ∷ []) ∷ []
+-- a thread calls a fork handler with 0, and keeps how far its fork has come
+abbrev calling : ForkAt → ℕ → What → Transition
+calling at f event = record (acts (event ∷ [])) { own = Some (own_action.CallForkHandler at f) }
+
+handler_calls : map (λ phase. goes_on_in phase 1) (Prepare ∷ Parent ∷ Child ∷ []) ≡ calling (in_phase Prepare 3 0) 10 (what.PrepareRun 10) ∷ calling (in_phase Parent 3 2) 21 (what.ParentRun 21) ∷ calling (in_phase Child 3 3) 32 (what.ChildRun 32) ∷ []
 unfolding runs_on_literals
 handler_calls = refl
 
 -- a return from a handler goes on with it, whatever its value
-handler_returns : map (λ kept. returns_by kept kind.ForkFn 5) (Some (in_phase Parent 3 2) ∷ None ∷ []) ≡ acts (action.Leave (status.Forking Parent 2 3 7) ∷ []) [] ∷ no_change ∷ []
+handler_returns : map (λ kept. returns_by kept kind.ForkFn 5) (Some (in_phase Parent 3 2) ∷ None ∷ []) ≡ record (acts []) { own = Some (own_action.Leave (status.Forking Parent 2 3 7)) } ∷ no_change ∷ []
 unfolding runs_on_literals
 handler_returns = refl
 
 -- after the prepare handlers a child is made, or fork fails: both begin with the parent handlers, and with the same registrations
-after_the_prepare_handlers : map (λ pid. goes_on_forking None (in_phase Prepare 3 0) pid NoStatement) (Some 9 ∷ None ∷ []) ≡ acts (action.EnterFork (record { phase = Parent; next = 0; length = 3; answer = 9 }) ∷ action.MakeChild 9 ∷ []) (what.Forked 9 ∷ []) ∷ acts (action.EnterFork (record { phase = Parent; next = 0; length = 3; answer = 0 }) ∷ []) (what.Answer caller.Fork 1 ∷ []) ∷ []
+after_the_prepare_handlers : map (λ pid. goes_on_forking None (in_phase Prepare 3 0) pid NoStatement) (Some 9 ∷ None ∷ []) ≡ record (acts (what.Forked 9 ∷ [])) { own = Some (own_action.SetStatus (status.Forking Parent 0 3 9)); process = Some (process_action.Make 9) } ∷ record (acts (what.Answer caller.Fork 1 ∷ [])) { own = Some (own_action.SetStatus (status.Forking Parent 0 3 0)) } ∷ []
 unfolding runs_on_literals
 after_the_prepare_handlers = refl
 
 abbrev is_registered : Transition
-is_registered = goes_on 7 (action.AddForkHandlers (handlers None None (Some 3)) ∷ action.Write (destination.Local 1) 0 ∷ []) []
+is_registered = record (goes_on 7 []) { writes = (destination.Local 1, 0) ∷ []; shared = Some (shared_action.AddForkHandlers (handlers None None (Some 3))) }
 
 abbrev is_refused : Transition
-is_refused = goes_on 7 (action.Write (destination.Local 1) 2 ∷ []) (what.Answer caller.AtFork 2 ∷ [])
+is_refused = record (goes_on 7 (what.Answer caller.AtFork 2 ∷ [])) { writes = (destination.Local 1, 2) ∷ [] }
 
 -- handlers can be registered after 15 registrations, not after 16 or more
 registrations : map (λ n. registers_fork n 7 (destination.Local 1) (handlers None None (Some 3))) (0 ∷ 15 ∷ 16 ∷ 17 ∷ []) ≡ is_registered ∷ is_registered ∷ is_refused ∷ is_refused ∷ []

@@ -13,7 +13,7 @@ use Rattle.pct_names.proofs.Names.{other_process_after, others_of, outside, pass
 use Rattle.pct_names.proofs.Names.{points, pops, posts, process_after, pushes, reacquires, reaps, registers_fork, registers_if, requests}
 use Rattle.pct_names.proofs.Names.{returns_by, returns_in_child, returns_in_parent, run, run_from, run_options, run_step, running_choices}
 use Rattle.pct_names.proofs.Names.{running_rows, runs, sets, sets_mode, sets_specific, sets_state, shared_after, signals_by, statement_at}
-use Rattle.pct_names.proofs.Names.{step, stop_after, stop_at, stops_of, syntax_of, takes, tests_cancel, thread_after, thread_at}
+use Rattle.pct_names.proofs.Names.{own_after, step, stop_after, stop_at, stops_of, syntax_of, takes, tests_cancel, thread_at}
 use Rattle.pct_names.proofs.Names.{transition_at, unlocks, value_of, variable_value, verdict_of, ⊤}
 
 -- to check a script
@@ -23,7 +23,7 @@ checks_on_literals = tt
 
 -- to compute steps, runs and verdicts, and the choices of the scheduler
 unfoldable pub runs_on_literals : ⊤
-unfolding main_of keyword_text key_with free_places due_places left_places statement_at value_of opening free_ids family_among others_of jumps emits sets variable_value adds calls pushes pops requests sets_state sets_mode tests_cancel points point_kind called_kind calls_point may_return passes_point acts_on_request creates_key fails_to_create_key deletes_key sets_specific gets_specific locks unlocks begins_wait reacquires leaves_wait hands_on signals_by broadcasts begins_sem_wait takes posts next_handler calls_handler registers_fork begins_fork forks_by returns_in_parent returns_in_child leaves_handler finds_no_child reaps creates fails_to_create begins_join ends_join detaches gets_self ends_by_exit ends_thread calls_destructor goes_on_ending exits returns_by ends_now goes_on_exiting registers_if close_of open_of stops_of stop_at running_rows running_choices ending_choices choices_at runs transition_at thread_at thread_after named_after shared_after process_after other_process_after inherited child_of child_by stop_after after_transition step run_step run_from illegal_in run verdict_of candidates chosen
+unfolding main_of keyword_text key_with free_places due_places left_places statement_at value_of opening free_ids family_among others_of jumps emits sets variable_value adds calls pushes pops requests sets_state sets_mode tests_cancel points point_kind called_kind calls_point may_return passes_point acts_on_request creates_key fails_to_create_key deletes_key sets_specific gets_specific locks unlocks begins_wait reacquires leaves_wait hands_on signals_by broadcasts begins_sem_wait takes posts next_handler calls_handler registers_fork begins_fork forks_by returns_in_parent returns_in_child leaves_handler finds_no_child reaps creates fails_to_create begins_join ends_join detaches gets_self ends_by_exit ends_thread calls_destructor goes_on_ending exits returns_by ends_now goes_on_exiting registers_if close_of open_of stops_of stop_at running_rows running_choices ending_choices choices_at runs transition_at thread_at own_after named_after shared_after process_after other_process_after inherited child_of child_by stop_after after_transition step run_step run_from illegal_in run verdict_of candidates chosen
 runs_on_literals = tt
 
 -- to read the arguments of `run`

@@ -13,7 +13,9 @@ use Rattle.pct_model.specs.declared.state.Phase.TheVariants.{Child as ChildPhase
 use Rattle.pct_model.specs.declared.state.Reason.TheVariants as reason
 use Rattle.pct_model.specs.declared.state.Status.TheVariants as status
 use Rattle.pct_model.specs.declared.statement.Dest.TheVariants as destination
-use Rattle.pct_model.specs.declared.transition.Action.TheVariants as action
+use Rattle.pct_model.specs.declared.transition.OwnAction.TheVariants as own_action
+use Rattle.pct_model.specs.declared.transition.ProcessAction.TheVariants as process_action
+use Rattle.pct_model.specs.declared.transition.SharedAction.TheVariants as shared_action
 use Rattle.pct_rows.proofs.OnLiterals.{runs_on_literals}
 use Rattle.pct_rows.proofs.ExampleScripts.{smallest}
 use Rattle.pct_rows.specs.Examples.{first_goes}
@@ -28,7 +30,7 @@ abbrev family : World
 family = record { processes = child 1 0 None ∷ child 2 1 None ∷ child 3 2 (Some 5) ∷ child 4 2 None ∷ child 5 1 (Some 6) ∷ []; stop = None }
 
 abbrev ends_with_7 : Transition
-ends_with_7 = acts (action.EndProcess 7 ∷ []) []
+ends_with_7 = record (acts []) { process = Some (process_action.End 7) }
 
 -- the parent and the exit status of a process, and whether it was reaped
 abbrev parent_and_end : Process → ℕ × Option ℕ × Bool
@@ -45,7 +47,7 @@ unfolding runs_on_literals
 end_of_the_first = refl
 
 -- a child that is waited for is reaped, and no other process
-reaping : map parent_and_end (after_transition 1 1 (acts (action.Reap 5 ∷ []) []) family).processes ≡ (0, None, false) ∷ (1, None, false) ∷ (2, Some 5, false) ∷ (2, None, false) ∷ (1, Some 6, true) ∷ []
+reaping : map parent_and_end (after_transition 1 1 (record (acts []) { process = Some (process_action.Reap 5) }) family).processes ≡ (0, None, false) ∷ (1, None, false) ∷ (2, Some 5, false) ∷ (2, None, false) ∷ (1, Some 6, true) ∷ []
 unfolding runs_on_literals
 reaping = refl
 
@@ -55,7 +57,7 @@ reaping = refl
 abbrev pid_and_parent : Process → ℕ × ℕ
 pid_and_parent p = (p.pid, p.parent)
 
-forking : map pid_and_parent (after_transition 2 1 (acts (action.MakeChild 6 ∷ []) []) family).processes ≡ (1, 0) ∷ (2, 1) ∷ (3, 2) ∷ (4, 2) ∷ (5, 1) ∷ (6, 2) ∷ []
+forking : map pid_and_parent (after_transition 2 1 (record (acts []) { process = Some (process_action.Make 6) }) family).processes ≡ (1, 0) ∷ (2, 1) ∷ (3, 2) ∷ (4, 2) ∷ (5, 1) ∷ (6, 2) ∷ []
 unfolding runs_on_literals
 forking = refl
 
@@ -121,10 +123,10 @@ abbrev at_exit : ℕ → List Transition
 at_exit n = map (λ value. registers_if (may_register (registered n value)) 7 (destination.Local 1) 5) (None ∷ Some 3 ∷ [])
 
 abbrev is_registered : Transition
-is_registered = goes_on 7 (action.AddExit 5 ∷ action.Write (destination.Local 1) 0 ∷ []) []
+is_registered = record (goes_on 7 []) { writes = (destination.Local 1, 0) ∷ []; shared = Some (shared_action.AddExit 5) }
 
 abbrev is_refused : Transition
-is_refused = goes_on 7 (action.Write (destination.Local 1) 1 ∷ []) (what.Answer caller.AtExit 1 ∷ [])
+is_refused = record (goes_on 7 (what.Answer caller.AtExit 1 ∷ [])) { writes = (destination.Local 1, 1) ∷ [] }
 
 -- one function can be registered if there are 31, none if there are 32 or more, and none after exit has begun
 registrations : map at_exit (0 ∷ 31 ∷ 32 ∷ 33 ∷ []) ≡ (is_registered ∷ is_refused ∷ []) ∷ (is_registered ∷ is_refused ∷ []) ∷ (is_refused ∷ is_refused ∷ []) ∷ (is_refused ∷ is_refused ∷ []) ∷ []
@@ -132,11 +134,11 @@ unfolding runs_on_literals
 registrations = refl
 
 -- the newest function is removed and called, also where exit has no value; without functions and without a value nothing changes
-exits_without_value : (goes_on_exiting (4 ∷ 2 ∷ []) None ≡ acts (action.TakeExit ∷ action.CallAlone 4 0 kind.ExitFn ∷ []) (what.ExitRun 4 ∷ [])) × (goes_on_exiting [] None ≡ no_change)
+exits_without_value : (goes_on_exiting (4 ∷ 2 ∷ []) None ≡ record (acts (what.ExitRun 4 ∷ [])) { own = Some (own_action.RunExitFunction 4); shared = Some shared_action.TakeExit }) × (goes_on_exiting [] None ≡ no_change)
 unfolding runs_on_literals
 exits_without_value = (refl, refl)
 
 -- from an empty list no function is removed
-no_function_is_left : (shared_after action.TakeExit (registered 0 None)).exit_functions ≡ []
+no_function_is_left : (shared_after (Some shared_action.TakeExit) (registered 0 None)).exit_functions ≡ []
 unfolding runs_on_literals
 no_function_is_left = refl

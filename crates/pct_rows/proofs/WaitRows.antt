@@ -2,13 +2,15 @@
 -- request and without; and states that no run reaches.
 use Rattle.pct_names.proofs.Names.{[], acts, acts_on_request, after_transition, Alt, Asynchronous, broadcasts, Cause, choices_of, Disable}
 use Rattle.pct_names.proofs.Names.{flat_map, goes_on, List, map, new_shared, no_change, None, others_of, posts, refl, SharedState, Status}
-use Rattle.pct_names.proofs.Names.{Thread, Transition, true, ℕ, ◌∷◌, ◌≡◌}
+use Rattle.pct_names.proofs.Names.{Some, Thread, Transition, true, ℕ, ◌∷◌, ◌≡◌}
 use Rattle.pct_model.specs.declared.event.What.TheVariants as what
 use Rattle.pct_model.specs.declared.schedule.Alt.TheVariants as alt
 use Rattle.pct_model.specs.declared.state.Cause.TheVariants as cause
 use Rattle.pct_model.specs.declared.state.Status.TheVariants as status
 use Rattle.pct_model.specs.declared.statement.Stmt.TheVariants as statement
-use Rattle.pct_model.specs.declared.transition.Action.TheVariants as action
+use Rattle.pct_model.specs.declared.transition.NamedAction.TheVariants as named_action
+use Rattle.pct_model.specs.declared.transition.OwnAction.TheVariants as own_action
+use Rattle.pct_model.specs.declared.transition.SharedAction.TheVariants as shared_action
 use Rattle.pct_rows.proofs.OnLiterals.{runs_on_literals}
 use Rattle.pct_rows.proofs.ExampleScripts.{smallest}
 use Rattle.pct_rows.proofs.ChoiceRows.{config, ready, in_status, process, state_of, nobody, choices_before}
@@ -81,8 +83,12 @@ at_a_signal = refl
 
 -- ---- transitions
 
+-- a thread leaves its wait, as it acts upon a request
+abbrev left : Transition
+left = record (acts (what.WaitCanceled 1 ∷ [])) { own = Some (own_action.SetStatus (status.Reacquire 1 0 cause.Canceled)) }
+
 -- a thread that acts upon a request in a wait hands on a signal, if a signal unblocked it
-acts_in_a_wait : map (acts_on_request 3) (status.Waiting 1 0 ∷ status.Reacquire 1 0 cause.Signalled ∷ status.Reacquire 1 0 cause.Broadcast ∷ status.Reacquire 1 0 cause.Canceled ∷ []) ≡ acts (action.LeaveWait 1 0 ∷ []) (what.WaitCanceled 1 ∷ []) ∷ acts (action.LeaveWait 1 0 ∷ action.Wake 3 ∷ []) (what.WaitCanceled 1 ∷ what.HandedOn 1 3 ∷ []) ∷ acts (action.LeaveWait 1 0 ∷ []) (what.WaitCanceled 1 ∷ []) ∷ no_change ∷ []
+acts_in_a_wait : map (acts_on_request 3) (status.Waiting 1 0 ∷ status.Reacquire 1 0 cause.Signalled ∷ status.Reacquire 1 0 cause.Broadcast ∷ status.Reacquire 1 0 cause.Canceled ∷ []) ≡ left ∷ record left { named = Some (named_action.Wake 3); events = what.WaitCanceled 1 ∷ what.HandedOn 1 3 ∷ [] } ∷ left ∷ no_change ∷ []
 unfolding runs_on_literals
 acts_in_a_wait = refl
 
@@ -101,6 +107,6 @@ unfolding runs_on_literals
 after_a_broadcast = refl
 
 -- a count is a number of 32 bits: the greatest is followed by 0
-the_greatest_count : posts 7 0 4294967295 ≡ goes_on 7 (action.SetCount 0 0 ∷ []) (what.Posted 0 ∷ [])
+the_greatest_count : posts 7 0 4294967295 ≡ record (goes_on 7 (what.Posted 0 ∷ [])) { shared = Some (shared_action.SetCount 0 0) }
 unfolding runs_on_literals
 the_greatest_count = refl
