@@ -61,12 +61,12 @@ module _ (script : Script) (passes : ℕ) (few : passes ≤ MAX_PASSES) (shared 
 
   case_fits : {frames : List Frame} {body : List Stmt} {next : NextStatement} {s : Status} {o : Transition} → IsPlaced script frames body next → IsLow next → HasForkRoom s
       → TransitionCase passes body shared t others false next s o → FitsThread o
-  case_fits placed low forks (jumped frame s pc leads) = record { next = leads_within script shared.globals frame low (subst (λ (b : List Stmt). Leads b shared.globals frame s pc) (body_placed placed) leads); actions = tt }
-  case_fits placed low forks (function_called frame f v room) = record { next = low; actions = (omega (arith, room), tt) }
-  case_fits placed low forks (fork_handler_called next at call is) = record { next = tt; actions = (tt, (forks refl, tt)) }
-  case_fits placed low forks (handler_pushed frame f v room) = record { next = low; actions = (room, tt) }
-  case_fits placed low forks (handler_called frame v f a handlers is room not_zero) = record { next = low; actions = (tt, (omega (arith, room), tt)) }
-  case_fits placed low forks (pass_begun next none more some_due none_left) = record { next = tt; actions = (omega (arith, more, few), tt) }
+  case_fits placed low forks (jumped frame s pc leads) = record { next = leads_within script shared.globals frame low (subst (λ (b : List Stmt). Leads b shared.globals frame s pc) (body_placed placed) leads); own = tt }
+  case_fits placed low forks (function_called frame f v room) = record { next = low; own = omega (arith, room) }
+  case_fits placed low forks (fork_handler_called next at call is) = record { next = tt; own = forks refl }
+  case_fits placed low forks (handler_pushed frame f v room) = record { next = low; own = room }
+  case_fits placed low forks (handler_called frame v f a handlers is room not_zero) = record { next = low; own = omega (arith, room) }
+  case_fits placed low forks (pass_begun next none more some_due none_left) = record { next = tt; own = omega (arith, more, few) }
   case_fits placed low forks _ = assumption
 
   -- the transition of a thread that acts upon a request fits it

@@ -15,9 +15,9 @@ use crate::current::{At, next_pc};
 use crate::transitions::{acts, goes_on, no_change};
 use pct_cancel::point_at;
 use pct_model::{
-    Action, COND_WAIT_POINT, Cause, Dest, JOIN_POINT, Mode, PointKind, PointWait, Reason,
-    SEM_WAIT_POINT, State, Status, Stmt, TESTCANCEL_POINT, Transition, UpToThree, WAITPID_POINT,
-    What,
+    COND_WAIT_POINT, Cause, Dest, JOIN_POINT, Mode, NamedAction, OwnAction, PointKind, PointWait,
+    Reason, SEM_WAIT_POINT, State, Status, Stmt, TESTCANCEL_POINT, Transition, UpToThree,
+    WAITPID_POINT, What,
 };
 
 // ---- pthread_cancel
@@ -27,11 +27,10 @@ use pct_model::{
 pub(crate) fn requests(next: u32, id: u32) -> Transition
     ensures { result ≡ requests next id }
 {
-    goes_on(
-        next,
-        UpToThree::one(Action::Request(id)),
-        UpToThree::one(What::Request(id)),
-    )
+    Transition {
+        named: Some(NamedAction::Request(id)),
+        ..goes_on(next, UpToThree::one(What::Request(id)))
+    }
 }
 
 // ---- pthread_setcancelstate, pthread_setcanceltype
@@ -41,14 +40,11 @@ pub(crate) fn requests(next: u32, id: u32) -> Transition
 pub(crate) fn sets_state(next: u32, enable: bool, old: Dest, state: State) -> Transition
     ensures { result ≡ sets_state next enable old state }
 {
-    goes_on(
-        next,
-        UpToThree::two(
-            Action::SetState(state_if(enable)),
-            Action::Write(old, state_number(state)),
-        ),
-        UpToThree::one(What::StateSet(enable)),
-    )
+    Transition {
+        writes: UpToThree::one((old, state_number(state))),
+        own: Some(OwnAction::SetState(state_if(enable))),
+        ..goes_on(next, UpToThree::one(What::StateSet(enable)))
+    }
 }
 
 /// pthread_setcanceltype, in a thread with this type: the previous type is the result.
@@ -56,14 +52,11 @@ pub(crate) fn sets_state(next: u32, enable: bool, old: Dest, state: State) -> Tr
 pub(crate) fn sets_mode(next: u32, asynchronous: bool, old: Dest, mode: Mode) -> Transition
     ensures { result ≡ sets_mode next asynchronous old mode }
 {
-    goes_on(
-        next,
-        UpToThree::two(
-            Action::SetMode(mode_if(asynchronous)),
-            Action::Write(old, mode_number(mode)),
-        ),
-        UpToThree::one(What::ModeSet(asynchronous)),
-    )
+    Transition {
+        writes: UpToThree::one((old, mode_number(mode))),
+        own: Some(OwnAction::SetMode(mode_if(asynchronous))),
+        ..goes_on(next, UpToThree::one(What::ModeSet(asynchronous)))
+    }
 }
 
 // The number of a state: PTHREAD_CANCEL_ENABLE is 0, and PTHREAD_CANCEL_DISABLE is 1.
@@ -115,11 +108,7 @@ fn mode_if(asynchronous: bool) -> Mode
 pub(crate) fn tests_cancel(next: u32) -> Transition
     ensures { result ≡ tests_cancel next }
 {
-    goes_on(
-        next,
-        UpToThree::none(),
-        UpToThree::one(What::Done(TESTCANCEL_POINT)),
-    )
+    goes_on(next, UpToThree::one(What::Done(TESTCANCEL_POINT)))
 }
 
 /// A call of the cancellation point with this index: the thread is suspended at a required one, and goes on at an optional one.
@@ -131,7 +120,10 @@ pub(crate) fn calls_point(next: u32, index: u32, transition: &mut Transition)
     match point_kind(index) {
         None => *transition = no_change(),
         Some(PointKind::Required) => {
-            *transition = acts(Action::BeginPoint(index), What::Called(index));
+            *transition = Transition {
+                own: Some(OwnAction::SetStatus(Status::AtPoint(index))),
+                ..acts(UpToThree::one(What::Called(index)))
+            };
         }
         Some(PointKind::Optional) => *transition = passes(next, index),
     }
@@ -209,9 +201,9 @@ fn passes_in(context: &Context, at: &At, index: u32) -> Transition
 
 // The thread goes on after the point with this index.
 fn passes(next: u32, index: u32) -> Transition
-    ensures { result ≡ goes_on next [] (Done index ∷ []) }
+    ensures { result ≡ goes_on next (Done index ∷ []) }
 {
-    goes_on(next, UpToThree::none(), UpToThree::one(What::Done(index)))
+    goes_on(next, UpToThree::one(What::Done(index)))
 }
 
 // ---- acting upon a request
@@ -231,7 +223,10 @@ pub(crate) fn acts_on_request(id: u32, status: Status, transition: &mut Transiti
         | Status::Joining(_)
         | Status::InSem(_)
         | Status::InWaitPid(_) => {
-            *transition = acts(Action::BeginEnd(Reason::Canceled), What::EndingCanceled);
+            *transition = Transition {
+                own: Some(OwnAction::BeginEnd(Reason::Canceled)),
+                ..acts(UpToThree::one(What::EndingCanceled))
+            };
         }
         Status::Waiting(cond, mutex) | Status::Reacquire(cond, mutex, Cause::Broadcast) => {
             *transition = leaves_wait(cond, mutex);

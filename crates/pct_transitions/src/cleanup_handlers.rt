@@ -4,18 +4,17 @@ ghost use Rattle.std.specs.Prelude.{◌≡◌, ℕ, ◌∷◌, List, slice_get};
 ghost use Rattle.pct_model.specs.CleanupHandlers.{pushes, pops};
 
 use crate::transitions::{goes_on, no_change};
-use pct_model::{Action, FrameKind, Transition, UpToThree, What};
+use pct_model::{OwnAction, Transition, UpToThree, What};
 
 /// pthread_cleanup_push: a function and its argument become the newest handler.
 #[tactic(auto, unfolding(pct_model::specs::CleanupHandlers::pushes))]
 pub(crate) fn pushes(next: u32, func: u32, arg: u32) -> Transition
     ensures { result ≡ pushes next func arg }
 {
-    goes_on(
-        next,
-        UpToThree::one(Action::PushHandler(func, arg)),
-        UpToThree::one(What::Pushed(func, arg)),
-    )
+    Transition {
+        own: Some(OwnAction::PushHandler(func, arg)),
+        ..goes_on(next, UpToThree::one(What::Pushed(func, arg)))
+    }
 }
 
 /// pthread_cleanup_pop with a value, in a thread whose newest handler is this one: it is removed, and called if the value is
@@ -42,21 +41,14 @@ fn pops_newest(next: u32, value: u32, func: u32, arg: u32) -> Transition
         run: value != 0,
     };
     if value == 0 {
-        goes_on(
-            next,
-            UpToThree::one(Action::PopHandler),
-            UpToThree::one(popped),
-        )
+        Transition {
+            own: Some(OwnAction::PopHandler),
+            ..goes_on(next, UpToThree::one(popped))
+        }
     } else {
-        let call = Action::Call {
-            func,
-            arg,
-            kind: FrameKind::PopHandler,
-        };
-        goes_on(
-            next,
-            UpToThree::two(Action::PopHandler, call),
-            UpToThree::one(popped),
-        )
+        Transition {
+            own: Some(OwnAction::CallHandler(func, arg)),
+            ..goes_on(next, UpToThree::one(popped))
+        }
     }
 }

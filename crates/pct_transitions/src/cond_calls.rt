@@ -11,8 +11,11 @@ ghost use Rattle.pct_transitions.specs.Positions.{next_at, IsAt};
 
 use crate::context::Context;
 use crate::current::{At, next_pc};
-use crate::transitions::{acts, goes_on, no_change, no_next};
-use pct_model::{Action, Alt, COND_WAIT_POINT, Cause, Reason, Stmt, Transition, UpToThree, What};
+use crate::transitions::{acts, goes_on, no_change};
+use pct_model::{
+    Alt, COND_WAIT_POINT, Cause, NamedAction, OwnAction, Reason, SharedAction, Status, Stmt,
+    Transition, UpToThree, What,
+};
 
 // ---- pthread_cond_wait
 
@@ -21,10 +24,11 @@ use pct_model::{Action, Alt, COND_WAIT_POINT, Cause, Reason, Stmt, Transition, U
 pub(crate) fn begins_wait(cond: u32, mutex: u32) -> Transition
     ensures { result ≡ begins_wait cond mutex }
 {
-    no_next(
-        UpToThree::two(Action::BeginWait(cond, mutex), Action::OwnMutex(mutex, 0)),
-        UpToThree::two(What::Called(COND_WAIT_POINT), What::Released(mutex)),
-    )
+    Transition {
+        own: Some(OwnAction::SetStatus(Status::Waiting(cond, mutex))),
+        shared: Some(SharedAction::OwnMutex(mutex, 0)),
+        ..acts(UpToThree::two(What::Called(COND_WAIT_POINT), What::Released(mutex)))
+    }
 }
 
 /// A thread in this context that was unblocked owns its mutex again, and returns; or, if it was by a request, begins to end
@@ -52,13 +56,11 @@ pub(crate) fn reacquires(
 fn ends_in_wait(id: u32, cond: u32, mutex: u32) -> Transition
     ensures { (next : NextStatement) → result ≡ reacquires id cond mutex cause.Canceled next }
 {
-    no_next(
-        UpToThree::two(
-            Action::OwnMutex(mutex, id),
-            Action::BeginEnd(Reason::Canceled),
-        ),
-        UpToThree::two(What::Acquired(mutex), What::EndingInWait(cond, mutex)),
-    )
+    Transition {
+        own: Some(OwnAction::BeginEnd(Reason::Canceled)),
+        shared: Some(SharedAction::OwnMutex(mutex, id)),
+        ..acts(UpToThree::two(What::Acquired(mutex), What::EndingInWait(cond, mutex)))
+    }
 }
 
 // The thread owns its mutex again, and returns from pthread_cond_wait.
@@ -82,11 +84,13 @@ fn returns_in(context: &Context, at: &At, mutex: u32) -> Transition
     ensures broadcast { (cond : ℕ) → result ≡ reacquires context.now.position.id cond mutex cause.Broadcast (StatementIn at.now.frame.now at.now.statement.now) }
 {
     match at.statement {
-        Stmt::CondWait { .. } => goes_on(
-            next_pc(at.frame),
-            UpToThree::one(Action::OwnMutex(mutex, context.position.id)),
-            UpToThree::two(What::Acquired(mutex), What::Done(COND_WAIT_POINT)),
-        ),
+        Stmt::CondWait { .. } => Transition {
+            shared: Some(SharedAction::OwnMutex(mutex, context.position.id)),
+            ..goes_on(
+                next_pc(at.frame),
+                UpToThree::two(What::Acquired(mutex), What::Done(COND_WAIT_POINT)),
+            )
+        },
         _ => no_change(),
     }
 }
@@ -96,7 +100,10 @@ fn returns_in(context: &Context, at: &At, mutex: u32) -> Transition
 pub(crate) fn leaves_wait(cond: u32, mutex: u32) -> Transition
     ensures { result ≡ leaves_wait cond mutex }
 {
-    acts(Action::LeaveWait(cond, mutex), What::WaitCanceled(cond))
+    Transition {
+        own: Some(OwnAction::SetStatus(Status::Reacquire(cond, mutex, Cause::Canceled))),
+        ..acts(UpToThree::one(What::WaitCanceled(cond)))
+    }
 }
 
 /// A thread that was unblocked by a signal does so, and hands the signal on to the thread with this id, if it is not 0.
@@ -107,10 +114,11 @@ pub(crate) fn hands_on(id: u32, cond: u32, mutex: u32) -> Transition
     if id == 0 {
         return leaves_wait(cond, mutex);
     }
-    no_next(
-        UpToThree::two(Action::LeaveWait(cond, mutex), Action::Wake(id)),
-        UpToThree::two(What::WaitCanceled(cond), What::HandedOn(cond, id)),
-    )
+    Transition {
+        own: Some(OwnAction::SetStatus(Status::Reacquire(cond, mutex, Cause::Canceled))),
+        named: Some(NamedAction::Wake(id)),
+        ..acts(UpToThree::two(What::WaitCanceled(cond), What::HandedOn(cond, id)))
+    }
 }
 
 // ---- pthread_cond_signal, pthread_cond_broadcast
@@ -134,11 +142,10 @@ pub(crate) fn signals_by(choice: Alt, next: u32, cond: u32, transition: &mut Tra
 fn signals(next: u32, cond: u32, id: u32) -> Transition
     ensures { result ≡ signals_by (alt.Pick id) next cond }
 {
-    goes_on(
-        next,
-        UpToThree::one(Action::Wake(id)),
-        UpToThree::one(What::Signalled(cond, id)),
-    )
+    Transition {
+        named: Some(NamedAction::Wake(id)),
+        ..goes_on(next, UpToThree::one(What::Signalled(cond, id)))
+    }
 }
 
 // No thread waits: the signal has no effect.
@@ -146,11 +153,7 @@ fn signals(next: u32, cond: u32, id: u32) -> Transition
 fn loses_signal(next: u32, cond: u32) -> Transition
     ensures { result ≡ signals_by alt.Go next cond }
 {
-    goes_on(
-        next,
-        UpToThree::none(),
-        UpToThree::one(What::Signalled(cond, 0)),
-    )
+    goes_on(next, UpToThree::one(What::Signalled(cond, 0)))
 }
 
 /// pthread_cond_broadcast, where this number of threads wait on the condition variable: each of them is unblocked.
@@ -158,9 +161,8 @@ fn loses_signal(next: u32, cond: u32) -> Transition
 pub(crate) fn broadcasts(next: u32, cond: u32, waiting: u32) -> Transition
     ensures { result ≡ broadcasts next cond waiting }
 {
-    goes_on(
-        next,
-        UpToThree::one(Action::WakeAll(cond)),
-        UpToThree::one(What::BroadcastTo(cond, waiting)),
-    )
+    Transition {
+        named: Some(NamedAction::WakeAll(cond)),
+        ..goes_on(next, UpToThree::one(What::BroadcastTo(cond, waiting)))
+    }
 }

@@ -13,10 +13,10 @@ ghost use Rattle.pct_transitions.specs.Positions.{next_at, IsAt};
 
 use crate::context::Context;
 use crate::current::{At, next_pc};
-use crate::transitions::{acts, goes_on, leaves, no_change, no_next};
+use crate::transitions::{acts, goes_on, leaves, no_change};
 use pct_model::{
-    Action, Caller, Dest, ForkAt, ForkHandlers, FrameKind, HandlerCall, MAX_FORK_HANDLERS, Phase,
-    Status, Stmt, Transition, UpToThree, WAITPID_POINT, What,
+    Caller, Dest, ForkAt, ForkHandlers, HandlerCall, MAX_FORK_HANDLERS, OwnAction, Phase,
+    ProcessAction, SharedAction, Status, Stmt, Transition, UpToThree, WAITPID_POINT, What,
 };
 use pct_process::ForkRegistrations;
 
@@ -41,24 +41,20 @@ pub(crate) fn registers_fork(
     ensures { transition.new ≡ registers_fork (length registered.now) next call.now.answer call.now.handlers }
 {
     if registered.as_slice().len() < MAX_FORK_HANDLERS {
-        *transition = goes_on(
-            next,
-            UpToThree::two(
-                Action::AddForkHandlers(call.handlers),
-                Action::Write(call.answer, 0),
-            ),
-            UpToThree::none(),
-        );
+        *transition = Transition {
+            writes: UpToThree::one((call.answer, 0)),
+            shared: Some(SharedAction::AddForkHandlers(call.handlers)),
+            ..goes_on(next, UpToThree::none())
+        };
     } else {
         let failed = What::Answer {
             call: Caller::AtFork,
             number: 2,
         };
-        *transition = goes_on(
-            next,
-            UpToThree::one(Action::Write(call.answer, 2)),
-            UpToThree::one(failed),
-        );
+        *transition = Transition {
+            writes: UpToThree::one((call.answer, 2)),
+            ..goes_on(next, UpToThree::one(failed))
+        };
     }
 }
 
@@ -128,15 +124,10 @@ fn calls_handler(at: &ForkAt, handler: HandlerCall) -> Transition
     requires { handler.index < MAX_FORK_HANDLERS }
     ensures { result ≡ calls_handler at.now handler }
 {
-    let call = Action::Call {
-        func: handler.func,
-        arg: 0,
-        kind: FrameKind::ForkFn,
-    };
-    no_next(
-        UpToThree::two(Action::KeepFork(while_called(at, handler.index)), call),
-        UpToThree::one(handler_event(at.phase, handler.func)),
-    )
+    Transition {
+        own: Some(OwnAction::CallForkHandler(while_called(at, handler.index), handler.func)),
+        ..acts(UpToThree::one(handler_event(at.phase, handler.func)))
+    }
 }
 
 // The values of a fork while the handler of the registration with an index runs.
@@ -195,7 +186,10 @@ pub(crate) fn begins_fork(registered: &ForkRegistrations, transition: &mut Trans
         length,
         answer: 0,
     };
-    *transition = no_next(UpToThree::one(Action::EnterFork(at)), UpToThree::none());
+    *transition = Transition {
+        own: Some(OwnAction::SetStatus(in_fork(at))),
+        ..acts(UpToThree::none())
+    };
 }
 
 /// A thread in fork goes on: it calls the next fork handler of its phase, if one is left. Then, before the fork, a child is made; after
@@ -230,20 +224,18 @@ fn forks_by(length: u32, new_pid: Option<u32>) -> Transition
     ensures { result ≡ forks_by length new_pid }
 {
     match new_pid {
-        Some(pid) => no_next(
-            UpToThree::two(
-                Action::EnterFork(after_fork(length, pid)),
-                Action::MakeChild(pid),
-            ),
-            UpToThree::one(What::Forked(pid)),
-        ),
-        None => acts(
-            Action::EnterFork(after_fork(length, 0)),
-            What::Answer {
+        Some(pid) => Transition {
+            own: Some(OwnAction::SetStatus(in_fork(after_fork(length, pid)))),
+            process: Some(ProcessAction::Make(pid)),
+            ..acts(UpToThree::one(What::Forked(pid)))
+        },
+        None => Transition {
+            own: Some(OwnAction::SetStatus(in_fork(after_fork(length, 0)))),
+            ..acts(UpToThree::one(What::Answer {
                 call: Caller::Fork,
                 number: 1,
-            },
-        ),
+            }))
+        },
     }
 }
 
@@ -274,17 +266,15 @@ fn returns_in_parent(context: &Context, at: &At, pid: u32) -> Transition
         } => {
             let next = next_pc(at.frame);
             if pid == 0 {
-                goes_on(
-                    next,
-                    UpToThree::one(Action::Write(*answer, 1)),
-                    UpToThree::none(),
-                )
+                Transition {
+                    writes: UpToThree::one((*answer, 1)),
+                    ..goes_on(next, UpToThree::none())
+                }
             } else {
-                goes_on(
-                    next,
-                    UpToThree::two(Action::Write(*answer, 0), Action::Write(*child, pid)),
-                    UpToThree::none(),
-                )
+                Transition {
+                    writes: UpToThree::two((*answer, 0), (*child, pid)),
+                    ..goes_on(next, UpToThree::none())
+                }
             }
         }
         _ => no_change(),
@@ -302,11 +292,10 @@ fn returns_in_child(context: &Context, at: &At) -> Transition
         Stmt::Fork {
             result: answer,
             child,
-        } => goes_on(
-            next_pc(at.frame),
-            UpToThree::two(Action::Write(*answer, 0), Action::Write(*child, 0)),
-            UpToThree::none(),
-        ),
+        } => Transition {
+            writes: UpToThree::two((*answer, 0), (*child, 0)),
+            ..goes_on(next_pc(at.frame), UpToThree::none())
+        },
         _ => no_change(),
     }
 }
@@ -320,7 +309,10 @@ pub(crate) fn begins_waitpid(context: &Context, next: u32, pid: u32, answer: Des
     ensures { (others : Others) → SeesOthers context.now others → result ≡ begins_waitpid (others.family.child pid) pid next answer }
 {
     match context.child(pid) {
-        Some(_) => acts(Action::BeginWaitPid(pid), What::Called(WAITPID_POINT)),
+        Some(_) => Transition {
+            own: Some(OwnAction::SetStatus(Status::InWaitPid(pid))),
+            ..acts(UpToThree::one(What::Called(WAITPID_POINT)))
+        },
         None => finds_no_child(next, answer),
     }
 }
@@ -334,11 +326,10 @@ fn finds_no_child(next: u32, answer: Dest) -> Transition
         call: Caller::WaitPid,
         number: 3,
     };
-    goes_on(
-        next,
-        UpToThree::one(Action::Write(answer, 3)),
-        UpToThree::one(failed),
-    )
+    Transition {
+        writes: UpToThree::one((answer, 3)),
+        ..goes_on(next, UpToThree::one(failed))
+    }
 }
 
 /// A thread that is suspended in waitpid for the process with an id goes on: it reaps the child, which has ended, and returns. If
@@ -370,15 +361,11 @@ fn waits_in(context: &Context, at: &At, pid: u32) -> Transition
             None => finds_no_child(next_pc(at.frame), *answer),
             Some(child) => match child.ended {
                 None => no_change(),
-                Some(status) => goes_on(
-                    next_pc(at.frame),
-                    UpToThree::three(
-                        Action::Reap(pid),
-                        Action::Write(*answer, 0),
-                        Action::Write(*value, status),
-                    ),
-                    UpToThree::one(What::Reaped(pid, status)),
-                ),
+                Some(status) => Transition {
+                    writes: UpToThree::two((*answer, 0), (*value, status)),
+                    process: Some(ProcessAction::Reap(pid)),
+                    ..goes_on(next_pc(at.frame), UpToThree::one(What::Reaped(pid, status)))
+                },
             },
         },
         _ => no_change(),

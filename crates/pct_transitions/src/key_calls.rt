@@ -5,7 +5,9 @@ ghost use Rattle.std.specs.Prelude.{◌≡◌};
 ghost use Rattle.pct_model.specs.KeyCalls.{creates_key, fails_to_create_key, creates_key_by, deletes_key, sets_specific, gets_specific};
 
 use crate::transitions::{goes_on, no_change};
-use pct_model::{Action, Alt, Caller, Dest, Transition, UpToThree, What};
+use pct_model::{
+    Alt, Caller, Dest, NamedAction, OwnAction, SharedAction, Transition, UpToThree, What,
+};
 
 // ---- pthread_key_create
 
@@ -41,13 +43,11 @@ pub(crate) fn creates_key_by(
 fn creates_key(call: &KeyCreateCall, next: u32, number: u32) -> Transition
     ensures { let c = call.now in result ≡ creates_key next c.answer c.key c.dtor number }
 {
-    let make = Action::MakeKey(number, call.dtor);
-    let answer = Action::Write(call.answer, 0);
-    goes_on(
-        next,
-        UpToThree::three(make, answer, Action::Write(call.key, number)),
-        UpToThree::one(What::KeyMade(number)),
-    )
+    Transition {
+        writes: UpToThree::two((call.answer, 0), (call.key, number)),
+        shared: Some(SharedAction::MakeKey(number, call.dtor)),
+        ..goes_on(next, UpToThree::one(What::KeyMade(number)))
+    }
 }
 
 // No place is free: the result is EAGAIN, which is 1 in this host, and the key is not written.
@@ -59,11 +59,10 @@ fn fails_to_create_key(next: u32, answer: Dest) -> Transition
         call: Caller::KeyCreate,
         number: 1,
     };
-    goes_on(
-        next,
-        UpToThree::one(Action::Write(answer, 1)),
-        UpToThree::one(failed),
-    )
+    Transition {
+        writes: UpToThree::one((answer, 1)),
+        ..goes_on(next, UpToThree::one(failed))
+    }
 }
 
 // ---- pthread_key_delete, pthread_setspecific, pthread_getspecific
@@ -73,11 +72,11 @@ fn fails_to_create_key(next: u32, answer: Dest) -> Transition
 pub(crate) fn deletes_key(next: u32, key: u32) -> Transition
     ensures { result ≡ deletes_key next key }
 {
-    goes_on(
-        next,
-        UpToThree::one(Action::DeleteKey(key)),
-        UpToThree::one(What::KeyGone(key)),
-    )
+    Transition {
+        shared: Some(SharedAction::DeleteKey(key)),
+        named: Some(NamedAction::ForgetKey(key)),
+        ..goes_on(next, UpToThree::one(What::KeyGone(key)))
+    }
 }
 
 /// pthread_setspecific: the thread's value of the key with this number becomes `value`.
@@ -85,11 +84,10 @@ pub(crate) fn deletes_key(next: u32, key: u32) -> Transition
 pub(crate) fn sets_specific(next: u32, key: u32, value: u32) -> Transition
     ensures { result ≡ sets_specific next key value }
 {
-    goes_on(
-        next,
-        UpToThree::one(Action::SetSpecific(key, value)),
-        UpToThree::none(),
-    )
+    Transition {
+        own: Some(OwnAction::SetSpecific(key, value)),
+        ..goes_on(next, UpToThree::none())
+    }
 }
 
 /// pthread_getspecific, where the thread has this value of the key.
@@ -97,9 +95,8 @@ pub(crate) fn sets_specific(next: u32, key: u32, value: u32) -> Transition
 pub(crate) fn gets_specific(next: u32, dest: Dest, value: u32) -> Transition
     ensures { result ≡ gets_specific next dest value }
 {
-    goes_on(
-        next,
-        UpToThree::one(Action::Write(dest, value)),
-        UpToThree::none(),
-    )
+    Transition {
+        writes: UpToThree::one((dest, value)),
+        ..goes_on(next, UpToThree::none())
+    }
 }

@@ -6,7 +6,7 @@ ghost use Rattle.pct_model.specs.MutexCalls.{owns, is_free_mutex, locks, unlocks
 ghost use Rattle.pct_model.specs.World.{SharedState};
 
 use crate::transitions::goes_on;
-use pct_model::{Action, Transition, UpToThree, What};
+use pct_model::{SharedAction, Transition, UpToThree, What};
 
 /// Whether the thread with an id owns the mutex with this index, by the owners of all mutexes.
 pub(crate) fn owns(owners: &[u32], mutex: u32, id: u32) -> bool
@@ -27,11 +27,10 @@ pub(crate) fn is_free_mutex(owners: &[u32], mutex: u32) -> bool
 pub(crate) fn locks(next: u32, mutex: u32, id: u32) -> Transition
     ensures { result ≡ locks next mutex id }
 {
-    goes_on(
-        next,
-        UpToThree::one(Action::OwnMutex(mutex, id)),
-        UpToThree::one(What::Acquired(mutex)),
-    )
+    Transition {
+        shared: Some(SharedAction::OwnMutex(mutex, id)),
+        ..goes_on(next, UpToThree::one(What::Acquired(mutex)))
+    }
 }
 
 /// pthread_mutex_unlock of the mutex with this index: it has no owner.
@@ -39,9 +38,8 @@ pub(crate) fn locks(next: u32, mutex: u32, id: u32) -> Transition
 pub(crate) fn unlocks(next: u32, mutex: u32) -> Transition
     ensures { result ≡ unlocks next mutex }
 {
-    goes_on(
-        next,
-        UpToThree::one(Action::OwnMutex(mutex, 0)),
-        UpToThree::one(What::Released(mutex)),
-    )
+    Transition {
+        shared: Some(SharedAction::OwnMutex(mutex, 0)),
+        ..goes_on(next, UpToThree::one(What::Released(mutex)))
+    }
 }

@@ -7,8 +7,11 @@ ghost use Rattle.pct_model.specs.World.{SharedState};
 
 use crate::fork_calls::leaves_handler;
 use crate::thread_ends::ends_by_exit;
-use crate::transitions::{acts, goes_on, leaves, no_change, no_next};
-use pct_model::{Action, Caller, Dest, FrameKind, Status, Transition, UpToThree, What};
+use crate::transitions::{acts, goes_on, leaves, no_change};
+use pct_model::{
+    Caller, Dest, FrameKind, OwnAction, ProcessAction, SharedAction, Status, Transition, UpToThree,
+    What,
+};
 use pct_process::ExitFunctions;
 use pct_threads::Thread;
 
@@ -17,7 +20,11 @@ use pct_threads::Thread;
 pub(crate) fn exits(value: u32) -> Transition
     ensures { result ≡ exits value }
 {
-    acts(Action::BeginExit(value), What::ExitBegun(value))
+    Transition {
+        own: Some(OwnAction::BeginExit),
+        shared: Some(SharedAction::BeginExit(value)),
+        ..acts(UpToThree::one(What::ExitBegun(value)))
+    }
 }
 
 /// `return` of a value, by the kind of the top frame of the thread with this record. A return from `main` in the initial thread acts as
@@ -45,10 +52,10 @@ pub(crate) fn returns_by(thread: &Thread, kind: FrameKind, value: u32, transitio
 pub(crate) fn ends_now(value: u32) -> Transition
     ensures { result ≡ ends_now value }
 {
-    acts(
-        Action::EndProcess(value % 256),
-        What::ProcessEnded(value % 256),
-    )
+    Transition {
+        process: Some(ProcessAction::End(value % 256)),
+        ..acts(UpToThree::one(What::ProcessEnded(value % 256)))
+    }
 }
 
 /// A thread that exits its process removes the newest function registered with atexit and calls it. Without one it ends the process,
@@ -73,15 +80,11 @@ pub(crate) fn goes_on_exiting(
 fn calls_exit_function(func: u32) -> Transition
     ensures { (functions : List ℕ) (value : Option ℕ) → result ≡ goes_on_exiting (func ∷ functions) value }
 {
-    let call = Action::CallAlone {
-        func,
-        arg: 0,
-        kind: FrameKind::ExitFn,
-    };
-    no_next(
-        UpToThree::two(Action::TakeExit, call),
-        UpToThree::one(What::ExitRun(func)),
-    )
+    Transition {
+        own: Some(OwnAction::RunExitFunction(func)),
+        shared: Some(SharedAction::TakeExit),
+        ..acts(UpToThree::one(What::ExitRun(func)))
+    }
 }
 
 // The thread ends the process with the value of exit.
@@ -117,20 +120,19 @@ pub(crate) fn registers_if(
     ensures { transition.new ≡ registers_if may_register next answer func }
 {
     if may_register {
-        *transition = goes_on(
-            next,
-            UpToThree::two(Action::AddExit(func), Action::Write(answer, 0)),
-            UpToThree::none(),
-        );
+        *transition = Transition {
+            writes: UpToThree::one((answer, 0)),
+            shared: Some(SharedAction::AddExit(func)),
+            ..goes_on(next, UpToThree::none())
+        };
     } else {
         let failed = What::Answer {
             call: Caller::AtExit,
             number: 1,
         };
-        *transition = goes_on(
-            next,
-            UpToThree::one(Action::Write(answer, 1)),
-            UpToThree::one(failed),
-        );
+        *transition = Transition {
+            writes: UpToThree::one((answer, 1)),
+            ..goes_on(next, UpToThree::one(failed))
+        };
     }
 }

@@ -3,7 +3,7 @@
 ghost use Rattle.std.specs.Prelude.{◌≡◌, Some, is_some, length, slice_get, true};
 ghost use Rattle.pct_model.specs.World.{Thread};
 ghost use Rattle.pct_model.specs.Chosen.{item_at};
-ghost use Rattle.pct_engine_laws.specs.Fitting.{AllFit};
+ghost use Rattle.pct_engine_laws.specs.Fitting.{Fits};
 ghost use Rattle.pct_engine_laws.specs.SeenSteps.{choices_in, is_ready_in};
 ghost use Rattle.pct_process.specs.FamilyViews.{other_processes};
 ghost use Rattle.pct_process.specs.ProcessViews.{thread_on_slot};
@@ -108,7 +108,7 @@ pub fn takes(
     requires numbers { NewNumbersFit process.now }
     requires room { ForksHaveRoom process.now.slots }
     ensures taken { (t : Thread) → thread_on_slot process.now.slots slot ≡ Some t → Takes around.entry.program.now.script around.entry.program.now.config (other_processes around.entry.family) process.now t choice result transition.new }
-    ensures fits { (t : Thread) → thread_on_slot process.now.slots slot ≡ Some t → result ≡ true → AllFit (length t.frames) (length t.handlers) t.pass transition.new.actions }
+    ensures fits { (t : Thread) → thread_on_slot process.now.slots slot ≡ Some t → result ≡ true → Fits (length t.frames) (length t.handlers) t.pass transition.new.own }
     // This holds of every process.
     ensures places { AreOnPlaces process.now.shared.keys }
 {

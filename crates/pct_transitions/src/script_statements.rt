@@ -14,7 +14,7 @@ use crate::current::{At, next_pc};
 use crate::process_exit::returns_by;
 use crate::program::Program;
 use crate::transitions::goes_on;
-use pct_model::{Action, Dest, Frame, FrameKind, Script, Stmt, Transition, UpToThree, What};
+use pct_model::{Dest, Frame, FrameKind, OwnAction, Script, Stmt, Transition, UpToThree, What};
 use pct_threads::Thread;
 
 /// `nop`, and each statement that only goes to a program counter.
@@ -22,7 +22,7 @@ use pct_threads::Thread;
 pub(crate) fn jumps(next: u32) -> Transition
     ensures { result ≡ jumps next }
 {
-    goes_on(next, UpToThree::none(), UpToThree::none())
+    goes_on(next, UpToThree::none())
 }
 
 /// `emit`: the event has the value.
@@ -30,7 +30,7 @@ pub(crate) fn jumps(next: u32) -> Transition
 pub(crate) fn emits(next: u32, value: u32) -> Transition
     ensures { result ≡ emits next value }
 {
-    goes_on(next, UpToThree::none(), UpToThree::one(What::Emit(value)))
+    goes_on(next, UpToThree::one(What::Emit(value)))
 }
 
 /// `set`: a variable gets a value.
@@ -38,8 +38,10 @@ pub(crate) fn emits(next: u32, value: u32) -> Transition
 pub(crate) fn sets(next: u32, dest: Dest, value: u32) -> Transition
     ensures { result ≡ sets next dest value }
 {
-    let write = Action::Write(dest, value);
-    goes_on(next, UpToThree::one(write), UpToThree::none())
+    Transition {
+        writes: UpToThree::one((dest, value)),
+        ..goes_on(next, UpToThree::none())
+    }
 }
 
 /// `add`: a variable with the value `old` is increased by a value, modulo 2^32.
@@ -55,12 +57,14 @@ pub(crate) fn adds(next: u32, dest: Dest, old: u32, value: u32) -> Transition
 pub(crate) fn calls(next: u32, func: u32, arg: u32) -> Transition
     ensures { result ≡ calls next func arg }
 {
-    let call = Action::Call {
-        func,
-        arg,
-        kind: FrameKind::Call,
-    };
-    goes_on(next, UpToThree::one(call), UpToThree::none())
+    Transition {
+        own: Some(OwnAction::Call {
+            func,
+            arg,
+            kind: FrameKind::Call,
+        }),
+        ..goes_on(next, UpToThree::none())
+    }
 }
 
 /// `end`: of a block, or of the function, which returns 0, in the thread with this record.

@@ -9,7 +9,9 @@ ghost use Rattle.pct_transitions.specs.Positions.{next_at, IsAt};
 use crate::context::Context;
 use crate::current::{At, next_pc};
 use crate::transitions::{acts, goes_on, no_change};
-use pct_model::{Action, SEM_WAIT_POINT, Stmt, Transition, UpToThree, What};
+use pct_model::{
+    OwnAction, SEM_WAIT_POINT, SharedAction, Status, Stmt, Transition, UpToThree, What,
+};
 
 /// The count of the semaphore with this index, by the counts of all semaphores.
 pub(crate) fn count_of(counts: &[u32], sem: u32) -> u32
@@ -23,7 +25,10 @@ pub(crate) fn count_of(counts: &[u32], sem: u32) -> u32
 pub(crate) fn begins_sem_wait(sem: u32) -> Transition
     ensures { result ≡ begins_sem_wait sem }
 {
-    acts(Action::BeginSem(sem), What::Called(SEM_WAIT_POINT))
+    Transition {
+        own: Some(OwnAction::SetStatus(Status::InSem(sem))),
+        ..acts(UpToThree::one(What::Called(SEM_WAIT_POINT)))
+    }
 }
 
 /// A thread that is suspended in sem_wait for the semaphore with this index decrements the count, and returns.
@@ -46,11 +51,13 @@ fn takes_in(context: &Context, at: &At, sem: u32) -> Transition
     ensures { result ≡ takes sem (slice_index context.now.counts.now sem) (StatementIn at.now.frame.now at.now.statement.now) }
 {
     match at.statement {
-        Stmt::SemWait(_) => goes_on(
-            next_pc(at.frame),
-            UpToThree::one(Action::SetCount(sem, count_of(context.counts, sem).saturating_sub(1))),
-            UpToThree::one(What::Taken(sem)),
-        ),
+        Stmt::SemWait(_) => Transition {
+            shared: Some(SharedAction::SetCount(
+                sem,
+                count_of(context.counts, sem).saturating_sub(1),
+            )),
+            ..goes_on(next_pc(at.frame), UpToThree::one(What::Taken(sem)))
+        },
         _ => no_change(),
     }
 }
@@ -60,9 +67,8 @@ fn takes_in(context: &Context, at: &At, sem: u32) -> Transition
 pub(crate) fn posts(next: u32, sem: u32, count: u32) -> Transition
     ensures { result ≡ posts next sem count }
 {
-    goes_on(
-        next,
-        UpToThree::one(Action::SetCount(sem, count.wrapping_add(1))),
-        UpToThree::one(What::Posted(sem)),
-    )
+    Transition {
+        shared: Some(SharedAction::SetCount(sem, count.wrapping_add(1))),
+        ..goes_on(next, UpToThree::one(What::Posted(sem)))
+    }
 }

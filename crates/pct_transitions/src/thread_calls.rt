@@ -12,7 +12,8 @@ use crate::context::Context;
 use crate::current::{At, next_pc};
 use crate::transitions::{acts, goes_on, no_change};
 use pct_model::{
-    Action, Alt, Caller, Dest, JOIN_POINT, NewThread, Stmt, Transition, UpToThree, What,
+    Alt, Caller, Dest, JOIN_POINT, NamedAction, NewThread, OwnAction, Status, Stmt, Transition,
+    UpToThree, What,
 };
 
 // ---- pthread_create
@@ -54,10 +55,9 @@ fn creates(call: &CreateCall, next: u32, id: u32) -> Transition
         arg: call.arg,
     };
     Transition {
-        next: Some(next),
+        writes: UpToThree::two((call.answer, 0), (call.id, id)),
         created: Some(created),
-        actions: UpToThree::two(Action::Write(call.answer, 0), Action::Write(call.id, id)),
-        events: UpToThree::one(What::Created { id, detached }),
+        ..goes_on(next, UpToThree::one(What::Created { id, detached }))
     }
 }
 
@@ -70,11 +70,10 @@ fn fails_to_create(next: u32, answer: Dest) -> Transition
         call: Caller::Create,
         number: 1,
     };
-    goes_on(
-        next,
-        UpToThree::one(Action::Write(answer, 1)),
-        UpToThree::one(failed),
-    )
+    Transition {
+        writes: UpToThree::one((answer, 1)),
+        ..goes_on(next, UpToThree::one(failed))
+    }
 }
 
 // ---- pthread_join
@@ -84,7 +83,10 @@ fn fails_to_create(next: u32, answer: Dest) -> Transition
 pub(crate) fn begins_join(id: u32) -> Transition
     ensures { result ≡ begins_join id }
 {
-    acts(Action::BeginJoin(id), What::Called(JOIN_POINT))
+    Transition {
+        own: Some(OwnAction::SetStatus(Status::Joining(id))),
+        ..acts(UpToThree::one(What::Called(JOIN_POINT)))
+    }
 }
 
 /// A thread that is suspended in pthread_join for the thread with this id returns from it, once its target has ended with a
@@ -128,11 +130,11 @@ fn joins_in(context: &Context, at: &At, id: u32, value: u32) -> Transition
 fn ends_join(next: u32, dest: Dest, id: u32, value: u32) -> Transition
     ensures { result ≡ ends_join next dest id value }
 {
-    goes_on(
-        next,
-        UpToThree::two(Action::EndJoin(id), Action::Write(dest, value)),
-        UpToThree::one(What::Joined(id, value)),
-    )
+    Transition {
+        writes: UpToThree::one((dest, value)),
+        named: Some(NamedAction::EndJoin(id)),
+        ..goes_on(next, UpToThree::one(What::Joined(id, value)))
+    }
 }
 
 // ---- pthread_detach, pthread_self
@@ -142,11 +144,10 @@ fn ends_join(next: u32, dest: Dest, id: u32, value: u32) -> Transition
 pub(crate) fn detaches(next: u32, id: u32) -> Transition
     ensures { result ≡ detaches next id }
 {
-    goes_on(
-        next,
-        UpToThree::one(Action::Detach(id)),
-        UpToThree::one(What::Detached(id)),
-    )
+    Transition {
+        named: Some(NamedAction::Detach(id)),
+        ..goes_on(next, UpToThree::one(What::Detached(id)))
+    }
 }
 
 /// pthread_self of the thread with this id.
@@ -154,9 +155,8 @@ pub(crate) fn detaches(next: u32, id: u32) -> Transition
 pub(crate) fn gets_self(next: u32, dest: Dest, id: u32) -> Transition
     ensures { result ≡ gets_self next dest id }
 {
-    goes_on(
-        next,
-        UpToThree::one(Action::Write(dest, id)),
-        UpToThree::none(),
-    )
+    Transition {
+        writes: UpToThree::one((dest, id)),
+        ..goes_on(next, UpToThree::none())
+    }
 }

@@ -14,8 +14,8 @@ ghost use Rattle.pct_transitions.specs.Positions.{HasRow, IsPosition};
 
 use crate::context::Context;
 use crate::position::Position;
-use crate::transitions::{acts, no_change, no_next};
-use pct_model::{Action, Alt, FrameKind, Reason, Transition, UpToThree, What};
+use crate::transitions::{acts, no_change};
+use pct_model::{Alt, OwnAction, Reason, SharedAction, Transition, UpToThree, What};
 
 /// pthread_exit with a value, or a return from a start routine, which acts as pthread_exit (XSH pthread_create): the thread
 /// begins to end.
@@ -23,10 +23,10 @@ use pct_model::{Action, Alt, FrameKind, Reason, Transition, UpToThree, What};
 pub(crate) fn ends_by_exit(value: u32) -> Transition
     ensures { result ≡ ends_by_exit value }
 {
-    acts(
-        Action::BeginEnd(Reason::Exit(value)),
-        What::EndingExit(value),
-    )
+    Transition {
+        own: Some(OwnAction::BeginEnd(Reason::Exit(value))),
+        ..acts(UpToThree::one(What::EndingExit(value)))
+    }
 }
 
 /// A thread in this context that is ending, and so has no frame, removes its newest cleanup handler and calls it. Without a handler
@@ -56,15 +56,10 @@ pub(crate) fn goes_on_ending(
 fn runs_handler(func: u32, arg: u32) -> Transition
     ensures { (is_last : Bool) (passes : ℕ) (keys : List KeyPlace) (t : Thread) (choice : Choice) (below : List (ℕ × ℕ)) → result ≡ goes_on_ending is_last passes keys t choice ((func, arg) ∷ below) }
 {
-    let call = Action::CallAlone {
-        func,
-        arg,
-        kind: FrameKind::Handler,
-    };
-    no_next(
-        UpToThree::two(Action::PopHandler, call),
-        UpToThree::one(What::HandlerRun(func, arg)),
-    )
+    Transition {
+        own: Some(OwnAction::RunHandler(func, arg)),
+        ..acts(UpToThree::one(What::HandlerRun(func, arg)))
+    }
 }
 
 // The thread has no cleanup handler: it calls the destructor that the choice names, or begins the next pass if keys are due and the
@@ -83,7 +78,10 @@ fn without_handlers(context: &Context, passes: u32, choice: Alt, transition: &mu
             let due = position.keys.due(position.slot);
             let thread = position.thread;
             *transition = if due != 0 && thread.pass < passes {
-                acts(Action::BeginPass, What::PassBegun(thread.pass + 1))
+                Transition {
+                    own: Some(OwnAction::BeginPass),
+                    ..acts(UpToThree::one(What::PassBegun(thread.pass + 1)))
+                }
             } else {
                 ends_thread(context.is_last(), due, end_value(thread.reason))
             };
@@ -120,20 +118,19 @@ fn runs_destructor(pass: u32, key: u32, value: u32, dtor: Option<u32>) -> Transi
     let Some(func) = dtor else {
         return no_change();
     };
-    let call = Action::CallAlone {
-        func,
-        arg: value,
-        kind: FrameKind::Destructor,
-    };
-    no_next(
-        UpToThree::two(Action::TakeKey(key), call),
-        UpToThree::one(What::DtorRun {
+    Transition {
+        own: Some(OwnAction::RunDestructor {
+            key: key,
+            func: func,
+            value: value,
+        }),
+        ..acts(UpToThree::one(What::DtorRun {
             pass,
             key,
             f: func,
             v: value,
-        }),
-    )
+        }))
+    }
 }
 
 // The thread ends with a value, and a number of due keys left; the last thread of a process begins to exit it with 0, as if exit was
@@ -143,15 +140,16 @@ fn ends_thread(is_last: bool, left: u32, value: u32) -> Transition
     ensures { result ≡ ends_thread is_last left value }
 {
     if is_last {
-        no_next(
-            UpToThree::two(Action::MarkEnded, Action::BeginExit(0)),
-            last_events(left, value),
-        )
+        Transition {
+            own: Some(OwnAction::EndLast),
+            shared: Some(SharedAction::BeginExit(0)),
+            ..acts(last_events(left, value))
+        }
     } else {
-        no_next(
-            UpToThree::one(Action::EndThread(value)),
-            end_events(left, value),
-        )
+        Transition {
+            own: Some(OwnAction::EndThread(value)),
+            ..acts(end_events(left, value))
+        }
     }
 }
 

@@ -31,7 +31,7 @@ returns-clause-taken c = λ t at.
     }
 
 pub returns-clause-fits : goal.returns-clause-fits
-returns-clause-fits c = λ t at taken. (c.transition_by.ensures.fits _ t _ (c.new-context.ensures.context t at) (c.requires.room c.args.slot t at)).actions
+returns-clause-fits c = λ t at taken. (c.transition_by.ensures.fits _ t _ (c.new-context.ensures.context t at) (c.requires.room c.args.slot t at)).own
 
 pub returns-then-not-offers-clause-places : goal.returns-then-not-offers-clause-places
 returns-then-not-offers-clause-places c = subst (λ (d : ProcessData). AreOnPlaces d.shared.keys) c.process.view_is (on_places c.process.inside.keys c.sound.ensures)
