@@ -17,6 +17,10 @@ RUNS = {
         "fn main x y\nset y 3\ndo f 0\npthread_cleanup_push h y\npthread_cleanup_push h 5\npthread_cleanup_pop 1\nsem_post s\npthread_exit 2\npthread_cleanup_pop 0\nend\nsem s 0\n",
         "1 go; 1 go; 1 go; 1 go; 1 go; 1 go; 1 go; 1 go; 1 go; 1 go; 1 go; 1 go; 1 go; 1 go; 1 go; 1 go; 1 go; 1 go",
     ),
+    "cancel": (
+        "fn w x\nread\nend\nfn main x t v\npthread_create - t w 0\npthread_cancel t\npthread_join t v\nemit v\nend\n",
+        "1 new 2; 1 go; 1 go; 2 act 0; 2 go; 1 go; 1 go",
+    ),
     "fork": (
         "global g\nmutex m\nglobal k\nfn p x\nemit 1\nend\nfn q x\nemit 2\nend\nfn h x\nend\n"
         "fn main x y r\nset g 4\npthread_mutex_lock m\npthread_key_create - k h\npthread_setspecific k 6\npthread_atfork r p - q\natexit r q\n"
@@ -96,6 +100,8 @@ REPORTS = [
     ("a broadcast of one, and nobody waits", "waits", "1.1 broadcast c 0", "1.1 broadcast c 1"),
     ("a signal is handed to the thread itself", "waits", "1.2 handon c 3", "1.2 handon c 2"),
     ("a thread returns from its wait with another mutex", "waits", "1.3 acquire m\n1.3 done", "1.3 acquire n\n1.3 done"),
+    ("a canceled thread ends with 0", "cancel", "1.2 ended 4294967295", "1.2 ended 0"),
+    ("a join of a canceled thread gets 0", "cancel", "1.1 joined 2 4294967295", "1.1 joined 2 0"),
     ("a handler runs with another argument", "frames", "1.1 handler h 3", "1.1 handler h 5"),
     ("the statement of a handler shows another argument", "frames", "1.1 emit 3", "1.1 emit 5"),
     ("the wrong side of a test", "frames", "1.1 emit 2\n", "1.1 emit 1\n"),
