@@ -21,8 +21,9 @@ to be the one that they lead to, and the views `states` and `choices` have to sh
   refused.
 - Made lists. Each law of events has lists of which it must refuse one event, and none before it. Other lists must be accepted by
   all six.
-- Spoilt runs. Of made runs a line of a view, or an event, is spoilt: the law that is named must refuse that step, and of the events
-  the first one that was changed must be refused. As it is, each run is accepted.
+- Spoilt runs. Of made runs a line of a view, or an event, is spoilt: the law that is named, and no other one, must refuse that step
+  with its sentence, and of the events the first one that was changed must be refused. As it is, each run must be accepted by all
+  laws, and so must be the reports of the vectors of conformance/.
 - Wrong machines. Of each machine of wrong_states.py, which follows the entries of random runs, the first step that any law refuses
   must be refused by the law that is named, with its sentence.
 - Random runs. N runs, 20000 where no number is given, of the scripts of random_scripts.py under random seeds, numbers of passes and
@@ -211,7 +212,7 @@ def made_run(program, name):
 
 
 def try_views_spoilt(programs, count):
-    for law, name, run, number, old, new in VIEWS:
+    for law, sentence, name, run, number, old, new in VIEWS:
         text, report = made_run(programs[0], run)
         step = next(itertools.islice(derived_steps(Script(text), report_in(report)), number - 1, None))
         views = Views(programs[1], text, report_in(report))
@@ -223,7 +224,22 @@ def try_views_spoilt(programs, count):
         texts[places[0]] = texts[places[0]].replace(old, new)
         spoilt = step.between(step.before, views.read(texts))
         count(not broken(step), f"the run of '{name}' is refused: {broken(step)}")
-        count(law in dict(broken(spoilt)), f"{law} does not refuse '{name}', but {broken(spoilt)}")
+        found = broken(spoilt)
+        only = all(other == law for other, _ in found)
+        count(only and any(sentence in why for _, why in found), f"{law} alone does not refuse '{name}' by '{sentence}', but {found}")
+
+
+def try_made_runs(program, count):
+    """The laws accept the made runs, and the reports of the vectors of conformance/ that are of a run."""
+    reports = [(name, *made_run(program, name)) for name in RUNS]
+    for folder in sorted((ROOT / "conformance").iterdir()):
+        report = folder / "report.txt"
+        if report.is_file() and report.read_text().startswith("report 1\n"):
+            reports.append((f"conformance/{folder.name}", (folder / "script.pct").read_text(), report.read_text()))
+    for name, text, report in reports:
+        wrong = [(law, refused(law, report_in(report).events)) for law in LAWS]
+        wrong = [(law, why) for law, why in wrong if why] + list(refused_steps(Script(text), report_in(report)))
+        count(not wrong, f"the run of {name} is refused: {wrong[:3]}")
 
 
 def try_reports_spoilt(program, count):
@@ -287,6 +303,7 @@ def main():
             sys.exit(f"there is no program {program}; ./pct build builds it")
     try_forms(count)
     try_lists(count)
+    try_made_runs(args.program, count)
     try_views_spoilt(programs, count)
     try_reports_spoilt(args.program, count)
     try_machines(args.program, count)

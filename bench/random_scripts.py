@@ -91,7 +91,7 @@ class Scripts:
         out.append("pthread_setcancelstate enable y")
 
     def fork(self, out, depth, kind):
-        out += ["fork r p", "if r", "else", "if p"]
+        out += [self.one("fork r p", "fork r p", "fork r p", "fork p p"), "if r", "else", "if p"]
         if self.chance(0.6):
             out.append("waitpid - p y")
         self.part(out, depth + 1, kind)
