@@ -190,7 +190,7 @@ def try_views(programs, runs, seed, count):
         text, _, report = random_run(programs[0], seed, number * RUNS_OF_A_SCRIPT)
         steps = list(derived_steps(Script(text), report))
         views = Views(programs[1], text, report)
-        start = random.Random(number).randrange(max(1, len(steps) - STATES_IN_A_ROW))
+        start = random.Random(seed * 1_000_003 + number).randrange(max(1, len(steps) - STATES_IN_A_ROW))
         before = views.state(start)
         for length in range(start + 1, min(start + STATES_IN_A_ROW, len(steps)) + 1):
             step, after = steps[length - 1], views.state(length)
