@@ -10,6 +10,8 @@ WRONG = [
     ("RanAll", "a handler runs that was pushed after the thread began to end", "1.1 push h 1; 1.1 ending exit 0; 1.1 handler h 1; 1.1 push g 2; 1.1 handler g 2; 1.1 ended 0"),
     ("RanAll", "the handlers of the thread that forked are not those of the replica", "1.1 push h 1; 1.1 fork 2; 2.1 ending exit 0; 2.1 ended 0"),
     ("RanAll", "a handler that was pushed after the fork runs in the child", "1.1 fork 2; 1.1 push h 1; 2.1 ending exit 0; 2.1 handler h 1; 2.1 ended 0"),
+    ("RanAll", "a handler is popped after the thread began to end, which begins to end again", "1.1 push h 1; 1.1 ending exit 0; 1.1 pop h 1 drop; 1.1 ending exit 0; 1.1 ended 0"),
+    ("RanAll", "a handler runs after the second beginning of the end alone", "1.1 ending exit 0; 1.1 push h 1; 1.1 ending exit 0; 1.1 handler h 1; 1.1 ended 0"),
     ("RanAll", "a thread ends that did not begin to", "1.1 push h 1; 1.1 handler h 1; 1.1 ended 0"),
     ("AfterEnd", "a push after the end", "1.1 create 2 joinable; 1.2 ending exit 0; 1.2 ended 0; 1.2 push h 1"),
     ("AfterEnd", "a second end", "1.1 create 2 joinable; 1.2 ending exit 0; 1.2 ended 0; 1.2 ended 0"),
