@@ -6,10 +6,11 @@ use Rattle.pct_names.proofs.Names.{take_all, true, ◌||◌, ℕ, ◌∙◌, ◌
 use Rattle.std.proofs.lemmas.Bool.{true≢false}
 use Rattle.pct_model.specs.declared.keyword.Keyword.TheVariants as keyword
 use Rattle.pct_model.proofs.Bytes.{same_bytes}
+use Rattle.pct_history.proofs.IllegalEntries.{has_value}
 use Rattle.pct_options.proofs.Configs.{run_has_workers, run_is_within}
 use Rattle.pct_command.specs.declared.words.Job.{Job}
 use Rattle.pct_command.specs.declared.words.Job.TheVariants.{Run, Replay, Check, Points, Demo}
-use Rattle.pct_command.specs.Words.{Asks, HasInput, job_asked, parts_of_job, takes_memory}
+use Rattle.pct_command.specs.Words.{Asks, HasInput, job_asked, parts_of_job}
 
 asked_is : (k : Keyword) (words : List (List ℕ)) → is_asked k words ≡ true → words ≡ keyword_text k ∷ []
 unfolding is_asked
@@ -54,12 +55,8 @@ demo_words (command ∷ text ∷ []) number is = demo_by command text number (by
 demo_words (command ∷ text ∷ next ∷ words) number is = absurd (none-some number is)
 
 -- words with a number
-number_asked : {A : Type 0} (o : Option A) → is_some o ≡ true → (x : A) × (o ≡ Some x)
-number_asked None asked = absurd (false≢true asked)
-number_asked (Some x) asked = (x, refl)
-
 pub demo_asked : (words : List (List ℕ)) → asks_demo words ≡ true → (number : ℕ) × (demo_number words ≡ Some number)
-demo_asked words asked = number_asked (demo_number words) asked
+demo_asked words asked = has_value (demo_number words) asked
 
 -- `demo` needs no input
 pub demo_needs_none : (words : List (List ℕ)) (number : ℕ) → demo_number words ≡ Some number → needs_input words ≡ false
@@ -76,11 +73,6 @@ pub input_is_no_demo : (words : List (List ℕ)) → needs_input words ≡ true 
 input_is_no_demo words needs asked =
     let number = demo_asked words asked in
     true≢false (sym needs ∙ demo_needs_none words number.0 number.1)
-
--- and it takes memory
-pub demo_takes_memory : (words : List (List ℕ)) (number : ℕ) → demo_number words ≡ Some number → takes_memory words ≡ true
-demo_takes_memory words number asked =
-    ap (λ (b : Bool). b || asks_demo words) (demo_needs_none words number asked) ∙ ap (λ (o : Option ℕ). is_some o) asked
 
 -- words that name a job name no other
 pub names_job : (words : List (List ℕ)) (job : Job) → Asks words job → job_asked words ≡ Some job
@@ -145,18 +137,6 @@ points_need_none words asked = ap needs_input (asked_is keyword.Points words ask
 pub points_are_no_demo : (words : List (List ℕ)) → is_asked keyword.Points words ≡ true → asks_demo words ≡ false
 unfolding demo_number
 points_are_no_demo words asked = ap asks_demo (asked_is keyword.Points words asked)
-
-pub points_are_accepted : (words : List (List ℕ)) → is_asked keyword.Points words ≡ true → is_accepted words ≡ true
-unfolding run_options is_asked keyword_text
-points_are_accepted words asked = ap is_accepted (asked_is keyword.Points words asked)
-
--- what the second of two asks
-or_right : (a b : Bool) → b ≡ true → a || b ≡ true
-or_right true b is = refl
-or_right false b is = is
-
-pub demo_is_accepted : (words : List (List ℕ)) → asks_demo words ≡ true → is_accepted words ≡ true
-demo_is_accepted words asked = or_right (needs_input words || is_asked keyword.Points words) (asks_demo words) asked
 
 -- the parts of words that are not accepted
 pub record IsNone (words : List (List ℕ)) : Type 0 where

@@ -30,7 +30,7 @@ same_given s one other reads also = ap (λ (x : Schedule). given_by x one) (sym 
 given_or_fault : (s : Schedule) (given : Config × List Entry) (fault : ℕ × ScheduleWhy) → s ≡ Ok given → s ≡ Err fault → ⊥
 given_or_fault s given fault good bad = absurd cc
 
-verdict_code : (v : Verdict) → code_of_verdict v < 5
+pub verdict_code : (v : Verdict) → code_of_verdict v < 5
 unfolding code_of_verdict
 verdict_code verdict.Complete = omega arith
 verdict_code verdict.Deadlock = omega arith

@@ -1,25 +1,16 @@
 -- Words that do not ask for more than one worker and an input have one answer at the most, since a seed has one schedule.
-use Rattle.pct_names.proofs.Names.{◌<◌, ap, arith, code_of_verdict, Config, Entry, length, List, None, none-some, Option, refl, report, Run}
-use Rattle.pct_names.proofs.Names.{run, RunOptions, Script, script_part, Some, some_pair_parts, Spells, subst, sym, Verdict, verdict_of, ℕ}
-use Rattle.pct_names.proofs.Names.{◌∙◌, ◌≡◌}
-use Rattle.pct_model.specs.declared.stop.Verdict.TheVariants as verdict
+use Rattle.pct_names.proofs.Names.{◌<◌, ap, code_of_verdict, Config, Entry, length, List, None, none-some, Option, refl, report, Run, run}
+use Rattle.pct_names.proofs.Names.{RunOptions, Script, script_part, Some, some_pair_parts, Spells, subst, sym, verdict_of, ℕ, ◌∙◌, ◌≡◌}
 use Rattle.pct_grammar.proofs.Scripts.{spells_one_script}
-use Rattle.pct_shared.specs.Schedules.{SeedSchedule}
-use Rattle.pct_shared.proofs.OneSchedule.{seed_schedule_is_one}
+use Rattle.pct_scheduled_run.specs.SeedSchedules.{SeedSchedule}
+use Rattle.pct_scheduled_run.proofs.OneSchedule.{seed_schedule_is_one}
 use Rattle.pct_command.specs.declared.words.Job.{Job}
 use Rattle.pct_command.specs.declared.words.Job.TheVariants as job
-use Rattle.pct_command.specs.Command.{AnswersAreOne, HasOneWorker, IsReportOf}
+use Rattle.pct_command.specs.Command.{AnswersAreOne, IsReportOf}
 use Rattle.pct_command.specs.Words.{job_asked}
 use Rattle.pct_command.proofs.AskedWords.{run_asked}
-use Rattle.pct_command.proofs.OneOutcome.{by_run, run_of, by_job, Found, Decided, Counted, Spelled, found, no_script, demonstrated_once}
-
-below_five : (v : Verdict) → code_of_verdict v < 5
-unfolding code_of_verdict
-below_five verdict.Complete = omega arith
-below_five verdict.Deadlock = omega arith
-below_five verdict.Budget = omega arith
-below_five (verdict.Undefined why) = omega arith
-below_five verdict.Open = omega arith
+use Rattle.pct_command.proofs.CompleteOutcomes.{verdict_code}
+use Rattle.pct_command.proofs.OneOutcome.{by_run, run_of, by_job, found, found_once}
 
 -- the code of a report is that of a verdict
 run_below_five : (script : Script) (config : Config) (entries : List Entry) (after : Option Run) (reported : Option (List ℕ)) (code : ℕ) (text : List ℕ) → by_run script config entries after reported ≡ Some (code, text) → code < 5
@@ -27,7 +18,7 @@ run_below_five script config entries after None code text is = absurd (none-some
 run_below_five script config entries None (Some told) code text is = absurd (none-some (code, text) is)
 run_below_five script config entries (Some after) (Some told) code text is =
     let v = verdict_of script config after.world (length entries) in
-    subst (λ (n : ℕ). n < 5) (some_pair_parts (code_of_verdict v) code told text is).0 (below_five v)
+    subst (λ (n : ℕ). n < 5) (some_pair_parts (code_of_verdict v) code told text is).0 (verdict_code v)
 
 module _ (words : List (List ℕ)) (input : List ℕ) (script : Script) (spelled : Spells (script_part words input) script) where
   -- the report of a `run` with one worker has the schedule of the seed
@@ -42,34 +33,15 @@ module _ (words : List (List ℕ)) (input : List ℕ) (script : Script) (spelled
       → (code < 5 → IsReportOf asked words input one code text) → (other_code < 5 → IsReportOf asked words input other other_code other_text)
       → ((options : RunOptions) → asked ≡ Some (job.Run options) → options.workers ≡ 1)
       → (code ≡ other_code) × (text ≡ other_text)
-  answer_of_job None one other code other_code text other_text a b reports other_reports lone = absurd (none-some (code, text) a)
-  answer_of_job (Some job.Points) one other code other_code text other_text a b reports other_reports lone = absurd (none-some (code, text) a)
-  answer_of_job (Some (job.Demo number)) one other code other_code text other_text a b reports other_reports lone = absurd (none-some (code, text) a)
-  answer_of_job (Some job.Replay) one other code other_code text other_text a b reports other_reports lone = some_pair_parts code other_code text other_text (sym a ∙ b)
-  answer_of_job (Some job.Check) one other code other_code text other_text a b reports other_reports lone = some_pair_parts code other_code text other_text (sym a ∙ b)
   answer_of_job (Some (job.Run options)) one other code other_code text other_text a b reports other_reports lone =
       let same =
       seed_schedule_is_one script options.config options.seed options.turns one other
       (seeded options one code text a reports (lone options refl)) (seeded options other other_code other_text b other_reports (lone options refl)) in
       some_pair_parts code other_code text other_text (sym a ∙ ap (λ (xs : List Entry). run_of script options.config xs) same ∙ b)
-
-found_answers : (words : List (List ℕ)) (input : List ℕ) (one other : List Entry) (code other_code : ℕ) (text other_text : List ℕ)
-    → Found words input one code text → Found words input other other_code other_text
-    → (code < 5 → IsReportOf (job_asked words) words input one code text) → (other_code < 5 → IsReportOf (job_asked words) words input other other_code other_text) → HasOneWorker words
-    → (code ≡ other_code) × (text ≡ other_text)
-found_answers words input one other code other_code text other_text (Decided a) (Decided b) reports other_reports lone = some_pair_parts code other_code text other_text (sym a ∙ b)
-found_answers words input one other code other_code text other_text (Decided a) (Spelled none script spells b) reports other_reports lone = absurd (none-some (code, text) (sym none ∙ a))
-found_answers words input one other code other_code text other_text (Decided a) (Counted none d) reports other_reports lone = absurd (none-some (code, text) (sym none ∙ a))
-found_answers words input one other code other_code text other_text (Counted none d) (Decided b) reports other_reports lone = absurd (none-some (other_code, other_text) (sym none ∙ b))
-found_answers words input one other code other_code text other_text (Counted none d) (Counted _ e) reports other_reports lone = demonstrated_once words code other_code text other_text d e
-found_answers words input one other code other_code text other_text (Counted none d) (Spelled _ script spells b) reports other_reports lone = absurd (no_script words input other script code other_code text other_text d b)
-found_answers words input one other code other_code text other_text (Spelled none script spells a) (Counted _ e) reports other_reports lone = absurd (no_script words input one script other_code code other_text text e a)
-found_answers words input one other code other_code text other_text (Spelled none script spells a) (Decided b) reports other_reports lone = absurd (none-some (other_code, other_text) (sym none ∙ b))
-found_answers words input one other code other_code text other_text (Spelled none script spells a) (Spelled _ another also b) reports other_reports lone =
-    answer_of_job words input script spells (job_asked words) one other code other_code text other_text
-    a (ap (λ (s : Script). by_job (job_asked words) input other s) (spells_one_script _ script another spells also) ∙ b) reports other_reports (λ options named. lone options (run_asked words options named))
+  answer_of_job _ one other code other_code text other_text a b reports other_reports lone = some_pair_parts code other_code text other_text (sym a ∙ b)
 
 pub answer_is_one : AnswersAreOne
 answer_is_one words input code other_code text other_text lone a b =
-    found_answers words input a.schedule b.schedule code other_code text other_text
-    (found words input a.schedule code text a.is_outcome) (found words input b.schedule other_code other_text b.is_outcome) a.is_report b.is_report lone
+    found_once words input a.schedule b.schedule code other_code text other_text
+    (λ script spells one other. answer_of_job words input script spells (job_asked words) a.schedule b.schedule code other_code text other_text one other a.is_report b.is_report (λ options named. lone options (run_asked words options named)))
+    (found words input a.schedule code text a.is_outcome) (found words input b.schedule other_code other_text b.is_outcome)

@@ -1,43 +1,30 @@
 -- Words, an input and a schedule have one outcome at the most.
-use Rattle.pct_names.proofs.Names.{◌&&◌, [], ap, asks_demo, Bool, canon, code_of_verdict, cond, Config, default_config, Demonstrates, Entry}
-use Rattle.pct_names.proofs.Names.{Err, false, Fault, first_fault, first_illegal, generated_text, illegal_in, is_asked, is_config, is_some}
-use Rattle.pct_names.proofs.Names.{IsCountedRun, le-ltb, length, line_text, List, nat_le, nat_lt, needs_input, None, none-some, Ok, opening}
-use Rattle.pct_names.proofs.Names.{Option, option_and_then, option_map, option_map_or, Outcome, points_text, refl, refused_entry}
-use Rattle.pct_names.proofs.Names.{refused_input, refused_schedule, refused_script, refused_words, report, Run, run, run_from, run_step}
-use Rattle.pct_names.proofs.Names.{same_Some, sched_of, Schedule, schedule_part, Script, script_part, Some, some_pair_parts, Spells, subst}
-use Rattle.pct_names.proofs.Names.{suc, summary_of, sym, true, verdict_of, ℕ, ◌∙◌, ◌∷◌, ◌≡◌, ◌≤◌}
+use Rattle.pct_names.proofs.Names.{ap, asks_demo, Bool, canon, code_of_verdict, Config, default_config, Demonstrates, Entry, Err, false}
+use Rattle.pct_names.proofs.Names.{Fault, first_fault, first_illegal, generated_text, is_asked, is_some, IsCountedRun, le-ltb, le_refl}
+use Rattle.pct_names.proofs.Names.{length, line_text, List, nat_lt, needs_input, None, none-some, Ok, Option, option_map, Outcome}
+use Rattle.pct_names.proofs.Names.{points_text, refl, refused_entry, refused_input, refused_schedule, refused_script, refused_words, report}
+use Rattle.pct_names.proofs.Names.{Run, run, same_Some, sched_of, Schedule, schedule_part, Script, script_part, Some, some_pair_parts}
+use Rattle.pct_names.proofs.Names.{Spells, subst, summary_of, sym, take-length, true, verdict_of, ℕ, ◌∙◌, ◌≡◌, ◌≤◌}
 use Rattle.std.proofs.lemmas.Bool.{lt-ltb}
 use Rattle.pct_model.specs.declared.keyword.Keyword.TheVariants as keyword
 use Rattle.pct_model.specs.Outcome as outcome
+use Rattle.pct_history.proofs.IllegalEntries.{follows-all}
 use Rattle.pct_grammar.proofs.Scripts.{spelled_is_faultless, spells_one_script}
 use Rattle.pct_grammar.proofs.CanonSpells.{canon_spells}
 use Rattle.pct_command.specs.declared.words.Job.{Job}
 use Rattle.pct_command.specs.declared.words.Job.TheVariants as job
 use Rattle.pct_command.specs.Words.{Asks, HasInput, job_asked}
 use Rattle.pct_command.proofs.AskedWords.{has_input, names_job, job_needs_input, points_need_none, demo_needs_none, demo_is_no_points, none_asked, part_of_run, part_of_check}
-use Rattle.pct_demo.proofs.ChosenRuns.{IsChosenRun, chosen_is_one}
+use Rattle.pct_demo.proofs.CountedRuns.{counted_is_one}
 
 -- ---- legal runs
 
--- a legal step followed by a legal run
-after_step : (script : Script) (config : Config) (after : Run) (entries : List Entry) → ((next : Run) → run_from script config next entries ≡ Some after → illegal_in script config next entries ≡ None)
-    → (o : Option Run) → option_and_then (λ next. run_from script config next entries) o ≡ Some after → option_map_or (λ next. option_map suc (illegal_in script config next entries)) o (Some 1) ≡ None
-after_step script config after entries legal None ran = absurd cc
-after_step script config after entries legal (Some next) ran = ap (option_map suc) (legal next ran)
-
 -- no entry of a run is illegal
-legal_run : (script : Script) (config : Config) (r after : Run) (entries : List Entry) → run_from script config r entries ≡ Some after → illegal_in script config r entries ≡ None
-unfolding run_from illegal_in
-legal_run script config r after [] ran = refl
-legal_run script config r after (e ∷ entries) ran = after_step script config after entries (λ next. legal_run script config next after entries) (run_step script config r e) ran
-
-from_cond : {A : Type 0} (b : Bool) (x : Option A) (a : A) → cond b x None ≡ Some a → x ≡ Some a
-from_cond true x a h = h
-from_cond false x a h = absurd cc
-
 run_is_legal : (script : Script) (config : Config) (after : Run) (entries : List Entry) → run script config entries ≡ Some after → first_illegal script config entries ≡ None
-unfolding run
-run_is_legal script config after entries ran = legal_run script config (record { world = opening script; events = [] }) after entries (from_cond (is_config config && nat_le (length entries) config.budget) _ after ran)
+run_is_legal script config after entries ran =
+    let all = take-length entries in
+    (follows-all (record { script = script; config = config; history = entries }) script config entries (length entries)
+    (ap (λ (xs : List Entry). record { script = script; config = config; history = xs }) (sym all)) (le_refl _) (ap (λ (xs : List Entry). is_some (run script config xs)) all ∙ ap is_some ran)).illegal_is
 
 -- ---- the code and the text, by the order of the checks
 
@@ -161,67 +148,47 @@ found words input schedule code text (outcome.Checked o) =
 
 -- ---- and only one
 
--- the number of `demo` has one script, that has one run, and that has one summary
-record IsDemo (number : ℕ) (code : ℕ) (text : List ℕ) : Type 0 where
-  script : Script
-  generated : canon script ≡ generated_text number
-  entries : List Entry
-  after : Run
-  is_run : IsCountedRun script default_config entries after
-  code_is : code ≡ 0
-  text_is : text ≡ summary_of number script default_config entries after
-
-demo_of : (words : List (List ℕ)) (number code : ℕ) (text : List ℕ) (d : Demonstrates words code text) → d.number ≡ number → IsDemo number code text
-demo_of words number code text d same =
-    subst (λ (n : ℕ). IsDemo n code text) same (record { script = d.script; generated = d.generated; entries = d.entries; after = d.after; is_run = d.is_run; code_is = d.code_is; text_is = d.text_is })
-
-same_demo_script : (number : ℕ) (script other : Script) → canon script ≡ generated_text number → canon other ≡ generated_text number → script ≡ other
-same_demo_script number script other one also =
-    spells_one_script (generated_text number) script other
-    (subst (λ (t : List ℕ). Spells t script) one (canon_spells script))
-    (subst (λ (t : List ℕ). Spells t other) also (canon_spells other))
-
-counted_is_chosen : (script : Script) (config : Config) (entries : List Entry) (after : Run) → IsCountedRun script config entries after → IsChosenRun 0 (λ k. k) (λ k. k) script config entries
-counted_is_chosen script config entries after counted = record { after = after; is_run = counted.is_run; is_closed = counted.is_closed; choices = counted.choices }
-
 demos_agree : (number : ℕ) (script : Script) (entries others : List Entry) (after end : Run) → IsCountedRun script default_config entries after → IsCountedRun script default_config others end
     → summary_of number script default_config entries after ≡ summary_of number script default_config others end
 demos_agree number script entries others after end one other =
-    let same = chosen_is_one 0 (λ k. k) (λ k. k) script default_config entries others (counted_is_chosen script default_config entries after one) (counted_is_chosen script default_config others end other) in
+    let same = counted_is_one script default_config entries others after end one other in
     let same_end : after ≡ end = same_Some after end (sym one.is_run ∙ ap (run script default_config) same ∙ other.is_run) in
     ap (λ (xs : List Entry). summary_of number script default_config xs after) same ∙ ap (λ (r : Run). summary_of number script default_config others r) same_end
 
-demo_once : (number code other : ℕ) (text told : List ℕ) → IsDemo number code text → IsDemo number other told → (code ≡ other) × (text ≡ told)
-demo_once number code other text told a b =
-    let same = same_demo_script number b.script a.script b.generated a.generated in (
+-- the number of `demo` has one script, that has one run, and that has one summary
+demonstrated_once : (words : List (List ℕ)) (code other : ℕ) (text told : List ℕ) → Demonstrates words code text → Demonstrates words other told → (code ≡ other) × (text ≡ told)
+demonstrated_once words code other text told a b =
+    let number : a.number ≡ b.number = same_Some a.number b.number (sym a.accepted ∙ b.accepted) in
+    let texts : canon a.script ≡ canon b.script = a.generated ∙ ap generated_text number ∙ sym b.generated in
+    let script = spells_one_script (canon b.script) a.script b.script (subst (λ (t : List ℕ). Spells t a.script) texts (canon_spells a.script)) (canon_spells b.script) in (
       a.code_is ∙ sym b.code_is,
       a.text_is
-          ∙ demos_agree number a.script a.entries b.entries a.after b.after a.is_run (subst (λ (s : Script). IsCountedRun s default_config b.entries b.after) same b.is_run)
-          ∙ ap (λ (s : Script). summary_of number s default_config b.entries b.after) (sym same)
+          ∙ ap (λ (n : ℕ). summary_of n a.script default_config a.entries a.after) number
+          ∙ ap (λ (s : Script). summary_of b.number s default_config a.entries a.after) script
+          ∙ demos_agree b.number b.script a.entries b.entries a.after b.after (subst (λ (s : Script). IsCountedRun s default_config a.entries a.after) script a.is_run) b.is_run
           ∙ sym b.text_is,
     )
 
-pub demonstrated_once : (words : List (List ℕ)) (code other : ℕ) (text told : List ℕ) → Demonstrates words code text → Demonstrates words other told → (code ≡ other) × (text ≡ told)
-demonstrated_once words code other text told a b =
-    demo_once a.number code other text told (demo_of words a.number code text a refl) (demo_of words a.number other told b (same_Some b.number a.number (sym b.accepted ∙ a.accepted)))
-
 -- words that ask for a demo name no job with a script
-pub no_script : (words : List (List ℕ)) (input : List ℕ) (schedule : List Entry) (script : Script) (code other : ℕ) (text told : List ℕ) → Demonstrates words code text → by_job (job_asked words) input schedule script ≡ Some (other, told) → ⊥
+no_script : (words : List (List ℕ)) (input : List ℕ) (schedule : List Entry) (script : Script) (code other : ℕ) (text told : List ℕ) → Demonstrates words code text → by_job (job_asked words) input schedule script ≡ Some (other, told) → ⊥
 no_script words input schedule script code other text told d is =
     none-some (other, told) (sym (ap (λ (o : Option Job). by_job o input schedule script) (names_job words (job.Demo d.number) d.accepted)) ∙ is)
 
-found_once : (words : List (List ℕ)) (input : List ℕ) (schedule : List Entry) (code other : ℕ) (text told : List ℕ) → Found words input schedule code text → Found words input schedule other told → (code ≡ other) × (text ≡ told)
-found_once words input schedule code other text told (Decided a) (Decided b) = some_pair_parts code other text told (sym a ∙ b)
-found_once words input schedule code other text told (Decided a) (Counted none d) = absurd (none-some (code, text) (sym none ∙ a))
-found_once words input schedule code other text told (Counted none d) (Decided b) = absurd (none-some (other, told) (sym none ∙ b))
-found_once words input schedule code other text told (Counted none d) (Counted _ e) = demonstrated_once words code other text told d e
-found_once words input schedule code other text told (Counted none d) (Spelled _ script spells b) = absurd (no_script words input schedule script code other text told d b)
-found_once words input schedule code other text told (Spelled none script spells a) (Counted _ e) = absurd (no_script words input schedule script other code told text e a)
-found_once words input schedule code other text told (Decided a) (Spelled none script spells b) = absurd (none-some (code, text) (sym none ∙ a))
-found_once words input schedule code other text told (Spelled none script spells a) (Decided b) = absurd (none-some (other, told) (sym none ∙ b))
-found_once words input schedule code other text told (Spelled none script spells a) (Spelled _ another also b) =
-    some_pair_parts code other text told (sym a ∙ ap (λ (s : Script). by_job (job_asked words) input schedule s) (spells_one_script _ script another spells also) ∙ b)
+-- two schedules of which the jobs make one answer of each script
+module _ (words : List (List ℕ)) (input : List ℕ) (schedule schedules : List Entry) (code other : ℕ) (text told : List ℕ)
+    (by_jobs : (script : Script) → Spells (script_part words input) script → by_job (job_asked words) input schedule script ≡ Some (code, text) → by_job (job_asked words) input schedules script ≡ Some (other, told) → (code ≡ other) × (text ≡ told)) where
+  pub found_once : Found words input schedule code text → Found words input schedules other told → (code ≡ other) × (text ≡ told)
+  found_once (Decided a) (Decided b) = some_pair_parts code other text told (sym a ∙ b)
+  found_once (Decided a) (Counted none d) = absurd (none-some (code, text) (sym none ∙ a))
+  found_once (Counted none d) (Decided b) = absurd (none-some (other, told) (sym none ∙ b))
+  found_once (Counted none d) (Counted _ e) = demonstrated_once words code other text told d e
+  found_once (Counted none d) (Spelled _ script spells b) = absurd (no_script words input schedules script code other text told d b)
+  found_once (Spelled none script spells a) (Counted _ e) = absurd (no_script words input schedule script other code told text e a)
+  found_once (Decided a) (Spelled none script spells b) = absurd (none-some (code, text) (sym none ∙ a))
+  found_once (Spelled none script spells a) (Decided b) = absurd (none-some (other, told) (sym none ∙ b))
+  found_once (Spelled none script spells a) (Spelled _ another also b) = by_jobs script spells a (ap (λ (s : Script). by_job (job_asked words) input schedules s) (spells_one_script _ script another spells also) ∙ b)
 
 pub outcome_is_one : (words : List (List ℕ)) (input : List ℕ) (schedule : List Entry) (code other : ℕ) (text told : List ℕ) → Outcome words input schedule code text → Outcome words input schedule other told → (code ≡ other) × (text ≡ told)
 outcome_is_one words input schedule code other text told a b =
-    found_once words input schedule code other text told (found words input schedule code text a) (found words input schedule other told b)
+    found_once words input schedule schedule code other text told (λ script spells one also. some_pair_parts code other text told (sym one ∙ also))
+    (found words input schedule code text a) (found words input schedule other told b)

@@ -1,10 +1,10 @@
 -- What is answered is an outcome.
 use Rattle.pct_names.proofs.Names.{◌<◌, [], ap, arith, canon, code_of_verdict, Config, default_config, demo_number, Entry, Err, false}
-use Rattle.pct_names.proofs.Names.{first_illegal, FirstFault, generated_text, is_accepted, is_asked, IsCountedRun, keyword_text, length}
-use Rattle.pct_names.proofs.Names.{line_text, List, needs_input, Ok, Option, option_map, option_map_or, Outcome, ParseWhy, points_text}
-use Rattle.pct_names.proofs.Names.{refl, refused_entry, refused_input, refused_schedule, refused_script, refused_words, report, report_of}
-use Rattle.pct_names.proofs.Names.{Run, run_options, RunOptions, sched_of, schedule_part, ScheduleWhy, Script, script_part, Some, Spells}
-use Rattle.pct_names.proofs.Names.{subst, summary_of, sym, true, Verdict, verdict_of, ℕ, ◌∙◌, ◌∷◌, ◌≡◌, ◌≢◌, ◌≤◌}
+use Rattle.pct_names.proofs.Names.{first_illegal, FirstFault, generated_text, is_accepted, is_asked, keyword_text, length, line_text, List}
+use Rattle.pct_names.proofs.Names.{needs_input, Ok, Option, option_map, option_map_or, Outcome, ParseWhy, points_text, refl, refused_entry}
+use Rattle.pct_names.proofs.Names.{refused_input, refused_schedule, refused_script, refused_words, report, report_of, Run, run_options}
+use Rattle.pct_names.proofs.Names.{RunOptions, sched_of, schedule_part, ScheduleWhy, Script, script_part, Some, Spells, subst, summary_of}
+use Rattle.pct_names.proofs.Names.{sym, true, Verdict, verdict_of, ℕ, ◌∙◌, ◌∷◌, ◌≡◌, ◌≢◌, ◌≤◌}
 use Rattle.pct_model.specs.declared.stop.Verdict.TheVariants as verdict
 use Rattle.pct_model.specs.declared.keyword.Keyword.TheVariants as keyword
 use Rattle.pct_demo.specs.CountedRuns.{IsCountedEngine}
@@ -196,10 +196,6 @@ points-answer words input asked = record {
   is_report = λ below. of-job words Points input [] _ _ asked tt;
 }
 
--- a script and a configuration of equal parts
-script_and_config : {a b : Script} {c d : Config} → a ≡ b → c ≡ d → ◌≡◌ {A = Script × Config} (a, c) (b, d)
-script_and_config first second = cc
-
 -- the summary of an engine that has this run
 pub run-summary : (number : ℕ) (engine : EngineValue) (after : Run) → IsRunOf engine after → summary_of_run number engine ≡ summary_of number engine.script engine.config engine.history after
 run-summary number engine after is_run = ap (λ (o : Option Run). option_map_or (summary_of number engine.script engine.config engine.history) o []) is_run
@@ -208,11 +204,8 @@ run-summary number engine after is_run = ap (λ (o : Option Run). option_map_or 
 pub demo-answer : (words : List (List ℕ)) (input : List ℕ) (number : ℕ) (script : Script) (engine : EngineValue)
     → demo_number words ≡ Some number → canon script ≡ generated_text number → IsCountedEngine script default_config engine → IsAnswer words input 0 (summary_of_run number engine)
 demo-answer words input number script engine asked generated ran =
-    let counted : IsCountedRun engine.script engine.config engine.history ran.after =
-    subst (λ (x : Script × Config). IsCountedRun x.0 x.1 engine.history ran.after) (script_and_config (sym ran.script_is) (sym ran.config_is)) ran.counted in
     let same : summary_of_run number engine ≡ summary_of number script default_config engine.history ran.after =
-    run-summary number engine ran.after counted.is_run
-    ∙ ap (λ (x : Script × Config). summary_of number x.0 x.1 engine.history ran.after) (script_and_config ran.script_is ran.config_is) in
+    ap (summary_of_run number) ran.engine_is ∙ run-summary number (record { script = script; config = default_config; history = engine.history }) ran.after ran.counted.is_run in
     record {
       schedule = [];
       is_outcome = outcome.Demonstrated (record { number = number; accepted = asked; script = script; generated = generated; entries = engine.history; after = ran.after; is_run = ran.counted; code_is = refl; text_is = same });

@@ -4,7 +4,7 @@ ghost use Rattle.std.specs.Prelude.{◌≡◌};
 ghost use Rattle.pct_command.specs.SeedSchedule.{SeedContinuation};
 
 use pct_engine::Engine;
-use pct_shared::{step_alone, stream_of};
+use pct_scheduled_run::{continue_run, stream_of};
 
 // The worker that makes every step of a seeded run. Its number is that of its stream of words.
 const WORKER: u32 = 1;
@@ -15,5 +15,5 @@ pub fn continue_seeded(engine: &mut Engine, seed: u64)
     ensures same { engine.new ≡ record engine.old { history = engine.new.history } }
     ensures run { SeedContinuation engine.old.script engine.old.config seed engine.old.history engine.new.history }
 {
-    step_alone(engine, WORKER, &mut stream_of(seed, WORKER));
+    continue_run(engine, WORKER, &mut stream_of(seed, WORKER));
 }

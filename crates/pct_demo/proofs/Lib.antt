@@ -1,3 +1,2 @@
-pub mod ChosenRuns
 pub mod CountedRuns
 pub mod Summaries

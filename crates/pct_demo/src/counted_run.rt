@@ -1,12 +1,13 @@
 //! The run whose choices are made by the number of its entries.
 
-ghost use Rattle.std.specs.Prelude.{◌≡◌, [], IfOk, IsTrue};
+ghost use Rattle.std.specs.Prelude.{IfOk, IsTrue};
 ghost use Rattle.pct_model.specs.Run.{is_config};
-ghost use Rattle.pct_demo.specs.CountedRuns.{IsCountedEngine};
+ghost use Rattle.pct_demo.specs.CountedRuns.{IsCountedEngine, counts};
 
 use pct_engine::Engine;
 use pct_io::NoMemory;
 use pct_model::{Config, Script};
+use pct_scheduled_run::{Scheduler, continue_run};
 use std::alloc::Global;
 
 // The worker that makes every step.
@@ -21,19 +22,22 @@ pub fn run_counted(alloc: Global, script: Script, config: Config) -> Result<Engi
     ensures { IfOk result (λ engine. IsCountedEngine script config engine) }
 {
     let mut engine = Engine::open(alloc, script, config)?;
-    make_counted_steps(&mut engine);
+    continue_run(&mut engine, WORKER, &mut Counter { made: 0 });
     Ok(engine)
 }
 
-// Makes the steps of a run from its first on, while the verdict is `Open`.
-fn make_counted_steps(engine: &mut Engine)
-    requires { engine.old.history ≡ [] }
-    ensures { IsCountedEngine engine.old.script engine.old.config engine.new }
-{
-    let _verdict = engine.verdict();
-    let mut made = 0;
-    while let Some(entry) = engine.choose(WORKER, made, made) {
-        engine.step(entry).unwrap();
-        made += 1;
+// The scheduler whose two numbers are both the number of its draws so far.
+#[derive(Drop)]
+struct Counter {
+    made: u32,
+}
+
+impl Scheduler for Counter {
+    ghost draws = { λ c. counts c.made };
+
+    fn draw(&mut self) -> (u32, u32) {
+        let made = self.made;
+        self.made = made.wrapping_add(1);
+        (made, made)
     }
 }

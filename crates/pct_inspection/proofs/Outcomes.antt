@@ -31,8 +31,8 @@ continues : (words : List (List ℕ)) (input : List ℕ) (seed : ℕ) (engine : 
     → first_illegal engine.script engine.config entries ≡ illegal → SeedContinuation engine.script engine.config seed (followed illegal entries) engine.history
     → IsInspected words input (code_of_answer (answer.Continued engine illegal)) (text_of_answer (answer.Continued engine illegal))
 continues words input seed engine entries illegal asked has read first continued =
-    let after = continued.after in
-    let is_run : IsRunOf engine after = continued.is_run in
+    let after = continued.whole.after in
+    let is_run : IsRunOf engine after = continued.whole.is_run in
     outcome.Continued (record {
       seed = seed;
       asked = asked;

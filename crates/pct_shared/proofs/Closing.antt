@@ -1,13 +1,14 @@
 -- A host whose passes are all taken in by one: nobody has the turn, and the engine has made the run of the longest history.
-use Rattle.pct_names.proofs.Names.{◌++◌, ◌<◌, [], All, All-cons, All-contains, All-nil, ap, append_cancel_left, arith, Bool, Box, cond}
-use Rattle.pct_names.proofs.Names.{Contains, dec_le, Entry, false, false≢true, filter-append, get_elem?, get_or, inl, inr, length, List}
-use Rattle.pct_names.proofs.Names.{map, nat_eq, None, none-some, refl, same_Some, slice_get, slice_get-get_or, Some, subst, suc, sym, true}
-use Rattle.pct_names.proofs.Names.{zero, ℕ, ℕ_discrete, ◌∙◌, ◌∷◌, ◌≡◌, ◌≤◌, ◌⊎◌}
+use Rattle.pct_names.proofs.Names.{◌++◌, ◌<◌, [], All, All-cons, All-contains, All-nil, ap, arith, Bool, Box, cond, Contains, dec_le, Entry}
+use Rattle.pct_names.proofs.Names.{false, false≢true, get_elem?, get_or, inl, inr, length, List, map, nat_eq, None, none-some, refl}
+use Rattle.pct_names.proofs.Names.{same_Some, slice_get, slice_get-get_or, slice_get_within, Some, subst, suc, sym, true, zero, ℕ}
+use Rattle.pct_names.proofs.Names.{ℕ_discrete, ◌∙◌, ◌∷◌, ◌≡◌, ◌≤◌, ◌⊎◌}
 use Rattle.std.proofs.Common.{append-nil, eq-eqb}
 use mathlib.Core.Option as maybe
 use Rattle.atomic_table.specs.Seated.{TableId}
 use Rattle.atomic_table.specs.Table.{Me, State, Final, Seen}
 use Rattle.pct_engine.specs.EngineStates.{EngineValue}
+use Rattle.pct_scheduled_run.proofs.ContinuedRuns.{get_seam}
 use Rattle.pct_shared.specs.declared.view.Known.{Known}
 use Rattle.pct_shared.specs.declared.view.Opening.{Opening}
 use Rattle.pct_shared.specs.declared.view.View.{View}
@@ -16,9 +17,12 @@ use Rattle.pct_shared.specs.Hosts.{AreAllWorkers, IsClosing, IsWorkerOf}
 use Rattle.pct_shared.specs.Passes.{SharedValue}
 use Rattle.pct_shared.specs.TurnRule.{Agrees, HasSeat, IsHome, IsKnown, IsOld, KeepsTurn, SeatView, Slot}
 use Rattle.pct_shared.specs.TurnSteps.{IsSeatOf}
-use Rattle.pct_shared.specs.Views.{IsPrefix, engine_after, opened, own}
+use Rattle.pct_shared.specs.Views.{engine_after, opened, own}
+use Rattle.pct_shared.proofs.LongerChoices.{get_front}
+use Rattle.pct_shared.proofs.NewWorkers.{at_front_or_end}
 use Rattle.pct_shared.proofs.OwnEntries.{prefix_trans}
-use Rattle.pct_shared.proofs.Seats.{no_view_there, one_view, seat_within}
+use Rattle.pct_shared.proofs.SeatsMade.{none_left, none_past}
+use Rattle.pct_shared.proofs.Seats.{no_view_there, one_view, seat_within, that_view}
 
 -- ---- lists
 
@@ -33,33 +37,14 @@ map_contains f [] i x is = absurd (none-some x is)
 map_contains f (y ∷ xs) zero x is = (0, omega arith, ap f (same_Some y x is))
 map_contains f (y ∷ xs) (suc i) x is = let r = map_contains f xs i x is in (suc r.0, omega (arith, r.1), r.2)
 
--- an item of a list with one more
-at_front_or_end : {A : Type 0} (xs : List A) (y : A) (i : ℕ) (x : A) → slice_get (xs ++ y ∷ []) i ≡ Some x → (slice_get xs i ≡ Some x) ⊎ (y ≡ x)
-at_front_or_end [] y zero x is = inr (same_Some y x is)
-at_front_or_end [] y (suc i) x is = absurd (none-some x is)
-at_front_or_end (z ∷ xs) y zero x is = inl is
-at_front_or_end (z ∷ xs) y (suc i) x is = at_front_or_end xs y i x is
-
-at_front : {A : Type 0} (xs : List A) (y : A) (i : ℕ) (x : A) → slice_get xs i ≡ Some x → slice_get (xs ++ y ∷ []) i ≡ Some x
-at_front [] y i x is = absurd (none-some x is)
-at_front (z ∷ xs) y zero x is = is
-at_front (z ∷ xs) y (suc i) x is = at_front xs y i x is
-
-at_end : {A : Type 0} (xs : List A) (y : A) → slice_get (xs ++ y ∷ []) (length xs) ≡ Some y
-at_end [] y = refl
-at_end (z ∷ xs) y = at_end xs y
-
 -- ---- the numbers of entries
 
 own_first : (number : ℕ) (e : Entry) (entries : List Entry) (b : Bool) → nat_eq e.worker number ≡ b → own number (e ∷ entries) ≡ cond b (e ∷ own number entries) (own number entries)
 own_first number e entries true is = rw is refl
 own_first number e entries false is = rw is refl
 
-some_left : (e : Entry) (entries : List Entry) → e ∷ entries ≡ [] → ⊥
-some_left e entries same = cc
-
 none_left_by : (number : ℕ) (e : Entry) (entries : List Entry) (b : Bool) → nat_eq e.worker number ≡ b → own number (e ∷ entries) ≡ [] → own number entries ≡ []
-none_left_by number e entries true is none = absurd (some_left e (own number entries) (sym (own_first number e entries true is) ∙ none))
+none_left_by number e entries true is none = absurd (none_left e (own number entries) (sym (own_first number e entries true is) ∙ none))
 none_left_by number e entries false is none = sym (own_first number e entries false is) ∙ none
 
 -- the number of a worker
@@ -67,9 +52,9 @@ abbrev IsNumber : ℕ → ℕ → Type 0
 IsNumber workers n = (0 < n) × (n ≤ workers)
 
 number_by : (workers : ℕ) (e : Entry) (entries : List Entry) → ((n : ℕ) → (n ≡ 0) ⊎ (workers < n) → own n (e ∷ entries) ≡ []) → Dec (e.worker ≡ 0) → Dec (e.worker ≤ workers) → IsNumber workers e.worker
-number_by workers e entries none (yes zero_is) within = absurd (some_left e (own e.worker entries) (sym (own_first e.worker e entries true (eq-eqb e.worker e.worker refl)) ∙ none e.worker (inl zero_is)))
+number_by workers e entries none (yes zero_is) within = absurd (none_left e (own e.worker entries) (sym (own_first e.worker e entries true (eq-eqb e.worker e.worker refl)) ∙ none e.worker (inl zero_is)))
 number_by workers e entries none (no some) (yes within) = (omega (arith, some), within)
-number_by workers e entries none (no some) (no far) = absurd (some_left e (own e.worker entries) (sym (own_first e.worker e entries true (eq-eqb e.worker e.worker refl)) ∙ none e.worker (inr (omega (arith, far)))))
+number_by workers e entries none (no some) (no far) = absurd (none_left e (own e.worker entries) (sym (own_first e.worker e entries true (eq-eqb e.worker e.worker refl)) ∙ none e.worker (inr (omega (arith, far)))))
 
 -- where nobody else has an entry, each has the number of a worker
 numbers_of : (workers : ℕ) (entries : List Entry) → ((n : ℕ) → (n ≡ 0) ⊎ (workers < n) → own n entries ≡ []) → All (λ e. IsNumber workers e.worker) entries
@@ -91,9 +76,9 @@ module _ (o : Opening) (s : State Slot SeatView) (holds : KeepsTurn o s) (id : �
   workers = others ++ last ∷ []
 
   -- what a worker knows is known to the pass, or was to one that it took in
-  known_by : (w : Worker) (index : ℕ) → (slice_get others index ≡ Some w) ⊎ (last ≡ w) → (known_of w ≡ v.known) ⊎ Contains v.olds (known_of w)
+  known_by : (w : Worker) (index : ℕ) → (slice_get others index ≡ Some w) ⊎ ((index ≡ length others) × (last ≡ w)) → (known_of w ≡ v.known) ⊎ Contains v.olds (known_of w)
   known_by w index (inl front) = inr (subst (λ (l : List Known). Contains l (known_of w)) (sym olds) (map_contains known_of others index w front))
-  known_by w index (inr end) = inl (ap known_of (sym end) ∙ sym mine)
+  known_by w index (inr end) = inl (ap known_of (sym end.1) ∙ sym mine)
 
   known_to : (index : ℕ) (w : Worker) → slice_get workers index ≡ Some w → (known_of w ≡ v.known) ⊎ Contains v.olds (known_of w)
   known_to index w is = known_by w index (at_front_or_end others last index w is)
@@ -104,10 +89,10 @@ module _ (o : Opening) (s : State Slot SeatView) (holds : KeepsTurn o s) (id : �
 
   -- what is known is known by a worker
   worker_with : (k : Known) → (k ≡ v.known) ⊎ Contains v.olds k → (index : ℕ) × (w : Worker) × (slice_get workers index ≡ Some w) × (known_of w ≡ k)
-  worker_with k (inl is) = (length others, last, at_end others last, sym mine ∙ sym is)
+  worker_with k (inl is) = (length others, last, get_seam others [] last, sym mine ∙ sym is)
   worker_with k (inr old) =
       let found = contains_map known_of others k (subst (λ (l : List Known). Contains l k) olds old) in
-      (found.0, found.1, at_front others last found.0 found.1 found.2, found.3)
+      (found.0, found.1, get_front others (last ∷ []) found.0 (slice_get_within others found.0 found.1 found.2) ∙ found.2, found.3)
 
   -- a pass with a number is this one
   seat_by : (seat : ℕ) (u : View) → HasSeat s.views seat (Some u) → (k : Known) → k.number ≡ suc seat → (k ≡ v.known) ⊎ Contains v.olds k → seat ≡ id
@@ -124,7 +109,7 @@ module _ (o : Opening) (s : State Slot SeatView) (holds : KeepsTurn o s) (id : �
       seat_by seat u at (known_of w.1) w.3 (known_to w.0 w.1 w.2)
 
   view_here : (seat : ℕ) (u : View) → HasSeat s.views seat (Some u) → u ≡ v
-  view_here seat u at = same_Some u v (one_view (get_elem? s.views id) (Some u) (Some v) (subst (λ (n : ℕ). HasSeat s.views n (Some u)) (only_here seat u at) at) there)
+  view_here seat u at = that_view s.views id v there seat u (only_here seat u at) at
 
   free_by : Dec (holds.turn ≡ 0) → holds.turn ≡ 0
   free_by (yes free) = free
@@ -147,11 +132,6 @@ module _ (o : Opening) (s : State Slot SeatView) (holds : KeepsTurn o s) (id : �
   further n few (inl is) = inl is
   further n few (inr far) = inr (omega (arith, few, far))
 
-  none_past : (n : ℕ) (start : IsPrefix (opened o).history holds.history) → own n holds.history ≡ own n (opened o).history → own n start.rest ≡ []
-  none_past n start same =
-      let split : own n holds.history ≡ own n (opened o).history ++ own n start.rest = ap (own n) start.all_is ∙ filter-append (λ (e : Entry). nat_eq e.worker n) (opened o).history start.rest in
-      append_cancel_left (own n (opened o).history) (own n start.rest) [] (sym split ∙ same ∙ sym (append-nil (own n (opened o).history)))
-
   pub closing : IsClosing o workers (engine_after o holds.history)
   closing =
       let longest = holds.seats.longest in
@@ -159,7 +139,7 @@ module _ (o : Opening) (s : State Slot SeatView) (holds : KeepsTurn o s) (id : �
       let agrees = (holds.seats.seated id v there).agrees in
       let start = prefix_trans (opened o).history v.known.seen holds.history agrees.start agrees.seen in
       let few = holds.seats.few in
-      let none : (n : ℕ) → (n ≡ 0) ⊎ (o.workers < n) → own n start.rest ≡ [] = λ n which. none_past n start (holds.seats.others n (further n few which)) in
+      let none : (n : ℕ) → (n ≡ 0) ⊎ (o.workers < n) → own n start.rest ≡ [] = λ n which. none_past n (opened o).history holds.history start (holds.seats.others n (further n few which)) in
       record {
         engine_is = refl;
         each = λ k d within. worker_of (get_or workers k d) (agrees_by (known_of (get_or workers k d)) (known_to k (get_or workers k d) (slice_get-get_or workers k d within)));

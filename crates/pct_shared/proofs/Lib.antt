@@ -1,11 +1,9 @@
-pub mod Words
 pub mod OwnEntries
 pub mod Agreement
 pub mod Seats
 pub mod TurnTaken
 pub mod SeatsMade
 pub mod TurnAllowed
-pub mod ChosenRuns
 pub mod ChosenWorkers
 pub mod TurnUsed
 pub mod PassTurns
@@ -13,8 +11,6 @@ pub mod Closing
 pub mod NewWorkers
 pub mod Working
 pub mod Sent
-pub mod WholeRuns
-pub mod OneSchedule
 pub mod RisingNumbers
 pub mod LongerChoices
 pub mod WorkedRuns

@@ -1,37 +1,38 @@
 -- Entries that were chosen, in histories that grow.
-use Rattle.pct_names.proofs.Names.{◌*◌, ◌+◌, ◌++◌, ◌<◌, [], All, ap, arith, Config, Entry, get_or, get_or-append-add, length, List, refl}
-use Rattle.pct_names.proofs.Names.{Run, run, Script, slice_get, slice_get-get_or, Some, subst, suc, sym, take-append-le, zero, ℕ, ◌∙◌, ◌∷◌}
-use Rattle.pct_names.proofs.Names.{◌≡◌}
+use Rattle.pct_names.proofs.Names.{◌+◌, ◌++◌, ◌<◌, [], All, ap, arith, Config, Entry, get_or, get_or-append-add, length, List, refl, Run}
+use Rattle.pct_names.proofs.Names.{run, Script, slice_get, slice_get-get_or, Some, subst, suc, sym, take-append-le, zero, ℕ, ◌∙◌, ◌∷◌, ◌≡◌}
 use Rattle.std.proofs.Common.{length-append}
-use Rattle.rand_pcg.specs.Lcg.{Lcg}
-use Rattle.pct_shared.specs.Streams.{AreChosenBy, IsChosenAt, word_at}
+use Rattle.pct_scheduled_run.specs.ScheduledRuns.{AreChosenBy, IsChosenAt}
+use Rattle.pct_scheduled_run.proofs.WholeRuns.{first_run}
 use Rattle.pct_shared.specs.Views.{IsPrefix}
 use Rattle.pct_shared.proofs.ChosenWorkers.{chosen-worker}
-use Rattle.pct_shared.proofs.WholeRuns.{first_run}
 
-get_front : {A : Type 0} (xs ys : List A) (k : ℕ) → k < length xs → slice_get (xs ++ ys) k ≡ slice_get xs k
+pub get_front : {A : Type 0} (xs ys : List A) (k : ℕ) → k < length xs → slice_get (xs ++ ys) k ≡ slice_get xs k
 get_front [] ys k within = absurd (omega (arith, within))
 get_front (x ∷ xs) ys zero within = refl
 get_front (x ∷ xs) ys (suc k) within = get_front xs ys k (omega (arith, within))
 
-chosen_with_more : (words : Lcg) (worker : ℕ) (script : Script) (config : Config) (entries rest : List Entry) (place turn : ℕ) → place < length entries → IsChosenAt words worker script config entries place turn → IsChosenAt words worker script config (entries ++ rest) place turn
-chosen_with_more words worker script config entries rest place turn within chosen_at before is =
+-- an entry that was chosen is so in each history that begins with its own
+pub chosen_with_more : (draws : ℕ → ℕ × ℕ) (worker : ℕ) (script : Script) (config : Config) (entries rest : List Entry) (place turn : ℕ) → place < length entries
+    → IsChosenAt draws worker script config entries place turn → IsChosenAt draws worker script config (entries ++ rest) place turn
+chosen_with_more draws worker script config entries rest place turn within chosen_at before is =
     get_front entries rest place within
     ∙ chosen_at before (ap (run script config) (sym (take-append-le place entries rest (omega (arith, within)))) ∙ is)
 
--- an entry that was chosen is so in each history that begins with its own
-pub chosen_in_longer : (words : Lcg) (worker : ℕ) (script : Script) (config : Config) (xs ys : List Entry) (place turn : ℕ) → IsPrefix xs ys → place < length xs → IsChosenAt words worker script config xs place turn → IsChosenAt words worker script config ys place turn
-chosen_in_longer words worker script config xs ys place turn front within chosen_at =
-    subst (λ (entries : List Entry). IsChosenAt words worker script config entries place turn) (sym front.all_is) (chosen_with_more words worker script config xs front.rest place turn within chosen_at)
+pub chosen_in_longer : (draws : ℕ → ℕ × ℕ) (worker : ℕ) (script : Script) (config : Config) (xs ys : List Entry) (place turn : ℕ) → IsPrefix xs ys → place < length xs
+    → IsChosenAt draws worker script config xs place turn → IsChosenAt draws worker script config ys place turn
+chosen_in_longer draws worker script config xs ys place turn front within chosen_at =
+    subst (λ (entries : List Entry). IsChosenAt draws worker script config entries place turn) (sym front.all_is) (chosen_with_more draws worker script config xs front.rest place turn within chosen_at)
 
 -- the entries after the first ones of a run have the number of the worker that chose them
-pub numbers_after : (words : Lcg) (worker : ℕ) (script : Script) (config : Config) (begun rest : List Entry) (end : Run) → run script config (begun ++ rest) ≡ Some end → AreChosenBy words worker script config (length begun) (begun ++ rest) → All (λ e. e.worker ≡ worker) rest
-numbers_after words worker script config begun rest end is choices k d within =
+pub numbers_after : (draws : ℕ → ℕ × ℕ) (worker : ℕ) (script : Script) (config : Config) (begun rest : List Entry) (end : Run) → run script config (begun ++ rest) ≡ Some end
+    → AreChosenBy draws worker script config (length begun) (begun ++ rest) → All (λ e. e.worker ≡ worker) rest
+numbers_after draws worker script config begun rest end is choices k d within =
     let entries = begun ++ rest in
     let place = length begun + k in
     let inside : place < length entries = omega (arith, within, length-append begun rest) in
     let before = first_run script config entries end place is (omega (arith, inside)) in
-    chosen-worker script config before.0.world worker (word_at words (2 * k)) (word_at words (2 * k + 1)) (get_or rest k d)
+    chosen-worker script config before.0.world worker (draws k).0 (draws k).1 (get_or rest k d)
     (sym (choices k inside before.0 before.1)
     ∙ slice_get-get_or entries place d inside
     ∙ ap (λ (e : Entry). Some e) (get_or-append-add begun rest k d))

@@ -8,14 +8,11 @@ use Rattle.pct_shared.specs.Hosts.{IsNewWorker}
 use Rattle.pct_shared.specs.Passes.{SharedValue}
 use Rattle.pct_shared.specs.TurnRule.{KeepsTurn, SeatView, Slot}
 use Rattle.pct_shared.specs.Views.{new_view, next_view, without_next}
+use Rattle.pct_shared.proofs.SeatsMade.{further}
 use Rattle.pct_shared.proofs.TurnAllowed.{splits_allowed}
 
-further : {P Q : Type 0} (j n : ℕ) → P ⊎ ((j ≡ n) × Q) → P ⊎ ((suc j ≡ suc n) × Q)
-further j n (inl p) = inl p
-further j n (inr q) = inr (ap suc q.0, q.1)
-
 -- an item of a list with one more
-at_front_or_end : {A : Type 0} (xs : List A) (y : A) (i : ℕ) (x : A) → slice_get (xs ++ y ∷ []) i ≡ Some x → (slice_get xs i ≡ Some x) ⊎ ((i ≡ length xs) × (y ≡ x))
+pub at_front_or_end : {A : Type 0} (xs : List A) (y : A) (i : ℕ) (x : A) → slice_get (xs ++ y ∷ []) i ≡ Some x → (slice_get xs i ≡ Some x) ⊎ ((i ≡ length xs) × (y ≡ x))
 at_front_or_end [] y zero x is = inr (refl, same_Some y x is)
 at_front_or_end [] y (suc i) x is = absurd (none-some x is)
 at_front_or_end (z ∷ xs) y zero x is = inl is

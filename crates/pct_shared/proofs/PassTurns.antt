@@ -15,12 +15,7 @@ turn_busy v found me a b rests some missed = record {
   after = missing_view v found;
   seat = missed.after_is;
   turn = record { known = refl; misses = refl; found_is = refl; some = some; within = missed.within; another = missed.another; alone = missed.alone };
-  takes = refl;
-  not_holding = rests;
-  opening = refl;
-  number = refl;
-  olds = refl;
-  made = refl;
+  kept = record { opening = refl; number = refl; olds = refl; made = refl; at_rest = (rests, rests); takes = refl };
 }
 
 -- a pass at rest
@@ -34,13 +29,10 @@ module _ (o : Opening) (number : ℕ) (me then : Me Slot SeatView) (rest : IsAtR
   view_then = ap (λ (m : Me Slot SeatView). view_on o m.0) taken.seat
 
   pub rests_after : IsAtRest number o then
-  rests_after = at_rest o number then taken.after taken.seat (taken.number ∙ rest.number_is) rest.few taken.not_holding (taken.olds ∙ rest.none_old)
-
-  kept_after : KeptByTurn (view_on o me.0) taken.after
-  kept_after = record { opening = taken.opening; number = taken.number; olds = taken.olds; made = taken.made; at_rest = (rest.not_holding, taken.not_holding); takes = taken.takes }
+  rests_after = at_rest o number then taken.after taken.seat (taken.kept.number ∙ rest.number_is) rest.few taken.kept.at_rest.1 (taken.kept.olds ∙ rest.none_old)
 
   pub kept_by_turn : KeptByTurn (view_on o me.0) (view_on o then.0)
-  kept_by_turn = subst (KeptByTurn (view_on o me.0)) (sym view_then) kept_after
+  kept_by_turn = subst (KeptByTurn (view_on o me.0)) (sym view_then) taken.kept
 
   pub turn_after : IsTurn (view_on o me.0) (view_on o then.0) a b result
   turn_after = subst (λ (w : View). IsTurn (view_on o me.0) w a b result) (sym view_then) taken.turn

@@ -14,18 +14,6 @@ pub rise_wider : (low high more : ℕ) (ns : List ℕ) → high ≤ more → Ris
 rise_wider low high more [] wider rise = omega (arith, wider, rise)
 rise_wider low high more (n ∷ ns) wider rise = (rise.0, rise_wider n high more ns wider rise.1)
 
-rise_bounds : (low high : ℕ) (ns : List ℕ) → RiseWithin low high ns → low ≤ high
-rise_bounds low high [] rise = rise
-rise_bounds low high (n ∷ ns) rise =
-    let rest = rise_bounds n high ns rise.1 in
-    omega (arith, rise.0, rest)
-
--- each of them is within the bound
-pub rise_each : (low high : ℕ) (ns : List ℕ) (k d : ℕ) → RiseWithin low high ns → k < length ns → get_or ns k d ≤ high
-rise_each low high [] k d rise within = absurd (omega (arith, within))
-rise_each low high (n ∷ ns) zero d rise within = rise_bounds n high ns rise.1
-rise_each low high (n ∷ ns) (suc k) d rise within = rise_each n high ns k d rise.1 (omega (arith, within))
-
 -- numbers that are counted are known by their index
 pub counted_each : (first : ℕ) (ns : List ℕ) (k d : ℕ) → counted_from first ns → k < length ns → get_or ns k d ≡ first + k
 counted_each first [] k d counted within = absurd (omega (arith, within))

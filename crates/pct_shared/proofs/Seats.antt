@@ -5,14 +5,19 @@ use Rattle.pct_names.proofs.Names.{◌≤◌, ◌⊎◌}
 use Rattle.std.proofs.Common.{length-set}
 use Rattle.std.proofs.Math.Nat.{zero-add}
 use mathlib.Core.Option as maybe
+use Rattle.atomic_table.specs.Table.{Me}
 use Rattle.atomic_table.proofs.Lists.{at_set, set_here, set_else}
 use Rattle.pct_shared.specs.declared.view.Opening.{Opening}
 use Rattle.pct_shared.specs.declared.view.Known.{Known}
 use Rattle.pct_shared.specs.declared.view.View.{View}
 use Rattle.pct_shared.specs.Views.{own}
-use Rattle.pct_shared.specs.TurnRule.{Agrees, AreSeated, HasSeat, IsKnown, IsOld, IsSeated, IsTakenIn, SeatView, known_count}
+use Rattle.pct_shared.specs.TurnRule.{Agrees, AreSeated, HasSeat, IsKnown, IsOld, IsSeated, IsTakenIn, SeatView, Slot, known_count}
 
 -- ---- seats
+
+-- a seat with this view and these slots
+abbrev pub seat_with : SeatView → List (ℕ × Slot) → Me Slot SeatView
+seat_with view slots = (view, slots)
 
 -- a seat is within the list
 pub seat_within : {A : Type 0} (xs : List A) (i : ℕ) (x : A) → get_elem? xs i ≡ maybe.some x → i < length xs
@@ -23,6 +28,9 @@ seat_within (y ∷ xs) (suc i) x is = let more = seat_within xs i x is in omega 
 -- what is on a seat is one view
 pub one_view : {A : Type 0} (o : maybe.Option A) (x y : A) → o ≡ maybe.some x → o ≡ maybe.some y → x ≡ y
 one_view o x y is other = maybe.some-injective x y (sym is ∙ other)
+
+pub that_view : (seats : List SeatView) (id : ℕ) (v : View) → HasSeat seats id (Some v) → (seat : ℕ) (u : View) → seat ≡ id → HasSeat seats seat (Some u) → u ≡ v
+that_view seats id v there seat u is seated = same_Some u v (one_view (get_elem? seats id) (Some u) (Some v) (subst (λ (n : ℕ). HasSeat seats n (Some u)) is seated) there)
 
 pub no_view_there : (seats : List SeatView) (seat : ℕ) (v : View) → HasSeat seats seat (Some v) → HasSeat seats seat None → ⊥
 no_view_there seats seat v there spent = none-some v (one_view (get_elem? seats seat) None (Some v) spent there)
@@ -83,16 +91,12 @@ module _ (seats : List SeatView) (id : ℕ) (v w : View) (there : HasSeat seats 
   pub here : HasSeat then id (Some w)
   here = set_here seats id (Some w) (seat_within seats id (Some v) there)
 
-  -- the view on the seat
-  that_view : (seat : ℕ) (u : View) → seat ≡ id → HasSeat seats seat (Some u) → u ≡ v
-  that_view seat u is seated = same_Some u v (one_view (get_elem? seats id) (Some u) (Some v) (subst (λ (n : ℕ). HasSeat seats n (Some u)) is seated) there)
-
   taken_by : (k : Known) (taken : IsTakenIn seats k) → Dec (taken.seat ≡ id) → IsTakenIn then k
   taken_by k taken (yes is) = record {
     seat = id;
     view = w;
     seated = here;
-    old = subst (λ (l : List Known). Contains l k) (ap (λ (u : View). u.olds) (that_view taken.seat taken.view is taken.seated) ∙ sym same.olds) taken.old;
+    old = subst (λ (l : List Known). Contains l k) (ap (λ (u : View). u.olds) (that_view seats id v there taken.seat taken.view is taken.seated) ∙ sym same.olds) taken.old;
   }
   taken_by k taken (no other) = record { seat = taken.seat; view = taken.view; seated = seat_kept seats id taken.seat (Some w) (Some taken.view) other taken.seated; old = taken.old }
 
@@ -102,7 +106,7 @@ module _ (seats : List SeatView) (id : ℕ) (v w : View) (there : HasSeat seats 
 
   -- what a pass or one that was taken in knows goes on to be known where the pass knows the same
   known_by : (k : Known) (seat : ℕ) (u : View) → w.known ≡ v.known → HasSeat seats seat (Some u) → k ≡ u.known → Dec (seat ≡ id) → IsKnown then k
-  known_by k seat u knows seated is (yes at) = inl (id, w, here, is ∙ ap (λ (x : View). x.known) (that_view seat u at seated) ∙ sym knows)
+  known_by k seat u knows seated is (yes at) = inl (id, w, here, is ∙ ap (λ (x : View). x.known) (that_view seats id v there seat u at seated) ∙ sym knows)
   known_by k seat u knows seated is (no other) = inl (seat, u, seat_kept seats id seat (Some w) (Some u) other seated, is)
 
   pub known_kept : (k : Known) → w.known ≡ v.known → IsKnown seats k → IsKnown then k

@@ -4,7 +4,6 @@ use Rattle.pct_names.proofs.Names.{Contains, Contains-append_left, Contains-appe
 use Rattle.pct_names.proofs.Names.{get_elem?, inl, inr, length, List, nat_eq, None, none-some, refl, same_Some, set, Some, subst, suc, sym}
 use Rattle.pct_names.proofs.Names.{true, zero, ℕ, ℕ_discrete, ◌∙◌, ◌∷◌, ◌≡◌, ◌≢◌, ◌≤◌, ◌⊎◌}
 use Rattle.std.proofs.Common.{append-nil, length-set, length-append}
-use Rattle.std.proofs.Math.Nat.{zero-add}
 use mathlib.Core.Option as maybe
 use Rattle.atomic_table.proofs.Lists.{at_set, at_longer, set_here, set_else}
 use Rattle.pct_shared.specs.declared.view.Opening.{Opening}
@@ -14,11 +13,11 @@ use Rattle.pct_shared.specs.Views.{IsPrefix, first_view, known_first, new_view, 
 use Rattle.pct_shared.specs.TurnRule.{AreSeated, HasSeat, IsKnown, IsOld, IsSeated, IsTakenIn, SeatView, known_count}
 use Rattle.pct_shared.proofs.OwnEntries.{places-append, prefix_refl, prefix_trans}
 use Rattle.pct_shared.proofs.Agreement.{agrees_first}
-use Rattle.pct_shared.proofs.Seats.{IsSamePass, count_of, count_set, known_count-cons, known_kept, no_view_there, old_kept, one_view, seats_changed, seat_within}
+use Rattle.pct_shared.proofs.Seats.{IsSamePass, count_of, count_set, known_count-cons, known_kept, no_view_there, old_kept, seats_changed, seat_within, that_view}
 
 -- ---- a worker without entries
 
-none_left : (e : Entry) (entries : List Entry) → e ∷ entries ≡ [] → ⊥
+pub none_left : (e : Entry) (entries : List Entry) → e ∷ entries ≡ [] → ⊥
 none_left e entries same = cc
 
 places_none_by : (number at : ℕ) (e : Entry) (entries : List Entry) (b : Bool) → nat_eq e.worker number ≡ b → own number (e ∷ entries) ≡ [] → (own number entries ≡ [] → places_from number (suc at) entries ≡ []) → places_from number at (e ∷ entries) ≡ []
@@ -29,19 +28,22 @@ places_none : (number at : ℕ) (entries : List Entry) → own number entries �
 places_none number at [] none = refl
 places_none number at (e ∷ entries) none = places_none_by number at e entries (nat_eq e.worker number) refl none (places_none number (suc at) entries)
 
--- a worker that made no entry past the start of a history has no place there either
-same_places : (number : ℕ) (start history : List Entry) → IsPrefix start history → own number history ≡ own number start → places number history ≡ places number start
-same_places number start history front same =
+-- a worker that made no entry past the start of a history has none in the rest, and no place there
+pub none_past : (number : ℕ) (start history : List Entry) (front : IsPrefix start history) → own number history ≡ own number start → own number front.rest ≡ []
+none_past number start history front same =
     let split : own number history ≡ own number start ++ own number front.rest = ap (own number) front.all_is ∙ filter-append (λ (e : Entry). nat_eq e.worker number) start front.rest in
-    let none : own number front.rest ≡ [] = append_cancel_left (own number start) (own number front.rest) [] (sym split ∙ same ∙ sym (append-nil (own number start))) in
+    append_cancel_left (own number start) (own number front.rest) [] (sym split ∙ same ∙ sym (append-nil (own number start)))
+
+pub same_places : (number : ℕ) (start history : List Entry) → IsPrefix start history → own number history ≡ own number start → places number history ≡ places number start
+same_places number start history front same =
     ap (places number) front.all_is
     ∙ places-append number 0 start front.rest
-    ∙ ap (λ (l : List ℕ). places number start ++ l) (places_none number (0 + length start) front.rest none)
+    ∙ ap (λ (l : List ℕ). places number start ++ l) (places_none number (0 + length start) front.rest (none_past number start history front same))
     ∙ append-nil (places number start)
 
 -- ---- lists
 
-further : {P Q : Type 0} (j n : ℕ) → P ⊎ ((j ≡ n) × Q) → P ⊎ ((suc j ≡ suc n) × Q)
+pub further : {P Q : Type 0} (j n : ℕ) → P ⊎ ((j ≡ n) × Q) → P ⊎ ((suc j ≡ suc n) × Q)
 further j n (inl p) = inl p
 further j n (inr q) = inr (ap suc q.0, q.1)
 
@@ -55,12 +57,6 @@ at_end (x ∷ xs) a b (suc j) e = further j (length xs) (at_end xs a b j e)
 none_made : (n : ℕ) → ¬ (n ≢ 0) → n ≡ 0
 none_made zero some = refl
 none_made (suc n) some = absurd (some (λ is. omega (arith, is)))
-
-plus_zero : (n : ℕ) → n + 0 ≡ n
-plus_zero n = omega arith
-
-plus_one : (n : ℕ) → n + 1 ≡ suc n
-plus_one n = omega arith
 
 -- ---- the split
 
@@ -89,7 +85,7 @@ module _ (o : Opening) (turn : ℕ) (history : List Entry) (newest : ℕ) (seats
   none_splits some seat u seated = none_by some seat u (at_set seats id seat (Some (without_next v)) (Some u) seated)
 
 count_more : (seats : List SeatView) (x : SeatView) → known_count (seats ++ x ∷ []) ≡ known_count seats + count_of x
-count_more [] x = known_count-cons x [] ∙ plus_zero (count_of x) ∙ sym (zero-add (count_of x))
+count_more [] x = omega (arith, known_count-cons x [])
 count_more (z ∷ seats) x = let more = count_more seats x in omega (arith, known_count-cons z (seats ++ x ∷ []), known_count-cons z seats, more)
 
 -- one pass more
@@ -116,7 +112,7 @@ module _ (o : Opening) (turn : ℕ) (history : List Entry) (newest number : ℕ)
         number = next;
         agrees = agrees_first o history number start same (same_places number (opened o).history history start same);
         holding = λ holds. absurd (false≢true holds);
-        made = λ some. (refl, next ∙ sym (length-append seats (Some (new_view o number) ∷ []) ∙ plus_one (length seats)));
+        made = λ some. let longer : length more ≡ length seats + 1 = length-append seats (Some (new_view o number) ∷ []) in (refl, omega (arith, next, longer));
         olds = All-nil (IsOld o history more);
       }
 
@@ -242,22 +238,18 @@ module _ (o : Opening) (turn : ℕ) (history : List Entry) (newest : ℕ) (seats
   seated_outer seat u (inl (is, view)) = absurd (none-some u view)
   seated_outer seat u (inr (apart_from, seated)) = seated_inner seat u (at_set seats id seat (Some both) (Some u) seated)
 
-  -- what a seat had before
-  view_at : (at : ℕ) (x : View) (seat : ℕ) (u : View) → HasSeat seats at (Some x) → seat ≡ at → HasSeat seats seat (Some u) → u ≡ x
-  view_at at x seat u has is seated = same_Some u x (one_view (get_elem? seats at) (Some u) (Some x) (subst (λ (n : ℕ). HasSeat seats n (Some u)) is seated) has)
-
   taken_by : (k : Known) (taken : IsTakenIn seats k) → Dec (taken.seat ≡ id) → Dec (taken.seat ≡ other) → IsTakenIn seats_then k
   taken_by k taken (yes is) either = record {
     seat = id;
     view = both;
     seated = here_both;
-    old = Contains-append_right (w.known ∷ w.olds) v.olds k (subst (λ (u : View). Contains u.olds k) (view_at id v taken.seat taken.view there is taken.seated) taken.old);
+    old = Contains-append_right (w.known ∷ w.olds) v.olds k (subst (λ (u : View). Contains u.olds k) (that_view seats id v there taken.seat taken.view is taken.seated) taken.old);
   }
   taken_by k taken (no not_id) (yes is) = record {
     seat = id;
     view = both;
     seated = here_both;
-    old = Contains-append_right (w.known ∷ []) (w.olds ++ v.olds) k (Contains-append_left w.olds v.olds k (subst (λ (u : View). Contains u.olds k) (view_at other w taken.seat taken.view others is taken.seated) taken.old));
+    old = Contains-append_right (w.known ∷ []) (w.olds ++ v.olds) k (Contains-append_left w.olds v.olds k (subst (λ (u : View). Contains u.olds k) (that_view seats other w others taken.seat taken.view is taken.seated) taken.old));
   }
   taken_by k taken (no not_id) (no not_other) = record { seat = taken.seat; view = taken.view; seated = apart taken.seat (Some taken.view) not_id not_other taken.seated; old = taken.old }
 
@@ -269,8 +261,8 @@ module _ (o : Opening) (turn : ℕ) (history : List Entry) (newest : ℕ) (seats
   other_taken k is = record { seat = id; view = both; seated = here_both; old = (0, omega arith, sym is) }
 
   known_by : (k : Known) (seat : ℕ) (u : View) → HasSeat seats seat (Some u) → k ≡ u.known → Dec (seat ≡ id) → Dec (seat ≡ other) → IsKnown seats_then k
-  known_by k seat u seated is (yes at) either = inl (id, both, here_both, is ∙ ap (λ (x : View). x.known) (view_at id v seat u there at seated))
-  known_by k seat u seated is (no not_id) (yes at) = inr (other_taken k (is ∙ ap (λ (x : View). x.known) (view_at other w seat u others at seated)))
+  known_by k seat u seated is (yes at) either = inl (id, both, here_both, is ∙ ap (λ (x : View). x.known) (that_view seats id v there seat u at seated))
+  known_by k seat u seated is (no not_id) (yes at) = inr (other_taken k (is ∙ ap (λ (x : View). x.known) (that_view seats other w others seat u at seated)))
   known_by k seat u seated is (no not_id) (no not_other) = inl (seat, u, apart seat (Some u) not_id not_other seated, is)
 
   known_stays : (k : Known) → IsKnown seats k → IsKnown seats_then k

@@ -1,7 +1,7 @@
 -- The steps on the table of a host keep the rule of the turn.
-use Rattle.pct_names.proofs.Names.{◌++◌, ◌<◌, [], ap, arith, Bool, Box, drop, Entry, eqb, false, false≢true, get_elem?, inl, inr, length}
-use Rattle.pct_names.proofs.Names.{List, map, None, refl, same_Some, set, slice_index, Some, subst, suc, sym, true, ℕ, ℕ_discrete, ◌∙◌, ◌∷◌}
-use Rattle.pct_names.proofs.Names.{◌≡◌, ◌≢◌}
+use Rattle.pct_names.proofs.Names.{◌++◌, ◌<◌, [], ap, arith, Bool, Box, drop-append_seam, Entry, eqb, false, false≢true, get_elem?, inl}
+use Rattle.pct_names.proofs.Names.{inr, length, List, map, None, refl, same_Some, set, slice_index, Some, subst, suc, sym, true, ℕ}
+use Rattle.pct_names.proofs.Names.{ℕ_discrete, ◌∙◌, ◌∷◌, ◌≡◌, ◌≢◌}
 use Rattle.std.proofs.Common.{append-nil, ne_eqb}
 use mathlib.Core.Option as maybe
 use prog.Atomic.{either}
@@ -13,7 +13,7 @@ use Rattle.pct_shared.specs.declared.view.View.{View}
 use Rattle.pct_shared.specs.Views.{engine_after, first_view, next_view, opened, taken_in, without_next}
 use Rattle.pct_shared.specs.TurnRule.{AreSeated, HasSeat, IsHeld, KeepsTurn, SeatView, Slot}
 use Rattle.pct_shared.specs.TurnSteps.{AtMostOne, Gave, GotTurn, MissedTurn, Took, gave_view, holding_view, missing_view}
-use Rattle.pct_shared.proofs.Seats.{one_view, seat_within}
+use Rattle.pct_shared.proofs.Seats.{seat_within, that_view}
 use Rattle.pct_shared.proofs.SeatsMade.{seats_joined, seats_opened, seats_split}
 use Rattle.pct_shared.proofs.TurnTaken.{seats_given, seats_missed, seats_stepped, seats_taken}
 
@@ -22,7 +22,7 @@ use Rattle.pct_shared.proofs.TurnTaken.{seats_given, seats_missed, seats_stepped
 module _ (turn : ℕ) (seats : List SeatView) (id : ℕ) (v w : View) (there : HasSeat seats id (Some v)) (same : w.holding ≡ v.holding) where
   held_by : (held : IsHeld turn seats) → Dec (held.seat ≡ id) → IsHeld turn (set seats id (Some w))
   held_by held (yes is) =
-      let view : held.view ≡ v = same_Some held.view v (one_view (get_elem? seats id) (Some held.view) (Some v) (subst (λ (n : ℕ). HasSeat seats n (Some held.view)) is held.seated) there) in
+      let view : held.view ≡ v = that_view seats id v there held.seat held.view is held.seated in
       record {
         seat = id;
         turn_is = held.turn_is ∙ ap suc is;
@@ -62,7 +62,7 @@ module _ (o : Opening) (slots id number : ℕ) (v : View) (is : v.known.number �
   -- the pass does not hold the turn
   not_mine : (held : IsHeld holds.turn s.views) → held.seat ≢ id
   not_mine held same =
-      let view : held.view ≡ v = same_Some held.view v (one_view (get_elem? s.views id) (Some held.view) (Some v) (subst (λ (n : ℕ). HasSeat s.views n (Some held.view)) same held.seated) there) in
+      let view : held.view ≡ v = that_view s.views id v there held.seat held.view same held.seated in
       false≢true (sym rests ∙ ap (λ (x : View). x.holding) (sym view) ∙ held.holds)
 
   hit : holds.turn ≡ 0 → (w : View) × (a : Act Slot) × Taken w a
@@ -151,14 +151,6 @@ takes_allowed o slots id number v is rests s holds homes there bound =
 
 -- ---- the give
 
-drop_all : {A : Type 0} (xs : List A) → drop (length xs) xs ≡ []
-drop_all [] = refl
-drop_all (x ∷ xs) = drop_all xs
-
-drop_front : {A : Type 0} (xs ys : List A) → drop (length xs) (xs ++ ys) ≡ ys
-drop_front [] ys = refl
-drop_front (x ∷ xs) ys = drop_front xs ys
-
 -- the view after the turn was given back, with the entries that are new
 abbrev pub view_with : View → List Entry → List Entry → View
 view_with v history new = record v {
@@ -167,7 +159,7 @@ view_with v history new = record v {
 }
 
 pub gave_added : (v : View) (added : List Entry) → gave_view (v.known.seen ++ added) v ≡ view_with v (v.known.seen ++ added) added
-gave_added v added = ap (view_with v (v.known.seen ++ added)) (drop_front v.known.seen added)
+gave_added v added = ap (view_with v (v.known.seen ++ added)) (drop-append_seam v.known.seen added)
 
 pub gave_nothing : (v : View) → gave_view (v.known.seen ++ []) v ≡ record v { holding = false }
 gave_nothing v =
@@ -248,7 +240,7 @@ splits_allowed o id v some room s holds there = record {
 held_apart : (turn : ℕ) (seats : List SeatView) (other : ℕ) (w : View) (x : SeatView) → IsHeld turn seats → HasSeat seats other (Some w) → w.holding ≡ false → IsHeld turn (set seats other x)
 held_apart turn seats other w x held there rests =
     let apart : held.seat ≢ other = λ same.
-    let view : held.view ≡ w = same_Some held.view w (one_view (get_elem? seats other) (Some held.view) (Some w) (subst (λ (n : ℕ). HasSeat seats n (Some held.view)) same held.seated) there) in
+    let view : held.view ≡ w = that_view seats other w there held.seat held.view same held.seated in
     false≢true (sym rests ∙ ap (λ (u : View). u.holding) (sym view) ∙ held.holds) in
     record { seat = held.seat; turn_is = held.turn_is; view = held.view; seated = set_else seats other held.seat x apart ∙ held.seated; holds = held.holds }
 

@@ -14,11 +14,8 @@ use Rattle.pct_shared.specs.TurnSteps.{HasLifted, HasTakenTurn, MayGive, gave_vi
 use Rattle.pct_shared.specs.Views.{engine_after}
 use Rattle.pct_shared.proofs.ChosenWorkers.{chosen-worker}
 use Rattle.pct_shared.proofs.OwnEntries.{own_more}
+use Rattle.pct_shared.proofs.Seats.{seat_with}
 use Rattle.pct_shared.proofs.TurnAllowed.{gave_added, gave_nothing, view_with}
-
--- a seat that holds nothing
-abbrev seat_with : SeatView → Me Slot SeatView
-seat_with view = (view, [])
 
 module _ (v : View) (me : Me Slot SeatView) (engine : EngineValue) (lifted : HasLifted v me engine) where
   -- the view while the pass has the engine
@@ -61,14 +58,9 @@ module _ (v : View) (me : Me Slot SeatView) (engine : EngineValue) (lifted : Has
       } in
       record {
         after = record holder { holding = false };
-        seat = gave ∙ ap (λ (m : Me Slot SeatView). seat_with (option_map (gave_view engine.history) m.0)) lifted.me_is ∙ ap (λ (w : View). seat_with (Some w)) gave_same;
+        seat = gave ∙ ap (λ (m : Me Slot SeatView). seat_with (option_map (gave_view engine.history) m.0) []) lifted.me_is ∙ ap (λ (w : View). seat_with (Some w) []) gave_same;
         turn = closed;
-        takes = refl;
-        not_holding = refl;
-        opening = refl;
-        number = refl;
-        olds = refl;
-        made = refl;
+        kept = record { opening = refl; number = refl; olds = refl; made = refl; at_rest = (lifted.rests, refl); takes = refl };
       }
 
   -- ---- with a step
@@ -122,14 +114,9 @@ module _ (v : View) (me : Me Slot SeatView) (engine : EngineValue) (lifted : Has
         } in
         record {
           after = then_view;
-          seat = gave ∙ ap (λ (m : Me Slot SeatView). seat_with (option_map (gave_view made.history) m.0)) lifted.me_is ∙ ap (λ (w : View). seat_with (Some w)) (gave_more made made_is);
+          seat = gave ∙ ap (λ (m : Me Slot SeatView). seat_with (option_map (gave_view made.history) m.0) []) lifted.me_is ∙ ap (λ (w : View). seat_with (Some w) []) (gave_more made made_is);
           turn = step;
-          takes = refl;
-          not_holding = refl;
-          opening = refl;
-          number = refl;
-          olds = refl;
-          made = refl;
+          kept = record { opening = refl; number = refl; olds = refl; made = refl; at_rest = (lifted.rests, refl); takes = refl };
         }
 
 -- ---- the pass

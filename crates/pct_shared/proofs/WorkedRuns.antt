@@ -7,18 +7,20 @@ use Rattle.std.proofs.Common.{append-nil}
 use Rattle.std.proofs.lemmas.List.{get_or-map}
 use Rattle.rand_pcg.specs.Lcg.{Lcg}
 use Rattle.pct_engine.specs.EngineStates.{EngineValue}
+use Rattle.pct_scheduled_run.specs.ScheduledRuns.{AreChosenBy, IsChosenAt, IsContinuedBy, IsWholeRun}
+use Rattle.pct_scheduled_run.specs.SeedSchedules.{SeedSchedule}
+use Rattle.pct_scheduled_run.specs.Streams.{draws, stream_of}
+use Rattle.pct_scheduled_run.proofs.WholeRuns.{nothing_after}
 use Rattle.pct_shared.specs.declared.view.Opening.{Opening}
 use Rattle.pct_shared.specs.declared.view.Known.{Known}
 use Rattle.pct_shared.specs.declared.workers.Worker.{Worker}
 use Rattle.pct_shared.specs.Hosts.{AreAllWorkers, AreNewWorkers, IsClosedAfter, IsClosing, IsNewWorker, IsOpening, IsWorkerOf, RiseWithin, Worked}
 use Rattle.pct_shared.specs.Passes.{IsPassOf, SharedValue}
-use Rattle.pct_shared.specs.Schedules.{HasTurns, IsWholeRun, SeedSchedule, WorkersSchedule}
-use Rattle.pct_shared.specs.Streams.{AreChosenBy, IsChosenAt, IsContinuedBy, stream_of}
+use Rattle.pct_shared.specs.Schedules.{HasTurns, WorkersSchedule}
 use Rattle.pct_shared.specs.Views.{IsPrefix, opened, places}
 use Rattle.pct_shared.proofs.LongerChoices.{chosen_in_longer, numbers_after}
 use Rattle.pct_shared.proofs.OwnEntries.{prefix_trans}
-use Rattle.pct_shared.proofs.RisingNumbers.{counted_each, places-length, places_before, places_counted, rise_each, rise_wider}
-use Rattle.pct_shared.proofs.WholeRuns.{nothing_after}
+use Rattle.pct_shared.proofs.RisingNumbers.{counted_each, places-length, places_before, places_counted, rise_wider}
 
 -- ---- what the workers did
 
@@ -42,12 +44,12 @@ worked_by host count seed turns before after new as_many each index w at =
 
 worked_pass : (host : SharedValue) (seed turns number : ℕ) (w : Worker) → HasWorked host seed turns number w → IsPassOf host w.pass
 worked_pass host seed turns number w done = record {
-  same_host = done.worked.host ∙ done.new.pass_of.same_host;
-  opening = done.worked.opening ∙ done.new.pass_of.opening;
+  same_host = done.worked.took.host ∙ done.new.pass_of.same_host;
+  opening = done.worked.took.opening ∙ done.new.pass_of.opening;
 }
 
 worked_number : (host : SharedValue) (seed turns number : ℕ) (w : Worker) → HasWorked host seed turns number w → w.pass.view.known.number ≡ number
-worked_number host seed turns number w done = done.worked.number ∙ ap (λ (k : Known). k.number) done.new.known
+worked_number host seed turns number w done = done.worked.took.number ∙ ap (λ (k : Known). k.number) done.new.known
 
 -- the worker with a number stands at the index below it
 worker_with : (host : SharedValue) (seed turns : ℕ) (workers : List Worker) → ((index : ℕ) (w : Worker) → slice_get workers index ≡ Some w → HasWorked host seed turns (suc index) w)
@@ -79,60 +81,51 @@ all_worked host count seed turns before after count_is new as_many each =
 
 -- a choice, told of the opening
 chosen_as : (words same_words : Lcg) (number same_number : ℕ) (o same_opening : Opening) (takes : ℕ) (seen : List Entry) (place take : ℕ) → words ≡ same_words → number ≡ same_number → o ≡ same_opening → takes ≡ 0
-    → IsChosenAt words number (opened o).script (opened o).config seen place (take - suc takes) → IsChosenAt same_words same_number (opened same_opening).script (opened same_opening).config seen place (take - 1)
+    → IsChosenAt (draws words) number (opened o).script (opened o).config seen place (take - suc takes) → IsChosenAt (draws same_words) same_number (opened same_opening).script (opened same_opening).config seen place (take - 1)
 chosen_as words same_words number same_number o same_opening takes seen place take words_are number_is opening_is none chosen_at =
-    subst (λ (x : Opening). IsChosenAt same_words same_number (opened x).script (opened x).config seen place (take - 1)) opening_is
-    (subst (λ (n : ℕ). IsChosenAt same_words n (opened o).script (opened o).config seen place (take - 1)) number_is
-    (subst (λ (g : Lcg). IsChosenAt g number (opened o).script (opened o).config seen place (take - 1)) words_are
-    (subst (λ (t : ℕ). IsChosenAt words number (opened o).script (opened o).config seen place (take - suc t)) none chosen_at)))
+    subst (λ (x : Opening). IsChosenAt (draws same_words) same_number (opened x).script (opened x).config seen place (take - 1)) opening_is
+    (subst (λ (n : ℕ). IsChosenAt (draws same_words) n (opened o).script (opened o).config seen place (take - 1)) number_is
+    (subst (λ (g : Lcg). IsChosenAt (draws g) number (opened o).script (opened o).config seen place (take - 1)) words_are
+    (subst (λ (t : ℕ). IsChosenAt (draws words) number (opened o).script (opened o).config seen place (take - suc t)) none chosen_at)))
 
 -- a worker of a host that was opened without entries, which has worked, at the closing with this history
 module _ (host : SharedValue) (seed turns number : ℕ) (w : Worker) (history : List Entry) (none : (opened host.opening).history ≡ []) (done : HasWorked host seed turns number w) (closing : IsWorkerOf host.opening history w) where
   -- the entries that it made were chosen by the words of their turns
-  made_chosen : (k : ℕ) (d : ℕ × ℕ) → k < length done.worked.at → IsChosenAt (stream_of seed number) number (opened host.opening).script (opened host.opening).config w.pass.view.known.seen (get_or done.worked.at k d).0 ((get_or done.worked.at k d).1 - 1)
+  made_chosen : (k : ℕ) (d : ℕ × ℕ) → k < length done.worked.took.at → IsChosenAt (draws (stream_of seed number)) number (opened host.opening).script (opened host.opening).config w.pass.view.known.seen (get_or done.worked.took.at k d).0 ((get_or done.worked.took.at k d).1 - 1)
   made_chosen k d within =
-      chosen_as done.before.picks (stream_of seed number) done.before.pass.view.known.number number done.before.pass.view.opening host.opening done.before.pass.view.takes w.pass.view.known.seen (get_or done.worked.at k d).0 (get_or done.worked.at k d).1
+      chosen_as done.before.picks (stream_of seed number) done.before.pass.view.known.number number done.before.pass.view.opening host.opening done.before.pass.view.takes w.pass.view.known.seen (get_or done.worked.took.at k d).0 (get_or done.worked.took.at k d).1
       done.new.picks (ap (λ (known : Known). known.number) done.new.known) done.new.pass_of.opening done.new.takes
-      (done.worked.chosen_each k d within)
-
-  -- they stand in what it has seen
-  made_seen : (k : ℕ) (d : ℕ × ℕ) → k < length done.worked.at → (get_or done.worked.at k d).0 < length w.pass.view.known.seen
-  made_seen k d within =
-      let places_at : List ℕ = map (λ (pair : ℕ × ℕ). suc pair.0) done.worked.at in
-      let as_many : length places_at ≡ length done.worked.at = length-map done.worked.at (λ (pair : ℕ × ℕ). suc pair.0) in
-      let bound : get_or places_at k 0 ≤ length w.pass.view.known.seen = rise_each (length done.before.pass.view.known.seen) (length w.pass.view.known.seen) places_at k 0 done.worked.places_rise (omega (arith, within, as_many)) in
-      let same : get_or places_at k 0 ≡ suc (get_or done.worked.at k d).0 = get_or-map (λ (pair : ℕ × ℕ). suc pair.0) done.worked.at k d 0 within in
-      omega (arith, bound, same)
+      (done.worked.took.each k d within).chosen
 
   -- its entries in the history are those
-  made_places : places number history ≡ map (λ pair. pair.0) done.worked.at
+  made_places : places number history ≡ map (λ pair. pair.0) done.worked.took.at
   made_places =
       let known = w.pass.view.known in
-      let at_is : known.at ≡ done.worked.at = done.worked.at_is ∙ ap (λ (k : Known). k.at ++ done.worked.at) done.new.known in
+      let at_is : known.at ≡ done.worked.took.at = done.worked.took.at_is ∙ ap (λ (k : Known). k.at ++ done.worked.took.at) done.new.known in
       ap (λ (n : ℕ). places n history) (sym (worked_number host seed turns number w done))
       ∙ closing.places_are
       ∙ ap (λ (begun : List Entry). places known.number begun ++ map (λ (pair : ℕ × ℕ). pair.0) known.at) none
       ∙ ap (map (λ (pair : ℕ × ℕ). pair.0)) at_is
 
-  few_turns : length done.worked.at ≤ turns
-  few_turns = omega (arith, done.worked.as_many, done.worked.counts, done.worked.few)
+  few_turns : length done.worked.took.at ≤ turns
+  few_turns = omega (arith, done.worked.counts, done.worked.few)
 
-  turns_rise : RiseWithin 0 turns (map (λ pair. pair.1) done.worked.at)
+  turns_rise : RiseWithin 0 turns (map (λ pair. pair.1) done.worked.took.at)
   turns_rise =
-      let takes : w.pass.view.takes ≤ turns = omega (arith, done.worked.takes, done.worked.few, done.new.takes) in
-      rise_wider 0 w.pass.view.takes turns (map (λ (pair : ℕ × ℕ). pair.1) done.worked.at) takes
-      (subst (λ (low : ℕ). RiseWithin low w.pass.view.takes (map (λ (pair : ℕ × ℕ). pair.1) done.worked.at)) done.new.takes done.worked.takes_rise)
+      let takes : w.pass.view.takes ≤ turns = omega (arith, done.worked.took.takes, done.worked.few, done.new.takes) in
+      rise_wider 0 w.pass.view.takes turns (map (λ (pair : ℕ × ℕ). pair.1) done.worked.took.at) takes
+      (subst (λ (low : ℕ). RiseWithin low w.pass.view.takes (map (λ (pair : ℕ × ℕ). pair.1) done.worked.took.at)) done.new.takes done.worked.took.takes_rise)
 
   -- the worker has its turns in each schedule that begins with the history and goes on with entries of others
   worker_turns : (entries : List Entry) → IsPrefix history entries → places number entries ≡ places number history → HasTurns (opened host.opening).script (opened host.opening).config seed turns number entries
   worker_turns entries front same_places = record {
-    at = done.worked.at;
+    at = done.worked.took.at;
     places_are = sym made_places ∙ sym same_places;
     rise = turns_rise;
     few = few_turns;
     chosen_each = λ k d within.
-        chosen_in_longer (stream_of seed number) number (opened host.opening).script (opened host.opening).config w.pass.view.known.seen entries (get_or done.worked.at k d).0 ((get_or done.worked.at k d).1 - 1)
-        (prefix_trans w.pass.view.known.seen history entries closing.seen front) (made_seen k d within) (made_chosen k d within);
+        chosen_in_longer (draws (stream_of seed number)) number (opened host.opening).script (opened host.opening).config w.pass.view.known.seen entries (get_or done.worked.took.at k d).0 ((get_or done.worked.took.at k d).1 - 1)
+        (prefix_trans w.pass.view.known.seen history entries closing.seen front) (done.worked.took.each k d within).within (made_chosen k d within);
   }
 
 -- ---- a lone worker
@@ -144,34 +137,34 @@ module _ (host : SharedValue) (seed turns : ℕ) (w : Worker) (history : List En
   lone_is = ap (λ (o : Opening). o.workers) done.new.pass_of.opening ∙ lone
 
   -- it made all entries
-  lone_made : length done.worked.at ≡ length history
+  lone_made : length done.worked.took.at ≡ length history
   lone_made =
-      sym (length-map done.worked.at (λ (pair : ℕ × ℕ). pair.0))
+      sym (length-map done.worked.took.at (λ (pair : ℕ × ℕ). pair.0))
       ∙ ap (λ (l : List ℕ). length l) (sym (made_places host seed turns 1 w history none done closing))
       ∙ places-length 1 0 history mine
 
-  lone_place : (k : ℕ) (d : ℕ × ℕ) → k < length history → (get_or done.worked.at k d).0 ≡ k
+  lone_place : (k : ℕ) (d : ℕ × ℕ) → k < length history → (get_or done.worked.took.at k d).0 ≡ k
   lone_place k d within =
       let counted : get_or (places 1 history) k 0 ≡ 0 + k = counted_each 0 (places 1 history) k 0 (places_counted 1 0 history mine) (omega (arith, within, places-length 1 0 history mine)) in
-      let same : get_or (map (λ (pair : ℕ × ℕ). pair.0) done.worked.at) k 0 ≡ (get_or done.worked.at k d).0 = get_or-map (λ (pair : ℕ × ℕ). pair.0) done.worked.at k d 0 (omega (arith, within, lone_made)) in
-      let told : get_or (places 1 history) k 0 ≡ get_or (map (λ (pair : ℕ × ℕ). pair.0) done.worked.at) k 0 = ap (λ (l : List ℕ). get_or l k 0) (made_places host seed turns 1 w history none done closing) in
+      let same : get_or (map (λ (pair : ℕ × ℕ). pair.0) done.worked.took.at) k 0 ≡ (get_or done.worked.took.at k d).0 = get_or-map (λ (pair : ℕ × ℕ). pair.0) done.worked.took.at k d 0 (omega (arith, within, lone_made)) in
+      let told : get_or (places 1 history) k 0 ≡ get_or (map (λ (pair : ℕ × ℕ). pair.0) done.worked.took.at) k 0 = ap (λ (l : List ℕ). get_or l k 0) (made_places host seed turns 1 w history none done closing) in
       omega (arith, counted, same, told)
 
-  lone_take : (k : ℕ) (d : ℕ × ℕ) → k < length history → (get_or done.worked.at k d).1 - 1 ≡ k
+  lone_take : (k : ℕ) (d : ℕ × ℕ) → k < length history → (get_or done.worked.took.at k d).1 - 1 ≡ k
   lone_take k d within =
-      let takes : List ℕ = map (λ (pair : ℕ × ℕ). pair.1) done.worked.at in
-      let as_many : length takes ≡ length done.worked.at = length-map done.worked.at (λ (pair : ℕ × ℕ). pair.1) in
-      let counted : get_or takes k 0 ≡ suc done.before.pass.view.takes + k = counted_each (suc done.before.pass.view.takes) takes k 0 (done.worked.alone lone_is).1 (omega (arith, within, lone_made, as_many)) in
-      let same : get_or takes k 0 ≡ (get_or done.worked.at k d).1 = get_or-map (λ (pair : ℕ × ℕ). pair.1) done.worked.at k d 0 (omega (arith, within, lone_made)) in
+      let takes : List ℕ = map (λ (pair : ℕ × ℕ). pair.1) done.worked.took.at in
+      let as_many : length takes ≡ length done.worked.took.at = length-map done.worked.took.at (λ (pair : ℕ × ℕ). pair.1) in
+      let counted : get_or takes k 0 ≡ suc done.before.pass.view.takes + k = counted_each (suc done.before.pass.view.takes) takes k 0 (done.worked.took.alone lone_is).1 (omega (arith, within, lone_made, as_many)) in
+      let same : get_or takes k 0 ≡ (get_or done.worked.took.at k d).1 = get_or-map (λ (pair : ℕ × ℕ). pair.1) done.worked.took.at k d 0 (omega (arith, within, lone_made)) in
       omega (arith, counted, same, done.new.takes)
 
   -- the entry at each place was chosen by the words of the turn with this index
-  lone_chosen : (k : ℕ) → k < length history → IsChosenAt (stream_of seed 1) 1 (opened host.opening).script (opened host.opening).config history k k
+  lone_chosen : (k : ℕ) → k < length history → IsChosenAt (draws (stream_of seed 1)) 1 (opened host.opening).script (opened host.opening).config history k k
   lone_chosen k within =
-      let pair : ℕ × ℕ = get_or done.worked.at k (0, 0) in
-      subst (λ (entries : List Entry). IsChosenAt (stream_of seed 1) 1 (opened host.opening).script (opened host.opening).config entries k k) seen_is
-      (subst (λ (place : ℕ). IsChosenAt (stream_of seed 1) 1 (opened host.opening).script (opened host.opening).config w.pass.view.known.seen place k) (lone_place k (0, 0) within)
-      (subst (λ (turn : ℕ). IsChosenAt (stream_of seed 1) 1 (opened host.opening).script (opened host.opening).config w.pass.view.known.seen pair.0 turn) (lone_take k (0, 0) within)
+      let pair : ℕ × ℕ = get_or done.worked.took.at k (0, 0) in
+      subst (λ (entries : List Entry). IsChosenAt (draws (stream_of seed 1)) 1 (opened host.opening).script (opened host.opening).config entries k k) seen_is
+      (subst (λ (place : ℕ). IsChosenAt (draws (stream_of seed 1)) 1 (opened host.opening).script (opened host.opening).config w.pass.view.known.seen place k) (lone_place k (0, 0) within)
+      (subst (λ (turn : ℕ). IsChosenAt (draws (stream_of seed 1)) 1 (opened host.opening).script (opened host.opening).config w.pass.view.known.seen pair.0 turn) (lone_take k (0, 0) within)
       (made_chosen host seed turns 1 w history none done closing k (0, 0) (omega (arith, within, lone_made)))))
 
   -- if its last turn found the run closed, nothing comes after the history
@@ -189,7 +182,7 @@ module _ (host : SharedValue) (seed turns : ℕ) (w : Worker) (history : List En
         | inr (inr more) ↦ omega (arith, more)
       ] in
       let last : ◌≡◌ {A = ℕ} (if done.worked.over then 1 else 0) 0 = ap (λ (b : Bool). if b then 1 else 0) going in
-      omega (arith, all, last, done.worked.few, done.worked.counts, done.worked.as_many, (done.worked.alone lone_is).0, lone_made)
+      omega (arith, all, last, done.worked.few, done.worked.counts, (done.worked.took.alone lone_is).0, lone_made)
 
   lone_ends : (rest : List Entry) (end : Run) → run (opened host.opening).script (opened host.opening).config (history ++ rest) ≡ Some end → (length history ≡ turns) ⊎ (rest ≡ [])
   lone_ends rest end is =
@@ -214,7 +207,7 @@ module _ (host : SharedValue) (seed turns : ℕ) (w : Worker) (history : List En
       omega (arith, inside, longer)
 
   -- a run that goes on under the number 0 has the schedule of the seed
-  lone_schedule : (rest : List Entry) → IsWholeRun (opened host.opening).script (opened host.opening).config (history ++ rest) → AreChosenBy (stream_of seed 0) 0 (opened host.opening).script (opened host.opening).config (length history) (history ++ rest)
+  lone_schedule : (rest : List Entry) → IsWholeRun (opened host.opening).script (opened host.opening).config (history ++ rest) → AreChosenBy (draws (stream_of seed 0)) 0 (opened host.opening).script (opened host.opening).config (length history) (history ++ rest)
       → SeedSchedule (opened host.opening).script (opened host.opening).config seed turns (history ++ rest)
   lone_schedule rest whole choices =
       let ends = lone_ends rest whole.after whole.is_run in
@@ -222,10 +215,10 @@ module _ (host : SharedValue) (seed turns : ℕ) (w : Worker) (history : List En
         whole = whole;
         worked = λ k inside early.
             let before = lone_within rest k ends inside early in
-            chosen_in_longer (stream_of seed 1) 1 (opened host.opening).script (opened host.opening).config history (history ++ rest) k k (record { rest = rest; all_is = refl }) before (lone_chosen k before);
+            chosen_in_longer (draws (stream_of seed 1)) 1 (opened host.opening).script (opened host.opening).config history (history ++ rest) k k (record { rest = rest; all_is = refl }) before (lone_chosen k before);
         finished = λ k inside.
             let full = lone_past rest k ends inside in
-            subst (λ (n : ℕ). IsChosenAt (stream_of seed 0) 0 (opened host.opening).script (opened host.opening).config (history ++ rest) (n + k) k) full (choices k (omega (arith, full, inside)));
+            subst (λ (n : ℕ). IsChosenAt (draws (stream_of seed 0)) 0 (opened host.opening).script (opened host.opening).config (history ++ rest) (n + k) k) full (choices k (omega (arith, full, inside)));
       }
 
 -- ---- the schedule
@@ -247,7 +240,7 @@ module _ (host : SharedValue) (seed turns : ℕ) (workers : List Worker) (engine
       worker_turns host seed turns number found.1 engine.history none found.3 (closing_at found.0 found.1 found.2) (engine.history ++ rest) (record { rest = rest; all_is = refl })
       (places_before number 0 engine.history rest (λ zero_is. absurd (omega (arith, some, zero_is))) others)
 
-  lone_run : (rest : List Entry) → IsWholeRun (opened host.opening).script (opened host.opening).config (engine.history ++ rest) → AreChosenBy (stream_of seed 0) 0 (opened host.opening).script (opened host.opening).config (length engine.history) (engine.history ++ rest)
+  lone_run : (rest : List Entry) → IsWholeRun (opened host.opening).script (opened host.opening).config (engine.history ++ rest) → AreChosenBy (draws (stream_of seed 0)) 0 (opened host.opening).script (opened host.opening).config (length engine.history) (engine.history ++ rest)
       → host.opening.workers ≡ 1 → SeedSchedule (opened host.opening).script (opened host.opening).config seed turns (engine.history ++ rest)
   lone_run rest whole choices lone =
       let w = closing.longest in
@@ -260,10 +253,10 @@ module _ (host : SharedValue) (seed turns : ℕ) (workers : List Worker) (engine
 
   -- the schedule of the run that the number 0 ended
   workers_schedule : (budgets : Config) → (opened host.opening).config ≡ budgets → (rest : List Entry) → IsWholeRun (opened host.opening).script (opened host.opening).config (engine.history ++ rest)
-      → AreChosenBy (stream_of seed 0) 0 (opened host.opening).script (opened host.opening).config (length engine.history) (engine.history ++ rest)
+      → AreChosenBy (draws (stream_of seed 0)) 0 (opened host.opening).script (opened host.opening).config (length engine.history) (engine.history ++ rest)
       → WorkersSchedule (opened host.opening).script (record { config = budgets; seed = seed; workers = host.opening.workers; turns = turns }) (engine.history ++ rest)
   workers_schedule budgets config_is rest whole choices =
-      let others : All (λ e. e.worker ≡ 0) rest = numbers_after (stream_of seed 0) 0 (opened host.opening).script (opened host.opening).config engine.history rest whole.after whole.is_run choices in
+      let others : All (λ e. e.worker ≡ 0) rest = numbers_after (draws (stream_of seed 0)) 0 (opened host.opening).script (opened host.opening).config engine.history rest whole.after whole.is_run choices in
       subst (λ (config : Config). WorkersSchedule (opened host.opening).script (record { config = config; seed = seed; workers = host.opening.workers; turns = turns }) (engine.history ++ rest)) config_is
       (record {
         whole = whole;
@@ -280,16 +273,16 @@ module _ (host : SharedValue) (seed turns : ℕ) (workers : List Worker) (engine
 -- a run that workers made on a host, and the number 0 ended
 pub schedule_of_workers : (opening made : EngineValue) (options : RunOptions) (host : SharedValue) (before after : List Worker) (engine : EngineValue) → opening.config ≡ options.config → opening.history ≡ [] → IsOpening opening options.workers options.seed host before → length after ≡ length before
     → ((index : ℕ) (d : Worker) → index < length before → Worked options.turns (slice_index_or before index d) (slice_index_or after index d)) → IsClosing host.opening after engine
-    → made ≡ record engine { history = made.history } → IsContinuedBy (stream_of options.seed 0) 0 engine.script engine.config engine.history made.history
+    → made ≡ record engine { history = made.history } → IsContinuedBy (draws (stream_of options.seed 0)) 0 engine.script engine.config engine.history made.history
     → (made.script ≡ opening.script) × (made.config ≡ opening.config) × WorkersSchedule opening.script options made.history
 schedule_of_workers opening made options host before after engine config_is none opened_by as_many each closing same ended =
     let script_same : engine.script ≡ (opened host.opening).script = ap (λ (x : EngineValue). x.script) closing.engine_is in
     let config_same : engine.config ≡ (opened host.opening).config = ap (λ (x : EngineValue). x.config) closing.engine_is in
-    let continued : IsContinuedBy (stream_of options.seed 0) 0 (opened host.opening).script (opened host.opening).config engine.history made.history = subst (λ (x : EngineValue). IsContinuedBy (stream_of options.seed 0) 0 x.script x.config engine.history made.history) closing.engine_is ended in
+    let continued : IsContinuedBy (draws (stream_of options.seed 0)) 0 (opened host.opening).script (opened host.opening).config engine.history made.history = subst (λ (x : EngineValue). IsContinuedBy (draws (stream_of options.seed 0)) 0 x.script x.config engine.history made.history) closing.engine_is ended in
     let entries : List Entry = engine.history ++ continued.rest in
-    let whole : IsWholeRun (opened host.opening).script (opened host.opening).config entries = subst (IsWholeRun (opened host.opening).script (opened host.opening).config) continued.begins (record { after = continued.after; is_run = continued.is_run; is_closed = continued.is_closed }) in
-    let choices : AreChosenBy (stream_of options.seed 0) 0 (opened host.opening).script (opened host.opening).config (length engine.history) entries =
-    subst (AreChosenBy (stream_of options.seed 0) 0 (opened host.opening).script (opened host.opening).config (length engine.history)) continued.begins continued.choices in
+    let whole : IsWholeRun (opened host.opening).script (opened host.opening).config entries = subst (IsWholeRun (opened host.opening).script (opened host.opening).config) continued.begins continued.whole in
+    let choices : AreChosenBy (draws (stream_of options.seed 0)) 0 (opened host.opening).script (opened host.opening).config (length engine.history) entries =
+    subst (AreChosenBy (draws (stream_of options.seed 0)) 0 (opened host.opening).script (opened host.opening).config (length engine.history)) continued.begins continued.choices in
     let schedule : WorkersSchedule (opened host.opening).script (record { config = options.config; seed = options.seed; workers = host.opening.workers; turns = options.turns }) entries =
     workers_schedule host options.seed options.turns after engine (ap (λ (x : EngineValue). x.history) opened_by.engine_is ∙ none) (as_many ∙ opened_by.new.count_is ∙ sym opened_by.count_is)
     (worked_by host options.workers options.seed options.turns before after opened_by.new as_many each) closing options.config (ap (λ (x : EngineValue). x.config) opened_by.engine_is ∙ config_is) continued.rest whole choices in

@@ -1,363 +1,249 @@
 -- What a worker did so far, turn by turn, and at the end.
-use Rattle.pct_names.proofs.Names.{◌*◌, ◌+◌, ◌++◌, ◌-◌, ◌<◌, [], All, All-cons, All-head, All-nil, All-push, All-tail, ap, arith, chosen}
-use Rattle.pct_names.proofs.Names.{Config, Entry, false, get_or_append_left, is_some, length, length-map, List, map, map-append, Option}
-use Rattle.pct_names.proofs.Names.{refl, Run, run, Script, slice_get, slice_get-get_or, slice_index_or, Some, subst, suc, sym, take}
-use Rattle.pct_names.proofs.Names.{take-append-le, take_all, true, Verdict, verdict_of, ℕ, ◌∙◌, ◌∷◌, ◌≡◌, ◌≢◌, ◌≤◌}
+use Rattle.pct_names.proofs.Names.{◌+◌, ◌++◌, ◌-◌, ◌<◌, [], All, All-append, All-cons, All-head, All-nil, All-tail, All-weaker, ap, arith}
+use Rattle.pct_names.proofs.Names.{chosen, Entry, false, is_some, length, length-map, List, map, map-append, Option, refl, run, slice_get}
+use Rattle.pct_names.proofs.Names.{Some, subst, suc, sym, take-append-le, take_all, true, Verdict, verdict_of, ℕ, ◌∙◌, ◌∷◌, ◌≡◌, ◌≢◌, ◌≤◌}
 use Rattle.std.proofs.Common.{append-nil, length-append}
 use Rattle.std.proofs.lemmas.List.{append_assoc}
 use Rattle.rand_pcg.specs.Lcg.{Lcg}
-use Rattle.rand_pcg.specs.Pcg.{pcg32}
 use Rattle.pct_engine.specs.EngineStates.{IsRunOf, IsRunWith}
-use Rattle.pct_engine.proofs.ChosenEntries.{get-last}
+use Rattle.pct_scheduled_run.specs.ScheduledRuns.{IsChosenAt}
+use Rattle.pct_scheduled_run.specs.Streams.{after_words, draws}
+use Rattle.pct_scheduled_run.proofs.ContinuedRuns.{chosen_next, get_seam}
+use Rattle.pct_scheduled_run.proofs.Words.{draws_after, no_words, words_next}
 use Rattle.pct_shared.specs.declared.shared.Turn.{Turn}
 use Rattle.pct_shared.specs.declared.shared.Turn.TheVariants as turn
 use Rattle.pct_shared.specs.declared.view.Known.{Known}
 use Rattle.pct_shared.specs.declared.view.Opening.{Opening}
 use Rattle.pct_shared.specs.declared.workers.Worker.{Worker}
-use Rattle.pct_shared.specs.Hosts.{RiseWithin, Worked, counted_from}
-use Rattle.pct_shared.specs.Passes.{FoundBusy, FoundClosed, IsTurn, MadeStep, PassValue, TookOneTurn}
-use Rattle.pct_shared.specs.Streams.{IsChosenAt, after_words}
+use Rattle.pct_shared.specs.Hosts.{IsMadeAt, RiseWithin, TookTurns, Worked, counted_from}
+use Rattle.pct_shared.specs.Passes.{FoundClosed, IsTurn, MadeStep, TookOneTurn}
 use Rattle.pct_shared.specs.Views.{IsPrefix, engine_after, opened}
-use Rattle.pct_shared.proofs.ChosenRuns.{chosen_last}
-use Rattle.pct_shared.proofs.OwnEntries.{prefix_refl, prefix_trans}
-use Rattle.pct_shared.proofs.Words.{next_words, no_words}
+use Rattle.pct_shared.proofs.LongerChoices.{chosen_with_more, get_front}
+use Rattle.pct_shared.proofs.OwnEntries.{prefix_refl, prefix_of_same, prefix_trans}
 
--- ---- numbers that rise
+-- ---- numbers that rise, or are counted
 
-rise_within : (low high : ℕ) (ns : List ℕ) → RiseWithin low high ns → low ≤ high
-rise_within low high [] rise = rise
-rise_within low high (n ∷ ns) rise = omega (arith, rise.0, rise_within n high ns rise.1)
+rise_from_lower : (low mid high : ℕ) (ns : List ℕ) → low ≤ mid → RiseWithin mid high ns → RiseWithin low high ns
+rise_from_lower low mid high [] lower rise = omega (arith, lower, rise)
+rise_from_lower low mid high (n ∷ ns) lower rise = (omega (arith, lower, rise.0), rise.1)
 
-rise_higher : (low high higher : ℕ) (ns : List ℕ) → high ≤ higher → RiseWithin low high ns → RiseWithin low higher ns
-rise_higher low high higher [] more rise = omega (arith, more, rise)
-rise_higher low high higher (n ∷ ns) more rise = (rise.0, rise_higher n high higher ns more rise.1)
+rise_append : (low mid high : ℕ) (ms ns : List ℕ) → RiseWithin low mid ms → RiseWithin mid high ns → RiseWithin low high (ms ++ ns)
+rise_append low mid high [] ns rise more = rise_from_lower low mid high ns rise more
+rise_append low mid high (m ∷ ms) ns rise more = (rise.0, rise_append m mid high ms ns rise.1 more)
 
--- one number more
-rise_more : (low high n higher : ℕ) (ns : List ℕ) → RiseWithin low high ns → high < n → n ≤ higher → RiseWithin low higher (ns ++ n ∷ [])
-rise_more low high n higher [] rise above within = (omega (arith, rise, above), within)
-rise_more low high n higher (m ∷ ns) rise above within = (rise.0, rise_more m high n higher ns rise.1 above within)
+counted_append : (from next : ℕ) (ms ns : List ℕ) → next ≡ from + length ms → counted_from from ms → counted_from next ns → counted_from from (ms ++ ns)
+counted_append from next [] ns is counted more = let same : next ≡ from = omega (arith, is) in subst (λ (n : ℕ). counted_from n ns) same more
+counted_append from next (m ∷ ms) ns is counted more = (counted.0, counted_append (suc from) next ms ns (omega (arith, is)) counted.1 more)
 
-counted_more : (from n : ℕ) (ns : List ℕ) → counted_from from ns → n ≡ from + length ns → counted_from from (ns ++ n ∷ [])
-counted_more from n [] counted is = (omega (arith, is), tt)
-counted_more from n (m ∷ ns) counted is = (counted.0, counted_more (suc from) n ns counted.1 (omega (arith, is)))
+-- ---- the entries that a worker made, in a list that grows
 
--- ---- entries in a history that grows
+-- the entry at the place of a pair
+abbrev get_at : List Entry → ℕ × ℕ → Option Entry
+get_at entries pair = slice_get entries pair.0
 
-get_in_longer : (entries more : List Entry) (k : ℕ) → k < length entries → slice_get (entries ++ more) k ≡ slice_get entries k
-get_in_longer [] more k within = absurd (omega (arith, within))
-get_in_longer (e ∷ entries) more k within =
-    slice_get-get_or (e ∷ entries ++ more) k e (omega (arith, length-append (e ∷ entries) more, within))
-    ∙ ap (λ (x : Entry). Some x) (get_or_append_left (e ∷ entries) more e k within)
-    ∙ sym (slice_get-get_or (e ∷ entries) k e within)
+module _ (before : Worker) where
+  made_in_longer : (entries more : List Entry) (pair : ℕ × ℕ) → IsMadeAt before entries pair → IsMadeAt before (entries ++ more) pair
+  made_in_longer entries more pair is = record {
+    within = omega (arith, is.within, length-append entries more);
+    chosen = chosen_with_more (draws before.picks) before.pass.view.known.number _ _ entries more pair.0 (pair.1 - suc before.pass.view.takes) is.within is.chosen;
+    legal =
+        ap (λ (xs : List Entry). is_some (run (opened before.pass.view.opening).script (opened before.pass.view.opening).config xs)) (take-append-le (suc pair.0) entries more (omega (arith, is.within)))
+        ∙ is.legal;
+  }
 
--- an entry that was chosen is so in a longer history
-chosen_in_longer : (words : Lcg) (worker : ℕ) (script : Script) (config : Config) (entries more : List Entry) (place turn : ℕ) → place < length entries
-    → IsChosenAt words worker script config entries place turn → IsChosenAt words worker script config (entries ++ more) place turn
-chosen_in_longer words worker script config entries more place turn within chosen_at before is =
-    get_in_longer entries more place within
-    ∙ chosen_at before (ap (run script config) (sym (take-append-le place entries more (omega (arith, within)))) ∙ is)
+  all_in_longer : (entries longer : List Entry) (at : List (ℕ × ℕ)) → IsPrefix entries longer → All (IsMadeAt before entries) at → All (IsMadeAt before longer) at
+  all_in_longer entries longer at front each =
+      subst (λ (xs : List Entry). All (IsMadeAt before xs) at) (sym front.all_is) (All-weaker (IsMadeAt before entries) (IsMadeAt before (entries ++ front.rest)) (made_in_longer entries front.rest) at each)
 
--- places that rise to the end of a list are those of its elements
-within_of : (low high : ℕ) (at : List (ℕ × ℕ)) → RiseWithin low high (map (λ pair. suc pair.0) at) → All (λ pair. pair.0 < high) at
-within_of low high [] rise = All-nil (λ (pair : ℕ × ℕ). pair.0 < high)
-within_of low high (pair ∷ at) rise = All-cons (λ (pair : ℕ × ℕ). pair.0 < high) pair at (omega (arith, rise_within (suc pair.0) high _ rise.1)) (within_of (suc pair.0) high at rise.1)
+  same_entries : (entries more : List Entry) (at : List (ℕ × ℕ)) → All (IsMadeAt before entries) at → map (get_at (entries ++ more)) at ≡ map (get_at entries) at
+  same_entries entries more [] each = refl
+  same_entries entries more (pair ∷ at) each =
+      ap (λ (x : Option Entry). x ∷ map (get_at (entries ++ more)) at) (get_front entries more pair.0 (All-head (IsMadeAt before entries) pair at each).within)
+      ∙ ap (λ (xs : List (Option Entry)). slice_get entries pair.0 ∷ xs) (same_entries entries more at (All-tail (IsMadeAt before entries) pair at each))
 
--- what holds of each pair within holds so later
-all_later : (P Q : ℕ × ℕ → Type 0) (high : ℕ) → ((pair : ℕ × ℕ) → pair.0 < high → P pair → Q pair) → (at : List (ℕ × ℕ)) → All (λ pair. pair.0 < high) at → All P at → All Q at
-all_later P Q high later at within each k d inside = later (slice_index_or at k d) (within k d inside) (each k d inside)
+-- ---- a turn more
 
-same_entries : (entries more : List Entry) (at : List (ℕ × ℕ)) → All (λ pair. pair.0 < length entries) at → map (λ pair. slice_get (entries ++ more) pair.0) at ≡ map (λ pair. slice_get entries pair.0) at
-same_entries entries more [] within = refl
-same_entries entries more (pair ∷ at) within =
-    ap (λ (x : Option Entry). x ∷ map (λ pair. slice_get (entries ++ more) pair.0) at) (get_in_longer entries more pair.0 (All-head (λ (p : ℕ × ℕ). p.0 < length entries) pair at within))
-    ∙ ap (λ (xs : List (Option Entry)). slice_get entries pair.0 ∷ xs) (same_entries entries more at (All-tail (λ (p : ℕ × ℕ). p.0 < length entries) pair at within))
+-- what a turn adds to what a worker did: at most one entry, or a turn that was taken
+record Adds (turns : ℕ) (before old new : Worker) (pairs : List (ℕ × ℕ)) (missed : ℕ) : Type 0 where
+  front : IsPrefix old.pass.view.known.seen new.pass.view.known.seen
+  misses : new.pass.view.misses ≡ old.pass.view.misses + missed
+  at : new.pass.view.known.at ≡ old.pass.view.known.at ++ pairs
+  each : All (IsMadeAt before new.pass.view.known.seen) pairs
+  mine : map Some new.pass.view.known.mine ≡ map Some old.pass.view.known.mine ++ map (get_at new.pass.view.known.seen) pairs
+  places_rise : RiseWithin (length old.pass.view.known.seen) (length new.pass.view.known.seen) (map (λ pair. suc pair.0) pairs)
+  takes_rise : RiseWithin old.pass.view.takes new.pass.view.takes (map (λ pair. pair.1) pairs)
+  alone : before.pass.view.opening.workers ≡ 1 → (missed ≡ 0) × counted_from (suc before.pass.view.takes + turns) (map (λ pair. pair.1) pairs)
 
--- ---- the entries that a worker made
+-- the turns of a worker so far, none of which found the run closed
+pub record WorkedSoFar (turns : ℕ) (before after : Worker) : Type 0 where
+  pub took : TookTurns turns before after
+  pub counts : turns ≡ length took.at + took.missed
 
--- the entries that a worker made since it had made `begun` takes and seen `from` entries, in a list that it has seen
-pub record AreMade (o : Opening) (number : ℕ) (words : Lcg) (begun from : ℕ) (entries made : List Entry) (at : List (ℕ × ℕ)) : Type 0 where
-  pub chosen_each : All (λ pair. IsChosenAt words number (opened o).script (opened o).config entries pair.0 (pair.1 - suc begun)) at
-  pub legal_each : All (λ pair. is_some (run (opened o).script (opened o).config (take (suc pair.0) entries)) ≡ true) at
-  pub entries_are : map Some made ≡ map (λ pair. slice_get entries pair.0) at
-  pub places_rise : RiseWithin from (length entries) (map (λ pair. suc pair.0) at)
+module _ (turns : ℕ) (before old new : Worker) (so_far : WorkedSoFar turns before old) (one : TookOneTurn old.pass new.pass) (drawn : new.picks ≡ after_words 2 old.picks) where
+  abbrev t : TookTurns turns before old
+  t = so_far.took
 
-made_none : (o : Opening) (number : ℕ) (words : Lcg) (begun : ℕ) (entries : List Entry) → AreMade o number words begun (length entries) entries [] []
-made_none o number words begun entries = record {
-  chosen_each = All-nil (λ pair. IsChosenAt words number (opened o).script (opened o).config entries pair.0 (pair.1 - suc begun));
-  legal_each = All-nil (λ pair. is_some (run (opened o).script (opened o).config (take (suc pair.0) entries)) ≡ true);
-  entries_are = refl;
-  places_rise = omega arith;
-}
+  abbrev took_more : (pairs : List (ℕ × ℕ)) (missed : ℕ) → Adds turns before old new pairs missed → TookTurns (turns + 1) before new
+  took_more pairs missed adds = record {
+    host = one.host ∙ t.host;
+    opening = one.kept.opening ∙ t.opening;
+    number = one.kept.number ∙ t.number;
+    olds = one.kept.olds ∙ t.olds;
+    not_holding = one.kept.at_rest.1;
+    front = prefix_trans _ _ _ t.front adds.front;
+    takes = omega (arith, one.kept.takes, t.takes);
+    picks = words_next before.picks old.picks new.picks turns t.picks drawn;
+    missed = t.missed + missed;
+    misses = omega (arith, adds.misses, t.misses);
+    at = t.at ++ pairs;
+    at_is = adds.at ∙ ap (λ (xs : List (ℕ × ℕ)). xs ++ pairs) t.at_is ∙ append_assoc before.pass.view.known.at t.at pairs;
+    each = All-append (IsMadeAt before new.pass.view.known.seen) t.at pairs (all_in_longer before old.pass.view.known.seen new.pass.view.known.seen t.at adds.front t.each) adds.each;
+    mine =
+        adds.mine
+        ∙ ap (λ (xs : List (Option Entry)). xs ++ map (get_at new.pass.view.known.seen) pairs) t.mine
+        ∙ append_assoc (map Some before.pass.view.known.mine) (map (get_at old.pass.view.known.seen) t.at) (map (get_at new.pass.view.known.seen) pairs)
+        ∙ ap (λ (xs : List (Option Entry)). map Some before.pass.view.known.mine ++ (xs ++ map (get_at new.pass.view.known.seen) pairs))
+        (sym (same_entries before old.pass.view.known.seen adds.front.rest t.at t.each) ∙ ap (λ (xs : List Entry). map (get_at xs) t.at) (sym adds.front.all_is))
+        ∙ ap (λ (xs : List (Option Entry)). map Some before.pass.view.known.mine ++ xs) (sym (map-append (get_at new.pass.view.known.seen) t.at pairs));
+    places_rise =
+        subst (RiseWithin (length before.pass.view.known.seen) (length new.pass.view.known.seen)) (sym (map-append (λ (pair : ℕ × ℕ). suc pair.0) t.at pairs))
+        (rise_append _ (length old.pass.view.known.seen) _ (map (λ (pair : ℕ × ℕ). suc pair.0) t.at) (map (λ (pair : ℕ × ℕ). suc pair.0) pairs) t.places_rise adds.places_rise);
+    takes_rise =
+        subst (RiseWithin before.pass.view.takes new.pass.view.takes) (sym (map-append (λ (pair : ℕ × ℕ). pair.1) t.at pairs))
+        (rise_append _ old.pass.view.takes _ (map (λ (pair : ℕ × ℕ). pair.1) t.at) (map (λ (pair : ℕ × ℕ). pair.1) pairs) t.takes_rise adds.takes_rise);
+    alone = λ lone.
+        let none = t.alone lone in
+        let more = adds.alone lone in
+        let next : suc before.pass.view.takes + turns ≡ suc before.pass.view.takes + length (map (λ (pair : ℕ × ℕ). pair.1) t.at) = omega (arith, so_far.counts, none.0, length-map t.at (λ (pair : ℕ × ℕ). pair.1)) in (
+          omega (arith, none.0, more.0),
+          subst (counted_from (suc before.pass.view.takes)) (sym (map-append (λ (pair : ℕ × ℕ). pair.1) t.at pairs))
+              (counted_append (suc before.pass.view.takes) (suc before.pass.view.takes + turns) (map (λ (pair : ℕ × ℕ). pair.1) t.at) (map (λ (pair : ℕ × ℕ). pair.1) pairs) next none.1 more.1),
+        );
+  }
 
--- the list grows
-made_longer : (o : Opening) (number : ℕ) (words : Lcg) (begun from : ℕ) (entries more made : List Entry) (at : List (ℕ × ℕ))
-    → AreMade o number words begun from entries made at → AreMade o number words begun from (entries ++ more) made at
-made_longer o number words begun from entries more made at are =
-    let within = within_of from (length entries) at are.places_rise in
-    record {
-      chosen_each =
-          all_later
-          (λ pair. IsChosenAt words number (opened o).script (opened o).config entries pair.0 (pair.1 - suc begun))
-          (λ pair. IsChosenAt words number (opened o).script (opened o).config (entries ++ more) pair.0 (pair.1 - suc begun))
-          (length entries)
-          (λ pair inside is. chosen_in_longer words number (opened o).script (opened o).config entries more pair.0 (pair.1 - suc begun) inside is)
-          at within are.chosen_each;
-      legal_each =
-          all_later
-          (λ pair. is_some (run (opened o).script (opened o).config (take (suc pair.0) entries)) ≡ true)
-          (λ pair. is_some (run (opened o).script (opened o).config (take (suc pair.0) (entries ++ more))) ≡ true)
-          (length entries)
-          (λ pair inside is. ap (λ (xs : List Entry). is_some (run (opened o).script (opened o).config xs)) (take-append-le (suc pair.0) entries more (omega (arith, inside))) ∙ is)
-          at within are.legal_each;
-      entries_are = are.entries_are ∙ sym (same_entries entries more at within);
-      places_rise = rise_higher from (length entries) (length (entries ++ more)) _ (omega (arith, length-append entries more)) are.places_rise;
-    }
+  -- a turn that makes no entry
+  adds_none : (missed : ℕ) → IsPrefix old.pass.view.known.seen new.pass.view.known.seen → new.pass.view.misses ≡ old.pass.view.misses + missed → new.pass.view.known.at ≡ old.pass.view.known.at
+      → new.pass.view.known.mine ≡ old.pass.view.known.mine → (before.pass.view.opening.workers ≡ 1 → missed ≡ 0) → Adds turns before old new [] missed
+  adds_none missed front misses at mine alone = record {
+    front = front;
+    misses = misses;
+    at = at ∙ sym (append-nil old.pass.view.known.at);
+    each = All-nil (IsMadeAt before new.pass.view.known.seen);
+    mine = ap (λ (xs : List Entry). map Some xs) mine ∙ sym (append-nil (map Some old.pass.view.known.mine));
+    places_rise = omega (arith, length-append old.pass.view.known.seen front.rest, ap (λ (xs : List Entry). length xs) front.all_is);
+    takes_rise = omega (arith, one.kept.takes);
+    alone = λ lone. (alone lone, tt);
+  }
 
-made_prefix : (o : Opening) (number : ℕ) (words : Lcg) (begun from : ℕ) (entries longer made : List Entry) (at : List (ℕ × ℕ)) → IsPrefix entries longer
-    → AreMade o number words begun from entries made at → AreMade o number words begun from longer made at
-made_prefix o number words begun from entries longer made at front are =
-    subst (λ (xs : List Entry). AreMade o number words begun from xs made at) (sym front.all_is) (made_longer o number words begun from entries front.rest made at are)
+  -- a turn that makes a step
+  adds_step : (e : Entry) (step : MadeStep old.pass.view new.pass.view (draws old.picks 0).0 (draws old.picks 0).1 e) → Adds turns before old new ((length step.history, new.pass.view.takes) ∷ []) 0
+  adds_step e step =
+      let o = before.pass.view.opening in
+      let number = before.pass.view.known.number in
+      let history = step.history in
+      let numbers : draws old.picks 0 ≡ draws before.picks turns = ap (λ (words : Lcg). draws words 0) t.picks ∙ draws_after before.picks turns in
+      let picked : Some e ≡ chosen (opened o).script (opened o).config step.then.world number (draws before.picks turns).0 (draws before.picks turns).1 =
+      sym step.chosen_is
+      ∙ ap (λ (x : Opening). chosen (opened x).script (opened x).config step.then.world old.pass.view.known.number (draws old.picks 0).0 (draws old.picks 0).1) t.opening
+      ∙ ap (λ (n : ℕ). chosen (opened o).script (opened o).config step.then.world n (draws old.picks 0).0 (draws old.picks 0).1) t.number
+      ∙ ap (λ (pair : ℕ × ℕ). chosen (opened o).script (opened o).config step.then.world number pair.0 pair.1) numbers in
+      let is_run : IsRunOf (engine_after o history) step.then = subst (λ (x : Opening). IsRunOf (engine_after x history) step.then) t.opening step.is_run in
+      let legal : IsRunWith (engine_after o history) e = subst (λ (x : Opening). IsRunWith (engine_after x history) e) t.opening step.legal in
+      let index : turns ≡ new.pass.view.takes - suc before.pass.view.takes = omega (arith, one.kept.takes, t.takes) in
+      let ends : length (history ++ e ∷ []) ≡ length history + 1 = length-append history (e ∷ []) in
+      let made : IsMadeAt before (history ++ e ∷ []) (length history, new.pass.view.takes) = record {
+        within = omega (arith, ends);
+        chosen =
+            subst (λ (turn : ℕ). IsChosenAt (draws before.picks) number (opened o).script (opened o).config (history ++ e ∷ []) (length history) turn) index
+            (chosen_next (draws before.picks) number turns (opened o).script (opened o).config history [] e step.then is_run picked);
+        legal = ap (λ (xs : List Entry). is_some (run (opened o).script (opened o).config xs)) (take_all (suc (length history)) (history ++ e ∷ []) (omega (arith, ends))) ∙ legal;
+      } in
+      let longer : length new.pass.view.known.seen ≡ length history + 1 = ap (λ (xs : List Entry). length xs) step.seen ∙ ends in
+      let grown : length history ≡ length old.pass.view.known.seen + length step.front.rest = ap (λ (xs : List Entry). length xs) step.front.all_is ∙ length-append old.pass.view.known.seen step.front.rest in
+      record {
+        front = prefix_trans _ _ _ step.front (record { rest = e ∷ []; all_is = step.seen });
+        misses = omega (arith, step.misses);
+        at = step.at;
+        each = All-cons (IsMadeAt before new.pass.view.known.seen) (length history, new.pass.view.takes) [] (subst (λ (xs : List Entry). IsMadeAt before xs (length history, new.pass.view.takes)) (sym step.seen) made) (All-nil (IsMadeAt before new.pass.view.known.seen));
+        mine =
+            ap (λ (xs : List Entry). map Some xs) step.mine
+            ∙ map-append Some old.pass.view.known.mine (e ∷ [])
+            ∙ ap (λ (x : Option Entry). map Some old.pass.view.known.mine ++ x ∷ []) (sym (get_seam history [] e) ∙ ap (λ (xs : List Entry). slice_get xs (length history)) (sym step.seen));
+        places_rise = (omega (arith, grown), omega (arith, longer));
+        takes_rise = (omega (arith, one.kept.takes), omega arith);
+        alone = λ lone. (refl, (omega (arith, one.kept.takes, t.takes), tt));
+      }
 
--- one entry more, at the end of the list
-made_more : (o : Opening) (number : ℕ) (words now : Lcg) (begun from turn : ℕ) (entries made : List Entry) (at : List (ℕ × ℕ)) (e : Entry) (after : Run)
-    → now ≡ after_words (2 * turn) words
-    → IsRunOf (engine_after o entries) after
-    → chosen (opened o).script (opened o).config after.world number (pcg32 now).0 (pcg32 (pcg32 now).1).0 ≡ Some e
-    → IsRunWith (engine_after o entries) e
-    → (number_of_take : ℕ) → number_of_take ≡ suc begun + turn
-    → AreMade o number words begun from entries made at
-    → AreMade o number words begun from (entries ++ e ∷ []) (made ++ e ∷ []) (at ++ (length entries, number_of_take) ∷ [])
-made_more o number words now begun from turn entries made at e after drawn is_run picked legal number_of_take number_is are =
-    let longer = made_longer o number words begun from entries (e ∷ []) made at are in
-    let ends : length (entries ++ e ∷ []) ≡ length entries + 1 = length-append entries (e ∷ []) in
-    let all = entries ++ e ∷ [] in
-    let index : number_of_take - suc begun ≡ turn = omega (arith, number_is) in
-    record {
-      chosen_each = All-push (λ pair. IsChosenAt words number (opened o).script (opened o).config all pair.0 (pair.1 - suc begun)) at (length entries, number_of_take) longer.chosen_each
-          (subst (λ (n : ℕ). IsChosenAt words number (opened o).script (opened o).config all (length entries) n) (sym index) (chosen_last words now number turn (opened o).script (opened o).config entries e after is_run drawn picked));
-      legal_each = All-push (λ pair. is_some (run (opened o).script (opened o).config (take (suc pair.0) all)) ≡ true) at (length entries, number_of_take) longer.legal_each
-          (ap (λ (xs : List Entry). is_some (run (opened o).script (opened o).config xs)) (take_all (suc (length entries)) all (omega (arith, ends))) ∙ legal);
-      entries_are =
-          map-append Some made (e ∷ [])
-          ∙ ap (λ (xs : List (Option Entry)). xs ++ Some e ∷ []) longer.entries_are
-          ∙ ap (λ (x : Option Entry). map (λ pair. slice_get all pair.0) at ++ x ∷ []) (sym (get-last entries e))
-          ∙ sym (map-append (λ pair. slice_get all pair.0) at ((length entries, number_of_take) ∷ []));
-      places_rise =
-          subst (RiseWithin from (length all)) (sym (map-append (λ pair. suc pair.0) at ((length entries, number_of_take) ∷ [])))
-          (rise_more from (length entries) (suc (length entries)) (length all) (map (λ pair. suc pair.0) at) are.places_rise (omega arith) (omega (arith, ends)));
-    }
+  -- a turn after which the run may go on
+  pub so_far_next : (result : Turn) → IsTurn old.pass.view new.pass.view (draws old.picks 0).0 (draws old.picks 0).1 result → ((v : Verdict) → result ≢ turn.Over v) → WorkedSoFar (turns + 1) before new
+  so_far_next (turn.Did e) step not_over =
+      let pairs : List (ℕ × ℕ) = (length step.history, new.pass.view.takes) ∷ [] in
+      record { took = took_more pairs 0 (adds_step e step); counts = omega (arith, so_far.counts, length-append t.at pairs) }
+  so_far_next (turn.Busy found) busy not_over =
+      let adds = adds_none 1 (prefix_of_same _ _ (ap (λ (k : Known). k.seen) (sym busy.known))) (omega (arith, busy.misses)) (ap (λ (k : Known). k.at) busy.known) (ap (λ (k : Known). k.mine) busy.known)
+      (λ lone. absurd (busy.alone (ap (λ (o : Opening). o.workers) t.opening ∙ lone))) in
+      record { took = took_more [] 1 adds; counts = omega (arith, so_far.counts, length-append t.at []) }
+  so_far_next (turn.Over v) closed not_over = absurd (not_over v refl)
 
--- ---- the turns of a worker
+  -- a turn finds the run closed
+  pub worked_over : (limit : ℕ) (v : Verdict) → turns < limit → FoundClosed old.pass.view new.pass.view v → Worked limit before new
+  worked_over limit v fewer found =
+      let last : old.pass.view.takes ≡ new.pass.view.takes - 1 = omega (arith, one.kept.takes) in
+      record {
+        taken = turns + 1;
+        few = omega (arith, fewer);
+        took = took_more [] 0 (adds_none 0 found.front (omega (arith, found.misses)) found.at found.mine (λ lone. refl));
+        over = true;
+        counts = omega (arith, so_far.counts, length-append t.at []);
+        closed = λ is. record {
+          after = found.then;
+          is_run = subst (λ (x : Opening). IsRunOf (engine_after x new.pass.view.known.seen) found.then) t.opening found.is_run;
+          closed = λ is_open. found.closed (found.verdict_is ∙ ap (λ (x : Opening). verdict_of (opened x).script (opened x).config found.then.world (length new.pass.view.known.seen)) t.opening ∙ is_open);
+        };
+        all_turns = λ is. refl;
+        over_last = λ is. (
+          found.found,
+          subst (λ (xs : List (ℕ × ℕ)). RiseWithin before.pass.view.takes (new.pass.view.takes - 1) (map (λ pair. pair.1) xs)) (sym (append-nil t.at))
+              (subst (λ (high : ℕ). RiseWithin before.pass.view.takes high (map (λ pair. pair.1) t.at)) last t.takes_rise),
+        );
+      }
 
--- what a worker did in its turns so far, none of which found the run closed
-pub record WorkedSoFar (before after : PassValue) (words now : Lcg) (turns : ℕ) : Type 0 where
-  pub host : after.host ≡ before.host
-  pub opening : after.view.opening ≡ before.view.opening
-  pub number : after.view.known.number ≡ before.view.known.number
-  pub olds : after.view.olds ≡ before.view.olds
-  pub not_holding : after.view.holding ≡ false
-  pub front : IsPrefix before.view.known.seen after.view.known.seen
-  pub takes : after.view.takes ≡ before.view.takes + turns
-  pub picks : now ≡ after_words (2 * turns) words
-  pub missed : ℕ
-  pub misses : after.view.misses ≡ before.view.misses + missed
-  pub made : List Entry
-  pub at : List (ℕ × ℕ)
-  pub mine : after.view.known.mine ≡ before.view.known.mine ++ made
-  pub at_is : after.view.known.at ≡ before.view.known.at ++ at
-  pub counts : turns ≡ length made + missed
-  pub as_many : length at ≡ length made
-  pub are_made : AreMade before.view.opening before.view.known.number words before.view.takes (length before.view.known.seen) after.view.known.seen made at
-  pub takes_rise : RiseWithin before.view.takes after.view.takes (map (λ pair. pair.1) at)
-  pub alone : before.view.opening.workers ≡ 1 → (missed ≡ 0) × counted_from (suc before.view.takes) (map (λ pair. pair.1) at)
+-- ---- the beginning and the end
 
 -- no turn is made
-pub so_far_none : (p : PassValue) (words : Lcg) → p.view.holding ≡ false → WorkedSoFar p p words words 0
-so_far_none p words at_rest = record {
-  host = refl;
-  opening = refl;
-  number = refl;
-  olds = refl;
-  not_holding = at_rest;
-  front = prefix_refl p.view.known.seen;
-  takes = omega arith;
-  picks = sym (no_words words);
-  missed = 0;
-  misses = omega arith;
-  made = [];
-  at = [];
-  mine = sym (append-nil p.view.known.mine);
-  at_is = sym (append-nil p.view.known.at);
+pub so_far_none : (w : Worker) → w.pass.view.holding ≡ false → WorkedSoFar 0 w w
+so_far_none w at_rest = record {
+  took = record {
+    host = refl;
+    opening = refl;
+    number = refl;
+    olds = refl;
+    not_holding = at_rest;
+    front = prefix_refl w.pass.view.known.seen;
+    takes = omega arith;
+    picks = sym (no_words w.picks);
+    missed = 0;
+    misses = omega arith;
+    at = [];
+    at_is = sym (append-nil w.pass.view.known.at);
+    each = All-nil (IsMadeAt w w.pass.view.known.seen);
+    mine = sym (append-nil (map Some w.pass.view.known.mine));
+    places_rise = omega arith;
+    takes_rise = omega arith;
+    alone = λ lone. (refl, tt);
+  };
   counts = refl;
-  as_many = refl;
-  are_made = made_none p.view.opening p.view.known.number words p.view.takes p.view.known.seen;
-  takes_rise = omega arith;
-  alone = λ one. (refl, tt);
 }
-
--- a turn that makes a step
-so_far_did : (before old new : PassValue) (words now then : Lcg) (turns : ℕ) (e : Entry) → WorkedSoFar before old words now turns
-    → TookOneTurn old new → then ≡ (pcg32 (pcg32 now).1).1 → MadeStep old.view new.view (pcg32 now).0 (pcg32 (pcg32 now).1).0 e
-    → WorkedSoFar before new words then (turns + 1)
-so_far_did before old new words now then turns e so_far took drawn step =
-    let kept = took.kept in
-    let o = before.view.opening in
-    let number = before.view.known.number in
-    let to_history : IsPrefix old.view.known.seen step.history = step.front in
-    let to_all : IsPrefix step.history new.view.known.seen = record { rest = e ∷ []; all_is = step.seen } in
-    let is_run : IsRunOf (engine_after o step.history) step.then = subst (λ (x : Opening). IsRunOf (engine_after x step.history) step.then) so_far.opening step.is_run in
-    let legal : IsRunWith (engine_after o step.history) e = subst (λ (x : Opening). IsRunWith (engine_after x step.history) e) so_far.opening step.legal in
-    let picked : chosen (opened o).script (opened o).config step.then.world number (pcg32 now).0 (pcg32 (pcg32 now).1).0 ≡ Some e =
-    subst (λ (n : ℕ). chosen (opened o).script (opened o).config step.then.world n (pcg32 now).0 (pcg32 (pcg32 now).1).0 ≡ Some e) so_far.number
-    (subst (λ (x : Opening). chosen (opened x).script (opened x).config step.then.world old.view.known.number (pcg32 now).0 (pcg32 (pcg32 now).1).0 ≡ Some e) so_far.opening step.chosen_is) in
-    let take_is : new.view.takes ≡ suc before.view.takes + turns = omega (arith, kept.takes, so_far.takes) in
-    let found_made = made_prefix o number words before.view.takes (length before.view.known.seen) old.view.known.seen step.history so_far.made so_far.at to_history so_far.are_made in
-    let pairs : List (ℕ × ℕ) = (length step.history, new.view.takes) ∷ [] in
-    record {
-      host = took.host ∙ so_far.host;
-      opening = kept.opening ∙ so_far.opening;
-      number = kept.number ∙ so_far.number;
-      olds = kept.olds ∙ so_far.olds;
-      not_holding = kept.at_rest.1;
-      front = prefix_trans _ _ _ (prefix_trans _ _ _ so_far.front to_history) to_all;
-      takes = omega (arith, take_is);
-      picks = drawn ∙ next_words words now turns (turns + 1) so_far.picks refl;
-      missed = so_far.missed;
-      misses = step.misses ∙ so_far.misses;
-      made = so_far.made ++ e ∷ [];
-      at = so_far.at ++ pairs;
-      mine = step.mine ∙ ap (λ (xs : List Entry). xs ++ e ∷ []) so_far.mine ∙ append_assoc before.view.known.mine so_far.made (e ∷ []);
-      at_is = step.at ∙ ap (λ (xs : List (ℕ × ℕ)). xs ++ pairs) so_far.at_is ∙ append_assoc before.view.known.at so_far.at pairs;
-      counts = omega (arith, so_far.counts, length-append so_far.made (e ∷ []));
-      as_many = omega (arith, so_far.as_many, length-append so_far.made (e ∷ []), length-append so_far.at pairs);
-      are_made =
-          subst (λ (xs : List Entry). AreMade o number words before.view.takes (length before.view.known.seen) xs (so_far.made ++ e ∷ []) (so_far.at ++ pairs)) (sym step.seen)
-          (made_more o number words now before.view.takes (length before.view.known.seen) turns step.history so_far.made so_far.at e step.then so_far.picks is_run picked legal new.view.takes take_is found_made);
-      takes_rise =
-          subst (RiseWithin before.view.takes new.view.takes) (sym (map-append (λ pair. pair.1) so_far.at pairs))
-          (rise_more before.view.takes old.view.takes new.view.takes new.view.takes (map (λ pair. pair.1) so_far.at) so_far.takes_rise (omega (arith, kept.takes)) (omega arith));
-      alone = λ one.
-          let none = so_far.alone one in (
-            none.0,
-            subst (counted_from (suc before.view.takes)) (sym (map-append (λ pair. pair.1) so_far.at pairs))
-                (counted_more (suc before.view.takes) new.view.takes (map (λ pair. pair.1) so_far.at) none.1
-                (omega (arith, take_is, none.0, so_far.counts, so_far.as_many, length-map so_far.at (λ (pair : ℕ × ℕ). pair.1)))),
-          );
-    }
-
--- a turn that finds the turn of another worker
-so_far_missed : (before old new : PassValue) (words now then : Lcg) (turns found : ℕ) → WorkedSoFar before old words now turns
-    → TookOneTurn old new → then ≡ (pcg32 (pcg32 now).1).1 → FoundBusy old.view new.view found
-    → WorkedSoFar before new words then (turns + 1)
-so_far_missed before old new words now then turns found so_far took drawn busy =
-    let kept = took.kept in
-    let same_seen : old.view.known.seen ≡ new.view.known.seen = ap (λ (k : Known). k.seen) (sym busy.known) in
-    record {
-      host = took.host ∙ so_far.host;
-      opening = kept.opening ∙ so_far.opening;
-      number = kept.number ∙ so_far.number;
-      olds = kept.olds ∙ so_far.olds;
-      not_holding = kept.at_rest.1;
-      front = subst (IsPrefix before.view.known.seen) same_seen so_far.front;
-      takes = omega (arith, kept.takes, so_far.takes);
-      picks = drawn ∙ next_words words now turns (turns + 1) so_far.picks refl;
-      missed = suc so_far.missed;
-      misses = omega (arith, busy.misses, so_far.misses);
-      made = so_far.made;
-      at = so_far.at;
-      mine = ap (λ (k : Known). k.mine) busy.known ∙ so_far.mine;
-      at_is = ap (λ (k : Known). k.at) busy.known ∙ so_far.at_is;
-      counts = omega (arith, so_far.counts);
-      as_many = so_far.as_many;
-      are_made = subst (λ (xs : List Entry). AreMade before.view.opening before.view.known.number words before.view.takes (length before.view.known.seen) xs so_far.made so_far.at) same_seen so_far.are_made;
-      takes_rise = rise_higher before.view.takes old.view.takes new.view.takes (map (λ pair. pair.1) so_far.at) (omega (arith, kept.takes)) so_far.takes_rise;
-      alone = λ one. absurd (busy.alone (ap (λ (o : Opening). o.workers) so_far.opening ∙ one));
-    }
-
--- a turn after which the run may go on
-pub so_far_next : (before old new : PassValue) (words now then : Lcg) (turns : ℕ) (result : Turn) → WorkedSoFar before old words now turns
-    → TookOneTurn old new → then ≡ (pcg32 (pcg32 now).1).1 → IsTurn old.view new.view (pcg32 now).0 (pcg32 (pcg32 now).1).0 result
-    → ((v : Verdict) → result ≢ turn.Over v)
-    → WorkedSoFar before new words then (turns + 1)
-so_far_next before old new words now then turns (turn.Did e) so_far took drawn step not_over = so_far_did before old new words now then turns e so_far took drawn step
-so_far_next before old new words now then turns (turn.Busy found) so_far took drawn busy not_over = so_far_missed before old new words now then turns found so_far took drawn busy
-so_far_next before old new words now then turns (turn.Over v) so_far took drawn closed not_over = absurd (not_over v refl)
-
--- ---- the end
 
 -- all turns are made
-pub worked_all : (before after : Worker) (made turns : ℕ) → WorkedSoFar before.pass after.pass before.picks after.picks made → made ≤ turns → turns ≤ made → Worked turns before after
-worked_all before after turns_made turns so_far within all = record {
-  host = so_far.host;
-  opening = so_far.opening;
-  number = so_far.number;
-  olds = so_far.olds;
-  not_holding = so_far.not_holding;
-  front = so_far.front;
-  taken = turns_made;
-  takes = so_far.takes;
+pub worked_all : (limit turns : ℕ) (before after : Worker) → WorkedSoFar turns before after → turns ≤ limit → limit ≤ turns → Worked limit before after
+worked_all limit turns before after so_far within all = record {
+  taken = turns;
   few = within;
-  picks = so_far.picks;
-  missed = so_far.missed;
-  misses = so_far.misses;
-  made = so_far.made;
-  at = so_far.at;
-  mine = so_far.mine;
-  at_is = so_far.at_is;
+  took = so_far.took;
   over = false;
   counts = omega (arith, so_far.counts);
-  as_many = so_far.as_many;
-  closed = λ is. absurd (cc);
+  closed = λ is. absurd cc;
   all_turns = λ fewer. absurd (omega (arith, fewer, all));
-  over_last = λ is. absurd (cc);
-  chosen_each = so_far.are_made.chosen_each;
-  legal_each = so_far.are_made.legal_each;
-  entries = so_far.are_made.entries_are;
-  places_rise = so_far.are_made.places_rise;
-  takes_rise = so_far.takes_rise;
-  alone = so_far.alone;
+  over_last = λ is. absurd cc;
 }
-
--- a turn finds the run closed
-pub worked_over : (before old new : Worker) (made turns : ℕ) (v : Verdict) → WorkedSoFar before.pass old.pass before.picks old.picks made → made < turns
-    → TookOneTurn old.pass new.pass → new.picks ≡ (pcg32 (pcg32 old.picks).1).1 → FoundClosed old.pass.view new.pass.view v
-    → Worked turns before new
-worked_over before old new turns_made turns v so_far fewer took drawn found =
-    let kept = took.kept in
-    let o = before.pass.view.opening in
-    let are = made_prefix o before.pass.view.known.number before.picks before.pass.view.takes (length before.pass.view.known.seen) old.pass.view.known.seen new.pass.view.known.seen so_far.made so_far.at found.front so_far.are_made in
-    let last : new.pass.view.takes - 1 ≡ old.pass.view.takes = omega (arith, kept.takes) in
-    record {
-      host = took.host ∙ so_far.host;
-      opening = kept.opening ∙ so_far.opening;
-      number = kept.number ∙ so_far.number;
-      olds = kept.olds ∙ so_far.olds;
-      not_holding = kept.at_rest.1;
-      front = prefix_trans _ _ _ so_far.front found.front;
-      taken = turns_made + 1;
-      takes = omega (arith, kept.takes, so_far.takes);
-      few = omega (arith, fewer);
-      picks = drawn ∙ next_words before.picks old.picks turns_made (turns_made + 1) so_far.picks refl;
-      missed = so_far.missed;
-      misses = found.misses ∙ so_far.misses;
-      made = so_far.made;
-      at = so_far.at;
-      mine = found.mine ∙ so_far.mine;
-      at_is = found.at ∙ so_far.at_is;
-      over = true;
-      counts = omega (arith, so_far.counts);
-      as_many = so_far.as_many;
-      closed = λ is. record {
-        after = found.then;
-        is_run = subst (λ (x : Opening). IsRunOf (engine_after x new.pass.view.known.seen) found.then) so_far.opening found.is_run;
-        closed = λ is_open. found.closed (found.verdict_is ∙ ap (λ (x : Opening). verdict_of (opened x).script (opened x).config found.then.world (length new.pass.view.known.seen)) so_far.opening ∙ is_open);
-      };
-      all_turns = λ is. refl;
-      over_last = λ is. (found.found, subst (λ (high : ℕ). RiseWithin before.pass.view.takes high (map (λ pair. pair.1) so_far.at)) (sym last) so_far.takes_rise);
-      chosen_each = are.chosen_each;
-      legal_each = are.legal_each;
-      entries = are.entries_are;
-      places_rise = are.places_rise;
-      takes_rise = rise_higher before.pass.view.takes old.pass.view.takes new.pass.view.takes (map (λ pair. pair.1) so_far.at) (omega (arith, kept.takes)) so_far.takes_rise;
-      alone = so_far.alone;
-    }

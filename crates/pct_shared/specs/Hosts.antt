@@ -7,7 +7,8 @@ use Rattle.pct_engine.specs.EngineStates.{EngineValue, IsRunOf}
 use Rattle.pct_shared.specs.declared.view.Opening.{Opening}
 use Rattle.pct_shared.specs.declared.workers.Worker.{Worker}
 use Rattle.pct_shared.specs.Passes.{IsDesk, IsPassOf, SharedValue}
-use Rattle.pct_shared.specs.Streams.{IsChosenAt, after_words, stream_of}
+use Rattle.pct_scheduled_run.specs.ScheduledRuns.{IsChosenAt}
+use Rattle.pct_scheduled_run.specs.Streams.{after_words, draws, stream_of}
 use Rattle.pct_shared.specs.Views.{IsPrefix, engine_after, first_view, known_first, opened, own, places}
 use Rattle.pct_shared.specs.TurnRule.{SeatView, Slot}
 use Rattle.atomic_table.specs.Seated.{TableId}
@@ -60,8 +61,15 @@ pub record IsClosedAfter (o : Opening) (entries : List Entry) : Type 0 where
   pub is_run : IsRunOf (engine_after o entries) after
   pub closed : verdict_of (opened o).script (opened o).config after.world (length entries) ≢ verdict.Open
 
--- what a worker did in at most `turns` turns
-pub record Worked (turns : ℕ) (before after : Worker) : Type 0 where
+-- an entry that a worker made, by its place and the number of its take: the worker has seen it, it was legal, and it is the one that the
+-- worker chooses by the two words of its turn
+pub record IsMadeAt (before : Worker) (seen : List Entry) (pair : ℕ × ℕ) : Type 0 where
+  pub within : pair.0 < length seen
+  pub chosen : IsChosenAt (draws before.picks) before.pass.view.known.number (opened before.pass.view.opening).script (opened before.pass.view.opening).config seen pair.0 (pair.1 - suc before.pass.view.takes)
+  pub legal : is_some (run (opened before.pass.view.opening).script (opened before.pass.view.opening).config (take (suc pair.0) seen)) ≡ true
+
+-- what a worker did in this many turns
+pub record TookTurns (taken : ℕ) (before after : Worker) : Type 0 where
   -- the pass is the same, and at rest
   pub host : after.pass.host ≡ before.pass.host
   pub opening : after.pass.view.opening ≡ before.pass.view.opening
@@ -69,35 +77,33 @@ pub record Worked (turns : ℕ) (before after : Worker) : Type 0 where
   pub olds : after.pass.view.olds ≡ before.pass.view.olds
   pub not_holding : after.pass.view.holding ≡ false
   pub front : IsPrefix before.pass.view.known.seen after.pass.view.known.seen
-  -- the turns that it took: two words of its stream for each
-  pub taken : ℕ
+  -- each turn is a take, and two words of its stream
   pub takes : after.pass.view.takes ≡ before.pass.view.takes + taken
-  pub few : taken ≤ turns
   pub picks : after.picks ≡ after_words (2 * taken) before.picks
   -- those that found the turn taken
   pub missed : ℕ
   pub misses : after.pass.view.misses ≡ before.pass.view.misses + missed
-  -- the entries that it made, each with its place and the number of its take
-  pub made : List Entry
+  -- the entries that it made, each with its place and the number of its take; places and takes rise
   pub at : List (ℕ × ℕ)
-  pub mine : after.pass.view.known.mine ≡ before.pass.view.known.mine ++ made
   pub at_is : after.pass.view.known.at ≡ before.pass.view.known.at ++ at
-  -- whether the last turn found the run closed; each other turn made an entry or found the turn taken
-  pub over : Bool
-  pub counts : taken ≡ length made + missed + (if over then 1 else 0)
-  pub as_many : length at ≡ length made
-  pub closed : over ≡ true → IsClosedAfter before.pass.view.opening after.pass.view.known.seen
-  pub all_turns : taken < turns → over ≡ true
-  pub over_last : over ≡ true → (after.pass.view.found ≡ 0) × RiseWithin before.pass.view.takes (after.pass.view.takes - 1) (map (λ pair. pair.1) at)
-  -- each entry was legal, and is the one that the worker chooses by the two words of its turn; it stands at its place in the history,
-  -- and places and takes rise
-  pub chosen_each : All (λ pair. IsChosenAt before.picks before.pass.view.known.number (opened before.pass.view.opening).script (opened before.pass.view.opening).config after.pass.view.known.seen pair.0 (pair.1 - suc before.pass.view.takes)) at
-  pub legal_each : All (λ pair. is_some (run (opened before.pass.view.opening).script (opened before.pass.view.opening).config (take (suc pair.0) after.pass.view.known.seen)) ≡ true) at
-  pub entries : map Some made ≡ map (λ pair. slice_get after.pass.view.known.seen pair.0) at
+  pub each : All (IsMadeAt before after.pass.view.known.seen) at
+  pub mine : map Some after.pass.view.known.mine ≡ map Some before.pass.view.known.mine ++ map (λ pair. slice_get after.pass.view.known.seen pair.0) at
   pub places_rise : RiseWithin (length before.pass.view.known.seen) (length after.pass.view.known.seen) (map (λ pair. suc pair.0) at)
   pub takes_rise : RiseWithin before.pass.view.takes after.pass.view.takes (map (λ pair. pair.1) at)
   -- a lone worker never finds the turn taken, and makes an entry at each turn
   pub alone : before.pass.view.opening.workers ≡ 1 → (missed ≡ 0) × counted_from (suc before.pass.view.takes) (map (λ pair. pair.1) at)
+
+-- what a worker did in at most `turns` turns
+pub record Worked (turns : ℕ) (before after : Worker) : Type 0 where
+  pub taken : ℕ
+  pub few : taken ≤ turns
+  pub took : TookTurns taken before after
+  -- whether the last turn found the run closed; each other turn made an entry or found the turn taken
+  pub over : Bool
+  pub counts : taken ≡ length took.at + took.missed + (if over then 1 else 0)
+  pub closed : over ≡ true → IsClosedAfter before.pass.view.opening after.pass.view.known.seen
+  pub all_turns : taken < turns → over ≡ true
+  pub over_last : over ≡ true → (after.pass.view.found ≡ 0) × RiseWithin before.pass.view.takes (after.pass.view.takes - 1) (map (λ pair. pair.1) took.at)
 
 -- ---- the closing
 

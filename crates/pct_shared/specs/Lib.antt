@@ -1,4 +1,3 @@
-pub mod Streams
 pub mod Views
 pub mod TurnRule
 pub mod Passes

@@ -7,7 +7,7 @@ use Rattle.pct_engine.specs.EngineStates.{EngineValue}
 use Rattle.pct_shared.specs.declared.view.View.{View}
 use Rattle.pct_shared.specs.Views.{IsPrefix, engine_after, own}
 use Rattle.pct_shared.specs.declared.shared.Turn.{Turn}
-use Rattle.pct_shared.specs.Passes.{IsTurn}
+use Rattle.pct_shared.specs.Passes.{IsTurn, KeptByTurn}
 use Rattle.pct_shared.specs.TurnRule.{SeatView, Slot}
 
 -- ---- the take
@@ -75,10 +75,11 @@ IsSeatOf me v = me ≡ (Some v, [])
 abbrev pub HasNumber : Me Slot SeatView → ℕ → Type 0
 HasNumber me number = (v : View) × IsSeatOf me v × (v.known.number ≡ number) × (v.holding ≡ false)
 
--- a pass has lifted the engine; before, it had the first view
+-- a pass has lifted the engine; before, it had the first view, and did not hold the turn
 pub record HasLifted (v : View) (me : Me Slot SeatView) (engine : EngineValue) : Type 0 where
   pub history : List Entry
   pub engine_is : engine ≡ engine_after v.opening history
+  pub rests : v.holding ≡ false
   pub seen : IsPrefix v.known.seen history
   pub own_is : v.known.mine ≡ own v.known.number history
   pub me_is : me ≡ (Some (holding_view v history), (0, None) ∷ [])
@@ -101,9 +102,4 @@ pub record HasTakenTurn (v : View) (me : Me Slot SeatView) (a b : ℕ) (result :
   pub after : View
   pub seat : IsSeatOf me after
   pub turn : IsTurn v after a b result
-  pub takes : after.takes ≡ suc v.takes
-  pub not_holding : after.holding ≡ false
-  pub opening : after.opening ≡ v.opening
-  pub number : after.known.number ≡ v.known.number
-  pub olds : after.olds ≡ v.olds
-  pub made : after.made ≡ v.made
+  pub kept : KeptByTurn v after

@@ -1,7 +1,6 @@
 //! The shared host: workers on threads of their own step one run, one at a time under a turn.
 #![tactic(auto)]
 
-mod alone;
 mod pass;
 mod run;
 mod shared;
@@ -9,7 +8,6 @@ mod turns;
 mod view;
 mod workers;
 
-pub use alone::{finish, step_alone, stream_of};
 pub use pass::Pass;
 pub use run::{Runtime, run_shared};
 pub use shared::{Shared, Turn};

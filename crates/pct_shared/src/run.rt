@@ -4,12 +4,12 @@ ghost use Rattle.std.specs.Prelude.{◌≡◌, ◌<◌, ◌≤◌, [], IfOk};
 ghost use Rattle.pct_model.specs.declared.limits.TheConstants.{MAX_WORKER};
 ghost use Rattle.pct_shared.specs.Schedules.{WorkersSchedule};
 
-use crate::alone::{finish, stream_of};
 use crate::shared::Shared;
 use crate::workers::run_workers;
 use pct_engine::Engine;
 use pct_io::{Gate, NoMemory};
 use pct_model::RunOptions;
+use pct_scheduled_run::{continue_run, stream_of};
 use std::alloc::Global;
 use std::thread::Threads;
 
@@ -45,6 +45,6 @@ pub fn run_shared<R: Threads + Sync, G: Gate>(
         runtime.gate,
     );
     let mut made = shared.close(workers);
-    finish(&mut made, &mut stream_of(options.seed, FINISHER));
+    continue_run(&mut made, FINISHER, &mut stream_of(options.seed, FINISHER));
     Ok(made)
 }

@@ -8,7 +8,6 @@ ghost use Rattle.pct_shared.specs.Passes.{IsDesk};
 ghost use Rattle.pct_shared.specs.TurnSteps.{HasLifted, HasNumber, HasTakenTurn, IsSeatOf, MayGive, MissedTurn, gave_view};
 ghost use Rattle.pct_shared.specs.Views.{new_view, opened};
 
-use crate::alone::stream_of;
 use crate::pass::Pass;
 use crate::turns::{Chair, Desk, Gives, NextPass, Slot, Takes, TakesIn};
 use crate::view::Opening;
@@ -16,6 +15,7 @@ use crate::workers::Worker;
 use pct_engine::Engine;
 use pct_io::NoMemory;
 use pct_model::{Entry, Verdict};
+use pct_scheduled_run::stream_of;
 use std::alloc::Global;
 use std::marker::Model;
 use std::snapshot::Snapshot;

@@ -4,12 +4,12 @@ ghost use Rattle.std.specs.Prelude.{◌≡◌, ◌<◌, ℕ, length, slice_index
 ghost use Rattle.pct_shared.specs.declared.workers.Worker.{Worker};
 ghost use Rattle.pct_shared.specs.Hosts.{Worked};
 ghost use Rattle.pct_shared.specs.Passes.{IsPassOf, IsTurn, TookOneTurn};
-ghost use Rattle.rand_pcg.specs.Pcg.{pcg32};
+ghost use Rattle.pct_scheduled_run.specs.Streams.{after_words, draws};
 
 use crate::pass::Pass;
 use crate::shared::{Shared, Turn};
 use pct_io::Gate;
-use rand_core::utils::NextWord;
+use pct_scheduled_run::Scheduler;
 use rand_pcg::Lcg64Xsh32;
 use std::thread;
 use std::thread::Threads;
@@ -47,11 +47,10 @@ pub fn work<G: Gate>(shared: &Shared, worker: &mut Worker, turns: u32, gate: &G)
 fn work_once(shared: &Shared, worker: &mut Worker) -> Turn
     requires { IsPassOf shared.now worker.old.pass }
     ensures one { TookOneTurn worker.old.pass worker.new.pass }
-    ensures picks { worker.new.picks ≡ (pcg32 (pcg32 worker.old.picks).1).1 }
-    ensures turn { IsTurn worker.old.pass.view worker.new.pass.view (pcg32 worker.old.picks).0 (pcg32 (pcg32 worker.old.picks).1).0 result }
+    ensures picks { worker.new.picks ≡ after_words 2 worker.old.picks }
+    ensures turn { IsTurn worker.old.pass.view worker.new.pass.view (draws worker.old.picks 0).0 (draws worker.old.picks 0).1 result }
 {
-    let a = worker.picks.next_word();
-    let b = worker.picks.next_word();
+    let (a, b) = worker.picks.draw();
     shared.step(&mut worker.pass, a, b)
 }
 

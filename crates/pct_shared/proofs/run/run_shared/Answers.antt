@@ -1,9 +1,10 @@
 use Rattle.pct_names.proofs.Names.{◌<◌, All, ap, length, List, slice_index_or, subst, sym, with_items_is, ℕ, ◌∙◌, ◌≡◌}
 use Rattle.rand_pcg.specs.Lcg.{Lcg}
+use Rattle.pct_scheduled_run.specs.ScheduledRuns.{IsContinuedBy}
+use Rattle.pct_scheduled_run.specs.Streams.{draws}
 use Rattle.pct_shared.specs.declared.workers.Worker.{Worker}
 use Rattle.pct_shared.specs.Hosts.{AreAllWorkers, IsClosing, Worked}
 use Rattle.pct_shared.specs.Passes.{IsPassOf}
-use Rattle.pct_shared.specs.Streams.{IsContinuedBy}
 use Rattle.pct_shared.proofs.WorkedRuns.{all_new, all_worked, schedule_of_workers}
 use Rattle.pct_shared.proofs.run.run_shared.Goals as goal
 
@@ -38,7 +39,7 @@ returns g c =
     let after = c.run_workers.new.workers in
     let closed = c.close-made.result in
     let closing = subst (λ (workers : List Worker). IsClosing c.in_ok-shared.shared.opening workers closed) (with_items_is c.in_ok-shared.workers after (c.run_workers.ensures.count ∙ c.as_mut_slice.ensures.len)) c.close-made.ensures in
-    let ended = subst (λ (words : Lcg). IsContinuedBy words 0 closed.script closed.config closed.history c.finish.new.engine.history) c.stream_of.ensures c.finish.ensures.run in
-    schedule_of_workers c.args.engine c.finish.new.engine c.args.options c.in_ok-shared.shared before after closed
+    let ended = subst (λ (words : Lcg). IsContinuedBy (draws words) 0 closed.script closed.config closed.history c.continue_run.new.engine.history) c.stream_of.ensures c.continue_run.ensures.run in
+    schedule_of_workers c.args.engine c.continue_run.new.engine c.args.options c.in_ok-shared.shared before after closed
     c.requires.0 c.requires.1 c.in_ok-shared.ensures (as_many before shown after c.as_mut_slice.ensures.value c.run_workers.ensures.count)
-    (each c.args.options.turns before shown after c.as_mut_slice.ensures.value c.run_workers.ensures.each) closing c.finish.ensures.same ended
+    (each c.args.options.turns before shown after c.as_mut_slice.ensures.value c.run_workers.ensures.each) closing c.continue_run.ensures.same ended

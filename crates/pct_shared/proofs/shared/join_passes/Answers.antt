@@ -8,12 +8,9 @@ use Rattle.pct_shared.specs.declared.view.View.{View}
 use Rattle.pct_shared.specs.declared.workers.Worker.{Worker}
 use Rattle.pct_shared.specs.TurnRule.{KeepsTurn, SeatView, Slot}
 use Rattle.pct_shared.specs.Views.{taken_in}
+use Rattle.pct_shared.proofs.Seats.{seat_with}
 use Rattle.pct_shared.proofs.TurnAllowed.{joins_allowed}
 use Rattle.pct_shared.proofs.shared.join_passes.Goals as goal
-
--- a seat with this view and these slots
-abbrev seat_with : SeatView → List (ℕ × Slot) → Me Slot SeatView
-seat_with view slots = (view, slots)
 
 -- the seats of two passes may be joined
 seats_join : (key : Opening) (id other : ℕ) (me mine : Me Slot SeatView) (v w : View) → me ≡ (Some v, []) → mine ≡ (Some w, []) → w.holding ≡ false → Joins (KeepsTurn key) id me.0 other mine.0 (taken_in me.0 mine.0) None

@@ -8,6 +8,7 @@ use Rattle.pct_shared.specs.Hosts.{IsNewWorker}
 use Rattle.pct_shared.specs.TurnRule.{SeatView, Slot}
 use Rattle.pct_shared.specs.Views.{new_view, next_view}
 use Rattle.pct_shared.proofs.NewWorkers.{new_more, newest_splits}
+use Rattle.pct_shared.proofs.Seats.{seat_with}
 use Rattle.pct_shared.proofs.shared.make_workers.Goals as goal
 
 pub split_seat-next-requires : goal.split_seat-next-requires
@@ -19,16 +20,9 @@ split_seat-next-requires c =
       newest_splits host.desk.now.shared.key host.opening.now l.newest.id l.number l.newest.me c.requires.desk.key_is l.invariant.newest l.invariant.some c.loop-number-test.true,
     )
 
--- a seat that holds nothing
-abbrev seat_with : SeatView → Me Slot SeatView
-seat_with view = (view, [])
-
 -- the seat of the next pass
 next_seat : (me then : Me Slot SeatView) (o : Opening) (number more : ℕ) → more ≡ suc number → then ≡ (option_map next_view me.0, []) → me ≡ (Some (new_view o number), []) → then ≡ (Some (new_view o more), [])
-next_seat me then o number more is split at = split ∙ ap (λ (m : Me Slot SeatView). seat_with (option_map next_view m.0)) at ∙ ap (λ (n : ℕ). seat_with (Some (new_view o n))) (sym is)
-
-plus_one : (n : ℕ) → n + 1 ≡ suc n
-plus_one n = omega arith
+next_seat me then o number more is split at = split ∙ ap (λ (m : Me Slot SeatView). seat_with (option_map next_view m.0) []) at ∙ ap (λ (n : ℕ). seat_with (Some (new_view o n)) []) (sym is)
 
 -- a new worker of the same table
 same_table : (o : Opening) (seed number : ℕ) (w : Worker) (one other : TableId) → one ≡ other → IsNewWorker (record { host = one; opening = o }) seed number w → IsNewWorker (record { host = other; opening = o }) seed number w
@@ -52,7 +46,7 @@ loop-number-preserved c =
       made = omega (arith, longer, i.made);
       each = new_more (record { host = host.desk.now.shared.table_id; opening = host.opening.now }) c.args.seed l.number l.workers.items worker i.made i.each new c.push.new.self.items items;
       table = split.3 ∙ i.table;
-      newest = next_seat l.newest.me c.split_seat-next.result.me host.opening.now l.number (l.number + 1) (plus_one l.number) split.4 i.newest;
+      newest = next_seat l.newest.me c.split_seat-next.result.me host.opening.now l.number (l.number + 1) (omega arith) split.4 i.newest;
     }
 
 pub returns : goal.returns

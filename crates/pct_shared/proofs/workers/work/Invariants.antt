@@ -6,7 +6,7 @@ use Rattle.pct_shared.proofs.workers.work.Given as goal
 abbrev pub invariant-loop-made : goal.invariant-loop-made
 invariant-loop-made g l = record {
   few : l.made ≤ l.turns;
-  so_far : WorkedSoFar l.initial.worker.pass l.worker.pass l.initial.worker.picks l.worker.picks l.made;
+  so_far : WorkedSoFar l.made l.initial.worker l.worker;
 }
 
 abbrev pub decreases-loop-made : goal.decreases-loop-made

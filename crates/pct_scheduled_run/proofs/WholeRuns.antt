@@ -8,7 +8,7 @@ use Rattle.std.proofs.lemmas.List.{append_assoc}
 use Rattle.pct_model.specs.declared.stop.Verdict.TheVariants as verdict
 use Rattle.pct_engine_laws.proofs.LongerRuns.{run_parts, run_within}
 use Rattle.pct_engine_laws.proofs.OpenRuns.{goes_on_while_open}
-use Rattle.pct_shared.specs.Schedules.{IsWholeRun}
+use Rattle.pct_scheduled_run.specs.ScheduledRuns.{IsWholeRun}
 
 -- ---- the first entries of a run
 

@@ -1,15 +1,16 @@
 -- A seed has one schedule.
 use Rattle.pct_names.proofs.Names.{◌+◌, ◌-◌, ◌<◌, arith, cases_order, Config, Entry, inl, inr, length, List, Run, run, Script, slice_get}
 use Rattle.pct_names.proofs.Names.{Some, subst, sym, take, ℕ, ◌∙◌, ◌≡◌, ◌≤◌}
-use Rattle.pct_shared.specs.Schedules.{SeedSchedule}
-use Rattle.pct_shared.specs.Streams.{IsChosenAt, stream_of}
-use Rattle.pct_shared.proofs.WholeRuns.{whole_is_one}
+use Rattle.pct_scheduled_run.specs.SeedSchedules.{SeedSchedule}
+use Rattle.pct_scheduled_run.specs.ScheduledRuns.{IsChosenAt}
+use Rattle.pct_scheduled_run.specs.Streams.{draws, stream_of}
+use Rattle.pct_scheduled_run.proofs.WholeRuns.{whole_is_one}
 
 -- an entry past the turns of worker 1, by its place
-finished_at : (script : Script) (config : Config) (seed turns : ℕ) (entries : List Entry) (k : ℕ) → SeedSchedule script config seed turns entries → turns ≤ k → k < length entries → IsChosenAt (stream_of seed 0) 0 script config entries k (k - turns)
+finished_at : (script : Script) (config : Config) (seed turns : ℕ) (entries : List Entry) (k : ℕ) → SeedSchedule script config seed turns entries → turns ≤ k → k < length entries → IsChosenAt (draws (stream_of seed 0)) 0 script config entries k (k - turns)
 finished_at script config seed turns entries k schedule past within =
     let place : turns + (k - turns) ≡ k = omega (arith, past) in
-    subst (λ (at : ℕ). IsChosenAt (stream_of seed 0) 0 script config entries at (k - turns)) place (schedule.finished (k - turns) (omega (arith, place, within)))
+    subst (λ (at : ℕ). IsChosenAt (draws (stream_of seed 0)) 0 script config entries at (k - turns)) place (schedule.finished (k - turns) (omega (arith, place, within)))
 
 -- two schedules of a seed go on alike
 same_next : (script : Script) (config : Config) (seed turns : ℕ) (one other : List Entry) → SeedSchedule script config seed turns one → SeedSchedule script config seed turns other

@@ -1,0 +1,4 @@
+pub mod Words
+pub mod WholeRuns
+pub mod ContinuedRuns
+pub mod OneSchedule

@@ -1,0 +1,3 @@
+pub mod ScheduledRuns
+pub mod Streams
+pub mod SeedSchedules
