@@ -2,15 +2,15 @@
 use Rattle.pct_names.proofs.Names.{◌&&◌, ◌++◌, [], and_from, and_parts, ap, AreContents, Bool, canon, cond, Contents, contents_of, decimal}
 use Rattle.pct_names.proofs.Names.{declaration_line, declarations, encode, encoded, EncodedStmt, enumerate_from, false, flat_map}
 use Rattle.pct_names.proofs.Names.{flat_map-cons, Func, function_lines, has_line, has_lines, has_text, is_empty, is_function, is_name}
-use Rattle.pct_names.proofs.Names.{is_same, is_statement, Line, List, list_all, list_all-append, map, map-append, names_of, names_of_kind}
-use Rattle.pct_names.proofs.Names.{nat_le, not, Option, parsed_words, ParsedLine, refl, Script, script_lines, Section, sections_of, SemDecl}
-use Rattle.pct_names.proofs.Names.{Some, Spells, SpellsContents, split_sections, statement_words, Stmt, subst, sym, SymbolKind, text_of}
-use Rattle.pct_names.proofs.Names.{Token, true, ◌||◌, ℕ, ◌∙◌, ◌∷◌, ◌≡◌}
+use Rattle.pct_names.proofs.Names.{is_same, is_statement, Line, List, list_all, list_all-append, map, map-append, nat_le, Option}
+use Rattle.pct_names.proofs.Names.{parsed_words, ParsedLine, refl, Script, script_lines, Section, sections_of, SemDecl, Some, Spells}
+use Rattle.pct_names.proofs.Names.{SpellsContents, split_sections, statement_words, Stmt, subst, sym, SymbolKind, text_of, Token, true}
+use Rattle.pct_names.proofs.Names.{◌||◌, ℕ, ◌∙◌, ◌∷◌, ◌≡◌}
 use Rattle.std.proofs.Common.{append_assoc, leb-true}
 use Rattle.std.proofs.lemmas.List.{append-nil}
 use Rattle.pct_model.specs.declared.line_kind.SymbolKind.TheVariants as kind
 use Rattle.pct_model.specs.declared.parsed_line.Token.TheVariants as token
-use Rattle.pct_model.proofs.StaticFacts.{passes_all}
+use Rattle.pct_model.proofs.StaticFacts.{HasText, kinds_are_names, lines_of_function, passes_all, text_parts}
 use Rattle.pct_grammar.proofs.SharedWords.{NameLists}
 use Rattle.pct_grammar.proofs.CanonLines.{is_line, LineParses, parsed_lines_again, each_parses_again}
 use Rattle.pct_grammar.proofs.CanonLineParsing.{declared_line, ParsesAs, is_plain_kind, name_parses, sem_parses, function_parses, statement_parses}
@@ -46,58 +46,6 @@ group_parses k texts words ok each (x ∷ xs) all =
     let sections = and_parts (ok x) (list_all ok xs) all in
     one_more (declaration_line k (texts x)) (declared_line k (words x)) (map (λ y. declaration_line k (texts y)) xs) (map (declared_line k) (map words xs))
     (each x sections.0) (group_parses k texts words ok each xs sections.1)
-
--- ---- names
-
-record TextSections (c : Contents) : Type 0 where
-  globals : list_all is_name c.globals ≡ true
-  mutexes : list_all is_name c.mutexes ≡ true
-  conds : list_all is_name c.conds ≡ true
-  sems : list_all (λ s. is_name s.name && nat_le s.count 32767) c.sems ≡ true
-  funcs : list_all (has_lines c) c.funcs ≡ true
-
-text_sections_parse : (c : Contents) → has_text c ≡ true → TextSections c
-unfolding has_text
-text_sections_parse c h =
-    let sems = list_all (λ (s : SemDecl). is_name s.name && nat_le s.count 32767) c.sems in
-    let a = and_parts (list_all is_name c.globals && list_all is_name c.mutexes && list_all is_name c.conds && sems) (list_all (has_lines c) c.funcs) h in
-    let b = and_parts (list_all is_name c.globals && list_all is_name c.mutexes && list_all is_name c.conds) sems a.0 in
-    let d = and_parts (list_all is_name c.globals && list_all is_name c.mutexes) (list_all is_name c.conds) b.0 in
-    let e = and_parts (list_all is_name c.globals) (list_all is_name c.mutexes) d.0 in
-    record { globals = e.0; mutexes = e.1; conds = d.1; sems = b.1; funcs = a.1 }
-
-record LinesSections (c : Contents) (f : Func) : Type 0 where
-  name : is_name f.name ≡ true
-  some : not (is_empty f.locals) ≡ true
-  locals : list_all is_name f.locals ≡ true
-  body : list_all (has_line c f.locals) f.body ≡ true
-
-lines_sections : (c : Contents) (f : Func) → has_lines c f ≡ true → LinesSections c f
-unfolding has_lines
-lines_sections c f h =
-    let a = and_parts (is_name f.name && not (is_empty f.locals) && list_all is_name f.locals) (list_all (has_line c f.locals) f.body) h in
-    let b = and_parts (is_name f.name && not (is_empty f.locals)) (list_all is_name f.locals) a.0 in
-    let d = and_parts (is_name f.name) (not (is_empty f.locals)) b.0 in
-    record { name = d.0; some = d.1; locals = b.1; body = a.1 }
-
-sem_names : (sems : List SemDecl) → list_all (λ s. is_name s.name && nat_le s.count 32767) sems ≡ true → list_all is_name (map (λ s. s.name) sems) ≡ true
-sem_names [] all = refl
-sem_names (s ∷ sems) all =
-    let sections = and_parts (is_name s.name && nat_le s.count 32767) (list_all (λ (x : SemDecl). is_name x.name && nat_le x.count 32767) sems) all in
-    and_from (is_name s.name) (list_all is_name (map (λ (x : SemDecl). x.name) sems)) (and_parts (is_name s.name) (nat_le s.count 32767) sections.0).0 (sem_names sems sections.1)
-
-function_names : (c : Contents) (funcs : List Func) → list_all (has_lines c) funcs ≡ true → list_all is_name (names_of funcs) ≡ true
-function_names c [] all = refl
-function_names c (f ∷ funcs) all =
-    let sections = and_parts (has_lines c f) (list_all (has_lines c) funcs) all in
-    and_from (is_name f.name) (list_all is_name (names_of funcs)) (lines_sections c f sections.0).name (function_names c funcs sections.1)
-
-are_names : (c : Contents) → TextSections c → (k : SymbolKind) → list_all is_name (names_of_kind c k) ≡ true
-are_names c p kind.Global = p.globals
-are_names c p kind.Mutex = p.mutexes
-are_names c p kind.Cond = p.conds
-are_names c p kind.Sem = sem_names c.sems p.sems
-are_names c p kind.Function = function_names c c.funcs p.funcs
 
 -- ---- functions
 
@@ -136,14 +84,14 @@ record Functions (c : Contents) (funcs : List Func) : Type 0 where
   after : (n : ℕ) → StatementsThen c (split_sections (enumerate_from n all)) [] funcs
   declared : (k : SymbolKind) → words_declared k all ≡ cond (is_same k kind.Function) (outlines_of funcs) []
 
-functions_parse : (c : Contents) (funcs : List Func) → TextSections c → list_all (has_lines c) funcs ≡ true → Functions c funcs
+functions_parse : (c : Contents) (funcs : List Func) → HasText c → list_all (has_lines c) funcs ≡ true → Functions c funcs
 unfolding function_lines
 functions_parse c [] p have = record { all = []; line_parses = record { are = refl; parse_all = refl }; after = nothing_after c; declared = λ k. sym (cond_same (is_same k kind.Function) []) }
 functions_parse c (f ∷ funcs) p have =
     let sections = and_parts (has_lines c f) (list_all (has_lines c) funcs) have in
-    let own = lines_sections c f sections.0 in
+    let own = lines_of_function c f sections.0 in
     let words = token.Name f.name ∷ map (λ (name : List ℕ). token.Name name) f.locals in
-    let body = body_parses c f.locals f.body (record { kinds = are_names c p; own = own.locals }) own.body in
+    let body = body_parses c f.locals f.body (record { kinds = λ k. kinds_are_names c k p; own = own.locals }) own.body in
     let others = functions_parse c funcs p sections.1 in
     let all = declared_line kind.Function words ∷ body.all ++ others.all in
     let header = function_parses f.name f.locals own.name own.some own.locals in
@@ -174,7 +122,7 @@ names_parse : (k : SymbolKind) (names : List (List ℕ)) → is_plain_kind k ≡
     → ParseAll (map (λ (name : List ℕ). declaration_line k (name ∷ [])) names) (map (declared_line k) (map (λ (name : List ℕ). token.Name name ∷ []) names))
 names_parse k names plain all = group_parses k (λ (name : List ℕ). name ∷ []) (λ (name : List ℕ). token.Name name ∷ []) is_name (λ name ok. name_parses k name plain ok) names all
 
-all_parses : (c : Contents) → TextSections c → (functions : List ParsedLine) → ParseAll (flat_map (function_lines c) c.funcs) functions → ParseAll (script_lines c) (with_declarations c functions)
+all_parses : (c : Contents) → HasText c → (functions : List ParsedLine) → ParseAll (flat_map (function_lines c) c.funcs) functions → ParseAll (script_lines c) (with_declarations c functions)
 unfolding script_lines declarations
 all_parses c p functions line_parses =
     let resolve_name : SymbolKind → List (List ℕ) → List (List (List ℕ)) = λ k names. map (λ (name : List ℕ). declaration_line k (name ∷ [])) names in
@@ -246,7 +194,7 @@ are_contents c functions declared after =
 
 spells_contents : (c : Contents) → has_text c ≡ true → SpellsContents (text_of (script_lines c)) c
 spells_contents c h =
-    let p = text_sections_parse c h in
+    let p = text_parts c h in
     let functions = functions_parse c c.funcs p p.funcs in
     let all = with_declarations c functions.all in
     let line_parses = all_parses c p functions.all functions.line_parses in

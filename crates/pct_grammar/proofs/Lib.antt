@@ -1,5 +1,4 @@
 pub mod SharedWords
-pub mod OptionSteps
 pub mod OptionFacts
 pub mod Misspelled
 pub mod FirstFaults
@@ -19,7 +18,6 @@ pub mod Declarations
 pub mod EncodedFunctions
 pub mod NamesResolve
 pub mod HasText
-pub mod OneScript
 pub mod Scripts
 pub mod CanonLines
 pub mod CanonLineParsing

@@ -10,8 +10,7 @@ use Rattle.pct_model.specs.declared.line_kind.SymbolKind.TheVariants as kind
 use Rattle.pct_model.specs.declared.line_kind.ArgumentKind.TheVariants as argument_kind
 use Rattle.pct_model.specs.declared.parsed_line.Token.TheVariants as token
 use Rattle.pct_grammar.proofs.SharedWords.{IsParsed, EachParsed, role_of_kind}
-use Rattle.pct_grammar.proofs.OptionFacts.{BothFrom, both_from}
-use Rattle.pct_grammar.proofs.OptionSteps.{bind_some, map_some}
+use Rattle.pct_grammar.proofs.OptionFacts.{BothFrom, both_from, bind_some, map_some}
 
 -- ---- a line
 

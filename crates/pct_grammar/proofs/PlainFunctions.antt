@@ -11,7 +11,7 @@ use Rattle.pct_model.specs.declared.line_kind.SymbolKind.TheVariants as kind
 use Rattle.pct_model.specs.declared.line_kind.ArgumentKind.TheVariants as argument_kind
 use Rattle.pct_model.specs.declared.parsed_line.Argument.TheVariants as argument
 use Rattle.pct_model.specs.declared.parsed_line.Token.TheVariants as token
-use Rattle.pct_grammar.proofs.OptionSteps.{bind_some, map_some}
+use Rattle.pct_grammar.proofs.OptionFacts.{bind_some, map_some}
 use Rattle.pct_grammar.proofs.FirstFaults.{not_not, first_that_none, first_in_none}
 use Rattle.pct_grammar.proofs.Roles.{zip_from_maps, maps_from_zip, all_from_zip}
 use Rattle.pct_grammar.proofs.TokensResolve.{replaced_lengths}

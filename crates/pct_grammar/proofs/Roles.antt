@@ -2,7 +2,7 @@
 use Rattle.pct_names.proofs.Names.{[], AllZip, ap, ap₂, argument_kinds_in, Bool, Contents, encode, encoded, EncodedStmt, Func, Line}
 use Rattle.pct_names.proofs.Names.{LineKind, List, list_all, list_all-map, map, names_of_kind, Numbered, ParsedLine, refl, resolve_all}
 use Rattle.pct_names.proofs.Names.{Role, role_in, role_of, roles, Section, Some, SpellsBody, Stmt, sym, syntax_of, ℕ, ◌∙◌, ◌∷◌, ◌≡◌}
-use Rattle.pct_grammar.proofs.OptionSteps.{map_some}
+use Rattle.pct_grammar.proofs.OptionFacts.{map_some}
 
 -- ---- two lists, index by index
 

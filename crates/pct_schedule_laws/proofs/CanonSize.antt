@@ -59,46 +59,9 @@ arguments_size c locals (p ∷ argument_kinds) (a ∷ arguments) kinds own = ome
 -- a statement has at most 5 words after its first
 few_arguments : (s : Stmt) → length (arguments_of s) ≤ 5
 unfolding encode
-few_arguments (statement.Emit v) = omega arith
-few_arguments (statement.Set d v) = omega arith
-few_arguments (statement.Add d v) = omega arith
-few_arguments statement.Nop = omega arith
-few_arguments (statement.If v) = omega arith
-few_arguments statement.Else = omega arith
-few_arguments (statement.While v) = omega arith
-few_arguments statement.End = omega arith
-few_arguments (statement.Do f v) = omega arith
-few_arguments (statement.Return v) = omega arith
 few_arguments (statement.Create result id f v true) = omega arith
 few_arguments (statement.Create result id f v false) = omega arith
-few_arguments (statement.Join id d) = omega arith
-few_arguments (statement.Detach id) = omega arith
-few_arguments (statement.CancelThread id) = omega arith
-few_arguments (statement.SelfId d) = omega arith
-few_arguments (statement.ThreadExit v) = omega arith
-few_arguments statement.TestCancel = omega arith
-few_arguments (statement.SetState enable old) = omega arith
-few_arguments (statement.SetMode asynchronous old) = omega arith
-few_arguments (statement.Push f v) = omega arith
-few_arguments (statement.Pop v) = omega arith
-few_arguments (statement.KeyCreate result key f) = omega arith
-few_arguments (statement.KeyDelete key) = omega arith
-few_arguments (statement.SetSpecific key v) = omega arith
-few_arguments (statement.GetSpecific d key) = omega arith
-few_arguments (statement.Lock m) = omega arith
-few_arguments (statement.Unlock m) = omega arith
-few_arguments (statement.CondWait c m) = omega arith
-few_arguments (statement.Signal c) = omega arith
-few_arguments (statement.Broadcast c) = omega arith
-few_arguments (statement.SemWait s) = omega arith
-few_arguments (statement.SemPost s) = omega arith
-few_arguments (statement.AtFork result prepare parent child) = omega arith
-few_arguments (statement.Fork result child) = omega arith
-few_arguments (statement.WaitPid result pid d) = omega arith
-few_arguments (statement.AtExit result f) = omega arith
-few_arguments (statement.ProcExit v) = omega arith
-few_arguments (statement.ProcExitNow v) = omega arith
-few_arguments (statement.PointCall index) = omega arith
+few_arguments _ = omega arith
 
 first_size : (f : LineKind) → length (syntax_of f).keyword ≤ 22
 first_size f =

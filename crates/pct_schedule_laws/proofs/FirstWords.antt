@@ -30,51 +30,11 @@ name_of_point i = name_in points i names_of_points
 declaration_word : (k : SymbolKind) → is_first (declaration_syntax k).keyword ≡ true
 unfolding declaration_syntax
 declaration_word kind.Global = refl
-declaration_word kind.Mutex = refl
-declaration_word kind.Cond = refl
-declaration_word kind.Sem = refl
-declaration_word kind.Function = refl
+declaration_word _ = refl
 
 -- the keyword of each kind of line
 pub first_word : (f : LineKind) → is_first (syntax_of f).keyword ≡ true
 unfolding syntax_of
 first_word (line_kind.Declares k) = declaration_word k
-first_word line_kind.Emit = refl
-first_word line_kind.Set = refl
-first_word line_kind.Add = refl
-first_word line_kind.Nop = refl
-first_word line_kind.If = refl
-first_word line_kind.Else = refl
-first_word line_kind.While = refl
-first_word line_kind.End = refl
-first_word line_kind.Do = refl
-first_word line_kind.Return = refl
-first_word line_kind.Create = refl
-first_word line_kind.Join = refl
-first_word line_kind.Detach = refl
-first_word line_kind.CancelThread = refl
-first_word line_kind.SelfId = refl
-first_word line_kind.ThreadExit = refl
-first_word line_kind.TestCancel = refl
-first_word line_kind.SetState = refl
-first_word line_kind.SetMode = refl
-first_word line_kind.Push = refl
-first_word line_kind.Pop = refl
-first_word line_kind.KeyCreate = refl
-first_word line_kind.KeyDelete = refl
-first_word line_kind.SetSpecific = refl
-first_word line_kind.GetSpecific = refl
-first_word line_kind.Lock = refl
-first_word line_kind.Unlock = refl
-first_word line_kind.CondWait = refl
-first_word line_kind.Signal = refl
-first_word line_kind.Broadcast = refl
-first_word line_kind.SemWait = refl
-first_word line_kind.SemPost = refl
-first_word line_kind.AtFork = refl
-first_word line_kind.Fork = refl
-first_word line_kind.WaitPid = refl
-first_word line_kind.AtExit = refl
-first_word line_kind.ProcExit = refl
-first_word line_kind.ProcExitNow = refl
 first_word (line_kind.Point i) = name_of_point i
+first_word _ = refl

@@ -17,7 +17,7 @@ use Rattle.pct_script.specs.declared.scan.LineOutline.{LineOutline}
 use Rattle.pct_script.specs.declared.limits.Counts.{Counts}
 use Rattle.pct_script.specs.Outlines.{outline_of, outlines_of}
 use Rattle.pct_script.specs.LineCounts.{none_yet, with_role, with_outline, limit_in}
-use Rattle.pct_grammar.proofs.OptionSteps.{bind_some, map_some, cond_cases}
+use Rattle.pct_grammar.proofs.OptionFacts.{bind_some, map_some, cond_cases}
 
 -- ---- line by line
 
