@@ -32,7 +32,7 @@ no_blank b h =
 allowed : (b : ℕ) → is_printable b ≡ true → is_allowed b ≡ true
 allowed b h = or_right (is_blank b) (is_printable b) h
 
-printable_of : (w : List ℕ) → is_word w ≡ true → list_all is_printable w ≡ true
+pub printable_of : (w : List ℕ) → is_word w ≡ true → list_all is_printable w ≡ true
 printable_of w h = (and_parts (not (is_empty w)) (list_all is_printable w) (and_parts _ (nat_le (length w) 31) h).0).1
 
 none_blank : (w : List ℕ) → list_all is_printable w ≡ true → All (λ b. is_blank b ≡ false) w
@@ -86,7 +86,7 @@ line_lacks (w ∷ next ∷ words) all =
     lacks-append 10 w (32 ∷ joined (next ∷ words)) (lacks_other is_printable 10 w refl (printable_of w sections.0))
     (lacks-cons 10 32 (joined (next ∷ words)) refl (line_lacks (next ∷ words) sections.1))
 
-words_of_line : (words : List (List ℕ)) → is_line words ≡ true → list_all is_word words ≡ true
+pub words_of_line : (words : List (List ℕ)) → is_line words ≡ true → list_all is_word words ≡ true
 words_of_line words is = (and_parts (list_all is_word words) (spell_something words) is).0
 
 -- a text of lines has those lines

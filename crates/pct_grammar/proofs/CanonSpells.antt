@@ -19,9 +19,9 @@ use Rattle.pct_grammar.proofs.CanonSections.{words_declared, cond_same, nothing_
 -- ---- lines that parse
 
 -- lines and their parsed lines
-record ParseAll (lines : List (List (List ℕ))) (all : List ParsedLine) : Type 0 where
-  are : list_all is_line lines ≡ true
-  parse_all : LineParses lines all
+pub record ParseAll (lines : List (List (List ℕ))) (all : List ParsedLine) : Type 0 where
+  pub are : list_all is_line lines ≡ true
+  pub parse_all : LineParses lines all
 
 one_more : (words : List (List ℕ)) (line : ParsedLine) (lines : List (List (List ℕ))) (all : List ParsedLine) → ParsesAs words line → ParseAll lines all → ParseAll (words ∷ lines) (line ∷ all)
 one_more words line lines all first others =
@@ -191,6 +191,13 @@ are_contents c functions declared after =
       in_functions = and_from (is_empty (split_sections (enumerate_from 1 all)).preamble) (list_all (λ (section : Section). is_function section || is_empty section.body) (sections_of (enumerate_from 1 all)))
           (nothing_before (split_sections (enumerate_from 1 all)).preamble sections.prefix) sections.within;
     }
+
+-- each line of a canonical text parses
+pub script_lines_parse : (c : Contents) → has_text c ≡ true → (all : List ParsedLine) × ParseAll (script_lines c) all
+script_lines_parse c h =
+    let p = text_parts c h in
+    let functions = functions_parse c c.funcs p p.funcs in
+    (with_declarations c functions.all, all_parses c p functions.all functions.line_parses)
 
 spells_contents : (c : Contents) → has_text c ≡ true → SpellsContents (text_of (script_lines c)) c
 spells_contents c h =
