@@ -10,7 +10,7 @@ abbrev pub outlines_of : List Section → List Line
 outlines_of sections = map (λ section. section.header) sections
 
 -- one more line at the start, a statement or not
-abbrev prefix_if : Bool → Line → Sections → Sections
+abbrev pub prefix_if : Bool → Line → Sections → Sections
 prefix_if t l p = cond t (record { preamble = l ∷ p.preamble; sections = p.sections }) (record { preamble = []; sections = record { header = l; body = p.preamble } ∷ p.sections })
 
 -- ---- of all sections

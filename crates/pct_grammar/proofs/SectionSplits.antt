@@ -1,11 +1,6 @@
 -- The lines of a text are the statements before its first section, and then its sections in order.
-use Rattle.pct_names.proofs.Names.{◌&&◌, ◌++◌, [], and_from, ap, Bool, cond, false, is_declaration, is_statement, Line, List, list_all}
-use Rattle.pct_names.proofs.Names.{not-false, refl, role_in, Section, Sections, split_sections, true, ◌∷◌, ◌≡◌}
-
--- the lines of sections
-unfoldable pub lines_of_sections : List Section → List Line
-lines_of_sections [] = []
-lines_of_sections (section ∷ sections) = section.header ∷ (section.body ++ lines_of_sections sections)
+use Rattle.pct_names.proofs.Names.{◌&&◌, [], and_from, Bool, cond, false, is_declaration, is_statement, Line, List, list_all, not-false}
+use Rattle.pct_names.proofs.Names.{refl, role_in, Section, Sections, split_sections, true, ◌∷◌, ◌≡◌}
 
 -- lines that are all statements
 abbrev pub all_statements : List Line → Bool
@@ -19,25 +14,21 @@ is_section section = is_declaration (role_in section.header.1) && all_statements
 pub record AreSectionsOf (lines : List Line) (p : Sections) : Type 0 where
   pub prefix_is : all_statements p.preamble ≡ true
   pub sections_are : list_all is_section p.sections ≡ true
-  pub whole : lines ≡ p.preamble ++ lines_of_sections p.sections
 
 one_more : (l : Line) (lines : List Line) (p : Sections) (t : Bool) → is_statement l.1 ≡ t → AreSectionsOf lines p
     → AreSectionsOf (l ∷ lines) (cond t (record { preamble = l ∷ p.preamble; sections = p.sections }) (record { preamble = []; sections = record { header = l; body = p.preamble } ∷ p.sections }))
-unfolding lines_of_sections
 one_more l lines p true e are = record {
   prefix_is = and_from (is_statement l.1) (all_statements p.preamble) e are.prefix_is;
   sections_are = are.sections_are;
-  whole = ap (λ (ls : List Line). l ∷ ls) are.whole;
 }
 one_more l lines p false e are = record {
   prefix_is = refl;
   sections_are = and_from (is_declaration (role_in l.1) && all_statements p.preamble) (list_all is_section p.sections)
       (and_from (is_declaration (role_in l.1)) (all_statements p.preamble) (not-false (is_declaration (role_in l.1)) e) are.prefix_is) are.sections_are;
-  whole = ap (λ (ls : List Line). l ∷ ls) are.whole;
 }
 
 -- the lines of every text split so
 pub are_sections : (lines : List Line) → AreSectionsOf lines (split_sections lines)
-unfolding split_sections lines_of_sections
-are_sections [] = record { prefix_is = refl; sections_are = refl; whole = refl }
+unfolding split_sections
+are_sections [] = record { prefix_is = refl; sections_are = refl }
 are_sections (l ∷ lines) = one_more l lines (split_sections lines) (is_statement l.1) refl (are_sections lines)
