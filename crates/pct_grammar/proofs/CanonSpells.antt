@@ -1,11 +1,11 @@
 -- The canonical text of a script spells it.
 use Rattle.pct_names.proofs.Names.{◌&&◌, ◌++◌, [], and_from, and_parts, ap, AreContents, Bool, canon, cond, Contents, contents_of, decimal}
-use Rattle.pct_names.proofs.Names.{declaration_line, declarations, encode, encoded, EncodedStmt, enumerate_from, false, flat_map}
-use Rattle.pct_names.proofs.Names.{flat_map-cons, Func, function_lines, has_line, has_lines, has_text, is_empty, is_function, is_name}
-use Rattle.pct_names.proofs.Names.{is_same, is_statement, Line, List, list_all, list_all-append, map, map-append, nat_le, Option}
-use Rattle.pct_names.proofs.Names.{parsed_words, ParsedLine, refl, Script, script_lines, Section, sections_of, SemDecl, Some, Spells}
-use Rattle.pct_names.proofs.Names.{SpellsContents, split_sections, statement_words, Stmt, subst, sym, SymbolKind, text_of, Token, true}
-use Rattle.pct_names.proofs.Names.{◌||◌, ℕ, ◌∙◌, ◌∷◌, ◌≡◌}
+use Rattle.pct_names.proofs.Names.{declaration_line, declarations, encode, encoded, EncodedStmt, enumerate_from, flat_map, flat_map-cons}
+use Rattle.pct_names.proofs.Names.{Func, function_lines, has_line, has_lines, has_text, is_empty, is_function, is_name, is_same}
+use Rattle.pct_names.proofs.Names.{is_statement, Line, List, list_all, list_all-append, map, map-append, nat_le, Option, parsed_words}
+use Rattle.pct_names.proofs.Names.{ParsedLine, refl, Script, script_lines, Section, sections_of, SemDecl, Some, Spells, SpellsContents}
+use Rattle.pct_names.proofs.Names.{split_sections, statement_words, Stmt, subst, sym, SymbolKind, text_of, Token, true, ◌||◌, ℕ, ◌∙◌, ◌∷◌}
+use Rattle.pct_names.proofs.Names.{◌≡◌}
 use Rattle.std.proofs.Common.{append_assoc, leb-true}
 use Rattle.std.proofs.lemmas.List.{append-nil}
 use Rattle.pct_model.specs.declared.line_kind.SymbolKind.TheVariants as kind
@@ -14,7 +14,7 @@ use Rattle.pct_model.proofs.StaticFacts.{HasText, kinds_are_names, lines_of_func
 use Rattle.pct_grammar.proofs.SharedWords.{NameLists}
 use Rattle.pct_grammar.proofs.CanonLines.{is_line, LineParses, parsed_lines_again, each_parses_again}
 use Rattle.pct_grammar.proofs.CanonLineParsing.{declared_line, ParsesAs, is_plain_kind, name_parses, sem_parses, function_parses, statement_parses}
-use Rattle.pct_grammar.proofs.CanonSections.{words_declared, cond_same, nothing_before, declared_numbered, statements_declare, kinds_declare, declares_first, StatementsThen, nothing_after, kinds_after, function_after}
+use Rattle.pct_grammar.proofs.CanonSections.{words_declared, none_of, nothing_before, declared_numbered, both_declare, statements_declare, kinds_declare, declares_first, StatementsThen, nothing_after, kinds_after, function_after}
 
 -- ---- lines that parse
 
@@ -73,10 +73,6 @@ body_parses c locals (s ∷ body) names have =
 abbrev outlines_of : List Func → List (List Token)
 outlines_of funcs = map (λ f. token.Name f.name ∷ map (λ name. token.Name name) f.locals) funcs
 
-header_step : (t : Bool) (words : List Token) (lines headers : List (List Token)) → lines ≡ cond t headers [] → cond t (words ∷ lines) lines ≡ cond t (words ∷ headers) []
-header_step true words lines headers e = ap (λ ws. words ∷ ws) e
-header_step false words lines headers e = e
-
 -- the parsed lines of functions
 record Functions (c : Contents) (funcs : List Func) : Type 0 where
   all : List ParsedLine
@@ -86,7 +82,7 @@ record Functions (c : Contents) (funcs : List Func) : Type 0 where
 
 functions_parse : (c : Contents) (funcs : List Func) → HasText c → list_all (has_lines c) funcs ≡ true → Functions c funcs
 unfolding function_lines
-functions_parse c [] p have = record { all = []; line_parses = record { are = refl; parse_all = refl }; after = nothing_after c; declared = λ k. sym (cond_same (is_same k kind.Function) []) }
+functions_parse c [] p have = record { all = []; line_parses = record { are = refl; parse_all = refl }; after = nothing_after c; declared = λ k. none_of (is_same k kind.Function) }
 functions_parse c (f ∷ funcs) p have =
     let sections = and_parts (has_lines c f) (list_all (has_lines c) funcs) have in
     let own = lines_of_function c f sections.0 in
@@ -103,8 +99,8 @@ functions_parse c (f ∷ funcs) p have =
       line_parses = subst (λ (lines : List (List (List ℕ))). ParseAll lines all) (sym (flat_map-cons (function_lines c) f funcs))
           (both (function_lines c f) (flat_map (function_lines c) funcs) (declared_line kind.Function words ∷ body.all) others.all first others.line_parses);
       after = λ n. function_after c f funcs words body.all others.all n body.statements body.resolves_to others.after;
-      declared = λ k. declares_first k kind.Function words (body.all ++ others.all)
-          ∙ header_step (is_same k kind.Function) words (words_declared k (body.all ++ others.all)) (outlines_of funcs) (statements_declare k body.all others.all body.statements ∙ others.declared k);
+      declared = λ k. declares_first k kind.Function words (outlines_of funcs) (body.all ++ others.all)
+          (both_declare k body.all others.all ∙ ap (λ ws. ws ++ words_declared k others.all) (statements_declare k body.all body.statements) ∙ others.declared k);
     }
 
 -- ---- the theorem
@@ -146,23 +142,18 @@ all_parses c p functions line_parses =
     in
     subst (λ (lines : List (List (List ℕ))). ParseAll lines (with_declarations c functions)) (sym (regrouped (resolve_name kind.Global c.globals) (resolve_name kind.Mutex c.mutexes) (resolve_name kind.Cond c.conds) sem_lines function_text)) from_globals
 
--- the declarations of one kind, with these after it
-abbrev onto : SymbolKind → SymbolKind → List (List Token) → List (List Token) → List (List Token)
-onto k other all rest = cond (is_same k other) (all ++ rest) rest
+-- what the declarations of one kind declare of another
+abbrev of_kind : Contents → SymbolKind → SymbolKind → List (List Token)
+of_kind c k other = cond (is_same k other) (declarations c other) []
+
+one_kind : (c : Contents) (k other : SymbolKind) (rest : List ParsedLine) (words : List (List Token)) → words_declared k rest ≡ words
+    → words_declared k (map (declared_line other) (declarations c other) ++ rest) ≡ of_kind c k other ++ words
+one_kind c k other rest words e =
+    both_declare k (map (declared_line other) (declarations c other)) rest ∙ ap (λ ws. ws ++ words_declared k rest) (kinds_declare k other (declarations c other)) ∙ ap (λ ws. of_kind c k other ++ ws) e
 
 in_turn : (c : Contents) (functions : List ParsedLine) (k : SymbolKind) → words_declared k (with_declarations c functions)
-    ≡ onto k kind.Global (declarations c kind.Global) (onto k kind.Mutex (declarations c kind.Mutex) (onto k kind.Cond (declarations c kind.Cond) (onto k kind.Sem (declarations c kind.Sem) (words_declared k functions))))
-in_turn c functions k =
-    let sems = map (declared_line kind.Sem) (declarations c kind.Sem) ++ functions in
-    let conds = map (declared_line kind.Cond) (declarations c kind.Cond) ++ sems in
-    let mutexes = map (declared_line kind.Mutex) (declarations c kind.Mutex) ++ conds in
-    let to_global = onto k kind.Global (declarations c kind.Global) in
-    let to_mutex = onto k kind.Mutex (declarations c kind.Mutex) in
-    let to_cond = onto k kind.Cond (declarations c kind.Cond) in
-    kinds_declare k kind.Global (declarations c kind.Global) mutexes
-    ∙ ap to_global (kinds_declare k kind.Mutex (declarations c kind.Mutex) conds)
-    ∙ ap (λ ws. to_global (to_mutex ws)) (kinds_declare k kind.Cond (declarations c kind.Cond) sems)
-    ∙ ap (λ ws. to_global (to_mutex (to_cond ws))) (kinds_declare k kind.Sem (declarations c kind.Sem) functions)
+    ≡ of_kind c k kind.Global ++ (of_kind c k kind.Mutex ++ (of_kind c k kind.Cond ++ (of_kind c k kind.Sem ++ words_declared k functions)))
+in_turn c functions k = one_kind c k kind.Global _ _ (one_kind c k kind.Mutex _ _ (one_kind c k kind.Cond _ _ (one_kind c k kind.Sem functions _ refl)))
 
 declared_all : (c : Contents) (functions : List ParsedLine) → ((k : SymbolKind) → words_declared k functions ≡ cond (is_same k kind.Function) (outlines_of c.funcs) [])
     → (k : SymbolKind) → words_declared k (with_declarations c functions) ≡ declarations c k
