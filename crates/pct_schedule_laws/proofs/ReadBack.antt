@@ -189,10 +189,7 @@ choice_again (alt.Dtor n) is = rw (number_again n (leb-true n 4294967295 is)) re
 entry_joined : (w p t : List ℕ) (a : Alt) → join_with_byte 32 (w ∷ p ∷ t ∷ alt_words a) ≡ w ++ 32 ∷ (p ++ 32 ∷ (t ++ 32 ∷ join_with_byte 32 (alt_words a)))
 unfolding alt_words
 entry_joined w p t alt.Go = refl
-entry_joined w p t (alt.Act n) = refl
-entry_joined w p t (alt.New n) = refl
-entry_joined w p t (alt.Pick n) = refl
-entry_joined w p t (alt.Dtor n) = refl
+entry_joined w p t _ = refl
 
 -- the limits of an entry
 pub record FitsEntry (e : Entry) : Type 0 where
