@@ -21,7 +21,6 @@ pub mod ContentsSteps
 pub mod LimitsMakeReady
 pub mod TextChecks
 pub mod EmptyTexts
-pub mod LineRuns
 pub mod FunctionLines
 pub mod StatementSpellings
 pub mod LineOrder

@@ -13,4 +13,3 @@ pub mod Symbols
 pub mod UnknownNames
 pub mod StoredContents
 pub mod StatementLines
-pub mod LineRuns
