@@ -7,7 +7,7 @@ use Rattle.pct_names.proofs.Names.{SymbolKind, syntax_of, Token, true, ◌||◌,
 use Rattle.pct_model.specs.declared.line_kind.SymbolKind.TheVariants as kind
 use Rattle.pct_grammar.proofs.CanonLineParsing.{declared_line}
 use Rattle.pct_grammar.proofs.SharedWords.{role_of_kind}
-use Rattle.pct_grammar.proofs.FunctionHeaders.{no_kind}
+use Rattle.pct_grammar.proofs.SectionSplits.{no_kind}
 
 -- ---- lines without their numbers
 

@@ -7,7 +7,7 @@ use Rattle.pct_names.proofs.Names.{◌∷◌, ◌≡◌}
 use Rattle.pct_model.specs.declared.line_kind.SymbolKind.TheVariants as kind
 use Rattle.pct_grammar.proofs.SharedWords.{IsParsed, EachParsed}
 use Rattle.pct_grammar.proofs.Declarations.{function_words}
-use Rattle.pct_grammar.proofs.FunctionHeaders.{function_headers}
+use Rattle.pct_grammar.proofs.SectionSplits.{function_headers, prefix_if}
 use Rattle.pct_grammar.proofs.TokensResolve.{is_no_count, words_read, statement_kinds, words_at_lengths, replaced_lengths}
 
 -- ---- the sections of lines that were parsed from words
@@ -37,10 +37,7 @@ pub record FunctionParsed (section : Section) : Type 0 where
   pub is : is_function section ≡ true
   pub body : EachStatement section.body
 
-abbrev prepend_entry : Line → Sections → Bool → Sections
-prepend_entry l p t = cond t (record { preamble = l ∷ p.preamble; sections = p.sections }) (record { preamble = []; sections = record { header = l; body = p.preamble } ∷ p.sections })
-
-one_more_parsed : (l : Line) (p : Sections) (t : Bool) → is_statement l.1 ≡ t → IsParsed l.1 → SplitParsed p → SplitParsed (prepend_entry l p t)
+one_more_parsed : (l : Line) (p : Sections) (t : Bool) → is_statement l.1 ≡ t → IsParsed l.1 → SplitParsed p → SplitParsed (prefix_if t l p)
 one_more_parsed l p true e from parsed = record { prefix = (from, e, parsed.prefix); sections = parsed.sections }
 one_more_parsed l p false e from parsed = record { prefix = tt; sections = (record { header = from; body = parsed.prefix }, parsed.sections) }
 

@@ -3,11 +3,9 @@ pub mod OptionFacts
 pub mod Misspelled
 pub mod FirstFaults
 pub mod SectionSplits
-pub mod FunctionHeaders
 pub mod Roles
 pub mod NestingLaw
 pub mod LimitLaw
-pub mod Returns
 pub mod Declared
 pub mod PlainFunctions
 pub mod NamesDeclaredOnce

@@ -10,7 +10,7 @@ use Rattle.std.proofs.Common.{leb-true, le-leb}
 use Rattle.std.proofs.lemmas.Bool.{leb-false, ltb-true, ltb-false}
 use Rattle.pct_model.specs.declared.line_kind.SymbolKind.TheVariants as kind
 use Rattle.pct_model.specs.declared.parsed_line.Token.TheVariants as token
-use Rattle.pct_grammar.proofs.FunctionHeaders.{prefix_if}
+use Rattle.pct_grammar.proofs.SectionSplits.{prefix_if}
 use Rattle.pct_grammar.proofs.FirstFaults.{swap, line_none, first_wrong_none}
 use Rattle.pct_grammar.proofs.Declared.{locals_pass}
 

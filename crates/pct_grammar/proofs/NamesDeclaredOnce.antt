@@ -9,8 +9,7 @@ use Rattle.pct_model.specs.declared.line_kind.SymbolKind.TheVariants as kind
 use Rattle.pct_model.specs.declared.role.Role.TheVariants as role
 use Rattle.pct_model.proofs.Bytes.{same_bytes, bytes_eq-refl}
 use Rattle.pct_grammar.proofs.FirstFaults.{not_not, line_none, first_wrong_none}
-use Rattle.pct_grammar.proofs.SectionSplits.{all_statements, is_section, are_sections}
-use Rattle.pct_grammar.proofs.FunctionHeaders.{outlines_of, declaring_headers}
+use Rattle.pct_grammar.proofs.SectionSplits.{all_statements, is_section, are_sections, outlines_of, declaring_headers}
 use Rattle.pct_grammar.proofs.LimitLaw.{none_or, none_by_test}
 use Rattle.pct_grammar.proofs.Declarations.{names_from}
 use Rattle.pct_grammar.proofs.Declared.{locals_pass}

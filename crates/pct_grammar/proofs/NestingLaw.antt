@@ -8,9 +8,8 @@ use Rattle.pct_names.proofs.Names.{split_sections, Stays, sym, true, ◌||◌, �
 use Rattle.pct_model.specs.declared.role.Block.TheVariants as block
 use Rattle.pct_model.specs.declared.role.Role.TheVariants as role
 use Rattle.pct_model.specs.declared.line_kind.SymbolKind.TheVariants as kind
-use Rattle.pct_grammar.proofs.SectionSplits.{all_statements, are_sections}
+use Rattle.pct_grammar.proofs.SectionSplits.{all_statements, are_sections, prefix_if}
 use Rattle.pct_grammar.proofs.FirstFaults.{swap}
-use Rattle.pct_grammar.proofs.FunctionHeaders.{prefix_if}
 use Rattle.pct_grammar.proofs.Roles.{without_numbers, roles_same, all_from_zip}
 
 -- ---- without the lines' numbers

@@ -1,7 +1,11 @@
--- The roles of a function's lines are the roles of its statements.
-use Rattle.pct_names.proofs.Names.{[], AllZip, ap, ap₂, argument_kinds_in, Bool, Contents, encode, encoded, EncodedStmt, Func, Line}
-use Rattle.pct_names.proofs.Names.{LineKind, List, list_all, list_all-map, map, names_of_kind, Numbered, ParsedLine, refl, resolve_all}
-use Rattle.pct_names.proofs.Names.{Role, role_in, role_of, roles, Section, Some, SpellsBody, Stmt, sym, syntax_of, ℕ, ◌∙◌, ◌∷◌, ◌≡◌}
+-- The roles of a function's lines are the roles of its statements, and so a return between a push and its pop is in the lines if
+-- and only if it is in the script that they spell.
+use Rattle.pct_names.proofs.Names.{[], AllZip, ap, ap₂, AreContents, argument_kinds_in, Bool, Contents, encode, encoded, EncodedStmt}
+use Rattle.pct_names.proofs.Names.{first_wrong, Func, functions_in, is_in_push, is_none, Line, LineKind, List, list_all, list_all-map, map}
+use Rattle.pct_names.proofs.Names.{names_of_kind, none_wrong, Numbered, ParsedLine, refl, resolve_all, return_in_push, ReturnInPush}
+use Rattle.pct_names.proofs.Names.{returns_outside_pushes, Role, role_in, role_of, roles, Section, Some, SpellsBody, Stmt, sym, syntax_of}
+use Rattle.pct_names.proofs.Names.{ℕ, ◌∙◌, ◌∷◌, ◌≡◌}
+use Rattle.pct_grammar.proofs.FirstFaults.{first_wrong_none, first_in_none}
 use Rattle.pct_grammar.proofs.OptionFacts.{map_some}
 
 -- ---- two lists, index by index
@@ -47,3 +51,17 @@ roles_same c section f e =
     maps_from_zip (λ (l : Line) (s : Stmt). encoded c f.locals l.1 ≡ Some (encode s)) (λ (l : Line). role_in l.1) role_of
     (λ l s h. ap (λ (k : LineKind). (syntax_of k).role) (line_kind_same c f.locals l.1 s h)) section.body f.body
     (zip_from_maps (λ (l : Line). encoded c f.locals l.1) (λ (s : Stmt). Some (encode s)) section.body f.body e)
+
+-- ---- returns
+
+one_function : (c : Contents) (section : Section) (f : Func) → SpellsBody c section f → is_none (first_wrong is_in_push [] (roles section.body)) ≡ returns_outside_pushes f
+one_function c section f e =
+    first_wrong_none is_in_push [] (roles section.body) ∙ ap (λ (rs : List Role). none_wrong is_in_push [] rs) (without_numbers section.body ∙ roles_same c section f e)
+
+-- the check finds no fault if and only if no function has such a return
+pub returns_law : (lines : List Line) (c : Contents) → AreContents lines c → is_none (return_in_push lines) ≡ list_all returns_outside_pushes c.funcs
+unfolding return_in_push
+returns_law lines c are =
+    first_in_none ReturnInPush (λ (section : Section). first_wrong is_in_push [] (roles section.body)) lines
+    ∙ all_from_zip (SpellsBody c) (λ (section : Section). is_none (first_wrong is_in_push [] (roles section.body))) returns_outside_pushes (one_function c)
+    (functions_in lines) c.funcs are.bodies

@@ -3,7 +3,7 @@ use Rattle.pct_names.proofs.Names.{◌++◌, [], ap, Bool, cond, declares, false
 use Rattle.pct_names.proofs.Names.{parsed_lines, refl, Section, Sections, split_sections, sym, true, ℕ, ◌∙◌, ◌∷◌, ◌≡◌}
 use Rattle.std.proofs.Common.{append_assoc, append-nil}
 use Rattle.pct_model.specs.declared.line_kind.SymbolKind.TheVariants as kind
-use Rattle.pct_grammar.proofs.FunctionHeaders.{prefix_if}
+use Rattle.pct_grammar.proofs.SectionSplits.{prefix_if}
 use Rattle.pct_script.specs.StatementLines.{numbers_in, statement_lines}
 
 -- the numbers of the lines of each function
