@@ -1,6 +1,5 @@
 pub mod Fault
 pub mod Fitting
-pub mod PlainArguments
 pub mod SpelledLines
 pub mod DeclaredNames
 pub mod PushCounts
