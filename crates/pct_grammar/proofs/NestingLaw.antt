@@ -9,7 +9,7 @@ use Rattle.pct_model.specs.declared.role.Block.TheVariants as block
 use Rattle.pct_model.specs.declared.role.Role.TheVariants as role
 use Rattle.pct_model.specs.declared.line_kind.SymbolKind.TheVariants as kind
 use Rattle.pct_grammar.proofs.SectionSplits.{all_statements, are_sections, prefix_if}
-use Rattle.pct_grammar.proofs.FirstFaults.{swap}
+use Rattle.pct_grammar.proofs.FirstFaults.{and_assoc, swap}
 use Rattle.pct_grammar.proofs.Roles.{without_numbers, roles_same, all_from_zip}
 
 -- ---- without the lines' numbers
@@ -89,10 +89,6 @@ both (Err why) f g t e = refl
 and_true : (t : Bool) → t ≡ (t && true)
 and_true true = refl
 and_true false = refl
-
-and_assoc : (a b d : Bool) → (a && (b && d)) ≡ (a && b && d)
-and_assoc true b d = refl
-and_assoc false b d = refl
 
 -- a declaration before lines: they nest if and only if the statements after it do, and the sections after these
 declaration_first : (blocks : List Block) (r : Role) (rs : List Role) (section : Section) (sections : List Section) → is_declaration r ≡ true → all_statements section.body ≡ true
