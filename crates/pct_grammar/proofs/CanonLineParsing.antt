@@ -102,7 +102,7 @@ fn_parsed w l locals h all =
     rw (h, sections.0, after, locals_parsed locals sections.1) refl
 
 -- a `fn` line parses back
-pub function_parses : (w : List ℕ) (locals : List (List ℕ)) → is_name w ≡ true → not (is_empty locals) ≡ true → list_all is_name locals ≡ true
+pub function_parses : (w : List ℕ) (locals : List (List ℕ)) → is_name w ≡ true → is_empty locals ≡ false → list_all is_name locals ≡ true
     → ParsesAs (declaration_line kind.Function (w ∷ locals)) (declared_line kind.Function (token.Name w ∷ map (λ l. token.Name l) locals))
 function_parses w [] h some all = absurd cc
 function_parses w (l ∷ locals) h some all =

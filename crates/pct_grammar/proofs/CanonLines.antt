@@ -1,10 +1,10 @@
 -- The lines and words of a text that is built from words.
 use Rattle.pct_names.proofs.Names.{◌&&◌, ◌+◌, [], All-weaker, AllPass-from_list_all, and_from, and_parts, ap, arith, Bool, cond}
 use Rattle.pct_names.proofs.Names.{cons_option, enumerate_from, false, filter, filter_map, flat_map-cons, is_allowed, is_blank, is_empty}
-use Rattle.pct_names.proofs.Names.{is_some, join_with_byte, line_text, lines_of, List, list_all, list_all-append, map, nat_le, None, not}
-use Rattle.pct_names.proofs.Names.{Numbered, Option, option_map, or_right, parsed, parsed_lines, parsed_numbered, parsed_words, ParsedLine}
-use Rattle.pct_names.proofs.Names.{refl, slice_split, slice_split_at, slice_split_none, Some, spell_something, spelled_lines, split_once}
-use Rattle.pct_names.proofs.Names.{text_of, true, words_in, ℕ, ◌∙◌, ◌∷◌, ◌≡◌, ◌≤◌}
+use Rattle.pct_names.proofs.Names.{is_some, join_with_byte, length, line_text, lines_of, List, list_all, list_all-append, map, nat_le, None}
+use Rattle.pct_names.proofs.Names.{not, Numbered, Option, option_map, or_right, parsed, parsed_lines, parsed_numbered, parsed_words}
+use Rattle.pct_names.proofs.Names.{ParsedLine, refl, slice_split, slice_split_at, slice_split_none, Some, spell_something, spelled_lines}
+use Rattle.pct_names.proofs.Names.{split_once, text_of, true, words_in, ℕ, ◌∙◌, ◌∷◌, ◌≡◌, ◌≤◌}
 use Rattle.std.proofs.Common.{append_assoc, leb-true, ne_eqb}
 use Rattle.std.specs.List.{All}
 use Rattle.pct_text.proofs.SplitOnce.{lacks_other, lacks-append, lacks-cons}
@@ -32,8 +32,8 @@ no_blank b h =
 allowed : (b : ℕ) → is_printable b ≡ true → is_allowed b ≡ true
 allowed b h = or_right (is_blank b) (is_printable b) h
 
-printable_of : (w : List ℕ) → is_word w ≡ true → list_all is_printable w ≡ true
-printable_of w h = (and_parts (not (is_empty w)) (list_all is_printable w) h).1
+pub printable_of : (w : List ℕ) → is_word w ≡ true → list_all is_printable w ≡ true
+printable_of w h = (and_parts (not (is_empty w)) (list_all is_printable w) (and_parts _ (nat_le (length w) 31) h).0).1
 
 none_blank : (w : List ℕ) → list_all is_printable w ≡ true → All (λ b. is_blank b ≡ false) w
 none_blank w all = All-weaker (λ b. is_printable b ≡ true) (λ b. is_blank b ≡ false) no_blank w (AllPass-from_list_all is_printable w all)
@@ -86,7 +86,7 @@ line_lacks (w ∷ next ∷ words) all =
     lacks-append 10 w (32 ∷ joined (next ∷ words)) (lacks_other is_printable 10 w refl (printable_of w sections.0))
     (lacks-cons 10 32 (joined (next ∷ words)) refl (line_lacks (next ∷ words) sections.1))
 
-words_of_line : (words : List (List ℕ)) → is_line words ≡ true → list_all is_word words ≡ true
+pub words_of_line : (words : List (List ℕ)) → is_line words ≡ true → list_all is_word words ≡ true
 words_of_line words is = (and_parts (list_all is_word words) (spell_something words) is).0
 
 -- a text of lines has those lines

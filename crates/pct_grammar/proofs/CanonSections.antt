@@ -1,13 +1,13 @@
 -- The sections of a text of declarations, where the statements of a function follow its `fn` line.
 use Rattle.pct_names.proofs.Names.{◌+◌, ◌++◌, [], AllZip, and_from, and_parts, ap, Bool, cond, Contents, declares, declares_by, declaring}
-use Rattle.pct_names.proofs.Names.{encode, encoded, EncodedStmt, enumerate_from, false, filter, Func, is_declaration, is_empty, is_function}
-use Rattle.pct_names.proofs.Names.{is_same, is_statement, Line, List, list_all, map, not, Option, ParsedLine, prepend_line, refl, role_in}
-use Rattle.pct_names.proofs.Names.{Section, Sections, Some, SpellsBody, split_sections, subst, sym, SymbolKind, syntax_of, Token, true}
-use Rattle.pct_names.proofs.Names.{◌||◌, ℕ, ◌∙◌, ◌∷◌, ◌≡◌}
+use Rattle.pct_names.proofs.Names.{encode, encoded, EncodedStmt, enumerate_from, false, filter, filter-append, Func, is_declaration}
+use Rattle.pct_names.proofs.Names.{is_empty, is_function, is_same, is_statement, Line, List, list_all, map, map-append, not, Option}
+use Rattle.pct_names.proofs.Names.{ParsedLine, prepend_line, refl, role_in, Section, Sections, Some, SpellsBody, split_sections, subst, sym}
+use Rattle.pct_names.proofs.Names.{SymbolKind, syntax_of, Token, true, ◌||◌, ℕ, ◌∙◌, ◌∷◌, ◌≡◌}
 use Rattle.pct_model.specs.declared.line_kind.SymbolKind.TheVariants as kind
 use Rattle.pct_grammar.proofs.CanonLineParsing.{declared_line}
 use Rattle.pct_grammar.proofs.SharedWords.{role_of_kind}
-use Rattle.pct_grammar.proofs.FunctionHeaders.{no_kind}
+use Rattle.pct_grammar.proofs.SectionSplits.{no_kind}
 
 -- ---- lines without their numbers
 
@@ -25,43 +25,43 @@ pub declared_numbered : (k : SymbolKind) (n : ℕ) (lines : List ParsedLine) →
 declared_numbered k n [] = refl
 declared_numbered k n (line ∷ lines) = numbered_step k n line (enumerate_from (n + 1) lines) lines (declares k line) (declared_numbered k (n + 1) lines)
 
+pub both_declare : (k : SymbolKind) (one other : List ParsedLine) → words_declared k (one ++ other) ≡ words_declared k one ++ words_declared k other
+both_declare k one other =
+    ap (map (λ (s : ParsedLine). s.tokens)) (filter-append (declares k) one other) ∙ map-append (λ (s : ParsedLine). s.tokens) (filter (declares k) one) (filter (declares k) other)
+
 -- statements declare nothing
-pub statements_declare : (k : SymbolKind) (body rest : List ParsedLine) → list_all is_statement body ≡ true → words_declared k (body ++ rest) ≡ words_declared k rest
-statements_declare k [] rest all = refl
-statements_declare k (line ∷ body) rest all =
+pub statements_declare : (k : SymbolKind) (body : List ParsedLine) → list_all is_statement body ≡ true → words_declared k body ≡ []
+statements_declare k [] all = refl
+statements_declare k (line ∷ body) all =
     let sections = and_parts (is_statement line) (list_all is_statement body) all in
-    let others = filter (declares k) (body ++ rest) in
-    ap (λ t. map (λ (s : ParsedLine). s.tokens) (cond t (line ∷ others) others)) (no_kind k (role_in line) sections.0) ∙ statements_declare k body rest sections.1
+    let others = filter (declares k) body in
+    ap (λ t. map (λ (s : ParsedLine). s.tokens) (cond t (line ∷ others) others)) (no_kind k (role_in line) sections.0) ∙ statements_declare k body sections.1
 
 kind_declares : (k other : SymbolKind) (words : List Token) → declares k (declared_line other words) ≡ is_same k other
 unfolding syntax_of
 kind_declares k other words = ap (declares_by k) (role_of_kind other)
 
-declares_step : (line : ParsedLine) (others : List ParsedLine) (t same : Bool) → t ≡ same
-    → map (λ (s : ParsedLine). s.tokens) (cond t (line ∷ others) others) ≡ cond same (line.tokens ∷ map (λ (s : ParsedLine). s.tokens) others) (map (λ (s : ParsedLine). s.tokens) others)
-declares_step line others true false e = absurd cc
-declares_step line others false true e = absurd cc
-declares_step line others _ _ e = refl
+first_step : (line : ParsedLine) (others : List ParsedLine) (all : List (List Token)) (t : Bool) → map (λ (s : ParsedLine). s.tokens) others ≡ cond t all []
+    → map (λ (s : ParsedLine). s.tokens) (cond t (line ∷ others) others) ≡ cond t (line.tokens ∷ all) []
+first_step line others all true e = ap (λ ws. line.tokens ∷ ws) e
+first_step line others all false e = e
 
--- a declaration before other lines
-pub declares_first : (k other : SymbolKind) (words : List Token) (rest : List ParsedLine) → words_declared k (declared_line other words ∷ rest) ≡ cond (is_same k other) (words ∷ words_declared k rest) (words_declared k rest)
-declares_first k other words rest = declares_step (declared_line other words) (filter (declares k) rest) (declares k (declared_line other words)) (is_same k other) (kind_declares k other words)
+-- a declaration before others of its kind
+pub declares_first : (k other : SymbolKind) (words : List Token) (all : List (List Token)) (rest : List ParsedLine) → words_declared k rest ≡ cond (is_same k other) all []
+    → words_declared k (declared_line other words ∷ rest) ≡ cond (is_same k other) (words ∷ all) []
+declares_first k other words all rest e =
+    let others = filter (declares k) rest in
+    ap (λ t. map (λ (s : ParsedLine). s.tokens) (cond t (declared_line other words ∷ others) others)) (kind_declares k other words) ∙ first_step (declared_line other words) others all (is_same k other) e
 
--- a choice between equals
-pub cond_same : {A : Type 0} (t : Bool) (x : A) → cond t x x ≡ x
-cond_same true x = refl
-cond_same false x = refl
+-- nothing of any kind
+pub none_of : (t : Bool) → [] ≡ cond {A = List (List Token)} t [] []
+none_of true = refl
+none_of false = refl
 
-more_words : (t : Bool) (words : List Token) (all lines rest : List (List Token)) → lines ≡ cond t (all ++ rest) rest → cond t (words ∷ lines) lines ≡ cond t (words ∷ all ++ rest) rest
-more_words true words all lines rest e = ap (λ ws. words ∷ ws) e
-more_words false words all lines rest e = e
-
--- declarations of one kind before other lines
-pub kinds_declare : (k other : SymbolKind) (all : List (List Token)) (rest : List ParsedLine)
-    → words_declared k (map (declared_line other) all ++ rest) ≡ cond (is_same k other) (all ++ words_declared k rest) (words_declared k rest)
-kinds_declare k other [] rest = sym (cond_same (is_same k other) (words_declared k rest))
-kinds_declare k other (words ∷ all) rest =
-    declares_first k other words (map (declared_line other) all ++ rest) ∙ more_words (is_same k other) words all (words_declared k (map (declared_line other) all ++ rest)) (words_declared k rest) (kinds_declare k other all rest)
+-- declarations of one kind
+pub kinds_declare : (k other : SymbolKind) (all : List (List Token)) → words_declared k (map (declared_line other) all) ≡ cond (is_same k other) all []
+kinds_declare k other [] = none_of (is_same k other)
+kinds_declare k other (words ∷ all) = declares_first k other words all (map (declared_line other) all) (kinds_declare k other all)
 
 -- ---- sections
 

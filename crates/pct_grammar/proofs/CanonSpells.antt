@@ -1,27 +1,27 @@
 -- The canonical text of a script spells it.
 use Rattle.pct_names.proofs.Names.{◌&&◌, ◌++◌, [], and_from, and_parts, ap, AreContents, Bool, canon, cond, Contents, contents_of, decimal}
-use Rattle.pct_names.proofs.Names.{declaration_line, declarations, encode, encoded, EncodedStmt, enumerate_from, false, flat_map}
-use Rattle.pct_names.proofs.Names.{flat_map-cons, Func, function_lines, has_line, has_lines, has_text, is_empty, is_function, is_name}
-use Rattle.pct_names.proofs.Names.{is_same, is_statement, Line, List, list_all, list_all-append, map, map-append, names_of, names_of_kind}
-use Rattle.pct_names.proofs.Names.{nat_le, not, Option, parsed_words, ParsedLine, refl, Script, script_lines, Section, sections_of, SemDecl}
-use Rattle.pct_names.proofs.Names.{Some, Spells, SpellsContents, split_sections, statement_words, Stmt, subst, sym, SymbolKind, text_of}
-use Rattle.pct_names.proofs.Names.{Token, true, ◌||◌, ℕ, ◌∙◌, ◌∷◌, ◌≡◌}
+use Rattle.pct_names.proofs.Names.{declaration_line, declarations, encode, encoded, EncodedStmt, enumerate_from, flat_map, flat_map-cons}
+use Rattle.pct_names.proofs.Names.{Func, function_lines, has_line, has_lines, has_text, is_empty, is_function, is_name, is_same}
+use Rattle.pct_names.proofs.Names.{is_statement, Line, List, list_all, list_all-append, map, map-append, nat_le, Option, parsed_words}
+use Rattle.pct_names.proofs.Names.{ParsedLine, refl, Script, script_lines, Section, sections_of, SemDecl, Some, Spells, SpellsContents}
+use Rattle.pct_names.proofs.Names.{split_sections, statement_words, Stmt, subst, sym, SymbolKind, text_of, Token, true, ◌||◌, ℕ, ◌∙◌, ◌∷◌}
+use Rattle.pct_names.proofs.Names.{◌≡◌}
 use Rattle.std.proofs.Common.{append_assoc, leb-true}
 use Rattle.std.proofs.lemmas.List.{append-nil}
 use Rattle.pct_model.specs.declared.line_kind.SymbolKind.TheVariants as kind
 use Rattle.pct_model.specs.declared.parsed_line.Token.TheVariants as token
-use Rattle.pct_model.proofs.StaticFacts.{passes_all}
+use Rattle.pct_model.proofs.StaticFacts.{HasText, kinds_are_names, lines_of_function, passes_all, text_parts}
 use Rattle.pct_grammar.proofs.SharedWords.{NameLists}
 use Rattle.pct_grammar.proofs.CanonLines.{is_line, LineParses, parsed_lines_again, each_parses_again}
 use Rattle.pct_grammar.proofs.CanonLineParsing.{declared_line, ParsesAs, is_plain_kind, name_parses, sem_parses, function_parses, statement_parses}
-use Rattle.pct_grammar.proofs.CanonSections.{words_declared, cond_same, nothing_before, declared_numbered, statements_declare, kinds_declare, declares_first, StatementsThen, nothing_after, kinds_after, function_after}
+use Rattle.pct_grammar.proofs.CanonSections.{words_declared, none_of, nothing_before, declared_numbered, both_declare, statements_declare, kinds_declare, declares_first, StatementsThen, nothing_after, kinds_after, function_after}
 
 -- ---- lines that parse
 
 -- lines and their parsed lines
-record ParseAll (lines : List (List (List ℕ))) (all : List ParsedLine) : Type 0 where
-  are : list_all is_line lines ≡ true
-  parse_all : LineParses lines all
+pub record ParseAll (lines : List (List (List ℕ))) (all : List ParsedLine) : Type 0 where
+  pub are : list_all is_line lines ≡ true
+  pub parse_all : LineParses lines all
 
 one_more : (words : List (List ℕ)) (line : ParsedLine) (lines : List (List (List ℕ))) (all : List ParsedLine) → ParsesAs words line → ParseAll lines all → ParseAll (words ∷ lines) (line ∷ all)
 one_more words line lines all first others =
@@ -46,58 +46,6 @@ group_parses k texts words ok each (x ∷ xs) all =
     let sections = and_parts (ok x) (list_all ok xs) all in
     one_more (declaration_line k (texts x)) (declared_line k (words x)) (map (λ y. declaration_line k (texts y)) xs) (map (declared_line k) (map words xs))
     (each x sections.0) (group_parses k texts words ok each xs sections.1)
-
--- ---- names
-
-record TextSections (c : Contents) : Type 0 where
-  globals : list_all is_name c.globals ≡ true
-  mutexes : list_all is_name c.mutexes ≡ true
-  conds : list_all is_name c.conds ≡ true
-  sems : list_all (λ s. is_name s.name && nat_le s.count 32767) c.sems ≡ true
-  funcs : list_all (has_lines c) c.funcs ≡ true
-
-text_sections_parse : (c : Contents) → has_text c ≡ true → TextSections c
-unfolding has_text
-text_sections_parse c h =
-    let sems = list_all (λ (s : SemDecl). is_name s.name && nat_le s.count 32767) c.sems in
-    let a = and_parts (list_all is_name c.globals && list_all is_name c.mutexes && list_all is_name c.conds && sems) (list_all (has_lines c) c.funcs) h in
-    let b = and_parts (list_all is_name c.globals && list_all is_name c.mutexes && list_all is_name c.conds) sems a.0 in
-    let d = and_parts (list_all is_name c.globals && list_all is_name c.mutexes) (list_all is_name c.conds) b.0 in
-    let e = and_parts (list_all is_name c.globals) (list_all is_name c.mutexes) d.0 in
-    record { globals = e.0; mutexes = e.1; conds = d.1; sems = b.1; funcs = a.1 }
-
-record LinesSections (c : Contents) (f : Func) : Type 0 where
-  name : is_name f.name ≡ true
-  some : not (is_empty f.locals) ≡ true
-  locals : list_all is_name f.locals ≡ true
-  body : list_all (has_line c f.locals) f.body ≡ true
-
-lines_sections : (c : Contents) (f : Func) → has_lines c f ≡ true → LinesSections c f
-unfolding has_lines
-lines_sections c f h =
-    let a = and_parts (is_name f.name && not (is_empty f.locals) && list_all is_name f.locals) (list_all (has_line c f.locals) f.body) h in
-    let b = and_parts (is_name f.name && not (is_empty f.locals)) (list_all is_name f.locals) a.0 in
-    let d = and_parts (is_name f.name) (not (is_empty f.locals)) b.0 in
-    record { name = d.0; some = d.1; locals = b.1; body = a.1 }
-
-sem_names : (sems : List SemDecl) → list_all (λ s. is_name s.name && nat_le s.count 32767) sems ≡ true → list_all is_name (map (λ s. s.name) sems) ≡ true
-sem_names [] all = refl
-sem_names (s ∷ sems) all =
-    let sections = and_parts (is_name s.name && nat_le s.count 32767) (list_all (λ (x : SemDecl). is_name x.name && nat_le x.count 32767) sems) all in
-    and_from (is_name s.name) (list_all is_name (map (λ (x : SemDecl). x.name) sems)) (and_parts (is_name s.name) (nat_le s.count 32767) sections.0).0 (sem_names sems sections.1)
-
-function_names : (c : Contents) (funcs : List Func) → list_all (has_lines c) funcs ≡ true → list_all is_name (names_of funcs) ≡ true
-function_names c [] all = refl
-function_names c (f ∷ funcs) all =
-    let sections = and_parts (has_lines c f) (list_all (has_lines c) funcs) all in
-    and_from (is_name f.name) (list_all is_name (names_of funcs)) (lines_sections c f sections.0).name (function_names c funcs sections.1)
-
-are_names : (c : Contents) → TextSections c → (k : SymbolKind) → list_all is_name (names_of_kind c k) ≡ true
-are_names c p kind.Global = p.globals
-are_names c p kind.Mutex = p.mutexes
-are_names c p kind.Cond = p.conds
-are_names c p kind.Sem = sem_names c.sems p.sems
-are_names c p kind.Function = function_names c c.funcs p.funcs
 
 -- ---- functions
 
@@ -125,10 +73,6 @@ body_parses c locals (s ∷ body) names have =
 abbrev outlines_of : List Func → List (List Token)
 outlines_of funcs = map (λ f. token.Name f.name ∷ map (λ name. token.Name name) f.locals) funcs
 
-header_step : (t : Bool) (words : List Token) (lines headers : List (List Token)) → lines ≡ cond t headers [] → cond t (words ∷ lines) lines ≡ cond t (words ∷ headers) []
-header_step true words lines headers e = ap (λ ws. words ∷ ws) e
-header_step false words lines headers e = e
-
 -- the parsed lines of functions
 record Functions (c : Contents) (funcs : List Func) : Type 0 where
   all : List ParsedLine
@@ -136,14 +80,14 @@ record Functions (c : Contents) (funcs : List Func) : Type 0 where
   after : (n : ℕ) → StatementsThen c (split_sections (enumerate_from n all)) [] funcs
   declared : (k : SymbolKind) → words_declared k all ≡ cond (is_same k kind.Function) (outlines_of funcs) []
 
-functions_parse : (c : Contents) (funcs : List Func) → TextSections c → list_all (has_lines c) funcs ≡ true → Functions c funcs
+functions_parse : (c : Contents) (funcs : List Func) → HasText c → list_all (has_lines c) funcs ≡ true → Functions c funcs
 unfolding function_lines
-functions_parse c [] p have = record { all = []; line_parses = record { are = refl; parse_all = refl }; after = nothing_after c; declared = λ k. sym (cond_same (is_same k kind.Function) []) }
+functions_parse c [] p have = record { all = []; line_parses = record { are = refl; parse_all = refl }; after = nothing_after c; declared = λ k. none_of (is_same k kind.Function) }
 functions_parse c (f ∷ funcs) p have =
     let sections = and_parts (has_lines c f) (list_all (has_lines c) funcs) have in
-    let own = lines_sections c f sections.0 in
+    let own = lines_of_function c f sections.0 in
     let words = token.Name f.name ∷ map (λ (name : List ℕ). token.Name name) f.locals in
-    let body = body_parses c f.locals f.body (record { kinds = are_names c p; own = own.locals }) own.body in
+    let body = body_parses c f.locals f.body (record { kinds = λ k. kinds_are_names c k p; own = own.locals }) own.body in
     let others = functions_parse c funcs p sections.1 in
     let all = declared_line kind.Function words ∷ body.all ++ others.all in
     let header = function_parses f.name f.locals own.name own.some own.locals in
@@ -155,8 +99,8 @@ functions_parse c (f ∷ funcs) p have =
       line_parses = subst (λ (lines : List (List (List ℕ))). ParseAll lines all) (sym (flat_map-cons (function_lines c) f funcs))
           (both (function_lines c f) (flat_map (function_lines c) funcs) (declared_line kind.Function words ∷ body.all) others.all first others.line_parses);
       after = λ n. function_after c f funcs words body.all others.all n body.statements body.resolves_to others.after;
-      declared = λ k. declares_first k kind.Function words (body.all ++ others.all)
-          ∙ header_step (is_same k kind.Function) words (words_declared k (body.all ++ others.all)) (outlines_of funcs) (statements_declare k body.all others.all body.statements ∙ others.declared k);
+      declared = λ k. declares_first k kind.Function words (outlines_of funcs) (body.all ++ others.all)
+          (both_declare k body.all others.all ∙ ap (λ ws. ws ++ words_declared k others.all) (statements_declare k body.all body.statements) ∙ others.declared k);
     }
 
 -- ---- the theorem
@@ -174,7 +118,7 @@ names_parse : (k : SymbolKind) (names : List (List ℕ)) → is_plain_kind k ≡
     → ParseAll (map (λ (name : List ℕ). declaration_line k (name ∷ [])) names) (map (declared_line k) (map (λ (name : List ℕ). token.Name name ∷ []) names))
 names_parse k names plain all = group_parses k (λ (name : List ℕ). name ∷ []) (λ (name : List ℕ). token.Name name ∷ []) is_name (λ name ok. name_parses k name plain ok) names all
 
-all_parses : (c : Contents) → TextSections c → (functions : List ParsedLine) → ParseAll (flat_map (function_lines c) c.funcs) functions → ParseAll (script_lines c) (with_declarations c functions)
+all_parses : (c : Contents) → HasText c → (functions : List ParsedLine) → ParseAll (flat_map (function_lines c) c.funcs) functions → ParseAll (script_lines c) (with_declarations c functions)
 unfolding script_lines declarations
 all_parses c p functions line_parses =
     let resolve_name : SymbolKind → List (List ℕ) → List (List (List ℕ)) = λ k names. map (λ (name : List ℕ). declaration_line k (name ∷ [])) names in
@@ -198,23 +142,18 @@ all_parses c p functions line_parses =
     in
     subst (λ (lines : List (List (List ℕ))). ParseAll lines (with_declarations c functions)) (sym (regrouped (resolve_name kind.Global c.globals) (resolve_name kind.Mutex c.mutexes) (resolve_name kind.Cond c.conds) sem_lines function_text)) from_globals
 
--- the declarations of one kind, with these after it
-abbrev onto : SymbolKind → SymbolKind → List (List Token) → List (List Token) → List (List Token)
-onto k other all rest = cond (is_same k other) (all ++ rest) rest
+-- what the declarations of one kind declare of another
+abbrev of_kind : Contents → SymbolKind → SymbolKind → List (List Token)
+of_kind c k other = cond (is_same k other) (declarations c other) []
+
+one_kind : (c : Contents) (k other : SymbolKind) (rest : List ParsedLine) (words : List (List Token)) → words_declared k rest ≡ words
+    → words_declared k (map (declared_line other) (declarations c other) ++ rest) ≡ of_kind c k other ++ words
+one_kind c k other rest words e =
+    both_declare k (map (declared_line other) (declarations c other)) rest ∙ ap (λ ws. ws ++ words_declared k rest) (kinds_declare k other (declarations c other)) ∙ ap (λ ws. of_kind c k other ++ ws) e
 
 in_turn : (c : Contents) (functions : List ParsedLine) (k : SymbolKind) → words_declared k (with_declarations c functions)
-    ≡ onto k kind.Global (declarations c kind.Global) (onto k kind.Mutex (declarations c kind.Mutex) (onto k kind.Cond (declarations c kind.Cond) (onto k kind.Sem (declarations c kind.Sem) (words_declared k functions))))
-in_turn c functions k =
-    let sems = map (declared_line kind.Sem) (declarations c kind.Sem) ++ functions in
-    let conds = map (declared_line kind.Cond) (declarations c kind.Cond) ++ sems in
-    let mutexes = map (declared_line kind.Mutex) (declarations c kind.Mutex) ++ conds in
-    let to_global = onto k kind.Global (declarations c kind.Global) in
-    let to_mutex = onto k kind.Mutex (declarations c kind.Mutex) in
-    let to_cond = onto k kind.Cond (declarations c kind.Cond) in
-    kinds_declare k kind.Global (declarations c kind.Global) mutexes
-    ∙ ap to_global (kinds_declare k kind.Mutex (declarations c kind.Mutex) conds)
-    ∙ ap (λ ws. to_global (to_mutex ws)) (kinds_declare k kind.Cond (declarations c kind.Cond) sems)
-    ∙ ap (λ ws. to_global (to_mutex (to_cond ws))) (kinds_declare k kind.Sem (declarations c kind.Sem) functions)
+    ≡ of_kind c k kind.Global ++ (of_kind c k kind.Mutex ++ (of_kind c k kind.Cond ++ (of_kind c k kind.Sem ++ words_declared k functions)))
+in_turn c functions k = one_kind c k kind.Global _ _ (one_kind c k kind.Mutex _ _ (one_kind c k kind.Cond _ _ (one_kind c k kind.Sem functions _ refl)))
 
 declared_all : (c : Contents) (functions : List ParsedLine) → ((k : SymbolKind) → words_declared k functions ≡ cond (is_same k kind.Function) (outlines_of c.funcs) [])
     → (k : SymbolKind) → words_declared k (with_declarations c functions) ≡ declarations c k
@@ -244,9 +183,16 @@ are_contents c functions declared after =
           (nothing_before (split_sections (enumerate_from 1 all)).preamble sections.prefix) sections.within;
     }
 
+-- each line of a canonical text parses
+pub script_lines_parse : (c : Contents) → has_text c ≡ true → (all : List ParsedLine) × ParseAll (script_lines c) all
+script_lines_parse c h =
+    let p = text_parts c h in
+    let functions = functions_parse c c.funcs p p.funcs in
+    (with_declarations c functions.all, all_parses c p functions.all functions.line_parses)
+
 spells_contents : (c : Contents) → has_text c ≡ true → SpellsContents (text_of (script_lines c)) c
 spells_contents c h =
-    let p = text_sections_parse c h in
+    let p = text_parts c h in
     let functions = functions_parse c c.funcs p p.funcs in
     let all = with_declarations c functions.all in
     let line_parses = all_parses c p functions.all functions.line_parses in

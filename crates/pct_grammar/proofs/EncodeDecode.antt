@@ -53,21 +53,9 @@ optional_back (Some i) = refl
 -- an encoded statement decodes to that statement
 pub encoded_back : (s : Stmt) → decode (encode s).0 (encode s).1 ≡ s
 unfolding encode decode item_in flag_in
-encoded_back (statement.Create result id f v true) = simp (value_back, dest_back)
-encoded_back (statement.Create result id f v false) = simp (value_back, dest_back)
-encoded_back statement.Nop = refl
-encoded_back statement.Else = refl
-encoded_back statement.End = refl
-encoded_back statement.TestCancel = refl
-encoded_back (statement.Lock m) = refl
-encoded_back (statement.Unlock m) = refl
-encoded_back (statement.CondWait c m) = refl
-encoded_back (statement.Signal c) = refl
-encoded_back (statement.Broadcast c) = refl
-encoded_back (statement.SemWait s) = refl
-encoded_back (statement.SemPost s) = refl
-encoded_back (statement.PointCall index) = refl
-encoded_back _ = simp (value_back, dest_back, optional_back)
+encoded_back (statement.Create result id f v true) = grind (arith, value_back, dest_back)
+encoded_back (statement.Create result id f v false) = grind (arith, value_back, dest_back)
+encoded_back _ = grind (arith, value_back, dest_back, optional_back)
 
 -- ---- decode, then encode
 

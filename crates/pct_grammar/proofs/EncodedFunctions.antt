@@ -1,13 +1,13 @@
 -- What the lines of functions spell: a function's name, its locals, and its statements.
 use Rattle.pct_names.proofs.Names.{[], AllZip, ap, AreContents, Argument, argument_kinds_in, Bool, cond, Contents, declarations, declaring}
-use Rattle.pct_names.proofs.Names.{drop, false, filter, Func, functions_in, have_words, is_declaration, is_function, is_statement, length}
-use Rattle.pct_names.proofs.Names.{Line, List, list_all, locals_of, map, map-map, names_in, names_of_kind, not-true, ParsedLine, refl}
-use Rattle.pct_names.proofs.Names.{resolve_all, role_in, Section, Sections, sections_of, Some, SpellsBody, split_sections, sym, syntax_of}
-use Rattle.pct_names.proofs.Names.{Token, tokens_at, true, ℕ, ◌∙◌, ◌∷◌, ◌≡◌}
+use Rattle.pct_names.proofs.Names.{false, filter, Func, functions_in, have_words, is_declaration, is_function, is_statement, length, Line}
+use Rattle.pct_names.proofs.Names.{List, list_all, map, map-map, names_of_kind, not-true, ParsedLine, refl, resolve_all, role_in, Section}
+use Rattle.pct_names.proofs.Names.{Sections, sections_of, Some, SpellsBody, split_sections, sym, syntax_of, Token, tokens_at, true, ℕ, ◌∙◌}
+use Rattle.pct_names.proofs.Names.{◌∷◌, ◌≡◌}
 use Rattle.pct_model.specs.declared.line_kind.SymbolKind.TheVariants as kind
 use Rattle.pct_grammar.proofs.SharedWords.{IsParsed, EachParsed}
-use Rattle.pct_grammar.proofs.Declarations.{function_words, all_names_in}
-use Rattle.pct_grammar.proofs.FunctionHeaders.{function_headers}
+use Rattle.pct_grammar.proofs.Declarations.{function_words}
+use Rattle.pct_grammar.proofs.SectionSplits.{function_headers, prefix_if}
 use Rattle.pct_grammar.proofs.TokensResolve.{is_no_count, words_read, statement_kinds, words_at_lengths, replaced_lengths}
 
 -- ---- the sections of lines that were parsed from words
@@ -37,10 +37,7 @@ pub record FunctionParsed (section : Section) : Type 0 where
   pub is : is_function section ≡ true
   pub body : EachStatement section.body
 
-abbrev prepend_entry : Line → Sections → Bool → Sections
-prepend_entry l p t = cond t (record { preamble = l ∷ p.preamble; sections = p.sections }) (record { preamble = []; sections = record { header = l; body = p.preamble } ∷ p.sections })
-
-one_more_parsed : (l : Line) (p : Sections) (t : Bool) → is_statement l.1 ≡ t → IsParsed l.1 → SplitParsed p → SplitParsed (prepend_entry l p t)
+one_more_parsed : (l : Line) (p : Sections) (t : Bool) → is_statement l.1 ≡ t → IsParsed l.1 → SplitParsed p → SplitParsed (prefix_if t l p)
 one_more_parsed l p true e from parsed = record { prefix = (from, e, parsed.prefix); sections = parsed.sections }
 one_more_parsed l p false e from parsed = record { prefix = tt; sections = (record { header = from; body = parsed.prefix }, parsed.sections) }
 
@@ -91,10 +88,6 @@ functions_declared lines c are = words_of_headers (λ ws. ws) lines ∙ are.decl
 -- the sections of lines spell the functions of the script that the lines spell
 pub functions_resolve : (lines : List Line) (c : Contents) → AreContents lines c → AllZip (WroteAll c) (functions_in lines) c.funcs
 functions_resolve lines c are = resolve_both c (functions_in lines) c.funcs (functions_declared lines c are) are.bodies
-
--- the locals of a function that a section spells
-pub locals_resolved : (c : Contents) (section : Section) (f : Func) → WroteAll c section f → locals_of section.header.1 ≡ f.locals
-locals_resolved c section f resolves_to = ap (λ ws. drop 1 (names_in ws)) resolves_to.words ∙ all_names_in f.locals
 
 -- ---- the arguments on a statement's line
 

@@ -15,6 +15,10 @@ swap true b d = refl
 swap false true d = refl
 swap false false d = refl
 
+pub and_assoc : (a b d : Bool) → (a && (b && d)) ≡ (a && b && d)
+and_assoc true b d = refl
+and_assoc false b d = refl
+
 -- ---- a fault
 
 -- the first fault is None if and only if each is None

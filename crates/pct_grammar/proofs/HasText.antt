@@ -6,7 +6,7 @@ use Rattle.pct_names.proofs.Names.{resolve_all, Section, Some, Stmt, sym, Symbol
 use Rattle.pct_model.specs.declared.line_kind.SymbolKind.TheVariants as kind
 use Rattle.pct_model.specs.declared.parsed_line.Token.TheVariants as token
 use Rattle.pct_grammar.proofs.SharedWords.{IsParsed, EachParsed}
-use Rattle.pct_grammar.proofs.OptionSteps.{map_some}
+use Rattle.pct_grammar.proofs.OptionFacts.{map_some}
 use Rattle.pct_grammar.proofs.EncodeDecode.{has_first}
 use Rattle.pct_grammar.proofs.ParsedFromWords.{DeclaresFunction, line_declares}
 use Rattle.pct_grammar.proofs.Declarations.{names_from, sems_from, names_are_names, is_sem, sems_are_sems, function_words, all_names_in}

@@ -1,14 +1,11 @@
 pub mod SharedWords
-pub mod OptionSteps
 pub mod OptionFacts
 pub mod Misspelled
 pub mod FirstFaults
 pub mod SectionSplits
-pub mod FunctionHeaders
 pub mod Roles
 pub mod NestingLaw
 pub mod LimitLaw
-pub mod Returns
 pub mod Declared
 pub mod PlainFunctions
 pub mod NamesDeclaredOnce
@@ -19,7 +16,6 @@ pub mod Declarations
 pub mod EncodedFunctions
 pub mod NamesResolve
 pub mod HasText
-pub mod OneScript
 pub mod Scripts
 pub mod CanonLines
 pub mod CanonLineParsing

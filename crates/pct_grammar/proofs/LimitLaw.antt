@@ -1,17 +1,16 @@
 -- The check of limits on lines, and the limits of the script that they spell.
-use Rattle.pct_names.proofs.Names.{◌&&◌, ◌+◌, ◌++◌, ◌<◌, [], AllZip, and_parts, ap, AreContents, arith, Bool, cond, Contents, count_by}
-use Rattle.pct_names.proofs.Names.{declarations, declares, declaring, encode, encoded, exceeds, exceeds_limit, false, filter, filter-append}
-use Rattle.pct_names.proofs.Names.{first_wrong, Func, functions_in, has_many_locals, is_declaration, is_empty, is_function, is_none}
-use Rattle.pct_names.proofs.Names.{is_statement, is_within, keeps_limits, length, length-map, Line, List, list_all, locals_of, lt-leb, map}
-use Rattle.pct_names.proofs.Names.{most, names_of_kind, nat_le, nat_lt, none_wrong, not, ParsedLine, refl, role_in, Section, sections_of}
-use Rattle.pct_names.proofs.Names.{SemDecl, Some, SpellsBody, split_sections, statement_lines, Stmt, sum_by, sum_by-cons, sym, SymbolKind}
-use Rattle.pct_names.proofs.Names.{Token, too_many, TooMany, true, ◌||◌, ℕ, ◌∙◌, ◌∷◌, ◌≡◌, ◌≤◌}
+use Rattle.pct_names.proofs.Names.{◌&&◌, ◌+◌, [], AllZip, and_parts, ap, AreContents, arith, Bool, cond, Contents, count_by, declarations}
+use Rattle.pct_names.proofs.Names.{declares, declaring, encode, encoded, exceeds, exceeds_limit, false, filter, first_wrong, Func}
+use Rattle.pct_names.proofs.Names.{functions_in, has_many_locals, is_empty, is_function, is_none, is_statement, is_within, keeps_limits}
+use Rattle.pct_names.proofs.Names.{length, length-map, Line, List, list_all, locals_of, lt-leb, map, most, names_of_kind, nat_le, nat_lt}
+use Rattle.pct_names.proofs.Names.{none_wrong, not, ParsedLine, refl, Section, Sections, sections_of, SemDecl, Some, SpellsBody}
+use Rattle.pct_names.proofs.Names.{split_sections, statement_lines, Stmt, sum_by, sum_by-cons, sym, SymbolKind, Token, too_many, TooMany}
+use Rattle.pct_names.proofs.Names.{true, ◌||◌, ℕ, ◌∙◌, ◌∷◌, ◌≡◌, ◌≤◌}
 use Rattle.std.proofs.Common.{leb-true, le-leb}
 use Rattle.std.proofs.lemmas.Bool.{leb-false, ltb-true, ltb-false}
-use Rattle.std.proofs.lemmas.List.{length-append}
 use Rattle.pct_model.specs.declared.line_kind.SymbolKind.TheVariants as kind
 use Rattle.pct_model.specs.declared.parsed_line.Token.TheVariants as token
-use Rattle.pct_grammar.proofs.SectionSplits.{lines_of_sections, all_statements, is_section, are_sections}
+use Rattle.pct_grammar.proofs.SectionSplits.{prefix_if}
 use Rattle.pct_grammar.proofs.FirstFaults.{swap, line_none, first_wrong_none}
 use Rattle.pct_grammar.proofs.Declared.{locals_pass}
 
@@ -44,23 +43,15 @@ passes_step : (test : ParsedLine → Bool) (n : ℕ) (before : List ParsedLine) 
     → (count_by test (a ∷ before) ≤ n → none_wrong (exceeds test n) (a ∷ before) items ≡ nat_le (count_by test (a ∷ before) + count_by test items) n)
     → (not (t && u) && none_wrong (exceeds test n) (a ∷ before) items) ≡ nat_le (count_by test before + count_by test (a ∷ items)) n
 passes_step test n before a items false u e full few more =
-    let prefix = counted test a before false e in
+    let own = counted test a before false e in
     let after = counted test a items false e in
-    let still : count_by test (a ∷ before) ≤ n = omega (arith, prefix) in
-    let same : count_by test (a ∷ before) + count_by test items ≡ count_by test before + count_by test (a ∷ items) = omega (arith, prefix, after) in
-    more still ∙ ap (λ m. nat_le m n) same
+    more (omega (arith, own)) ∙ ap (λ m. nat_le m n) (omega (arith, own, after))
 passes_step test n before a items true true e full few more =
-    let after = counted test a items true e in
-    let enough : n ≤ count_by test before = leb-true n (count_by test before) full in
-    let over : n < count_by test before + count_by test (a ∷ items) = omega (arith, after, enough) in
-    sym (lt-leb (count_by test before + count_by test (a ∷ items)) n over)
+    sym (lt-leb (count_by test before + count_by test (a ∷ items)) n (omega (arith, counted test a items true e, leb-true n (count_by test before) full)))
 passes_step test n before a items true false e full few more =
-    let prefix = counted test a before true e in
+    let own = counted test a before true e in
     let after = counted test a items true e in
-    let fewer : count_by test before < n = leb-false n (count_by test before) full in
-    let still : count_by test (a ∷ before) ≤ n = omega (arith, prefix, fewer) in
-    let same : count_by test (a ∷ before) + count_by test items ≡ count_by test before + count_by test (a ∷ items) = omega (arith, prefix, after) in
-    more still ∙ ap (λ m. nat_le m n) same
+    more (omega (arith, own, leb-false n (count_by test before) full)) ∙ ap (λ m. nat_le m n) (omega (arith, own, after))
 
 none_passes_after : (test : ParsedLine → Bool) (n : ℕ) (before items : List ParsedLine) → count_by test before ≤ n → none_wrong (exceeds test n) before items ≡ nat_le (count_by test before + count_by test items) n
 unfolding none_wrong
@@ -107,42 +98,35 @@ kind_within lines c are k =
 
 -- ---- statements
 
-abbrev counts_as : Line → Bool
-counts_as l = is_statement l.1
-
 abbrev body_length : Section → ℕ
 body_length section = length section.body
 
-all_counted : (body : List Line) → all_statements body ≡ true → filter counts_as body ≡ body
-all_counted [] are = refl
-all_counted (l ∷ body) are =
-    let sections = and_parts (is_statement l.1) (all_statements body) are in
-    ap (λ (t : Bool). cond t (l ∷ filter counts_as body) (filter counts_as body)) sections.0 ∙ ap (λ (ls : List Line). l ∷ ls) (all_counted body sections.1)
+statements_step : (l : Line) (p : Sections) (t : Bool) (n : ℕ) → n ≡ length p.preamble + sum_by body_length p.sections → cond t 1 0 + n ≡ length (prefix_if t l p).preamble + sum_by body_length (prefix_if t l p).sections
+statements_step l p true n e = omega (arith, e)
+statements_step l p false n e = omega (arith, e, sum_by-cons body_length (record { header = l; body = p.preamble }) p.sections)
 
-none_there : {A : Type 0} (xs : List A) → is_empty xs ≡ true → xs ≡ []
+-- the statements of lines are those before the first section and those of the sections
+statements_split : (lines : List Line) → count_by is_statement (parsed_each lines) ≡ length (split_sections lines).preamble + sum_by body_length (sections_of lines)
+unfolding split_sections
+statements_split [] = refl
+statements_split (l ∷ lines) =
+    counted is_statement l.1 (parsed_each lines) (is_statement l.1) refl
+    ∙ statements_step l (split_sections lines) (is_statement l.1) (count_by is_statement (parsed_each lines)) (statements_split lines)
+
+none_there : {A : Type 0} (xs : List A) → is_empty xs ≡ true → length xs ≡ 0
 none_there [] e = refl
 none_there (x ∷ xs) e = absurd cc
 
-with_section : (section : Section) (others : List Section) (t : Bool) → (t || is_empty section.body) ≡ true → length section.body + sum_by body_length others ≡ sum_by body_length (cond t (section ∷ others) others)
-with_section section others true e = sym (sum_by-cons body_length section others)
-with_section section others false e =
-    let none : length section.body ≡ 0 = ap (λ (ls : List Line). length ls) (none_there section.body e) in
-    omega (arith, none)
+with_section : (section : Section) (all kept : List Section) (t : Bool) → (t || is_empty section.body) ≡ true → sum_by body_length all ≡ sum_by body_length kept → sum_by body_length (section ∷ all) ≡ sum_by body_length (cond t (section ∷ kept) kept)
+with_section section all kept true h e = omega (arith, e, sum_by-cons body_length section all, sum_by-cons body_length section kept)
+with_section section all kept false h e = omega (arith, e, sum_by-cons body_length section all, none_there section.body h)
 
-sections_count : (sections : List Section) → list_all is_section sections ≡ true → list_all (λ section. is_function section || is_empty section.body) sections ≡ true
-    → length (filter counts_as (lines_of_sections sections)) ≡ sum_by body_length (filter is_function sections)
-unfolding lines_of_sections
-sections_count [] are wholes = refl
-sections_count (section ∷ sections) are wholes =
-    let h = and_parts (is_section section) (list_all is_section sections) are in
-    let this = and_parts (is_declaration (role_in section.header.1)) (all_statements section.body) h.0 in
+-- if the other sections are empty, the statements are those of functions
+in_functions : (sections : List Section) → list_all (λ section. is_function section || is_empty section.body) sections ≡ true → sum_by body_length sections ≡ sum_by body_length (filter is_function sections)
+in_functions [] wholes = refl
+in_functions (section ∷ sections) wholes =
     let w = and_parts (is_function section || is_empty section.body) (list_all (λ (p : Section). is_function p || is_empty p.body) sections) wholes in
-    let after = filter counts_as (section.body ++ lines_of_sections sections) in
-    let rest = filter counts_as (lines_of_sections sections) in
-    ap (λ (t : Bool). length (cond (not t) (section.header ∷ after) after)) this.0
-    ∙ ap (λ (ls : List Line). length ls) (filter-append counts_as section.body (lines_of_sections sections) ∙ ap (λ (ls : List Line). ls ++ rest) (all_counted section.body this.1))
-    ∙ length-append section.body rest ∙ ap (λ n. length section.body + n) (sections_count sections h.1 w.1)
-    ∙ with_section section (filter is_function sections) (is_function section) w.0
+    with_section section sections (filter is_function sections) (is_function section) w.0 (in_functions sections w.1)
 
 bodies_count : (c : Contents) (sections : List Section) (funcs : List Func) → AllZip (SpellsBody c) sections funcs → sum_by body_length sections ≡ statement_lines funcs
 bodies_count c [] [] zip = refl
@@ -154,12 +138,8 @@ bodies_count c _ _ zip = absurd zip
 
 statements_count : (lines : List Line) (c : Contents) → AreContents lines c → count_by is_statement (parsed_each lines) ≡ statement_lines c.funcs
 statements_count lines c are =
-    let p = are_sections lines in
-    let prefix = (split_sections lines).preamble in
-    let h = and_parts (is_empty prefix) (list_all (λ (section : Section). is_function section || is_empty section.body) (sections_of lines)) are.in_functions in
-    count_by-map is_statement (λ (l : Line). l.1) lines
-    ∙ ap (λ (ls : List Line). length (filter counts_as ls)) (p.whole ∙ ap (λ (ls : List Line). ls ++ lines_of_sections (sections_of lines)) (none_there prefix h.0))
-    ∙ sections_count (sections_of lines) p.sections_are h.1 ∙ bodies_count c (functions_in lines) c.funcs are.bodies
+    let h = and_parts (is_empty (split_sections lines).preamble) (list_all (λ (section : Section). is_function section || is_empty section.body) (sections_of lines)) are.in_functions in
+    omega (arith, statements_split lines, none_there (split_sections lines).preamble h.0, in_functions (sections_of lines) h.1, bodies_count c (functions_in lines) c.funcs are.bodies)
 
 -- ---- locals
 

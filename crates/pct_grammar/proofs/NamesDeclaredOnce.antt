@@ -3,14 +3,15 @@ use Rattle.pct_names.proofs.Names.{◌&&◌, ◌+◌, ◌++◌, [], all_differen
 use Rattle.pct_names.proofs.Names.{bytes_eq, cond, Contents, declared_by, declares, declares_again, declares_by, declaring, false}
 use Rattle.pct_names.proofs.Names.{first_wrong, flat_map, has_each_name_once, headers, is_declaration, is_none, Line, List, list_all}
 use Rattle.pct_names.proofs.Names.{list_any, locals_of, map, name_twice, names_declared, names_in, names_of, names_of_kind, NameTwice}
-use Rattle.pct_names.proofs.Names.{none_wrong, not, not-true, not_from_false, or_parts, ParsedLine, refl, Role, role_in, Section}
-use Rattle.pct_names.proofs.Names.{sections_of, sym, SymbolKind, take, true, ◌||◌, ℕ, ◌∙◌, ◌∷◌, ◌≡◌, ◌≤◌}
+use Rattle.pct_names.proofs.Names.{nat_lt, none_wrong, not, not-true, not_from_false, ParsedLine, refl, Role, role_in, Section, sections_of}
+use Rattle.pct_names.proofs.Names.{sym, SymbolKind, take, true, ◌||◌, ℕ, ◌∙◌, ◌∷◌, ◌≡◌, ◌≤◌}
+use Rattle.std.proofs.Common.{lt-ltb}
+use Rattle.std.proofs.lemmas.Bool.{ltb-false}
 use Rattle.pct_model.specs.declared.line_kind.SymbolKind.TheVariants as kind
 use Rattle.pct_model.specs.declared.role.Role.TheVariants as role
 use Rattle.pct_model.proofs.Bytes.{same_bytes, bytes_eq-refl}
-use Rattle.pct_grammar.proofs.FirstFaults.{not_not, line_none, first_wrong_none}
-use Rattle.pct_grammar.proofs.SectionSplits.{all_statements, is_section, are_sections}
-use Rattle.pct_grammar.proofs.FunctionHeaders.{outlines_of, declaring_headers}
+use Rattle.pct_grammar.proofs.FirstFaults.{and_assoc, not_not, line_none, first_wrong_none}
+use Rattle.pct_grammar.proofs.SectionSplits.{all_statements, is_section, are_sections, outlines_of, declaring_headers}
 use Rattle.pct_grammar.proofs.LimitLaw.{none_or, none_by_test}
 use Rattle.pct_grammar.proofs.Declarations.{names_from}
 use Rattle.pct_grammar.proofs.Declared.{locals_pass}
@@ -38,21 +39,17 @@ times-append w (x ∷ xs) ys =
 abbrev Once : List (List ℕ) → Type 0
 Once names = (w : List ℕ) → times w names ≤ 1
 
-absent_step : (w x : List ℕ) (xs : List (List ℕ)) (t : Bool) → (list_any (bytes_eq w) xs ≡ false → times w xs ≡ 0) → (t || list_any (bytes_eq w) xs) ≡ false → cond t 1 0 + times w xs ≡ 0
-absent_step w x xs true others e = absurd cc
-absent_step w x xs false others e = let rest = others e in omega arith
+any_step : (w : List ℕ) (xs : List (List ℕ)) (t : Bool) → list_any (bytes_eq w) xs ≡ nat_lt 0 (times w xs) → (t || list_any (bytes_eq w) xs) ≡ nat_lt 0 (cond t 1 0 + times w xs)
+any_step w xs true e = sym (lt-ltb 0 (1 + times w xs) (omega arith))
+any_step w xs false e = let same : times w xs ≡ 0 + times w xs = omega arith in e ∙ ap (nat_lt 0) same
+
+-- a name is among names if it is there more than 0 times
+any_times : (w : List ℕ) (xs : List (List ℕ)) → list_any (bytes_eq w) xs ≡ nat_lt 0 (times w xs)
+any_times w [] = refl
+any_times w (x ∷ xs) = any_step w xs (bytes_eq w x) (any_times w xs)
 
 absent : (w : List ℕ) (xs : List (List ℕ)) → list_any (bytes_eq w) xs ≡ false → times w xs ≡ 0
-absent w [] e = refl
-absent w (x ∷ xs) e = absent_step w x xs (bytes_eq w x) (absent w xs) e
-
-lacks_step : (w : List ℕ) (xs : List (List ℕ)) (t : Bool) → (times w xs ≡ 0 → list_any (bytes_eq w) xs ≡ false) → cond t 1 0 + times w xs ≡ 0 → (t || list_any (bytes_eq w) xs) ≡ false
-lacks_step w xs true others e = absurd (omega arith)
-lacks_step w xs false others e = others (omega arith)
-
-lacks : (w : List ℕ) (xs : List (List ℕ)) → times w xs ≡ 0 → list_any (bytes_eq w) xs ≡ false
-lacks w [] e = refl
-lacks w (x ∷ xs) e = lacks_step w xs (bytes_eq w x) (lacks w xs) e
+absent w xs e = omega (arith, ltb-false 0 (times w xs) (sym (any_times w xs) ∙ e))
 
 -- a first name that is not among the others
 once_more_step : (w x : List ℕ) (xs : List (List ℕ)) (t : Bool) → bytes_eq w x ≡ t → times x xs ≡ 0 → times w xs ≤ 1 → cond t 1 0 + times w xs ≤ 1
@@ -77,7 +74,13 @@ unfolding all_different
 different_of_once [] few = refl
 different_of_once (x ∷ xs) few =
     let none : times x xs ≡ 0 = omega (arith, few x, first_times x xs) in
-    and_from (not (list_any (bytes_eq x) xs)) (all_different xs) (not_from_false (list_any (bytes_eq x) xs) (lacks x xs none)) (different_of_once xs (λ w. let one = few w in omega arith))
+    and_from (not (list_any (bytes_eq x) xs)) (all_different xs) (not_from_false (list_any (bytes_eq x) xs) (any_times x xs ∙ ap (nat_lt 0) none)) (different_of_once xs (λ w. let one = few w in omega arith))
+
+different_alike : (xs ys : List (List ℕ)) → ((w : List ℕ) → times w xs ≡ times w ys) → all_different xs ≡ true → all_different ys ≡ true
+different_alike xs ys same e = different_of_once ys (λ w. omega (arith, same w, once_of_different xs e w))
+
+same_different : (xs ys : List (List ℕ)) → ((w : List ℕ) → times w xs ≡ times w ys) → all_different xs ≡ all_different ys
+same_different xs ys same = same_tests (all_different xs) (all_different ys) (different_alike xs ys same) (different_alike ys xs (λ w. sym (same w)))
 
 -- ---- declarations in the order of the text
 
@@ -88,40 +91,37 @@ declared_in lines = flat_map declared_by lines
 abbrev declares_known : List ParsedLine → ParsedLine → Bool
 declares_known before line = list_any (λ name. list_any (bytes_eq name) (declared_in before)) (declared_by line)
 
-once_first : (names before : List (List ℕ)) → list_any (λ name. list_any (bytes_eq name) before) (take 1 names) ≡ false → Once before → Once (take 1 names ++ before)
-once_first [] before e few = few
-once_first (x ∷ names) before e few = once_more x before (absent x before (or_parts (list_any (bytes_eq x) before) false e).0) few
+-- these lines in reverse, and others after them
+abbrev reversed : List ParsedLine → List ParsedLine → List ParsedLine
+reversed [] before = before
+reversed (s ∷ items) before = reversed items (s ∷ before)
 
-once_of_none : (before items : List ParsedLine) → Once (declared_in before) → none_wrong declares_known before items ≡ true → (w : List ℕ) → times w (declared_in before) + times w (declared_in items) ≤ 1
+swapped : (a b : Bool) → (not a && b) ≡ (b && not (a || false))
+swapped true true = refl
+swapped false true = refl
+swapped _ _ = refl
+
+first_different : (names before : List (List ℕ)) → all_different (take 1 names ++ before) ≡ (all_different before && not (list_any (λ name. list_any (bytes_eq name) before) (take 1 names)))
+unfolding all_different
+first_different [] before = swapped false (all_different before)
+first_different (x ∷ names) before = swapped (list_any (bytes_eq x) before) (all_different before)
+
+different_reversed : (items before : List ParsedLine) → (all_different (declared_in before) && none_wrong declares_known before items) ≡ all_different (declared_in (reversed items before))
 unfolding none_wrong
-once_of_none before [] few e w = let one = few w in omega arith
-once_of_none before (s ∷ items) few e w =
-    let both = and_parts (not (declares_known before s)) (none_wrong declares_known (s ∷ before) items) e in
-    let prefix = once_first (names_in s.tokens) (declared_in before) (not-true (declares_known before s) both.0) few in
-    let rest = once_of_none (s ∷ before) items prefix both.1 w in
-    omega (arith, rest, times-append w (declared_by s) (declared_in before), times-append w (declared_by s) (declared_in items))
+different_reversed [] before = sym (swapped false (all_different (declared_in before)))
+different_reversed (s ∷ items) before =
+    and_assoc (all_different (declared_in before)) (not (declares_known before s)) (none_wrong declares_known (s ∷ before) items)
+    ∙ ap (λ (t : Bool). t && none_wrong declares_known (s ∷ before) items) (sym (first_different (names_in s.tokens) (declared_in before))) ∙ different_reversed items (s ∷ before)
 
-known_none : (names before : List (List ℕ)) → ((w : List ℕ) → times w (take 1 names) + times w before ≤ 1) → list_any (λ name. list_any (bytes_eq name) before) (take 1 names) ≡ false
-known_none [] before few = refl
-known_none (x ∷ names) before few =
-    let none : times x before ≡ 0 = omega (arith, few x, first_times x []) in
-    ap (λ (t : Bool). t || false) (lacks x before none)
+times_reversed : (w : List ℕ) (items before : List ParsedLine) → times w (declared_in (reversed items before)) ≡ times w (declared_in items) + times w (declared_in before)
+times_reversed w [] before = omega arith
+times_reversed w (s ∷ items) before = omega (arith, times_reversed w items (s ∷ before), times-append w (declared_by s) (declared_in before), times-append w (declared_by s) (declared_in items))
 
-none_of_once : (before items : List ParsedLine) → ((w : List ℕ) → times w (declared_in before) + times w (declared_in items) ≤ 1) → none_wrong declares_known before items ≡ true
-unfolding none_wrong
-none_of_once before [] few = refl
-none_of_once before (s ∷ items) few =
-    let apart : (w : List ℕ) → times w (declared_by s) + times w (declared_in before) ≤ 1 = λ w. omega (arith, few w, times-append w (declared_by s) (declared_in items)) in
-    let later : (w : List ℕ) → times w (declared_in (s ∷ before)) + times w (declared_in items) ≤ 1 =
-    λ w. omega (arith, few w, times-append w (declared_by s) (declared_in before), times-append w (declared_by s) (declared_in items)) in
-    and_from (not (declares_known before s)) (none_wrong declares_known (s ∷ before) items) (not_from_false (declares_known before s) (known_none (names_in s.tokens) (declared_in before) apart)) (none_of_once (s ∷ before) items later)
-
--- no name is declared again if and only if the names are different
-declares_again_law : (items : List ParsedLine) → none_wrong declares_known [] items ≡ all_different (declared_in items)
-declares_again_law items =
-    same_tests (none_wrong declares_known [] items) (all_different (declared_in items))
-    (λ e. different_of_once (declared_in items) (λ w. let one = once_of_none [] items (λ v. omega arith) e w in omega arith))
-    (λ e. none_of_once [] items (λ w. let one = once_of_different (declared_in items) e w in omega arith))
+-- no name is declared again if and only if the names are different, in any order
+declares_again_law : (items : List ParsedLine) (names : List (List ℕ)) → ((w : List ℕ) → times w (declared_in items) ≡ times w names) → none_wrong declares_known [] items ≡ all_different names
+unfolding all_different
+declares_again_law items names same =
+    different_reversed items [] ∙ same_different (declared_in (reversed items [])) names (λ w. omega (arith, times_reversed w items [], same w))
 
 -- ---- the order of the kinds
 
@@ -172,12 +172,6 @@ same_times lines c are w =
     omega (arith, each kind.Global, each kind.Mutex, each kind.Cond, each kind.Sem, each kind.Function) in
     ap (times w) (declared_in_headers (headers lines)) ∙ in_kinds w (sections_of lines) (are_sections lines).sections_are ∙ kinds ∙ sym (in_all_names w c)
 
-different_alike : (xs ys : List (List ℕ)) → ((w : List ℕ) → times w xs ≡ times w ys) → all_different xs ≡ true → all_different ys ≡ true
-different_alike xs ys same e = different_of_once ys (λ w. omega (arith, same w, once_of_different xs e w))
-
-same_different : (xs ys : List (List ℕ)) → ((w : List ℕ) → times w xs ≡ times w ys) → all_different xs ≡ all_different ys
-same_different xs ys same = same_tests (all_different xs) (all_different ys) (different_alike xs ys same) (different_alike ys xs (λ w. sym (same w)))
-
 -- ---- locals
 
 -- a `fn` line with a local twice
@@ -193,7 +187,7 @@ once_law lines c are =
     let items = map (λ (l : Line). l.1) (headers lines) in
     line_none NameTwice (first_wrong declares_again [] (headers lines)) ∙ first_wrong_none declares_again [] (headers lines)
     ∙ none_or declares_known (λ before line. has_local_twice line) [] items
-    ∙ ap₂ (λ (x y : Bool). x && y) (declares_again_law items ∙ same_different (declared_in items) (all_names c) (same_times lines c are))
+    ∙ ap₂ (λ (x y : Bool). x && y) (declares_again_law items (all_names c) (same_times lines c are))
     (none_by_test has_local_twice [] items
     ∙ locals_pass all_different (λ line. not (all_different (locals_of line))) (headers lines) c (λ line. not_not (all_different (locals_of line)))
     (ap (map (λ (l : Line). l.1.tokens)) (declaring_headers kind.Function lines) ∙ are.declared kind.Function))

@@ -1,18 +1,17 @@
 -- All names of lines are declared if and only if the lines resolve to a script.
-use Rattle.pct_names.proofs.Names.{◌&&◌, [], AllZip, and_from, ap, are_in_functions, AreContents, Argument, argument_kinds_in, Bool, cond}
-use Rattle.pct_names.proofs.Names.{Contents, declarations, declaring, encode, encoded, EncodedStmt, false, find, first_of, Func}
-use Rattle.pct_names.proofs.Names.{functions_in, is_none, is_some, is_statement, Line, List, locals_of, map, names_declared, names_of_kind}
-use Rattle.pct_names.proofs.Names.{not, Option, option_map, ParsedLine, refl, resolve_all, Section, Some, SpellsBody, Stmt, subst, sym}
-use Rattle.pct_names.proofs.Names.{SymbolKind, true, unknown_in, unknown_name, uses_unknown, ℕ, ◌∙◌, ◌∷◌, ◌≡◌}
+use Rattle.pct_names.proofs.Names.{◌&&◌, [], AllZip, ap, are_in_functions, AreContents, Argument, argument_kinds_in, Bool, cond, Contents}
+use Rattle.pct_names.proofs.Names.{declarations, declaring, drop, encode, encoded, EncodedStmt, false, find, first_of, Func, functions_in}
+use Rattle.pct_names.proofs.Names.{is_none, is_some, is_statement, Line, List, locals_of, map, names_declared, names_in, names_of_kind, not}
+use Rattle.pct_names.proofs.Names.{Option, option_map, ParsedLine, refl, resolve_all, same_Some, Section, SemDecl, Some, SpellsBody, Stmt}
+use Rattle.pct_names.proofs.Names.{subst, sym, SymbolKind, Token, true, unknown_in, unknown_name, uses_unknown, ℕ, ◌∙◌, ◌∷◌, ◌≡◌}
 use Rattle.std.proofs.Math.Path.{fun_ext}
 use Rattle.pct_model.specs.declared.line_kind.SymbolKind.TheVariants as kind
 use Rattle.pct_grammar.specs.Resolving.{decode, resolve_statement, resolve_body, first_name, resolve_function, resolve_functions, sems_in, resolve_contents}
 use Rattle.pct_grammar.proofs.SharedWords.{IsParsed, EachParsed}
-use Rattle.pct_grammar.proofs.OptionFacts.{mapped_some, mapped_none, or_none, and_some, some_not_none, BothFrom, both_from}
-use Rattle.pct_grammar.proofs.OptionSteps.{map_some}
-use Rattle.pct_grammar.proofs.EncodeDecode.{statement_back}
-use Rattle.pct_grammar.proofs.Declarations.{names_from, parsed_again, each_declares, parsed_names, parsed_sems, parsed_functions}
-use Rattle.pct_grammar.proofs.EncodedFunctions.{EachStatement, EachSection, FunctionParsed, functions_parsed, WroteAll, words_of_function, words_of_headers, functions_resolve, locals_resolved, no_declaration, line_has_words}
+use Rattle.pct_grammar.proofs.OptionFacts.{mapped_some, mapped_none, or_none, and_some, some_not_none, BothFrom, both_from, both_some, map_some}
+use Rattle.pct_grammar.proofs.EncodeDecode.{statement_back, encoded_back}
+use Rattle.pct_grammar.proofs.Declarations.{names_from, sems_from, all_names_in, parsed_again, each_declares, parsed_names, parsed_sems, parsed_functions}
+use Rattle.pct_grammar.proofs.EncodedFunctions.{EachStatement, EachSection, FunctionParsed, functions_parsed, WroteAll, words_of_function, words_of_headers, functions_resolve, no_declaration, line_has_words}
 
 -- ---- known names resolve
 
@@ -155,48 +154,59 @@ contents_are lines c from inside h =
     let at = map_some (contents_with lines) (resolve_functions (names_declared lines) (functions_in lines)) c h in
     subst (AreContents lines) at.2 (contents_from lines at.0 from inside at.1)
 
--- ---- what is spelled is known
+-- ---- what is spelled is resolved
 
-line_read : (c : Contents) (locals : List (List ℕ)) (line : ParsedLine) (t : EncodedStmt) → encoded c locals line ≡ Some t → is_some (resolve_statement (names_of_kind c) locals line) ≡ true
+line_read : (c : Contents) (locals : List (List ℕ)) (line : ParsedLine) (s : Stmt) → encoded c locals line ≡ Some (encode s) → resolve_statement (names_of_kind c) locals line ≡ Some s
 unfolding resolve_statement
-line_read c locals line t h =
+line_read c locals line s h =
     let o = resolve_all (names_of_kind c) locals (argument_kinds_in line) line.tokens in
-    mapped_some (decode line.line_kind) o ∙ sym (mapped_some {B = EncodedStmt} (λ arguments. (line.line_kind, arguments)) o) ∙ ap (λ (p : Option EncodedStmt). is_some p) h
+    let at = map_some {B = EncodedStmt} (λ arguments. (line.line_kind, arguments)) o (encode s) h in
+    ap (option_map (decode line.line_kind)) at.1 ∙ ap (λ (t : EncodedStmt). Some (decode t.0 t.1)) at.2 ∙ ap (λ (t : Stmt). Some t) (encoded_back s)
 
-body_is_read : (c : Contents) (locals : List (List ℕ)) (body : List Line) (stmts : List Stmt) → map (λ l. encoded c locals l.1) body ≡ map (λ s. Some (encode s)) stmts
-    → is_some (resolve_body (names_of_kind c) locals body) ≡ true
+body_read : (c : Contents) (locals : List (List ℕ)) (body : List Line) (stmts : List Stmt) → map (λ l. encoded c locals l.1) body ≡ map (λ s. Some (encode s)) stmts
+    → resolve_body (names_of_kind c) locals body ≡ Some stmts
 unfolding resolve_body
-body_is_read c locals [] stmts h = refl
-body_is_read c locals (l ∷ body) [] h = absurd cc
-body_is_read c locals (l ∷ body) (s ∷ stmts) h =
+body_read c locals [] [] h = refl
+body_read c locals (l ∷ body) (s ∷ stmts) h =
     let first : encoded c locals l.1 ≡ Some (encode s) = cc in
     let others : map (λ (m : Line). encoded c locals m.1) body ≡ map (λ (t : Stmt). Some (encode t)) stmts = cc in
-    and_some (λ (t : Stmt) (more : List Stmt). t ∷ more) (resolve_statement (names_of_kind c) locals l.1) (resolve_body (names_of_kind c) locals body)
-    ∙ and_from (is_some (resolve_statement (names_of_kind c) locals l.1)) (is_some (resolve_body (names_of_kind c) locals body)) (line_read c locals l.1 (encode s) first) (body_is_read c locals body stmts others)
+    both_some _ _ s stmts (line_read c locals l.1 s first) (body_read c locals body stmts others)
+body_read c locals _ _ h = absurd cc
 
-function_is_read : (c : Contents) (section : Section) (f : Func) → WroteAll c section f → is_some (resolve_function (names_of_kind c) section) ≡ true
+-- a function from the tokens of its `fn` line and the lines after it
+abbrev function_from : (SymbolKind → List (List ℕ)) → List Line → List Token → Option Func
+function_from names body words =
+    option_map {U = Func} (λ stmts. record { name = first_name words; locals = drop 1 (names_in words); body = stmts }) (resolve_body names (drop 1 (names_in words)) body)
+
+function_read : (c : Contents) (section : Section) (f : Func) → WroteAll c section f → resolve_function (names_of_kind c) section ≡ Some f
 unfolding resolve_function
-function_is_read c section f resolves_to =
-    let locals = locals_resolved c section f resolves_to in
-    mapped_some (function_of section) (resolve_body (names_of_kind c) (locals_of section.header.1) section.body)
-    ∙ ap (λ (names : List (List ℕ)). is_some (resolve_body (names_of_kind c) names section.body)) locals
-    ∙ body_is_read c f.locals section.body f.body resolves_to.body
+function_read c section f spells =
+    let names = names_of_kind c in
+    ap (function_from names section.body) spells.words
+    ∙ ap (λ (ls : List (List ℕ)). option_map {U = Func} (λ stmts. record { name = f.name; locals = ls; body = stmts }) (resolve_body names ls section.body)) (all_names_in f.locals)
+    ∙ ap (option_map (λ (stmts : List Stmt). record f { body = stmts })) (body_read c f.locals section.body f.body spells.body)
 
-functions_are_read : (c : Contents) (sections : List Section) (funcs : List Func) → AllZip (WroteAll c) sections funcs → is_some (resolve_functions (names_of_kind c) sections) ≡ true
+functions_read : (c : Contents) (sections : List Section) (funcs : List Func) → AllZip (WroteAll c) sections funcs → resolve_functions (names_of_kind c) sections ≡ Some funcs
 unfolding resolve_functions
-functions_are_read c [] funcs tell = refl
-functions_are_read c (section ∷ sections) [] tell = absurd tell
-functions_are_read c (section ∷ sections) (f ∷ funcs) tell =
-    let o = resolve_function (names_of_kind c) section in
-    let others = resolve_functions (names_of_kind c) sections in
-    and_some (λ (g : Func) (more : List Func). g ∷ more) o others ∙ and_from (is_some o) (is_some others) (function_is_read c section f tell.0) (functions_are_read c sections funcs tell.1)
+functions_read c [] [] tell = refl
+functions_read c (section ∷ sections) (f ∷ funcs) tell = both_some _ _ f funcs (function_read c section f tell.0) (functions_read c sections funcs tell.1)
+functions_read c _ _ tell = absurd tell
+
+-- lines resolve to the contents that they spell
+pub contents_read : (lines : List Line) (c : Contents) → AreContents lines c → resolve_contents lines ≡ Some c
+unfolding resolve_contents
+contents_read lines c are =
+    let names : names_declared lines ≡ names_of_kind c = fun_ext (λ k. names_from lines c k (are.declared k)) in
+    let found : resolve_functions (names_declared lines) (functions_in lines) ≡ Some c.funcs =
+    ap (λ (n : SymbolKind → List (List ℕ)). resolve_functions n (functions_in lines)) names ∙ functions_read c (functions_in lines) c.funcs (functions_resolve lines c are) in
+    ap (option_map (contents_with lines)) found
+    ∙ ap (λ (n : SymbolKind → List (List ℕ)). Some (record c { globals = n kind.Global; mutexes = n kind.Mutex; conds = n kind.Cond; sems = sems_in lines })) names
+    ∙ ap (λ (sems : List SemDecl). Some (record c { sems = sems })) (sems_from lines c (are.declared kind.Sem))
 
 -- no name is unknown in lines that spell contents
 pub known_law : (lines : List Line) (c : Contents) → AreContents lines c → is_none (unknown_name lines) ≡ true
-unfolding resolve_contents
-known_law lines c are =
-    let names : names_declared lines ≡ names_of_kind c = fun_ext (λ k. names_from lines c k (are.declared k)) in
-    unknown_law lines
-    ∙ mapped_some (contents_with lines) (resolve_functions (names_declared lines) (functions_in lines))
-    ∙ ap (λ (n : SymbolKind → List (List ℕ)). is_some (resolve_functions n (functions_in lines))) names
-    ∙ functions_are_read c (functions_in lines) c.funcs (functions_resolve lines c are)
+known_law lines c are = unknown_law lines ∙ ap is_some (contents_read lines c are)
+
+-- lines spell the contents of at most one script
+pub one_law : (lines : List Line) (c d : Contents) → AreContents lines c → AreContents lines d → c ≡ d
+one_law lines c d are also = same_Some c d (sym (contents_read lines c are) ∙ contents_read lines d also)

@@ -1,6 +1,6 @@
 -- Facts on options, and on lists that are built from options.
-use Rattle.pct_names.proofs.Names.{◌&&◌, ◌>>=◌, is_none, is_some, List, None, not, Option, option_map, option_or, refl, Some, true, ◌∷◌}
-use Rattle.pct_names.proofs.Names.{◌≡◌}
+use Rattle.pct_names.proofs.Names.{◌&&◌, ◌>>=◌, Bool, cond, false, is_none, is_some, List, None, not, Option, option_map, option_map_or}
+use Rattle.pct_names.proofs.Names.{option_or, refl, same_Some, Some, true, ◌∷◌, ◌≡◌}
 
 -- if a mapped option is Some, so is the option
 pub mapped_some : {A B : Type 0} (f : A → B) (o : Option A) → is_some (option_map f o) ≡ is_some o
@@ -44,3 +44,22 @@ pub record BothFrom {A : Type 0} (o : Option A) (p : Option (List A)) (xs : List
 pub both_from : {A : Type 0} (o : Option A) (p : Option (List A)) (xs : List A) → (o >>= λ a. option_map (λ (others : List A). a ∷ others) p) ≡ Some xs → BothFrom o p xs
 both_from (Some a) (Some others) xs h = record { first = a; others = others; one = refl; rest = refl; whole = cc }
 both_from _ _ xs h = absurd cc
+
+-- the first item and the others, each of which is Some, make a list
+pub both_some : {A : Type 0} (o : Option A) (os : Option (List A)) (x : A) (xs : List A) → o ≡ Some x → os ≡ Some xs → (o >>= λ y. option_map (λ (ys : List A). y ∷ ys) os) ≡ Some (x ∷ xs)
+both_some (Some y) (Some ys) x xs one more = cc
+both_some _ _ x xs one more = absurd cc
+
+-- ---- a sequence of options that is Some
+
+pub bind_some : {A B : Type 0} (o : Option A) (f : A → Option B) (y : B) → (o >>= f) ≡ Some y → (x : A) × (o ≡ Some x) × (f x ≡ Some y)
+bind_some None f y e = absurd cc
+bind_some (Some x) f y e = (x, refl, e)
+
+pub map_some : {A B : Type 0} (f : A → B) (o : Option A) (y : B) → option_map f o ≡ Some y → (x : A) × (o ≡ Some x) × (f x ≡ y)
+map_some f None y e = absurd cc
+map_some f (Some x) y e = (x, refl, same_Some (f x) y e)
+
+pub cond_cases : {A : Type 0} (P : Type 0) (b : Bool) (x y z : A) → cond b x y ≡ z → (b ≡ true → x ≡ z → P) → (b ≡ false → y ≡ z → P) → P
+cond_cases P true x y z e f g = f refl e
+cond_cases P false x y z e f g = g refl e

@@ -1,17 +1,17 @@
 -- Parsed lines come from words, and the tokens of a parsed declaration.
-use Rattle.pct_names.proofs.Names.{◌-◌, [], and_from, ap, ArgumentKind, Bool, cond, cond_some, cons_option, declaration_syntax, declares}
-use Rattle.pct_names.proofs.Names.{declares_by, false, filter_map, fn_argument_kinds, is_allowed, is_name, is_same, length, Line}
-use Rattle.pct_names.proofs.Names.{line_kind_of, LineKind, List, list_all, map, nat_le, None, Numbered, numeral, Option, option_map, parsed}
-use Rattle.pct_names.proofs.Names.{parsed_as, parsed_lines, parsed_numbered, parsed_words, ParsedLine, refl, replicate, Some, spelled_lines}
-use Rattle.pct_names.proofs.Names.{subst, suc, sym, SymbolKind, syntax_of, Token, token_at, tokens_at, true, words_in, zero, ℕ, ◌∙◌, ◌∷◌}
-use Rattle.pct_names.proofs.Names.{◌≡◌}
+use Rattle.pct_names.proofs.Names.{◌-◌, [], and_from, and_parts, ap, ArgumentKind, arith, Bool, cond, cond_some, cons_option}
+use Rattle.pct_names.proofs.Names.{declaration_syntax, declares, declares_by, false, filter_map, fn_argument_kinds, is_allowed, is_name}
+use Rattle.pct_names.proofs.Names.{is_same, length, Line, line_kind_of, LineKind, List, list_all, map, nat_le, None, Numbered, numeral}
+use Rattle.pct_names.proofs.Names.{Option, option_map, parsed, parsed_as, parsed_lines, parsed_numbered, parsed_words, ParsedLine, refl}
+use Rattle.pct_names.proofs.Names.{replicate, same_Some, Some, spelled_lines, subst, suc, sym, SymbolKind, syntax_of, Token, token_at}
+use Rattle.pct_names.proofs.Names.{tokens_at, true, words_in, zero, ℕ, ◌∙◌, ◌∷◌, ◌≡◌}
 use Rattle.pct_model.specs.declared.line_kind.LineKind.TheVariants as line_kind
 use Rattle.pct_model.specs.declared.line_kind.SymbolKind.TheVariants as kind
 use Rattle.pct_model.specs.declared.line_kind.ArgumentKind.TheVariants as argument_kind
 use Rattle.pct_model.specs.declared.parsed_line.Token.TheVariants as token
 use Rattle.pct_grammar.proofs.SharedWords.{IsParsed, EachParsed, role_of_kind}
-use Rattle.pct_grammar.proofs.OptionFacts.{BothFrom, both_from}
-use Rattle.pct_grammar.proofs.OptionSteps.{bind_some, map_some}
+use Rattle.pct_grammar.proofs.OptionFacts.{BothFrom, both_from, bind_some, map_some}
+use Rattle.pct_grammar.proofs.TokensResolve.{words_at_lengths}
 
 -- ---- a line
 
@@ -47,71 +47,42 @@ pub parsed_lines_are_parsed : (text : List ℕ) → EachParsed (parsed_lines tex
 unfolding parsed_lines
 parsed_lines_are_parsed text = each_parsed (spelled_lines text)
 
--- ---- words and argument kinds
-
--- the first token and the others
-record FirstAt (p : ArgumentKind) (argument_kinds : List ArgumentKind) (ws : List (List ℕ)) (words : List Token) : Type 0 where
-  w : List ℕ
-  others : List (List ℕ)
-  spelled : ws ≡ w ∷ others
-  parsed_token : BothFrom (token_at p w) (tokens_at argument_kinds others) words
-
-first_at : (p : ArgumentKind) (argument_kinds : List ArgumentKind) (ws : List (List ℕ)) (words : List Token) → tokens_at (p ∷ argument_kinds) ws ≡ Some words → FirstAt p argument_kinds ws words
-unfolding tokens_at
-first_at p argument_kinds [] words h = absurd cc
-first_at p argument_kinds (w ∷ ws) words h = record { w = w; others = ws; spelled = refl; parsed_token = both_from (token_at p w) (tokens_at argument_kinds ws) words h }
-
-none_at : (ws : List (List ℕ)) (words : List Token) → tokens_at [] ws ≡ Some words → words ≡ []
-unfolding tokens_at
-none_at [] words h = cc
-none_at (w ∷ ws) words h = absurd cc
-
 -- ---- the tokens of a declaration
 
--- a name
-pub record IsNameToken (parsed_token : Token) : Type 0 where
-  pub name : List ℕ
-  pub is : is_name name ≡ true
-  pub same : parsed_token ≡ token.Name name
+-- an argument that is a new name
+abbrev is_new_name : ArgumentKind → Bool
+is_new_name argument_kind.Declared = true
+is_new_name argument_kind.Local = true
+is_new_name _ = false
 
-name_by : (w : List ℕ) (parsed_token : Token) → cond (is_name w) (Some (token.Name w)) None ≡ Some parsed_token → IsNameToken parsed_token
-name_by w parsed_token h = let found = cond_some (is_name w) (token.Name w) parsed_token h in record { name = w; is = found.0; same = sym found.1 }
+-- the words are names, and these are their tokens
+record AreNames (ws : List (List ℕ)) (words : List Token) : Type 0 where
+  are : list_all is_name ws ≡ true
+  same : words ≡ map (λ w. token.Name w) ws
 
-parses_name : (w : List ℕ) (parsed_token : Token) → token_at argument_kind.Declared w ≡ Some parsed_token → IsNameToken parsed_token
+one_name : (p : ArgumentKind) (w : List ℕ) (t : Token) → is_new_name p ≡ true → token_at p w ≡ Some t → (is_name w ≡ true) × (token.Name w ≡ t)
 unfolding token_at
-parses_name w parsed_token h = name_by w parsed_token h
+one_name argument_kind.Declared w t new h = cond_some (is_name w) (token.Name w) t h
+one_name argument_kind.Local w t new h = cond_some (is_name w) (token.Name w) t h
+one_name _ w t new h = absurd cc
 
-parses_local : (w : List ℕ) (parsed_token : Token) → token_at argument_kind.Local w ≡ Some parsed_token → IsNameToken parsed_token
-unfolding token_at
-parses_local w parsed_token h = name_by w parsed_token h
+all_names : (argument_kinds : List ArgumentKind) (ws : List (List ℕ)) (words : List Token) → list_all is_new_name argument_kinds ≡ true → tokens_at argument_kinds ws ≡ Some words → AreNames ws words
+unfolding tokens_at
+all_names [] [] words new h = record { are = refl; same = sym (same_Some [] words h) }
+all_names (p ∷ argument_kinds) (w ∷ ws) words new h =
+    let parts = and_parts (is_new_name p) (list_all is_new_name argument_kinds) new in
+    let found : BothFrom (token_at p w) (tokens_at argument_kinds ws) words = both_from (token_at p w) (tokens_at argument_kinds ws) words h in
+    let first = one_name p w found.first parts.0 found.one in
+    let others = all_names argument_kinds ws found.others parts.1 found.rest in
+    record {
+      are = and_from (is_name w) (list_all is_name ws) first.0 others.are;
+      same = found.whole ∙ ap (λ (t : Token). t ∷ found.others) (sym first.1) ∙ ap (λ (ts : List Token). token.Name w ∷ ts) others.same;
+    }
+all_names _ _ words new h = absurd cc
 
--- a count
-record IsCountToken (parsed_token : Token) : Type 0 where
-  n : ℕ
-  fits : nat_le n 32767 ≡ true
-  same : parsed_token ≡ token.Number n
-
-parses_count : (w : List ℕ) (parsed_token : Token) → token_at argument_kind.Count w ≡ Some parsed_token → IsCountToken parsed_token
-unfolding token_at
-parses_count w parsed_token h =
-    let n = bind_some (numeral w) (λ n. cond (nat_le n 32767) (Some (token.Number n)) None) parsed_token h in
-    let found = cond_some (nat_le n.0 32767) (token.Number n.0) parsed_token n.2 in
-    record { n = n.0; fits = found.0; same = sym found.1 }
-
--- names alone
-pub record AreNameTokens (words : List Token) : Type 0 where
-  pub names : List (List ℕ)
-  pub are : list_all is_name names ≡ true
-  pub same : words ≡ map (λ name. token.Name name) names
-
-parses_names : (n : ℕ) (ws : List (List ℕ)) (words : List Token) → tokens_at (replicate n argument_kind.Local) ws ≡ Some words → AreNameTokens words
-parses_names zero ws words h = record { names = []; are = refl; same = none_at ws words h }
-parses_names (suc n) ws words h =
-    let at : FirstAt argument_kind.Local (replicate n argument_kind.Local) ws words = first_at argument_kind.Local (replicate n argument_kind.Local) ws words h in
-    let one : IsNameToken at.parsed_token.first = parses_local at.w at.parsed_token.first at.parsed_token.one in
-    let others : AreNameTokens at.parsed_token.others = parses_names n at.others at.parsed_token.others at.parsed_token.rest in
-    let same : words ≡ token.Name one.name ∷ map (λ name. token.Name name) others.names = at.parsed_token.whole ∙ ap (λ parsed_token. parsed_token ∷ at.parsed_token.others) one.same ∙ ap (λ more. token.Name one.name ∷ more) others.same in
-    record { names = one.name ∷ others.names; are = and_from (is_name one.name) (list_all is_name others.names) one.is others.are; same = same }
+new_locals : (n : ℕ) → list_all is_new_name (replicate n argument_kind.Local) ≡ true
+new_locals zero = refl
+new_locals (suc n) = new_locals n
 
 -- the tokens of a declaration of a global, a mutex or a condition variable
 pub record DeclaresName (words : List Token) : Type 0 where
@@ -145,41 +116,29 @@ Declares kind.Sem words = DeclaresSem words
 Declares kind.Function words = DeclaresFunction words
 
 name_alone : (ws : List (List ℕ)) (words : List Token) → tokens_at (argument_kind.Declared ∷ []) ws ≡ Some words → DeclaresName words
-name_alone ws words h =
-    let at : FirstAt argument_kind.Declared [] ws words = first_at argument_kind.Declared [] ws words h in
-    let one : IsNameToken at.parsed_token.first = parses_name at.w at.parsed_token.first at.parsed_token.one in
-    record { name = one.name; is = one.is; same = at.parsed_token.whole ∙ ap (λ parsed_token. parsed_token ∷ at.parsed_token.others) one.same ∙ ap (λ more. token.Name one.name ∷ more) (none_at at.others at.parsed_token.others at.parsed_token.rest) }
+name_alone (w ∷ []) words h =
+    let names = all_names (argument_kind.Declared ∷ []) (w ∷ []) words refl h in
+    record { name = w; is = (and_parts (is_name w) true names.are).0; same = names.same }
+name_alone ws words h = absurd (omega (arith, (words_at_lengths (argument_kind.Declared ∷ []) ws words h).0))
 
 name_and_count : (ws : List (List ℕ)) (words : List Token) → tokens_at (argument_kind.Declared ∷ argument_kind.Count ∷ []) ws ≡ Some words → DeclaresSem words
-name_and_count ws words h =
-    let at : FirstAt argument_kind.Declared (argument_kind.Count ∷ []) ws words = first_at argument_kind.Declared (argument_kind.Count ∷ []) ws words h in
-    let one : IsNameToken at.parsed_token.first = parses_name at.w at.parsed_token.first at.parsed_token.one in
-    let then : FirstAt argument_kind.Count [] at.others at.parsed_token.others = first_at argument_kind.Count [] at.others at.parsed_token.others at.parsed_token.rest in
-    let number : IsCountToken then.parsed_token.first = parses_count then.w then.parsed_token.first then.parsed_token.one in
-    let last : then.parsed_token.others ≡ [] = none_at then.others then.parsed_token.others then.parsed_token.rest in
-    let same : words ≡ token.Name one.name ∷ token.Number number.n ∷ [] =
-    at.parsed_token.whole ∙ ap (λ parsed_token. parsed_token ∷ at.parsed_token.others) one.same
-    ∙ ap (λ more. token.Name one.name ∷ more) (then.parsed_token.whole ∙ ap (λ parsed_token. parsed_token ∷ then.parsed_token.others) number.same ∙ ap (λ more. token.Number number.n ∷ more) last)
-    in record { name = one.name; n = number.n; is = one.is; fits = number.fits; same = same }
+unfolding tokens_at token_at
+name_and_count (w ∷ v ∷ []) words h =
+    let found : BothFrom (token_at argument_kind.Declared w) (tokens_at (argument_kind.Count ∷ []) (v ∷ [])) words = both_from _ _ words h in
+    let last : BothFrom (token_at argument_kind.Count v) (Some []) found.others = both_from _ _ found.others found.rest in
+    let first = one_name argument_kind.Declared w found.first refl found.one in
+    let n = bind_some (numeral v) (λ n. cond (nat_le n 32767) (Some (token.Number n)) None) last.first last.one in
+    let count = cond_some (nat_le n.0 32767) (token.Number n.0) last.first n.2 in
+    let after : found.others ≡ token.Number n.0 ∷ [] = last.whole ∙ ap (λ (t : Token). t ∷ last.others) (sym count.1) ∙ ap (λ (ts : List Token). token.Number n.0 ∷ ts) (sym (same_Some [] last.others last.rest)) in
+    record { name = w; n = n.0; is = first.0; fits = count.0; same = found.whole ∙ ap (λ (t : Token). t ∷ found.others) (sym first.1) ∙ ap (λ (ts : List Token). token.Name w ∷ ts) after }
+name_and_count ws words h = absurd (omega (arith, (words_at_lengths (argument_kind.Declared ∷ argument_kind.Count ∷ []) ws words h).0))
 
 name_and_names : (n : ℕ) (ws : List (List ℕ)) (words : List Token) → tokens_at (fn_argument_kinds n) ws ≡ Some words → DeclaresFunction words
-name_and_names n ws words h =
-    let locals = replicate (n - 2) argument_kind.Local in
-    let at : FirstAt argument_kind.Declared (argument_kind.Local ∷ locals) ws words = first_at argument_kind.Declared (argument_kind.Local ∷ locals) ws words h in
-    let one : IsNameToken at.parsed_token.first = parses_name at.w at.parsed_token.first at.parsed_token.one in
-    let then : FirstAt argument_kind.Local locals at.others at.parsed_token.others = first_at argument_kind.Local locals at.others at.parsed_token.others at.parsed_token.rest in
-    let next : IsNameToken then.parsed_token.first = parses_local then.w then.parsed_token.first then.parsed_token.one in
-    let others : AreNameTokens then.parsed_token.others = parses_names (n - 2) then.others then.parsed_token.others then.parsed_token.rest in
-    let more : at.parsed_token.others ≡ token.Name next.name ∷ map (λ name. token.Name name) others.names =
-    then.parsed_token.whole ∙ ap (λ parsed_token. parsed_token ∷ then.parsed_token.others) next.same ∙ ap (λ more. token.Name next.name ∷ more) others.same
-    in record {
-      name = one.name;
-      parameter = next.name;
-      others = others.names;
-      is = one.is;
-      are = and_from (is_name next.name) (list_all is_name others.names) next.is others.are;
-      same = at.parsed_token.whole ∙ ap (λ parsed_token. parsed_token ∷ at.parsed_token.others) one.same ∙ ap (λ m. token.Name one.name ∷ m) more;
-    }
+name_and_names n (w ∷ p ∷ ws) words h =
+    let names = all_names (fn_argument_kinds n) (w ∷ p ∷ ws) words (new_locals (n - 2)) h in
+    let parts = and_parts (is_name w) (list_all is_name (p ∷ ws)) names.are in
+    record { name = w; parameter = p; others = ws; is = parts.0; are = parts.1; same = names.same }
+name_and_names n ws words h = absurd (omega (arith, (words_at_lengths (fn_argument_kinds n) ws words h).0))
 
 words_declare : (k : SymbolKind) (ws : List (List ℕ)) (words : List Token) → tokens_at ((declaration_syntax k).argument_kinds (length ws)) ws ≡ Some words → Declares k words
 unfolding declaration_syntax

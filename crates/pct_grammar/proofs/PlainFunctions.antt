@@ -1,20 +1,18 @@
 -- The check of plain functions finds no fault if and only if the arguments that have to be plain functions are.
-use Rattle.pct_names.proofs.Names.{◌&&◌, [], AllZip, ap, ap₂, AreContents, Argument, argument_kinds_in, argument_kinds_of, ArgumentKind}
-use Rattle.pct_names.proofs.Names.{arguments_of, asks_plain, Bool, cond, Contents, encode, encoded, false, first_that, Func, functions_in}
-use Rattle.pct_names.proofs.Names.{index_among, is_none, is_plain, is_plain_at, is_plain_body, is_plain_function, is_plain_section, length}
-use Rattle.pct_names.proofs.Names.{Line, line_kind_of_statement, LineKind, List, list_all, list_all-append, map, names_declared, names_in}
-use Rattle.pct_names.proofs.Names.{names_of_kind, names_other, names_plain, names_plain_functions, None, not, not_plain, NotPlain, Option}
-use Rattle.pct_names.proofs.Names.{option_map, option_map_or, ParsedLine, plain_names, refl, resolve, resolve_all, resolve_name, role_in}
-use Rattle.pct_names.proofs.Names.{role_of, same_Some, Section, slice_get, slice_get-map, Some, SpellsBody, Stmt, sym, syntax_of, Token}
-use Rattle.pct_names.proofs.Names.{true, unwrap_or, ◌||◌, ℕ, ◌∙◌, ◌∷◌, ◌≡◌}
+use Rattle.pct_names.proofs.Names.{◌&&◌, [], AllZip, ap, ap₂, AreContents, Argument, argument_kinds_in, ArgumentKind, arguments_of}
+use Rattle.pct_names.proofs.Names.{asks_plain, Bool, cond, Contents, encode, encoded, false, first_that, Func, functions_in, index_among}
+use Rattle.pct_names.proofs.Names.{is_none, is_plain, is_plain_at, is_plain_body, is_plain_function, is_plain_section, Line, LineKind, List}
+use Rattle.pct_names.proofs.Names.{list_all, list_all-append, map, names_declared, names_in, names_of_kind, names_other, names_plain}
+use Rattle.pct_names.proofs.Names.{names_plain_functions, None, not, not_plain, NotPlain, Option, option_map, option_map_or, plain_names}
+use Rattle.pct_names.proofs.Names.{refl, resolve, resolve_all, resolve_name, role_in, role_of, same_Some, Section, slice_get, slice_get-map}
+use Rattle.pct_names.proofs.Names.{Some, SpellsBody, Stmt, sym, syntax_of, Token, true, unwrap_or, ◌||◌, ℕ, ◌∙◌, ◌∷◌, ◌≡◌}
 use Rattle.pct_model.specs.declared.line_kind.SymbolKind.TheVariants as kind
 use Rattle.pct_model.specs.declared.line_kind.ArgumentKind.TheVariants as argument_kind
 use Rattle.pct_model.specs.declared.parsed_line.Argument.TheVariants as argument
 use Rattle.pct_model.specs.declared.parsed_line.Token.TheVariants as token
-use Rattle.pct_grammar.proofs.OptionSteps.{bind_some, map_some}
+use Rattle.pct_grammar.proofs.OptionFacts.{bind_some, map_some}
 use Rattle.pct_grammar.proofs.FirstFaults.{not_not, first_that_none, first_in_none}
-use Rattle.pct_grammar.proofs.Roles.{zip_from_maps, maps_from_zip, all_from_zip}
-use Rattle.pct_grammar.proofs.TokensResolve.{replaced_lengths}
+use Rattle.pct_grammar.proofs.Roles.{line_spells, zip_from_maps, maps_from_zip, all_from_zip}
 use Rattle.pct_grammar.proofs.Declarations.{names_from}
 
 -- ---- two lists, index by index
@@ -31,28 +29,11 @@ at_from_zip : {A B : Type 0} (R : A → B → Type 0) (p : A → Bool) (q : B �
 at_from_zip R p q same xs ys zip i =
     at_of_map p xs i ∙ ap (λ (ts : List Bool). unwrap_or (slice_get ts i) false) (maps_from_zip R p q same xs ys zip) ∙ sym (at_of_map q ys i)
 
--- ---- what a line spells
-
--- the line is of the statement's kind, with its arguments at the same positions
-record WroteAll (c : Contents) (locals : List (List ℕ)) (line : ParsedLine) (s : Stmt) : Type 0 where
-  line_kind : line.line_kind ≡ line_kind_of_statement s
-  args : resolve_all (names_of_kind c) locals (argument_kinds_in line) line.tokens ≡ Some (arguments_of s)
-  argument_kinds : argument_kinds_in line ≡ argument_kinds_of s
-
-resolves_to : (c : Contents) (locals : List (List ℕ)) (line : ParsedLine) (s : Stmt) → encoded c locals line ≡ Some (encode s) → WroteAll c locals line s
-resolves_to c locals line s e =
-    let all = resolve_all (names_of_kind c) locals (argument_kinds_in line) line.tokens in
-    let found = map_some (λ args. (line.line_kind, args)) all (encode s) e in
-    let line_kind : line.line_kind ≡ line_kind_of_statement s = ap (λ (t : LineKind × List Argument). t.0) found.2 in
-    let args : all ≡ Some (arguments_of s) = found.1 ∙ ap (λ (t : LineKind × List Argument). Some t.1) found.2 in
-    let many : length line.tokens ≡ length (arguments_of s) = sym (replaced_lengths (names_of_kind c) locals (argument_kinds_in line) line.tokens (arguments_of s) args) in
-    record { line_kind = line_kind; args = args; argument_kinds = ap₂ (λ (f : LineKind) (n : ℕ). (syntax_of f).argument_kinds n) line_kind many }
-
 -- ---- plain functions
 
 module _ (lines : List Line) (c : Contents) (are : AreContents lines c) where
   plain_line : (locals : List (List ℕ)) (l : Line) (s : Stmt) → encoded c locals l.1 ≡ Some (encode s) → is_plain (role_in l.1) ≡ is_plain (role_of s)
-  plain_line locals l s e = ap (λ (f : LineKind). is_plain (syntax_of f).role) (resolves_to c locals l.1 s e).line_kind
+  plain_line locals l s e = ap (λ (f : LineKind). is_plain (syntax_of f).role) (line_spells c locals l.1 s e).line_kind
 
   plain_section : (section : Section) (f : Func) → SpellsBody c section f → is_plain_section section ≡ is_plain_body f
   plain_section section f spells =
@@ -99,7 +80,7 @@ module _ (lines : List Line) (c : Contents) (are : AreContents lines c) where
   plain_names_in : (locals : List (List ℕ)) (l : Line) (s : Stmt) → encoded c locals l.1 ≡ Some (encode s) → not (names_other lines l.1) ≡ names_plain_functions c s
   unfolding names_other
   plain_names_in locals l s e =
-      let t = resolves_to c locals l.1 s e in
+      let t = line_spells c locals l.1 s e in
       not_not (list_all (is_plain_function lines) (plain_names (argument_kinds_in l.1) l.1.tokens)) ∙ plain_words locals (argument_kinds_in l.1) l.1.tokens (arguments_of s) t.args
       ∙ ap (λ (argument_kinds : List ArgumentKind). names_plain c argument_kinds (arguments_of s)) t.argument_kinds
 

@@ -1,8 +1,14 @@
--- The roles of a function's lines are the roles of its statements.
-use Rattle.pct_names.proofs.Names.{[], AllZip, ap, ap₂, argument_kinds_in, Bool, Contents, encode, encoded, EncodedStmt, Func, Line}
-use Rattle.pct_names.proofs.Names.{LineKind, List, list_all, list_all-map, map, names_of_kind, Numbered, ParsedLine, refl, resolve_all}
-use Rattle.pct_names.proofs.Names.{Role, role_in, role_of, roles, Section, Some, SpellsBody, Stmt, sym, syntax_of, ℕ, ◌∙◌, ◌∷◌, ◌≡◌}
-use Rattle.pct_grammar.proofs.OptionSteps.{map_some}
+-- The roles of a function's lines are the roles of its statements, and so a return between a push and its pop is in the lines if
+-- and only if it is in the script that they spell.
+use Rattle.pct_names.proofs.Names.{[], AllZip, ap, ap₂, AreContents, Argument, argument_kinds_in, argument_kinds_of, ArgumentKind}
+use Rattle.pct_names.proofs.Names.{arguments_of, Bool, Contents, encode, encoded, first_wrong, Func, functions_in, is_in_push, is_none}
+use Rattle.pct_names.proofs.Names.{length, Line, line_kind_of_statement, LineKind, List, list_all, list_all-map, map, names_of_kind}
+use Rattle.pct_names.proofs.Names.{none_wrong, Numbered, Option, ParsedLine, refl, resolve_all, return_in_push, ReturnInPush}
+use Rattle.pct_names.proofs.Names.{returns_outside_pushes, Role, role_in, role_of, roles, Section, Some, SpellsBody, Stmt, sym, syntax_of}
+use Rattle.pct_names.proofs.Names.{ℕ, ◌∙◌, ◌∷◌, ◌≡◌}
+use Rattle.pct_grammar.proofs.FirstFaults.{first_wrong_none, first_in_none}
+use Rattle.pct_grammar.proofs.TokensResolve.{replaced_lengths}
+use Rattle.pct_grammar.proofs.OptionFacts.{map_some}
 
 -- ---- two lists, index by index
 
@@ -26,13 +32,22 @@ pub all_from_zip : {A B : Type 0} (R : A → B → Type 0) (p : A → Bool) (q :
 all_from_zip R p q same xs ys zip =
     sym (list_all-map (λ t. t) p xs) ∙ ap (list_all (λ t. t)) (maps_from_zip R p q same xs ys zip) ∙ list_all-map (λ t. t) q ys
 
--- ---- a line
+-- ---- what a line spells
 
--- a line is of the kind of the statement that it spells
-line_kind_same : (c : Contents) (locals : List (List ℕ)) (line : ParsedLine) (s : Stmt) → encoded c locals line ≡ Some (encode s) → line.line_kind ≡ (encode s).0
-line_kind_same c locals line s e =
+-- the line is of the statement's kind, with its arguments at the same positions
+pub record SpellsOne (c : Contents) (locals : List (List ℕ)) (line : ParsedLine) (s : Stmt) : Type 0 where
+  pub line_kind : line.line_kind ≡ line_kind_of_statement s
+  pub args : resolve_all (names_of_kind c) locals (argument_kinds_in line) line.tokens ≡ Some (arguments_of s)
+  pub argument_kinds : argument_kinds_in line ≡ argument_kinds_of s
+
+pub line_spells : (c : Contents) (locals : List (List ℕ)) (line : ParsedLine) (s : Stmt) → encoded c locals line ≡ Some (encode s) → SpellsOne c locals line s
+line_spells c locals line s e =
     let all = resolve_all (names_of_kind c) locals (argument_kinds_in line) line.tokens in
-    ap (λ (t : EncodedStmt). t.0) (map_some {B = EncodedStmt} (λ arguments. (line.line_kind, arguments)) all (encode s) e).2
+    let found = map_some (λ args. (line.line_kind, args)) all (encode s) e in
+    let line_kind : line.line_kind ≡ line_kind_of_statement s = ap (λ (t : LineKind × List Argument). t.0) found.2 in
+    let args : all ≡ Some (arguments_of s) = found.1 ∙ ap (λ (t : LineKind × List Argument). Some t.1) found.2 in
+    let many : length line.tokens ≡ length (arguments_of s) = sym (replaced_lengths (names_of_kind c) locals (argument_kinds_in line) line.tokens (arguments_of s) args) in
+    record { line_kind = line_kind; args = args; argument_kinds = ap₂ (λ (f : LineKind) (n : ℕ). (syntax_of f).argument_kinds n) line_kind many }
 
 -- the roles of lines without their numbers
 pub without_numbers : (lines : List Line) → map (λ (l : Numbered Role). l.1) (roles lines) ≡ map (λ (l : Line). role_in l.1) lines
@@ -45,5 +60,19 @@ without_numbers (l ∷ lines) = ap (λ (rs : List Role). role_in l.1 ∷ rs) (wi
 pub roles_same : (c : Contents) (section : Section) (f : Func) → SpellsBody c section f → map (λ l. role_in l.1) section.body ≡ map role_of f.body
 roles_same c section f e =
     maps_from_zip (λ (l : Line) (s : Stmt). encoded c f.locals l.1 ≡ Some (encode s)) (λ (l : Line). role_in l.1) role_of
-    (λ l s h. ap (λ (k : LineKind). (syntax_of k).role) (line_kind_same c f.locals l.1 s h)) section.body f.body
+    (λ l s h. ap (λ (k : LineKind). (syntax_of k).role) (line_spells c f.locals l.1 s h).line_kind) section.body f.body
     (zip_from_maps (λ (l : Line). encoded c f.locals l.1) (λ (s : Stmt). Some (encode s)) section.body f.body e)
+
+-- ---- returns
+
+one_function : (c : Contents) (section : Section) (f : Func) → SpellsBody c section f → is_none (first_wrong is_in_push [] (roles section.body)) ≡ returns_outside_pushes f
+one_function c section f e =
+    first_wrong_none is_in_push [] (roles section.body) ∙ ap (λ (rs : List Role). none_wrong is_in_push [] rs) (without_numbers section.body ∙ roles_same c section f e)
+
+-- the check finds no fault if and only if no function has such a return
+pub returns_law : (lines : List Line) (c : Contents) → AreContents lines c → is_none (return_in_push lines) ≡ list_all returns_outside_pushes c.funcs
+unfolding return_in_push
+returns_law lines c are =
+    first_in_none ReturnInPush (λ (section : Section). first_wrong is_in_push [] (roles section.body)) lines
+    ∙ all_from_zip (SpellsBody c) (λ (section : Section). is_none (first_wrong is_in_push [] (roles section.body))) returns_outside_pushes (one_function c)
+    (functions_in lines) c.funcs are.bodies

@@ -14,11 +14,10 @@ use Rattle.pct_grammar.proofs.Misspelled.{spelling_or_parsed}
 use Rattle.pct_grammar.proofs.NestingLaw.{section_nests, nesting_by_sections, nesting_law}
 use Rattle.pct_grammar.proofs.NamesDeclaredOnce.{once_law}
 use Rattle.pct_grammar.proofs.PlainFunctions.{plain_law}
-use Rattle.pct_grammar.proofs.Returns.{returns_law}
+use Rattle.pct_grammar.proofs.Roles.{returns_law}
 use Rattle.pct_grammar.proofs.ParsedFromWords.{parsed_lines_are_parsed}
-use Rattle.pct_grammar.proofs.NamesResolve.{unknown_law, contents_are, known_law}
+use Rattle.pct_grammar.proofs.NamesResolve.{unknown_law, contents_are, known_law, one_law}
 use Rattle.pct_grammar.proofs.HasText.{has_text_law}
-use Rattle.pct_grammar.proofs.OneScript.{one_law}
 
 -- ---- nothing among faults
 

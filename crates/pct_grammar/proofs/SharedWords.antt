@@ -17,12 +17,12 @@ abbrev pub EachParsed : List Line → Type 0
 EachParsed [] = Unit {0}
 EachParsed (l ∷ lines) = IsParsed l.1 × EachParsed lines
 
--- printable bytes, and at least one
 abbrev pub is_printable : ℕ → Bool
 is_printable b = nat_le 33 b && nat_le b 126
 
+-- 1 to 31 printable bytes
 abbrev pub is_word : List ℕ → Bool
-is_word w = not (is_empty w) && list_all is_printable w
+is_word w = not (is_empty w) && list_all is_printable w && nat_le (length w) 31
 
 -- all names are names
 pub record NameLists (c : Contents) (locals : List (List ℕ)) : Type 0 where

@@ -1,14 +1,14 @@
 -- Resolving tokens and printing arguments are inverse: the arguments of resolved tokens have words, and the words of arguments
 -- resolve to them.
-use Rattle.pct_names.proofs.Names.{◌&&◌, ◌-◌, ◌<◌, ◌>>=◌, [], and_from, and_parts, ap, Argument, argument_text, argument_texts}
-use Rattle.pct_names.proofs.Names.{ArgumentKind, arith, Bool, bytes_eq, codes, cond, cond_some, Contents, decimal, decimal_is_IsNumeral}
-use Rattle.pct_names.proofs.Names.{decimal_nonempty, digits_value, false, false_from_ne_true, get_or, has_word, have_words, index_among}
-use Rattle.pct_names.proofs.Names.{is_declaration, is_digit, is_empty, is_found, is_item, is_name, is_name_byte, is_nothing, is_numeral}
-use Rattle.pct_names.proofs.Names.{is_seen, is_some, is_variable, item, length, length-decimal-le, LineKind, List, list_all, list_all_at}
-use Rattle.pct_names.proofs.Names.{min, name, name_at, names_of_kind, nat_eq, nat_le, nat_tests, None, not, not-true, numeral, Option}
-use Rattle.pct_names.proofs.Names.{option_map, option_map_or, option_or, or_right, position-Some, refl, replicate, resolve, resolve_all}
-use Rattle.pct_names.proofs.Names.{resolve_name, same_Some, Some, suc, sym, symbol_kind_at, SymbolKind, syntax_of, Token, token_at}
-use Rattle.pct_names.proofs.Names.{tokens_at, true, true_from_ne_false, unwrap_or-slice_get, variable, zero, ◌||◌, ℕ, ◌∙◌, ◌∷◌, ◌≡◌, ◌≤◌}
+use Rattle.pct_names.proofs.Names.{◌&&◌, ◌-◌, ◌<◌, [], and_from, and_parts, ap, Argument, argument_text, argument_texts, ArgumentKind}
+use Rattle.pct_names.proofs.Names.{arith, Bool, bytes_eq, codes, cond, cond_some, Contents, decimal, decimal_is_IsNumeral, decimal_nonempty}
+use Rattle.pct_names.proofs.Names.{digits_value, false, false_from_ne_true, get_or, has_word, have_words, index_among, is_declaration}
+use Rattle.pct_names.proofs.Names.{is_digit, is_empty, is_found, is_item, is_name, is_name_byte, is_nothing, is_numeral, is_seen, is_some}
+use Rattle.pct_names.proofs.Names.{is_variable, item, length, length-decimal-le, LineKind, List, list_all, list_all_at, min, name, name_at}
+use Rattle.pct_names.proofs.Names.{names_of_kind, nat_eq, nat_le, nat_tests, None, not, not-true, numeral, Option, option_map}
+use Rattle.pct_names.proofs.Names.{option_map_or, option_or, or_right, position-Some, refl, replicate, resolve, resolve_all, resolve_name}
+use Rattle.pct_names.proofs.Names.{same_Some, Some, suc, sym, symbol_kind_at, SymbolKind, syntax_of, Token, token_at, tokens_at, true}
+use Rattle.pct_names.proofs.Names.{true_from_ne_false, unwrap_or-slice_get, variable, zero, ◌||◌, ℕ, ◌∙◌, ◌∷◌, ◌≡◌, ◌≤◌}
 use Rattle.std.proofs.Common.{le-leb, leb-true, true≢false}
 use Rattle.pct_model.specs.declared.line_kind.LineKind.TheVariants as line_kind
 use Rattle.pct_model.specs.declared.line_kind.SymbolKind.TheVariants as kind
@@ -19,7 +19,7 @@ use Rattle.pct_model.specs.Static.{is_value}
 use Rattle.pct_model.proofs.Bytes.{same_bytes}
 use Rattle.pct_text.proofs.Numbers.{digits_of_decimal}
 use Rattle.pct_grammar.proofs.SharedWords.{NameLists, is_printable, is_word, role_of_kind}
-use Rattle.pct_grammar.proofs.OptionFacts.{both_from}
+use Rattle.pct_grammar.proofs.OptionFacts.{both_from, both_some}
 use Rattle.pct_grammar.proofs.EncodeDecode.{number_there, same_number}
 
 -- ---- names and their indices
@@ -141,10 +141,6 @@ word_reads c locals argument_kind.Detached w parsed a other is e =
 
 -- ---- several tokens
 
-cons_made : {A : Type 0} (o : Option A) (os : Option (List A)) (x : A) (xs : List A) → o ≡ Some x → os ≡ Some xs → (o >>= λ y. option_map (λ (ys : List A). y ∷ ys) os) ≡ Some (x ∷ xs)
-cons_made (Some y) (Some ys) x xs one more = cc
-cons_made _ _ x xs one more = absurd cc
-
 -- the arguments of resolved tokens have words, except for counts
 pub words_read : (c : Contents) (locals : List (List ℕ)) (argument_kinds : List ArgumentKind) (ws : List (List ℕ)) (words : List Token) (args : List Argument) → list_all is_no_count argument_kinds ≡ true
     → tokens_at argument_kinds ws ≡ Some words → resolve_all (names_of_kind c) locals argument_kinds words ≡ Some args → have_words c locals argument_kinds args ≡ true
@@ -215,7 +211,7 @@ unfolding is_name
 name_is_word [] h = absurd cc
 name_is_word (b ∷ bs) h =
     let sections = and_parts (not (is_digit b) && list_all is_name_byte (b ∷ bs)) (nat_le (length (b ∷ bs)) 31) h in
-    all_more is_name_byte is_printable name_byte_is_printed (b ∷ bs) (and_parts (not (is_digit b)) (list_all is_name_byte (b ∷ bs)) sections.0).1
+    and_from _ _ (all_more is_name_byte is_printable name_byte_is_printed (b ∷ bs) (and_parts (not (is_digit b)) (list_all is_name_byte (b ∷ bs)) sections.0).1) sections.1
 
 -- a name is no number
 name_no_number : (w : List ℕ) → is_name w ≡ true → numeral w ≡ None
@@ -252,7 +248,10 @@ decimal_is_numeral n fits =
 
 -- the digits of a number are a word
 pub decimal_is_word : (n : ℕ) → n ≤ 4294967295 → is_word (decimal n) ≡ true
-decimal_is_word n fits = and_from _ _ (filled (decimal n) (decimal_nonempty n (omega arith))) (all_more is_digit is_printable digit_is_printed (decimal n) (digits_of_decimal n))
+decimal_is_word n fits =
+    let short : length (decimal n) ≤ 10 = length-decimal-le 10 n (omega arith) (omega arith) (omega arith) in
+    and_from _ _ (and_from _ _ (filled (decimal n) (decimal_nonempty n (omega arith))) (all_more is_digit is_printable digit_is_printed (decimal n) (digits_of_decimal n)))
+    (le-leb (length (decimal n)) 31 (omega (arith, short)))
 
 -- ---- the words of arguments
 
@@ -365,8 +364,8 @@ words_print c locals (p ∷ argument_kinds) (a ∷ args) names h =
     let more = words_print c locals argument_kinds args names sections.1 in
     let ws = argument_texts c locals argument_kinds args in (
       one.0 ∷ more.0,
-      cons_made (token_at p (argument_text c locals p a)) (tokens_at argument_kinds ws) one.0 more.0 one.1 more.1,
-      cons_made (resolve (names_of_kind c) locals p one.0) (resolve_all (names_of_kind c) locals argument_kinds more.0) a args one.2 more.2,
+      both_some (token_at p (argument_text c locals p a)) (tokens_at argument_kinds ws) one.0 more.0 one.1 more.1,
+      both_some (resolve (names_of_kind c) locals p one.0) (resolve_all (names_of_kind c) locals argument_kinds more.0) a args one.2 more.2,
       and_from (is_word (argument_text c locals p a)) (list_all is_word ws) one.3 more.3,
     )
 words_print c locals _ _ names h = absurd cc

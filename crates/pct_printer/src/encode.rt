@@ -1,6 +1,6 @@
 //! Encoding: the kind of a statement's line, and the arguments of the words after the line's first.
 
-ghost use Rattle.std.specs.Prelude.{◌≡◌, [], ◌∷◌};
+ghost use Rattle.std.specs.Prelude.{◌≡◌, ◌≤◌, [], ◌∷◌, length};
 ghost use Rattle.pct_model.specs.declared.line_kind.LineKind.TheVariants.{Create};
 ghost use Rattle.pct_model.specs.declared.parsed_line.Argument.TheVariants.{Item};
 ghost use Rattle.pct_model.specs.Statements.{value, dest, optional, detached_or_not, encode};
@@ -42,78 +42,18 @@ impl EncodedStmt {
     }
 }
 
-// An entry past the last argument.
-const NONE: Argument = Argument::Nothing;
-
-fn with_none(line_kind: LineKind) -> EncodedStmt
-    ensures { result ≡ (line_kind, []) }
+// A line of this kind with these arguments.
+fn with(line_kind: LineKind, given: &[Argument]) -> EncodedStmt
+    requires { length given.now ≤ 5 }
+    ensures { result ≡ (line_kind, given.now) }
 {
+    let mut arguments = [Argument::Nothing; 5];
+    let (front, _) = arguments.split_at_mut(given.len());
+    front.copy_from_slice(given);
     EncodedStmt {
         line_kind,
-        arguments: [NONE, NONE, NONE, NONE, NONE],
-        count: 0,
-    }
-}
-
-fn with_one(line_kind: LineKind, first: Argument) -> EncodedStmt
-    ensures { result ≡ (line_kind, first ∷ []) }
-{
-    EncodedStmt {
-        line_kind,
-        arguments: [first, NONE, NONE, NONE, NONE],
-        count: 1,
-    }
-}
-
-fn with_two(line_kind: LineKind, first: Argument, second: Argument) -> EncodedStmt
-    ensures { result ≡ (line_kind, first ∷ second ∷ []) }
-{
-    EncodedStmt {
-        line_kind,
-        arguments: [first, second, NONE, NONE, NONE],
-        count: 2,
-    }
-}
-
-fn with_three(
-    line_kind: LineKind,
-    first: Argument,
-    second: Argument,
-    third: Argument,
-) -> EncodedStmt
-    ensures { result ≡ (line_kind, first ∷ second ∷ third ∷ []) }
-{
-    EncodedStmt {
-        line_kind,
-        arguments: [first, second, third, NONE, NONE],
-        count: 3,
-    }
-}
-
-fn with_four(line_kind: LineKind, a: Argument, b: Argument, c: Argument, d: Argument) -> EncodedStmt
-    ensures { result ≡ (line_kind, a ∷ b ∷ c ∷ d ∷ []) }
-{
-    EncodedStmt {
-        line_kind,
-        arguments: [a, b, c, d, NONE],
-        count: 4,
-    }
-}
-
-fn with_five(
-    line_kind: LineKind,
-    a: Argument,
-    b: Argument,
-    c: Argument,
-    d: Argument,
-    e: Argument,
-) -> EncodedStmt
-    ensures { result ≡ (line_kind, a ∷ b ∷ c ∷ d ∷ e ∷ []) }
-{
-    EncodedStmt {
-        line_kind,
-        arguments: [a, b, c, d, e],
-        count: 5,
+        arguments,
+        count: given.len(),
     }
 }
 
@@ -152,16 +92,16 @@ pub(crate) fn encode(statement: Stmt) -> EncodedStmt
     ensures { result ≡ encode statement }
 {
     match statement {
-        Stmt::Emit(v) => with_one(LineKind::Emit, value(v)),
-        Stmt::Set(d, v) => with_two(LineKind::Set, dest(d), value(v)),
-        Stmt::Add(d, v) => with_two(LineKind::Add, dest(d), value(v)),
-        Stmt::Nop => with_none(LineKind::Nop),
-        Stmt::If(v) => with_one(LineKind::If, value(v)),
-        Stmt::Else => with_none(LineKind::Else),
-        Stmt::While(v) => with_one(LineKind::While, value(v)),
-        Stmt::End => with_none(LineKind::End),
-        Stmt::Do(f, v) => with_two(LineKind::Do, Argument::Item(f), value(v)),
-        Stmt::Return(v) => with_one(LineKind::Return, value(v)),
+        Stmt::Emit(v) => with(LineKind::Emit, &[value(v)]),
+        Stmt::Set(d, v) => with(LineKind::Set, &[dest(d), value(v)]),
+        Stmt::Add(d, v) => with(LineKind::Add, &[dest(d), value(v)]),
+        Stmt::Nop => with(LineKind::Nop, &[]),
+        Stmt::If(v) => with(LineKind::If, &[value(v)]),
+        Stmt::Else => with(LineKind::Else, &[]),
+        Stmt::While(v) => with(LineKind::While, &[value(v)]),
+        Stmt::End => with(LineKind::End, &[]),
+        Stmt::Do(f, v) => with(LineKind::Do, &[Argument::Item(f), value(v)]),
+        Stmt::Return(v) => with(LineKind::Return, &[value(v)]),
         Stmt::Create {
             result,
             id,
@@ -169,65 +109,71 @@ pub(crate) fn encode(statement: Stmt) -> EncodedStmt
             arg,
             detached,
         } => encode_create(dest(result), dest(id), func, value(arg), detached),
-        Stmt::Join { id, value: v } => with_two(LineKind::Join, value(id), dest(v)),
-        Stmt::Detach(id) => with_one(LineKind::Detach, value(id)),
-        Stmt::CancelThread(id) => with_one(LineKind::CancelThread, value(id)),
-        Stmt::SelfId(d) => with_one(LineKind::SelfId, dest(d)),
-        Stmt::ThreadExit(v) => with_one(LineKind::ThreadExit, value(v)),
-        Stmt::TestCancel => with_none(LineKind::TestCancel),
+        Stmt::Join { id, value: v } => with(LineKind::Join, &[value(id), dest(v)]),
+        Stmt::Detach(id) => with(LineKind::Detach, &[value(id)]),
+        Stmt::CancelThread(id) => with(LineKind::CancelThread, &[value(id)]),
+        Stmt::SelfId(d) => with(LineKind::SelfId, &[dest(d)]),
+        Stmt::ThreadExit(v) => with(LineKind::ThreadExit, &[value(v)]),
+        Stmt::TestCancel => with(LineKind::TestCancel, &[]),
         Stmt::SetState { enable, old } => {
-            with_two(LineKind::SetState, Argument::Flag(enable), dest(old))
+            with(LineKind::SetState, &[Argument::Flag(enable), dest(old)])
         }
         Stmt::SetMode { asynchronous, old } => {
-            with_two(LineKind::SetMode, Argument::Flag(asynchronous), dest(old))
-        }
-        Stmt::Push(f, v) => with_two(LineKind::Push, Argument::Item(f), value(v)),
-        Stmt::Pop(v) => with_one(LineKind::Pop, value(v)),
-        Stmt::KeyCreate { result, key, dtor } => {
-            with_three(LineKind::KeyCreate, dest(result), dest(key), optional(dtor))
-        }
-        Stmt::KeyDelete(key) => with_one(LineKind::KeyDelete, value(key)),
-        Stmt::SetSpecific(key, v) => with_two(LineKind::SetSpecific, value(key), value(v)),
-        Stmt::GetSpecific(d, key) => with_two(LineKind::GetSpecific, dest(d), value(key)),
-        Stmt::Lock(m) => with_one(LineKind::Lock, Argument::Item(m)),
-        Stmt::Unlock(m) => with_one(LineKind::Unlock, Argument::Item(m)),
-        Stmt::CondWait { cond, mutex } => {
-            with_two(
-                LineKind::CondWait,
-                Argument::Item(cond),
-                Argument::Item(mutex),
+            with(
+                LineKind::SetMode,
+                &[Argument::Flag(asynchronous), dest(old)],
             )
         }
-        Stmt::Signal(c) => with_one(LineKind::Signal, Argument::Item(c)),
-        Stmt::Broadcast(c) => with_one(LineKind::Broadcast, Argument::Item(c)),
-        Stmt::SemWait(s) => with_one(LineKind::SemWait, Argument::Item(s)),
-        Stmt::SemPost(s) => with_one(LineKind::SemPost, Argument::Item(s)),
+        Stmt::Push(f, v) => with(LineKind::Push, &[Argument::Item(f), value(v)]),
+        Stmt::Pop(v) => with(LineKind::Pop, &[value(v)]),
+        Stmt::KeyCreate { result, key, dtor } => {
+            with(
+                LineKind::KeyCreate,
+                &[dest(result), dest(key), optional(dtor)],
+            )
+        }
+        Stmt::KeyDelete(key) => with(LineKind::KeyDelete, &[value(key)]),
+        Stmt::SetSpecific(key, v) => with(LineKind::SetSpecific, &[value(key), value(v)]),
+        Stmt::GetSpecific(d, key) => with(LineKind::GetSpecific, &[dest(d), value(key)]),
+        Stmt::Lock(m) => with(LineKind::Lock, &[Argument::Item(m)]),
+        Stmt::Unlock(m) => with(LineKind::Unlock, &[Argument::Item(m)]),
+        Stmt::CondWait { cond, mutex } => {
+            with(
+                LineKind::CondWait,
+                &[Argument::Item(cond), Argument::Item(mutex)],
+            )
+        }
+        Stmt::Signal(c) => with(LineKind::Signal, &[Argument::Item(c)]),
+        Stmt::Broadcast(c) => with(LineKind::Broadcast, &[Argument::Item(c)]),
+        Stmt::SemWait(s) => with(LineKind::SemWait, &[Argument::Item(s)]),
+        Stmt::SemPost(s) => with(LineKind::SemPost, &[Argument::Item(s)]),
         Stmt::AtFork {
             result,
             prepare,
             parent,
             child,
-        } => with_four(
+        } => with(
             LineKind::AtFork,
-            dest(result),
-            optional(prepare),
-            optional(parent),
-            optional(child),
+            &[
+                dest(result),
+                optional(prepare),
+                optional(parent),
+                optional(child),
+            ],
         ),
-        Stmt::Fork { result, child } => with_two(LineKind::Fork, dest(result), dest(child)),
+        Stmt::Fork { result, child } => with(LineKind::Fork, &[dest(result), dest(child)]),
         Stmt::WaitPid {
             result,
             pid,
             value: v,
-        } => with_three(LineKind::WaitPid, dest(result), value(pid), dest(v)),
-        Stmt::AtExit { result, func } => with_two(
+        } => with(LineKind::WaitPid, &[dest(result), value(pid), dest(v)]),
+        Stmt::AtExit { result, func } => with(
             LineKind::AtExit,
-            dest(result),
-            Argument::Item(func),
+            &[dest(result), Argument::Item(func)],
         ),
-        Stmt::ProcExit(v) => with_one(LineKind::ProcExit, value(v)),
-        Stmt::ProcExitNow(v) => with_one(LineKind::ProcExitNow, value(v)),
-        Stmt::PointCall(index) => with_none(LineKind::Point(index)),
+        Stmt::ProcExit(v) => with(LineKind::ProcExit, &[value(v)]),
+        Stmt::ProcExitNow(v) => with(LineKind::ProcExitNow, &[value(v)]),
+        Stmt::PointCall(index) => with(LineKind::Point(index), &[]),
     }
 }
 
@@ -243,8 +189,8 @@ fn encode_create(
 {
     let func = Argument::Item(func);
     if detached {
-        with_five(LineKind::Create, to, id, func, arg, Argument::Flag(true))
+        with(LineKind::Create, &[to, id, func, arg, Argument::Flag(true)])
     } else {
-        with_four(LineKind::Create, to, id, func, arg)
+        with(LineKind::Create, &[to, id, func, arg])
     }
 }

@@ -1,195 +1,95 @@
 -- The greatest size of a script's canonical text.
-use Rattle.pct_names.proofs.Names.{◌&&◌, ◌*◌, ◌+◌, ◌++◌, [], and_parts, ap, Argument, argument_kinds_of, argument_text, argument_texts}
-use Rattle.pct_names.proofs.Names.{ArgumentKind, arguments_of, arith, Bool, canon, Contents, contents_of, decimal, declaration_line}
-use Rattle.pct_names.proofs.Names.{declaration_syntax, encode, false, flag_text, flat_map, flat_map-cons, Func, function_lines, has_lines}
-use Rattle.pct_names.proofs.Names.{is_digit, is_name, is_name_byte, length, length-map, line_kind_of_statement, line_text, LineKind, List}
-use Rattle.pct_names.proofs.Names.{list_all, map, name_at, names_of_kind, nat_le, not, Script, script_lines, SemDecl, statement_lines}
-use Rattle.pct_names.proofs.Names.{statement_words, Stmt, suc, sum_by-cons, symbol_kind_at, SymbolKind, syntax_of, text_of, true, zero, ℕ}
-use Rattle.pct_names.proofs.Names.{◌∙◌, ◌∷◌, ◌≡◌, ◌≤◌}
-use Rattle.std.proofs.Common.{leb-true, length-append}
-use Rattle.std.proofs.lemmas.Grind.{flat_map-append}
-use Rattle.pct_model.specs.declared.line_kind.LineKind.TheVariants as line_kind
+use Rattle.pct_names.proofs.Names.{◌&&◌, ◌*◌, ◌+◌, ◌++◌, [], and_parts, ap, Argument, argument_kinds_of, argument_texts, ArgumentKind}
+use Rattle.pct_names.proofs.Names.{arguments_of, arith, canon, Contents, contents_of, decimal, declaration_line, encode, false, flat_map}
+use Rattle.pct_names.proofs.Names.{flat_map-cons, Func, function_lines, is_empty, length, length-map, List, list_all, map, nat_le, not}
+use Rattle.pct_names.proofs.Names.{refl, Script, script_lines, SemDecl, statement_lines, statement_words, Stmt, sum_by-cons, SymbolKind}
+use Rattle.pct_names.proofs.Names.{text_of, true, ℕ, ◌∙◌, ◌∷◌, ◌≡◌, ◌≤◌}
+use Rattle.std.proofs.Common.{leb-true}
 use Rattle.pct_model.specs.declared.line_kind.SymbolKind.TheVariants as kind
-use Rattle.pct_model.specs.declared.line_kind.ArgumentKind.TheVariants as argument_kind
-use Rattle.pct_model.specs.declared.parsed_line.Argument.TheVariants as argument
 use Rattle.pct_model.specs.declared.statement.Stmt.TheVariants as statement
-use Rattle.pct_model.proofs.StaticFacts.{limits_kept, lines_of_function, few_functions}
-use Rattle.pct_schedule_laws.proofs.PlainWords.{is_plain}
-use Rattle.pct_schedule_laws.proofs.FirstWords.{begins_percent, first_word}
+use Rattle.pct_model.proofs.StaticFacts.{limits_kept, few_functions}
+use Rattle.pct_grammar.proofs.SharedWords.{is_printable, is_word}
+use Rattle.pct_grammar.proofs.CanonLines.{is_line, words_of_line}
 use Rattle.pct_schedule_laws.proofs.FirstMarker.{text_of-size}
-use Rattle.pct_schedule_laws.proofs.ScriptLines.{KindsAreNames, script_kinds, script_functions}
-use Rattle.pct_schedule_laws.proofs.Sizes.{words_size, line_size, any_number_size}
+use Rattle.pct_schedule_laws.proofs.ScriptLines.{lines_of_script}
+use Rattle.pct_schedule_laws.proofs.Sizes.{words_size, line_size}
+
+-- ---- bytes
+
+-- a word has at most 31 bytes
+word_size : (w : List ℕ) → is_word w ≡ true → length w ≤ 31
+word_size w is = leb-true (length w) 31 (and_parts (not (is_empty w) && list_all is_printable w) (nat_le (length w) 31) is).1
+
+all_words_size : (words : List (List ℕ)) → list_all is_word words ≡ true → words_size words ≤ 32 * length words + 1
+unfolding words_size
+all_words_size [] all = omega arith
+all_words_size (w ∷ words) all =
+    let parts = and_parts (is_word w) (list_all is_word words) all in
+    omega (arith, word_size w parts.0, all_words_size words parts.1)
+
+-- the number of words on lines, and one more for each line
+abbrev count : List (List (List ℕ)) → ℕ
+count [] = 0
+count (words ∷ lines) = length words + 1 + count lines
+
+lines_size : (lines : List (List (List ℕ))) → list_all is_line lines ≡ true → length (text_of lines) ≤ 32 * count lines
+lines_size [] all = omega arith
+lines_size (words ∷ lines) all =
+    let parts = and_parts (is_line words) (list_all is_line lines) all in
+    omega (arith, text_of-size words lines, line_size words, all_words_size words (words_of_line words parts.0), lines_size lines parts.1)
 
 -- ---- words
 
-name_size : (name : List ℕ) → is_name name ≡ true → length name ≤ 31
-unfolding is_name
-name_size [] is = omega arith
-name_size (b ∷ bs) is = leb-true (length (b ∷ bs)) 31 (and_parts (not (is_digit b) && list_all is_name_byte (b ∷ bs)) (nat_le (length (b ∷ bs)) 31) is).1
+count_both : (one other : List (List (List ℕ))) → count (one ++ other) ≡ count one + count other
+count_both [] other = omega arith
+count_both (words ∷ one) other = omega (arith, count_both one other)
 
-name_at_size : (names : List (List ℕ)) (i : ℕ) → list_all is_name names ≡ true → length (name_at names i) ≤ 31
-unfolding name_at
-name_at_size [] i all = omega arith
-name_at_size (name ∷ names) zero all = name_size name (and_parts (is_name name) (list_all is_name names) all).0
-name_at_size (name ∷ names) (suc i) all = name_at_size names i (and_parts (is_name name) (list_all is_name names) all).1
+-- lines of at most 6 words
+count_few : {X : Type 0} (line : X → List (List ℕ)) → ((x : X) → length (line x) ≤ 6) → (xs : List X) → count (map line xs) ≤ 7 * length xs
+count_few line few [] = omega arith
+count_few line few (x ∷ xs) = omega (arith, few x, count_few line few xs)
 
-flag_size : (p : ArgumentKind) (is_set : Bool) → length (flag_text p is_set) ≤ 64
-flag_size argument_kind.State true = omega arith
-flag_size argument_kind.State false = omega arith
-flag_size argument_kind.Mode true = omega arith
-flag_size argument_kind.Mode false = omega arith
-flag_size _ is_set = omega arith
-
-argument_size : (c : Contents) (locals : List (List ℕ)) (p : ArgumentKind) (a : Argument) → KindsAreNames c → list_all is_name locals ≡ true → length (argument_text c locals p a) ≤ 64
-unfolding argument_text
-argument_size c locals p (argument.Number n) kinds own = any_number_size n
-argument_size c locals p (argument.Local i) kinds own = omega (arith, name_at_size locals i own)
-argument_size c locals p (argument.Global i) kinds own = omega (arith, name_at_size c.globals i (kinds kind.Global))
-argument_size c locals p (argument.Item i) kinds own = omega (arith, name_at_size (names_of_kind c (symbol_kind_at p)) i (kinds (symbol_kind_at p)))
-argument_size c locals p argument.Nothing kinds own = omega arith
-argument_size c locals p (argument.Flag is_set) kinds own = flag_size p is_set
-
-arguments_size : (c : Contents) (locals : List (List ℕ)) (argument_kinds : List ArgumentKind) (arguments : List Argument) → KindsAreNames c → list_all is_name locals ≡ true
-    → words_size (argument_texts c locals argument_kinds arguments) ≤ 65 * length arguments + 1
-unfolding argument_texts words_size
-arguments_size c locals [] arguments kinds own = omega arith
-arguments_size c locals (p ∷ argument_kinds) [] kinds own = omega arith
-arguments_size c locals (p ∷ argument_kinds) (a ∷ arguments) kinds own = omega (arith, argument_size c locals p a kinds own, arguments_size c locals argument_kinds arguments kinds own)
+few_texts : (c : Contents) (locals : List (List ℕ)) (argument_kinds : List ArgumentKind) (arguments : List Argument) → length (argument_texts c locals argument_kinds arguments) ≤ length arguments
+unfolding argument_texts
+few_texts c locals [] arguments = omega arith
+few_texts c locals (p ∷ argument_kinds) [] = omega arith
+few_texts c locals (p ∷ argument_kinds) (a ∷ arguments) = omega (arith, few_texts c locals argument_kinds arguments)
 
 -- a statement has at most 5 words after its first
 few_arguments : (s : Stmt) → length (arguments_of s) ≤ 5
 unfolding encode
-few_arguments (statement.Emit v) = omega arith
-few_arguments (statement.Set d v) = omega arith
-few_arguments (statement.Add d v) = omega arith
-few_arguments statement.Nop = omega arith
-few_arguments (statement.If v) = omega arith
-few_arguments statement.Else = omega arith
-few_arguments (statement.While v) = omega arith
-few_arguments statement.End = omega arith
-few_arguments (statement.Do f v) = omega arith
-few_arguments (statement.Return v) = omega arith
 few_arguments (statement.Create result id f v true) = omega arith
 few_arguments (statement.Create result id f v false) = omega arith
-few_arguments (statement.Join id d) = omega arith
-few_arguments (statement.Detach id) = omega arith
-few_arguments (statement.CancelThread id) = omega arith
-few_arguments (statement.SelfId d) = omega arith
-few_arguments (statement.ThreadExit v) = omega arith
-few_arguments statement.TestCancel = omega arith
-few_arguments (statement.SetState enable old) = omega arith
-few_arguments (statement.SetMode asynchronous old) = omega arith
-few_arguments (statement.Push f v) = omega arith
-few_arguments (statement.Pop v) = omega arith
-few_arguments (statement.KeyCreate result key f) = omega arith
-few_arguments (statement.KeyDelete key) = omega arith
-few_arguments (statement.SetSpecific key v) = omega arith
-few_arguments (statement.GetSpecific d key) = omega arith
-few_arguments (statement.Lock m) = omega arith
-few_arguments (statement.Unlock m) = omega arith
-few_arguments (statement.CondWait c m) = omega arith
-few_arguments (statement.Signal c) = omega arith
-few_arguments (statement.Broadcast c) = omega arith
-few_arguments (statement.SemWait s) = omega arith
-few_arguments (statement.SemPost s) = omega arith
-few_arguments (statement.AtFork result prepare parent child) = omega arith
-few_arguments (statement.Fork result child) = omega arith
-few_arguments (statement.WaitPid result pid d) = omega arith
-few_arguments (statement.AtExit result f) = omega arith
-few_arguments (statement.ProcExit v) = omega arith
-few_arguments (statement.ProcExitNow v) = omega arith
-few_arguments (statement.PointCall index) = omega arith
+few_arguments _ = omega arith
 
-first_size : (f : LineKind) → length (syntax_of f).keyword ≤ 22
-first_size f =
-    let w = (syntax_of f).keyword in
-    leb-true (length w) 22 (and_parts (is_plain w && not (begins_percent w)) (nat_le (length w) 22) (first_word f)).1
+few_words : (c : Contents) (locals : List (List ℕ)) (s : Stmt) → length (statement_words c locals s) ≤ 6
+unfolding statement_words
+few_words c locals s = omega (arith, few_texts c locals (argument_kinds_of s) (arguments_of s), few_arguments s)
 
-declaration_size : (k : SymbolKind) → length (declaration_syntax k).keyword ≤ 22
-unfolding syntax_of
-declaration_size k = first_size (line_kind.Declares k)
-
--- ---- lines
-
-statement_size : (c : Contents) (locals : List (List ℕ)) (s : Stmt) → KindsAreNames c → list_all is_name locals ≡ true → length (line_text (statement_words c locals s)) ≤ 349
-unfolding statement_words words_size
-statement_size c locals s kinds own =
-    omega (arith, line_size (statement_words c locals s), first_size (line_kind_of_statement s), arguments_size c locals (argument_kinds_of s) (arguments_of s) kinds own, few_arguments s)
-
-body_size : (c : Contents) (locals : List (List ℕ)) (body : List Stmt) → KindsAreNames c → list_all is_name locals ≡ true → length (text_of (map (statement_words c locals) body)) ≤ 349 * length body
-body_size c locals [] kinds own = omega arith
-body_size c locals (s ∷ body) kinds own =
-    omega (arith, text_of-size (statement_words c locals s) (map (statement_words c locals) body), statement_size c locals s kinds own, body_size c locals body kinds own)
-
-names_size : (names : List (List ℕ)) → list_all is_name names ≡ true → words_size names ≤ 32 * length names + 1
-unfolding words_size
-names_size [] all = omega arith
-names_size (name ∷ names) all =
-    let parts = and_parts (is_name name) (list_all is_name names) all in
-    omega (arith, name_size name parts.0, names_size names parts.1)
-
-declaration_line_size : (k : SymbolKind) (words : List (List ℕ)) → length (line_text (declaration_line k words)) ≤ 23 + words_size words
-unfolding words_size
-declaration_line_size k words = omega (arith, line_size (declaration_line k words), declaration_size k)
-
-name_lines_size : (k : SymbolKind) (names : List (List ℕ)) → list_all is_name names ≡ true → length (text_of (map (λ name. declaration_line k (name ∷ [])) names)) ≤ 56 * length names
-name_lines_size k [] all = omega arith
-name_lines_size k (name ∷ names) all =
-    let parts = and_parts (is_name name) (list_all is_name names) all in
-    let one = names_size (name ∷ []) (ap (λ t. t && true) parts.0) in
-    omega (arith, text_of-size (declaration_line k (name ∷ [])) (map (λ (n : List ℕ). declaration_line k (n ∷ [])) names), declaration_line_size k (name ∷ []), one, name_lines_size k names parts.1)
-
-sem_words_size : (name : List ℕ) (n : ℕ) → is_name name ≡ true → words_size (name ∷ decimal n ∷ []) ≤ 98
-unfolding words_size
-sem_words_size name n is = omega (arith, name_size name is, any_number_size n)
-
-sem_lines_size : (sems : List SemDecl) → list_all is_name (map (λ s. s.name) sems) ≡ true → length (text_of (map (λ s. declaration_line kind.Sem (s.name ∷ decimal s.count ∷ [])) sems)) ≤ 121 * length sems
-sem_lines_size [] all = omega arith
-sem_lines_size (s ∷ sems) all =
-    let parts = and_parts (is_name s.name) (list_all is_name (map (λ (x : SemDecl). x.name) sems)) all in
-    let words = s.name ∷ decimal s.count ∷ [] in
-    omega (arith, text_of-size (declaration_line kind.Sem words) (map (λ (x : SemDecl). declaration_line kind.Sem (x.name ∷ decimal x.count ∷ [])) sems), declaration_line_size kind.Sem words, sem_words_size s.name s.count parts.0, sem_lines_size sems parts.1)
-
-head_size : (f : Func) → is_name f.name ≡ true → list_all is_name f.locals ≡ true → length f.locals ≤ 8 → length (line_text (declaration_line kind.Function (f.name ∷ f.locals))) ≤ 312
-unfolding words_size
-head_size f is own few = omega (arith, declaration_line_size kind.Function (f.name ∷ f.locals), name_size f.name is, names_size f.locals own)
-
-function_size : (c : Contents) (f : Func) → KindsAreNames c → has_lines c f ≡ true → length f.locals ≤ 8 → length (text_of (function_lines c f)) ≤ 312 + 349 * length f.body
+count_functions : (c : Contents) (fs : List Func) → list_all (λ f. nat_le (length f.locals) 8) fs ≡ true → count (flat_map (function_lines c) fs) ≤ 11 * length fs + 7 * statement_lines fs
 unfolding function_lines
-function_size c f kinds h few =
-    let has = lines_of_function c f h in
-    let head = declaration_line kind.Function (f.name ∷ f.locals) in
-    omega (arith, text_of-size head (map (statement_words c f.locals) f.body), head_size f has.name has.locals few, body_size c f.locals f.body kinds has.locals)
-
-both_size : (one other : List (List (List ℕ))) → length (text_of (one ++ other)) ≡ length (text_of one) + length (text_of other)
-both_size one other = ap length (flat_map-append line_text one other) ∙ length-append (text_of one) (text_of other)
-
-functions_size : (c : Contents) (fs : List Func) → KindsAreNames c → list_all (has_lines c) fs ≡ true → list_all (λ f. nat_le (length f.locals) 8) fs ≡ true
-    → length (text_of (flat_map (function_lines c) fs)) ≤ 312 * length fs + 349 * statement_lines fs
-functions_size c [] kinds each few = omega arith
-functions_size c (f ∷ fs) kinds each few =
-    let parts = and_parts (has_lines c f) (list_all (has_lines c) fs) each in
+count_functions c [] few = omega arith
+count_functions c (f ∷ fs) few =
     let short = and_parts (nat_le (length f.locals) 8) (list_all (λ (g : Func). nat_le (length g.locals) 8) fs) few in
     let lines : Func → List (List (List ℕ)) = function_lines c in
-    let whole : length (text_of (flat_map lines (f ∷ fs))) ≡ length (text_of (lines f)) + length (text_of (flat_map lines fs)) =
-    ap (λ (ls : List (List (List ℕ))). length (text_of ls)) (flat_map-cons lines f fs) ∙ both_size (lines f) (flat_map lines fs) in
+    let whole : count (flat_map lines (f ∷ fs)) ≡ count (lines f) + count (flat_map lines fs) = ap count (flat_map-cons lines f fs) ∙ count_both (lines f) (flat_map lines fs) in
     let total : statement_lines (f ∷ fs) ≡ length f.body + statement_lines fs = sum_by-cons (λ (g : Func). length g.body) f fs in
-    omega (arith, whole, total, function_size c f kinds parts.0 (leb-true (length f.locals) 8 short.0), functions_size c fs kinds parts.1 short.1)
+    omega (arith, whole, total, leb-true (length f.locals) 8 short.0, count_few (statement_words c f.locals) (few_words c f.locals) f.body, count_functions c fs short.1)
 
--- the canonical text of a script has at most 750,000 bytes
-pub canon_size : (script : Script) → length (canon script) ≤ 750000
+-- the canonical text of a script has at most 500,000 bytes
+pub canon_size : (script : Script) → length (canon script) ≤ 500000
 unfolding script_lines
 canon_size script =
     let c = contents_of script in
-    let kinds = script_kinds script in
     let limits = limits_kept c script.passes_checks in
-    let globals = map (λ (name : List ℕ). declaration_line kind.Global (name ∷ [])) c.globals in
-    let mutexes = map (λ (name : List ℕ). declaration_line kind.Mutex (name ∷ [])) c.mutexes in
-    let conds = map (λ (name : List ℕ). declaration_line kind.Cond (name ∷ [])) c.conds in
-    let sems = map (λ (s : SemDecl). declaration_line kind.Sem (s.name ∷ decimal s.count ∷ [])) c.sems in
-    let functions = flat_map (function_lines c) c.funcs in
+    let name_line : SymbolKind → List ℕ → List (List ℕ) = λ k name. declaration_line k (name ∷ []) in
+    let sem_line : SemDecl → List (List ℕ) = λ s. declaration_line kind.Sem (s.name ∷ decimal s.count ∷ []) in
+    let globals = map (name_line kind.Global) c.globals in
+    let mutexes = map (name_line kind.Mutex) c.mutexes in
+    let conds = map (name_line kind.Cond) c.conds in
+    let sems = map sem_line c.sems in
     let few_globals : length c.globals ≤ 32 = limits.kinds kind.Global in
     let few_mutexes : length c.mutexes ≤ 32 = limits.kinds kind.Mutex in
     let few_conds : length c.conds ≤ 32 = limits.kinds kind.Cond in
     let few_sems : length (map (λ (s : SemDecl). s.name) c.sems) ≤ 32 = limits.kinds kind.Sem in
-    omega (arith, both_size (globals ++ mutexes ++ conds ++ sems) functions, both_size (globals ++ mutexes ++ conds) sems, both_size (globals ++ mutexes) conds, both_size globals mutexes, few_globals, few_mutexes, few_conds, few_sems, length-map c.sems (λ (s : SemDecl). s.name), few_functions c script.passes_checks, limits.statements, name_lines_size kind.Global c.globals (kinds kind.Global), name_lines_size kind.Mutex c.mutexes (kinds kind.Mutex), name_lines_size kind.Cond c.conds (kinds kind.Cond), sem_lines_size c.sems (kinds kind.Sem), functions_size c c.funcs kinds (script_functions script) limits.locals)
+    omega (arith, lines_size (script_lines c) (lines_of_script script).1.are, count_both (globals ++ mutexes ++ conds ++ sems) (flat_map (function_lines c) c.funcs), count_both (globals ++ mutexes ++ conds) sems, count_both (globals ++ mutexes) conds, count_both globals mutexes, few_globals, few_mutexes, few_conds, few_sems, length-map c.sems (λ (s : SemDecl). s.name), few_functions c script.passes_checks, limits.statements, count_few (name_line kind.Global) (λ name. omega arith) c.globals, count_few (name_line kind.Mutex) (λ name. omega arith) c.mutexes, count_few (name_line kind.Cond) (λ name. omega arith) c.conds, count_few sem_line (λ s. omega arith) c.sems, count_functions c c.funcs limits.locals)

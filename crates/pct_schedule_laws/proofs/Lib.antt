@@ -1,5 +1,4 @@
 pub mod CanonSize
-pub mod FirstWords
 pub mod FirstMarker
 pub mod PlainWords
 pub mod PlainLines

@@ -1,9 +1,10 @@
 -- The lines of a report: their words are plain.
-use Rattle.pct_names.proofs.Names.{◌&&◌, [], Alt, alt_words, and_parts, Bool, Caller, caller_name, class_of_stop, Config, contents_of}
-use Rattle.pct_names.proofs.Names.{decimal, either, end_line, Entry, entry_line, Event, event_line, event_words, false, header_line}
-use Rattle.pct_names.proofs.Names.{Keyword, keyword_text, length, line_kind_of_caller, LineKind, List, map, name_at, name_of_stop}
-use Rattle.pct_names.proofs.Names.{names_of_kind, nat_le, not, point_name, refl, Script, stop_words, SymbolKind, syntax_of, thread_text}
-use Rattle.pct_names.proofs.Names.{title_line, true, Verdict, verdict_line, verdict_words, What, Why, ℕ, ◌∷◌, ◌≡◌}
+use Rattle.pct_names.proofs.Names.{[], Alt, alt_words, and_parts, Bool, Caller, caller_name, class_of_stop, Config, contents_of, decimal}
+use Rattle.pct_names.proofs.Names.{declaration_syntax, either, end_line, Entry, entry_line, Event, event_line, event_words, false}
+use Rattle.pct_names.proofs.Names.{header_line, Keyword, keyword_text, line_kind_of_caller, LineKind, List, list_all, map, name_at}
+use Rattle.pct_names.proofs.Names.{name_of_stop, names_of_kind, option_map_or, point_name, points, refl, Row, Script, slice_get, stop_words}
+use Rattle.pct_names.proofs.Names.{suc, SymbolKind, syntax_of, thread_text, title_line, true, Verdict, verdict_line, verdict_words, What}
+use Rattle.pct_names.proofs.Names.{Why, zero, ℕ, ◌∷◌, ◌≡◌}
 use Rattle.pct_model.specs.declared.line_kind.LineKind.TheVariants as line_kind
 use Rattle.pct_model.specs.declared.line_kind.SymbolKind.TheVariants as kind
 use Rattle.pct_model.specs.declared.event.What.TheVariants as what
@@ -11,7 +12,6 @@ use Rattle.pct_model.specs.declared.schedule.Alt.TheVariants as alt
 use Rattle.pct_model.specs.declared.stop.Verdict.TheVariants as verdict
 use Rattle.pct_model.specs.declared.keyword.Keyword.TheVariants as keyword
 use Rattle.pct_schedule_laws.proofs.PlainWords.{is_plain, are_plain, more, decimal_plain, declared_plain, thread_plain, keyword_plain}
-use Rattle.pct_schedule_laws.proofs.FirstWords.{begins_percent, first_word}
 
 -- ---- words
 
@@ -32,22 +32,32 @@ number n = (decimal n, decimal_plain n)
 abbrev named : Script → SymbolKind → ℕ → PlainWord
 named script k i = (name_at (names_of_kind (contents_of script) k) i, declared_plain script k i)
 
--- the keyword of a kind of line
-line_plain : (f : LineKind) → is_plain (syntax_of f).keyword ≡ true
-line_plain f =
-    let w = (syntax_of f).keyword in
-    (and_parts (is_plain w) (not (begins_percent w)) (and_parts (is_plain w && not (begins_percent w)) (nat_le (length w) 22) (first_word f)).0).0
+names_of_points : list_all (λ (r : Row). is_plain r.name) points ≡ true
+unfolding points
+names_of_points = refl
 
-abbrev caller : Caller → PlainWord
-caller call = (caller_name call, line_plain (line_kind_of_caller call))
+name_in : (rows : List Row) (i : ℕ) → list_all (λ (r : Row). is_plain r.name) rows ≡ true → is_plain (option_map_or (λ (r : Row). r.name) (slice_get rows i) []) ≡ true
+name_in [] i all = refl
+name_in (r ∷ rows) zero all = (and_parts (is_plain r.name) (list_all (λ (x : Row). is_plain x.name) rows) all).0
+name_in (r ∷ rows) (suc i) all = name_in rows i (and_parts (is_plain r.name) (list_all (λ (x : Row). is_plain x.name) rows) all).1
 
 -- the name of a cancellation point is the keyword of its lines
 point_plain : (index : ℕ) → is_plain (point_name index) ≡ true
-unfolding syntax_of
-point_plain index = line_plain (line_kind.Point index)
+unfolding point_name
+point_plain index = name_in points index names_of_points
 
 abbrev cancellation_point : ℕ → PlainWord
 cancellation_point index = (point_name index, point_plain index)
+
+-- the keyword of a kind of line
+line_plain : (f : LineKind) → is_plain (syntax_of f).keyword ≡ true
+unfolding syntax_of declaration_syntax
+line_plain (line_kind.Declares kind.Global) = refl
+line_plain (line_kind.Point index) = point_plain index
+line_plain _ = refl
+
+abbrev caller : Caller → PlainWord
+caller call = (caller_name call, line_plain (line_kind_of_caller call))
 
 either_plain : (first second : Keyword) (flag : Bool) → is_plain (either first second flag) ≡ true
 either_plain first second true = keyword_plain first

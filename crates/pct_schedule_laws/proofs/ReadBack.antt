@@ -1,12 +1,13 @@
 -- The schedule of a report is read back from its text.
 use Rattle.pct_names.proofs.Names.{◌&&◌, ◌+◌, ◌++◌, ◌<◌, [], All, All-head, All-tail, Alt, alt_words, and_from, and_parts, ap, arith, Bool}
-use Rattle.pct_names.proofs.Names.{bytes_eq, cond, Config, decimal, digits, end_line, Entry, entry_line, entry_of, Err, Event, event_line}
-use Rattle.pct_names.proofs.Names.{event_words, false, false_from_ne_true, flat_map-cons, header_line, header_of, is_config, is_digit}
-use Rattle.pct_names.proofs.Names.{join_with_byte, keyword_text, length, line_text, lines_of, List, list_all, list_all-append, map}
-use Rattle.pct_names.proofs.Names.{MAX_WORKER, nat_eq, nat_le, None, Ok, Option, option_map, option_map_or, refl, report, report_lines}
-use Rattle.pct_names.proofs.Names.{report_of, reverse, Run, run, same_Some, sched_of, Schedule, schedule_lines, Script, Some, split_once}
-use Rattle.pct_names.proofs.Names.{strip_cr, sym, text_of, thread_text, title_line, true, Verdict, verdict_line, verdict_of, verdict_words}
-use Rattle.pct_names.proofs.Names.{ℕ, ◌∙◌, ◌∷◌, ◌≡◌, ◌≤◌}
+use Rattle.pct_names.proofs.Names.{bytes_eq, choice_of, cond, Config, decimal, digits, end_line, Entry, entry_line, entry_of}
+use Rattle.pct_names.proofs.Names.{entry_of_words, Err, Event, event_line, event_words, false, false_from_ne_true, flat_map-cons}
+use Rattle.pct_names.proofs.Names.{header_line, header_of, header_of_words, is_config, is_digit, is_end_of_words, join_with_byte}
+use Rattle.pct_names.proofs.Names.{keyword_text, length, line_text, lines_of, List, list_all, list_all-append, map, MAX_WORKER, nat_eq}
+use Rattle.pct_names.proofs.Names.{nat_le, None, Ok, Option, option_map, option_map_or, refl, report, report_lines, report_of, reverse, Run}
+use Rattle.pct_names.proofs.Names.{run, same_Some, sched_of, Schedule, schedule_lines, Script, Some, split_once, strip_cr, sym, text_of}
+use Rattle.pct_names.proofs.Names.{thread_text, title_line, true, Verdict, verdict_line, verdict_of, verdict_words, words_of, ℕ, ◌∙◌, ◌∷◌}
+use Rattle.pct_names.proofs.Names.{◌≡◌, ◌≤◌}
 use Rattle.std.proofs.Common.{append_assoc, append-nil, leb-true, lt-ltb, eq-eqb, true≢false, length-append, le-leb}
 use Rattle.pct_model.specs.declared.schedule.Alt.TheVariants as alt
 use Rattle.pct_model.specs.declared.refusal.ScheduleWhy.TheVariants as why
@@ -17,13 +18,12 @@ use Rattle.pct_engine_laws.specs.RunNumbers.{IsChoiceWithin, IsEntryWithin}
 use Rattle.pct_engine_laws.proofs.LongerRuns.{run_parts}
 use Rattle.pct_engine_laws.proofs.RunNumbers.{run_numbers_fit}
 use Rattle.pct_text.proofs.SplitOnce.{split_again, lacks_other, lacks-append, lacks-cons}
-use Rattle.pct_text.proofs.Numbers.{number_again, decimal_lacks, digits_of_decimal}
-use Rattle.pct_text.proofs.Lines.{strip_cr-lacks, lines_of-nil, lines_of-line}
+use Rattle.pct_text.proofs.Numbers.{number_again, digits_of_decimal}
+use Rattle.pct_text.proofs.Lines.{strip_cr-lacks, lines_of-nil, lines_of-line, words_of-last, words_of-split_once}
 use Rattle.pct_schedule.specs.Schedules.{fits, is_choice, is_entry, IsSchedule}
-use Rattle.pct_text.specs.FirstNumber.{split_number}
-use Rattle.pct_schedule.proofs.Splits.{begins_with, header_in, choice_in, entry_in, end_in}
+use Rattle.pct_schedule.proofs.Splits.{begins_with}
 use Rattle.pct_schedule.proofs.LineByLine.{ended, with_entry, entries_in, with_header, schedule_in}
-use Rattle.pct_schedule.proofs.BySplits.{begins-schedule, begins-end, header_same, entry_same, end_same}
+use Rattle.pct_schedule.proofs.BySplits.{begins-schedule, begins-end}
 use Rattle.pct_schedule.proofs.ByEntries.{by_lines}
 use Rattle.pct_schedule_laws.proofs.PlainWords.{is_plain_byte, is_plain, are_plain, keyword_plain, decimal_plain}
 use Rattle.pct_schedule_laws.proofs.PlainLines.{event_line_plain, verdict_line_plain, title_line_plain, end_line_plain, header_line_plain, entry_line_plain}
@@ -52,6 +52,14 @@ line_unchanged words plain = strip_cr-lacks (join_with_byte 32 words) (line_lack
 
 plain_lacks : (w : List ℕ) → is_plain w ≡ true → split_once 32 w ≡ None
 plain_lacks w plain = lacks_other is_plain_byte 32 w refl plain
+
+-- a line of plain words has those words
+words_again : (first : List ℕ) (words : List (List ℕ)) → are_plain (first ∷ words) ≡ true → words_of (join_with_byte 32 (first ∷ words)) ≡ first ∷ words
+words_again first [] plain = words_of-last first (plain_lacks first (and_parts (is_plain first) true plain).0)
+words_again first (next ∷ words) plain =
+    let parts = and_parts (is_plain first) (are_plain (next ∷ words)) plain in
+    let rest = join_with_byte 32 (next ∷ words) in
+    words_of-split_once (first ++ 32 ∷ rest) (first, rest) (split_again 32 first rest (plain_lacks first parts.0)) ∙ ap (λ ws. first ∷ ws) (words_again next words parts.1)
 
 -- a line of two words or more begins with a keyword and a space exactly where its first word is that keyword
 by_first_word : (keyword first next : List ℕ) (words : List (List ℕ)) → is_plain first ≡ true → begins_with keyword (join_with_byte 32 (first ∷ next ∷ words)) ≡ bytes_eq first keyword
@@ -150,22 +158,16 @@ in_limits c is =
       slots = leb-true c.slots 64 a.1;
     }
 
-number_lacks_blank : (n : ℕ) → split_once 32 (decimal n) ≡ None
-number_lacks_blank n = decimal_lacks 32 n refl
-
 one_is_one : decimal 1 ≡ 49 ∷ []
 unfolding digits
 one_is_one = refl
 
 header_again : (c : Config) → is_config c ≡ true → header_of (join_with_byte 32 (header_line c)) ≡ Some c
-unfolding header_line header_in
+unfolding header_of header_line
 header_again c is =
     let limits = in_limits c is in
-    let limited = decimal c.passes ++ 32 ∷ decimal c.slots in
-    let numbers = decimal c.budget ++ 32 ∷ limited in
-    let line = keyword_text keyword.Schedule ++ 32 ∷ (decimal 1 ++ 32 ∷ numbers) in
-    sym (header_same line)
-    ∙ rw (split_again 32 (keyword_text keyword.Schedule) (decimal 1 ++ 32 ∷ numbers) (plain_lacks (keyword_text keyword.Schedule) (keyword_plain keyword.Schedule)), split_again 32 (decimal 1) numbers (number_lacks_blank 1), split_again 32 (decimal c.budget) limited (number_lacks_blank c.budget), split_again 32 (decimal c.passes) (decimal c.slots) (number_lacks_blank c.passes), bytes_eq-refl (keyword_text keyword.Schedule), one_is_one, number_again c.budget (omega (arith, limits.budget)), number_again c.passes (omega (arith, limits.passes)), number_again c.slots (omega (arith, limits.slots)))
+    ap header_of_words (words_again (keyword_text keyword.Schedule) (decimal 1 ∷ decimal c.budget ∷ decimal c.passes ∷ decimal c.slots ∷ []) (header_line_plain c))
+    ∙ rw (bytes_eq-refl (keyword_text keyword.Schedule), one_is_one, number_again c.budget (omega (arith, limits.budget)), number_again c.passes (omega (arith, limits.passes)), number_again c.slots (omega (arith, limits.slots)))
     (ap (λ (b : Bool). cond b (Some c) None) is)
 
 header_found : (n : ℕ) (c : Config) (lines : List (List (List ℕ))) → is_config c ≡ true → schedule_in n (lines_of (text_of (header_line c ∷ lines))) ≡ entries_in (n + 1) c [] (lines_of (text_of lines))
@@ -177,22 +179,13 @@ header_found n c lines is =
 
 -- ---- entries
 
-choice_again : (a : Alt) → is_choice a ≡ true → choice_in (join_with_byte 32 (alt_words a)) ≡ Some a
-unfolding choice_in alt_words keyword_text split_once
+choice_again : (a : Alt) → is_choice a ≡ true → choice_of (alt_words a) ≡ Some a
+unfolding alt_words keyword_text
 choice_again alt.Go is = refl
 choice_again (alt.Act n) is = rw (number_again n (leb-true n 4294967295 is)) refl
 choice_again (alt.New n) is = rw (number_again n (leb-true n 4294967295 is)) refl
 choice_again (alt.Pick n) is = rw (number_again n (leb-true n 4294967295 is)) refl
 choice_again (alt.Dtor n) is = rw (number_again n (leb-true n 4294967295 is)) refl
-
--- the words of an entry, joined
-entry_joined : (w p t : List ℕ) (a : Alt) → join_with_byte 32 (w ∷ p ∷ t ∷ alt_words a) ≡ w ++ 32 ∷ (p ++ 32 ∷ (t ++ 32 ∷ join_with_byte 32 (alt_words a)))
-unfolding alt_words
-entry_joined w p t alt.Go = refl
-entry_joined w p t (alt.Act n) = refl
-entry_joined w p t (alt.New n) = refl
-entry_joined w p t (alt.Pick n) = refl
-entry_joined w p t (alt.Dtor n) = refl
 
 -- the limits of an entry
 pub record FitsEntry (e : Entry) : Type 0 where
@@ -208,18 +201,13 @@ fits_entry e is =
     let c = and_parts (nat_le e.worker 16) (fits e.pid) b.0 in
     record { worker = c.0; pid = leb-true e.pid 4294967295 c.1; tid = leb-true e.tid 4294967295 b.1; choice = a.1 }
 
-entry_parts_again : (e : Entry) → FitsEntry e → entry_in (decimal e.worker ++ 32 ∷ (decimal e.pid ++ 32 ∷ (decimal e.tid ++ 32 ∷ join_with_byte 32 (alt_words e.alt)))) ≡ Some e
-unfolding entry_in split_number
-entry_parts_again e is =
-    let choice = join_with_byte 32 (alt_words e.alt) in
-    let few : e.worker ≤ 16 = leb-true e.worker 16 is.worker in
-    rw (split_again 32 (decimal e.worker) (decimal e.pid ++ 32 ∷ (decimal e.tid ++ 32 ∷ choice)) (number_lacks_blank e.worker), number_again e.worker (omega arith), split_again 32 (decimal e.pid) (decimal e.tid ++ 32 ∷ choice) (number_lacks_blank e.pid), number_again e.pid is.pid, split_again 32 (decimal e.tid) choice (number_lacks_blank e.tid), number_again e.tid is.tid, choice_again e.alt is.choice, is.worker)
-    refl
-
 entry_again : (e : Entry) → is_entry e ≡ true → entry_of (join_with_byte 32 (entry_line e)) ≡ Some e
-unfolding entry_line
+unfolding entry_of entry_line
 entry_again e is =
-    sym (entry_same (join_with_byte 32 (entry_line e))) ∙ ap entry_in (entry_joined (decimal e.worker) (decimal e.pid) (decimal e.tid) e.alt) ∙ entry_parts_again e (fits_entry e is)
+    let these = fits_entry e is in
+    let few : e.worker ≤ 16 = leb-true e.worker 16 these.worker in
+    ap entry_of_words (words_again (decimal e.worker) (decimal e.pid ∷ decimal e.tid ∷ alt_words e.alt) (entry_line_plain e))
+    ∙ rw (number_again e.worker (omega arith), number_again e.pid these.pid, number_again e.tid these.tid, choice_again e.alt these.choice, these.worker) refl
 
 abbrev at_entry : ℕ → Config → List Entry → List (List ℕ) → List ℕ → Bool → Schedule
 at_entry n config entries lines line last =
@@ -252,10 +240,10 @@ entry_read n config prefix e lines is within =
     ∙ ap (λ (b : Bool). cond b (go e) (Err (n, why.TooMany))) (lt-ltb (length prefix) config.budget within)
 
 end_again : (n total : ℕ) → n ≡ total → total ≤ 4294967295 → is_end n (join_with_byte 32 (end_line total)) ≡ true
-unfolding end_line end_in
+unfolding is_end end_line
 end_again n total same few =
-    sym (end_same n (keyword_text keyword.End ++ 32 ∷ decimal total))
-    ∙ rw (split_again 32 (keyword_text keyword.End) (decimal total) (plain_lacks (keyword_text keyword.End) (keyword_plain keyword.End)), bytes_eq-refl (keyword_text keyword.End), number_again total few) (eq-eqb n total same)
+    ap (is_end_of_words n) (words_again (keyword_text keyword.End) (decimal total ∷ []) (end_line_plain total))
+    ∙ rw (bytes_eq-refl (keyword_text keyword.End), number_again total few) (eq-eqb n total same)
 
 end_read : (n total : ℕ) (config : Config) (prefix : List Entry) → length prefix ≡ total → total ≤ 4294967295 → entries_in n config prefix (lines_of (text_of (end_line total ∷ []))) ≡ Ok (config, prefix)
 unfolding end_line

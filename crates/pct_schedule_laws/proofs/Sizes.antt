@@ -1,8 +1,7 @@
 -- The greatest size of a schedule's text.
-use Rattle.pct_names.proofs.Names.{◌%◌, ◌*◌, ◌+◌, ◌++◌, ◌/◌, [], Alt, alt_words, and_parts, ap, arith, cond_both, Config, decimal}
-use Rattle.pct_names.proofs.Names.{digit_glyph, digits, digits_onto, end_line, Entry, entry_line, false, flat_map, flat_map-cons}
-use Rattle.pct_names.proofs.Names.{header_line, join_with_byte, keyword_text, length, length-decimal-le, line_text, List, list_all, nat_eq}
-use Rattle.pct_names.proofs.Names.{schedule_lines, suc, text_of, true, zero, ℕ, ◌∙◌, ◌∷◌, ◌≡◌, ◌≤◌}
+use Rattle.pct_names.proofs.Names.{◌*◌, ◌+◌, ◌++◌, [], Alt, alt_words, and_parts, ap, arith, Config, decimal, end_line, Entry, entry_line}
+use Rattle.pct_names.proofs.Names.{flat_map, flat_map-cons, header_line, join_with_byte, keyword_text, length, length-decimal-le, line_text}
+use Rattle.pct_names.proofs.Names.{List, list_all, schedule_lines, text_of, true, ℕ, ◌∙◌, ◌∷◌, ◌≡◌, ◌≤◌}
 use Rattle.std.proofs.Common.{leb-true, length-append}
 use Rattle.pct_model.specs.declared.schedule.Alt.TheVariants as alt
 use Rattle.pct_schedule.specs.Schedules.{is_choice, is_entry, IsSchedule}
@@ -28,18 +27,6 @@ line_size words = omega (arith, length-append (join_with_byte 32 words) (10 ∷ 
 -- a number of 32 bits has at most 10 digits
 pub number_size : (n : ℕ) → n ≤ 4294967295 → length (decimal n) ≤ 10
 number_size n fits = length-decimal-le 10 n (omega arith) (omega arith) (omega arith)
-
-digits_size : (k n : ℕ) (after : List ℕ) → length (digits_onto k 10 false n after) ≤ k + length after
-digits_size zero n after = omega arith
-digits_size (suc k) n after =
-    let glyph = digit_glyph false (n % 10) in
-    cond_both (nat_eq (n / 10) 0) (glyph ∷ after) (digits_onto k 10 false (n / 10) (glyph ∷ after)) (λ (xs : List ℕ). length xs ≤ suc k + length after)
-    (λ _. omega arith) (λ _. omega (arith, digits_size k (n / 10) (glyph ∷ after)))
-
--- any number has at most 64 digits
-pub any_number_size : (n : ℕ) → length (decimal n) ≤ 64
-unfolding digits
-any_number_size n = omega (arith, digits_size 64 n [])
 
 -- ---- schedules
 

@@ -5,7 +5,7 @@ use Rattle.pct_names.proofs.Names.{length, Line, List, list_any, list_any-append
 use Rattle.pct_names.proofs.Names.{ParsedLine, refl, role_in, Some, suc, sym, take, true, zero, ◌||◌, ℕ, ◌∙◌, ◌∷◌, ◌≡◌}
 use Rattle.pct_model.specs.declared.line_kind.SymbolKind.TheVariants as kind
 use Rattle.pct_script.specs.DeclaredBefore.{declares_name, declare_name, declares_twice, is_wrong, first_twice}
-use Rattle.pct_grammar.proofs.FunctionHeaders.{headers_are}
+use Rattle.pct_grammar.proofs.SectionSplits.{headers_are}
 
 -- ---- the rule of the check
 

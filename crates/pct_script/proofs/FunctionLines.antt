@@ -3,107 +3,64 @@ use Rattle.pct_names.proofs.Names.{◌++◌, [], ap, Bool, cond, declares, false
 use Rattle.pct_names.proofs.Names.{parsed_lines, refl, Section, Sections, split_sections, sym, true, ℕ, ◌∙◌, ◌∷◌, ◌≡◌}
 use Rattle.std.proofs.Common.{append_assoc, append-nil}
 use Rattle.pct_model.specs.declared.line_kind.SymbolKind.TheVariants as kind
-use Rattle.pct_script.specs.LineRuns.{with_more}
+use Rattle.pct_grammar.proofs.SectionSplits.{prefix_if}
 use Rattle.pct_script.specs.StatementLines.{numbers_in, statement_lines}
 
--- ---- the last list
+-- the numbers of the lines of each function
+abbrev in_functions : List Section → List (List ℕ)
+in_functions sections = map (λ section. numbers_in section.body) (filter is_function sections)
 
--- more items in the last list, twice
-more_again : (lists : List (List ℕ)) (some more : List ℕ) → with_more (with_more lists some) more ≡ with_more lists (some ++ more)
-more_again [] some more = refl
-more_again (items ∷ []) some more = ap (λ (list : List ℕ). list ∷ []) (append_assoc items some more)
-more_again (items ∷ next ∷ []) some more = ap (λ (lists : List (List ℕ)). items ∷ lists) (more_again (next ∷ []) some more)
-more_again (items ∷ next ∷ last ∷ lists) some more = ap (λ (ls : List (List ℕ)). items ∷ ls) (more_again (next ∷ last ∷ lists) some more)
+-- the same of lines split into sections, where these numbers are before the lines, in a function or not
+abbrev lists_after : List ℕ → Bool → Sections → List (List ℕ)
+lists_after numbers in_function p = cond in_function ((numbers ++ numbers_in p.preamble) ∷ in_functions p.sections) (in_functions p.sections)
 
--- no more items
-no_more : (lists : List (List ℕ)) → with_more lists [] ≡ lists
-no_more [] = refl
-no_more (items ∷ []) = ap (λ (list : List ℕ). list ∷ []) (append-nil items)
-no_more (items ∷ next ∷ lists) = ap (λ (ls : List (List ℕ)). items ∷ ls) (no_more (next ∷ lists))
+-- the lists of numbers of all lines, where these are the lists before the lines, and the numbers after the last declaration
+unfoldable pub continued : List (List ℕ) → List ℕ → Bool → List Line → List (List ℕ)
+continued lists numbers in_function lines = lists ++ lists_after numbers in_function (split_sections lines)
 
--- all items of a last list that was empty
-into_empty : (lists : List (List ℕ)) (more : List ℕ) → with_more (lists ++ [] ∷ []) more ≡ lists ++ more ∷ []
-into_empty [] more = refl
-into_empty (items ∷ []) more = refl
-into_empty (items ∷ next ∷ lists) more = ap (λ (ls : List (List ℕ)). items ∷ ls) (into_empty (next ∷ lists) more)
-
--- ---- line by line
-
--- the numbers of lines split into sections, after these lists, where the first lines may continue the last list
-abbrev lists_after : List (List ℕ) → Bool → Sections → List (List ℕ)
-lists_after lists in_function p = cond in_function (with_more lists (numbers_in p.preamble)) lists ++ map (λ section. numbers_in section.body) (filter is_function p.sections)
-
--- the lists of numbers of all lines, where these are the lists before the lines, and the lines begin in a function or not
-unfoldable pub continued : List (List ℕ) → Bool → List Line → List (List ℕ)
-continued lists in_function lines = lists_after lists in_function (split_sections lines)
+-- the lists, and the numbers after the last declaration if that is of a function
+abbrev pub ended : List (List ℕ) → List ℕ → Bool → List (List ℕ)
+ended lists numbers in_function = cond in_function (lists ++ numbers ∷ []) lists
 
 -- before the first line
-pub before_lines : (text : List ℕ) → statement_lines text ≡ continued [] false (parsed_lines text)
+pub before_lines : (text : List ℕ) → statement_lines text ≡ continued [] [] false (parsed_lines text)
 unfolding continued statement_lines
 before_lines text = refl
 
--- no line is left
-after_all : (in_function : Bool) (lists : List (List ℕ)) → cond in_function (with_more lists []) lists ++ [] ≡ lists
-after_all true lists = append-nil (with_more lists []) ∙ no_more lists
-after_all false lists = append-nil lists
+before_section : (lists : List (List ℕ)) (numbers : List ℕ) (in_function : Bool) (more : List (List ℕ)) → lists ++ cond in_function ((numbers ++ []) ∷ more) more ≡ ended lists numbers in_function ++ more
+before_section lists numbers true more = ap (λ (ns : List ℕ). lists ++ ns ∷ more) (append-nil numbers) ∙ sym (append_assoc lists (numbers ∷ []) more)
+before_section lists numbers false more = refl
 
 -- after the last line
-pub after_lines : (lists : List (List ℕ)) (in_function : Bool) → continued lists in_function [] ≡ lists
+pub after_lines : (lists : List (List ℕ)) (numbers : List ℕ) (in_function : Bool) → continued lists numbers in_function [] ≡ ended lists numbers in_function
 unfolding continued split_sections
-after_lines lists in_function = after_all in_function lists
-
--- the sections with one more line before them, which is a statement or not
-abbrev split_line : Line → Sections → Bool → Sections
-split_line l p t = cond t (record { preamble = l ∷ p.preamble; sections = p.sections }) (record { preamble = []; sections = record { header = l; body = p.preamble } ∷ p.sections })
+after_lines lists numbers in_function = before_section lists numbers in_function [] ∙ append-nil (ended lists numbers in_function)
 
 -- the sections of lines, by whether the first line is a statement
-split_first : (l : Line) (lines : List Line) (t : Bool) → is_statement l.1 ≡ t → split_sections (l ∷ lines) ≡ split_line l (split_sections lines) t
+split_first : (l : Line) (lines : List Line) (t : Bool) → is_statement l.1 ≡ t → split_sections (l ∷ lines) ≡ prefix_if t l (split_sections lines)
 unfolding split_sections
-split_first l lines t is = ap (split_line l (split_sections lines)) is
+split_first l lines t is = ap (λ (t : Bool). prefix_if t l (split_sections lines)) is
 
--- a statement of a function
-pub statement_in_function : (lists : List (List ℕ)) (l : Line) (lines : List Line) → is_statement l.1 ≡ true → continued lists true (l ∷ lines) ≡ continued (with_more lists (l.0 ∷ [])) true lines
+one_more_number : (numbers : List ℕ) (in_function : Bool) (l : Line) (p : Sections) → lists_after numbers in_function (prefix_if true l p) ≡ lists_after (numbers ++ l.0 ∷ []) in_function p
+one_more_number numbers true l p = ap (λ (ns : List ℕ). ns ∷ in_functions p.sections) (sym (append_assoc numbers (l.0 ∷ []) (numbers_in p.preamble)))
+one_more_number numbers false l p = refl
+
+-- a statement
+pub at_statement : (lists : List (List ℕ)) (numbers : List ℕ) (in_function : Bool) (l : Line) (lines : List Line) → is_statement l.1 ≡ true
+    → continued lists numbers in_function (l ∷ lines) ≡ continued lists (numbers ++ l.0 ∷ []) in_function lines
 unfolding continued
-statement_in_function lists l lines is =
-    ap (lists_after lists true) (split_first l lines true is)
-    ∙ ap (λ (ls : List (List ℕ)). ls ++ map (λ (section : Section). numbers_in section.body) (filter is_function (split_sections lines).sections))
-    (sym (more_again lists (l.0 ∷ []) (numbers_in (split_sections lines).preamble)))
+at_statement lists numbers in_function l lines is =
+    ap (λ (p : Sections). lists ++ lists_after numbers in_function p) (split_first l lines true is) ∙ ap (λ (after : List (List ℕ)). lists ++ after) (one_more_number numbers in_function l (split_sections lines))
 
--- a statement outside of functions
-pub statement_outside : (lists : List (List ℕ)) (l : Line) (lines : List Line) → is_statement l.1 ≡ true → continued lists false (l ∷ lines) ≡ continued lists false lines
+one_more_section : (l : Line) (p : Sections) (t : Bool) → map (λ (section : Section). numbers_in section.body) (cond t (record { header = l; body = p.preamble } ∷ filter is_function p.sections) (filter is_function p.sections)) ≡ lists_after [] t p
+one_more_section l p true = refl
+one_more_section l p false = refl
+
+-- a declaration
+pub at_declaration : (lists : List (List ℕ)) (numbers : List ℕ) (in_function : Bool) (l : Line) (lines : List Line) → is_statement l.1 ≡ false
+    → continued lists numbers in_function (l ∷ lines) ≡ continued (ended lists numbers in_function) [] (declares kind.Function l.1) lines
 unfolding continued
-statement_outside lists l lines is = ap (lists_after lists false) (split_first l lines true is)
-
--- what stands before a declaration ends there
-ended : (in_function : Bool) (lists : List (List ℕ)) → cond in_function (with_more lists []) lists ≡ lists
-ended true lists = no_more lists
-ended false lists = refl
-
--- a declaration, which begins a function or not
-at_declaration : (lists : List (List ℕ)) (in_function : Bool) (l : Line) (lines : List Line) (t : Bool) → is_statement l.1 ≡ false → declares kind.Function l.1 ≡ t
-    → continued lists in_function (l ∷ lines)
-    ≡ lists ++ map (λ (section : Section). numbers_in section.body)
-    (cond t (record { header = l; body = (split_sections lines).preamble } ∷ filter is_function (split_sections lines).sections) (filter is_function (split_sections lines).sections))
-unfolding continued
-at_declaration lists in_function l lines t is declared =
-    let first : Section = record { header = l; body = (split_sections lines).preamble } in
-    let others = filter is_function (split_sections lines).sections in
-    ap (lists_after lists in_function) (split_first l lines false is)
-    ∙ ap (λ (ls : List (List ℕ)). ls ++ map (λ (section : Section). numbers_in section.body) (cond (declares kind.Function l.1) (first ∷ others) others)) (ended in_function lists)
-    ∙ ap (λ (b : Bool). lists ++ map (λ (section : Section). numbers_in section.body) (cond b (first ∷ others) others)) declared
-
--- a line `fn`
-pub function_begins : (lists : List (List ℕ)) (in_function : Bool) (l : Line) (lines : List Line) → is_statement l.1 ≡ false → declares kind.Function l.1 ≡ true
-    → continued lists in_function (l ∷ lines) ≡ continued (lists ++ [] ∷ []) true lines
-unfolding continued
-function_begins lists in_function l lines is declared =
-    let body = numbers_in (split_sections lines).preamble in
-    let others = map (λ (section : Section). numbers_in section.body) (filter is_function (split_sections lines).sections) in
-    at_declaration lists in_function l lines true is declared ∙ sym (append_assoc lists (body ∷ []) others)
-    ∙ ap (λ (ls : List (List ℕ)). ls ++ others) (sym (into_empty lists body))
-
--- another declaration
-pub function_ends : (lists : List (List ℕ)) (in_function : Bool) (l : Line) (lines : List Line) → is_statement l.1 ≡ false → declares kind.Function l.1 ≡ false
-    → continued lists in_function (l ∷ lines) ≡ continued lists false lines
-unfolding continued
-function_ends lists in_function l lines is declared = at_declaration lists in_function l lines false is declared
+at_declaration lists numbers in_function l lines is =
+    ap (λ (p : Sections). lists ++ lists_after numbers in_function p) (split_first l lines false is)
+    ∙ ap (λ (more : List (List ℕ)). lists ++ cond in_function ((numbers ++ []) ∷ more) more) (one_more_section l (split_sections lines) (declares kind.Function l.1))
+    ∙ before_section lists numbers in_function (lists_after [] (declares kind.Function l.1) (split_sections lines))

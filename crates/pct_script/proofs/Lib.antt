@@ -1,6 +1,5 @@
 pub mod FaultyWords
 pub mod Keywords
-pub mod AllowedLines
 pub mod Fitting
 pub mod SpelledLines
 pub mod PushCounts
@@ -22,7 +21,6 @@ pub mod ContentsSteps
 pub mod LimitsMakeReady
 pub mod TextChecks
 pub mod EmptyTexts
-pub mod LineRuns
 pub mod FunctionLines
 pub mod StatementSpellings
 pub mod LineOrder

@@ -1,11 +1,12 @@
 -- The `fn` lines of a text that exceeds no limit have a name and at most 8 locals.
 use Rattle.pct_names.proofs.Names.{◌&&◌, [], and_from, ap, arith, Bool, cond, cons_option, declares, enumerate_from, exceeds_limit, false}
-use Rattle.pct_names.proofs.Names.{fault_at_line, filter, filter_map, first_wrong, has_many_locals, length, length-enumerate_from, Line}
-use Rattle.pct_names.proofs.Names.{lines_of, List, list_all, locals_of, nat_le, nat_lt, None, not, onto_first, Option, or_parts}
+use Rattle.pct_names.proofs.Names.{fault_at_line, filter_map, first_wrong, has_many_locals, length, length-enumerate_from, Line, lines_of}
+use Rattle.pct_names.proofs.Names.{List, list_all, locals_of, nat_le, nat_lt, None, not, Numbered, onto_first, Option, or_parts}
 use Rattle.pct_names.proofs.Names.{parsed_lines, parsed_numbered, ParsedLine, refl, slice_split, Some, spell_something, spelled_lines, suc}
 use Rattle.pct_names.proofs.Names.{too_many, TooMany, true, without_empty_last, words_in, ◌||◌, ℕ, ◌∷◌, ◌≡◌, ◌≤◌}
 use Rattle.std.proofs.Common.{le-leb}
 use Rattle.std.proofs.lemmas.Bool.{ltb-false}
+use Rattle.std.proofs.lemmas.List.Sums.{count_by-le-length, length-filter}
 use Rattle.pct_model.specs.declared.line_kind.SymbolKind.TheVariants as kind
 use Rattle.pct_script.specs.SectionSteps.{begins_with_name, is_ready}
 use Rattle.pct_grammar.proofs.SharedWords.{IsParsed, EachParsed}
@@ -47,14 +48,6 @@ are_ready lines from few = each_ready [] lines from (no_fault (first_wrong excee
 
 -- ---- how many there are
 
-few_passed : {A : Type 0} (p : A → Bool) (a : A) (kept : List A) (n : ℕ) (t : Bool) → length kept ≤ n → length (cond t (a ∷ kept) kept) ≤ suc n
-few_passed p a kept n true le = omega arith
-few_passed p a kept n false le = omega arith
-
-fewer_filtered : {A : Type 0} (p : A → Bool) (xs : List A) → length (filter p xs) ≤ length xs
-fewer_filtered p [] = omega arith
-fewer_filtered p (x ∷ xs) = few_passed p x (filter p xs) (length xs) (p x) (fewer_filtered p xs)
-
 few_given : {B : Type 0} (o : Option B) (kept : List B) (n : ℕ) → length kept ≤ n → length (cons_option o kept) ≤ suc n
 few_given None kept n le = omega arith
 few_given (Some b) kept n le = omega arith
@@ -83,7 +76,9 @@ few_of_text text = few_pieces _ text
 few_spelled : (text : List ℕ) → length (spelled_lines text) ≤ length text
 unfolding spelled_lines
 few_spelled text =
-    omega (arith, fewer_filtered (λ l. spell_something (words_in l.1)) (enumerate_from 1 (lines_of text)), length-enumerate_from 1 (lines_of text), few_of_text text)
+    let lines = enumerate_from 1 (lines_of text) in
+    let spells : Numbered (List ℕ) → Bool = λ l. spell_something (words_in l.1) in
+    omega (arith, length-filter spells lines, count_by-le-length spells lines, length-enumerate_from 1 (lines_of text), few_of_text text)
 
 -- a text has at most as many parsed lines as bytes
 pub few_lines : (text : List ℕ) → length (parsed_lines text) ≤ length text

@@ -1,23 +1,21 @@
 -- The first line that exceeds a limit, by the numbers of lines of each sort before it.
-use Rattle.pct_names.proofs.Names.{◌&&◌, ◌+◌, ◌-◌, [], and_parts, ap, ArgumentKind, arith, Bool, cond, cond_some, cons_option}
-use Rattle.pct_names.proofs.Names.{declaration_syntax, declares, declares_by, drop, exceeds_limit, false, fault_at_line, filter_map}
-use Rattle.pct_names.proofs.Names.{first_wrong, is_allowed, is_declaration, is_name, is_statement, length, length-drop, Line, line_kind_of}
-use Rattle.pct_names.proofs.Names.{LineKind, List, list_all, locals_of, names_in, nat_le, nat_lt, None, not, Numbered, Option, option_map}
-use Rattle.pct_names.proofs.Names.{option_map_or, parsed, parsed_as, parsed_lines, parsed_numbered, parsed_words, ParsedLine, refl}
-use Rattle.pct_names.proofs.Names.{replicate, Role, role_in, same_Some, Some, spelled_lines, subst, suc, sum_by-cons, sym, syntax_of, Token}
-use Rattle.pct_names.proofs.Names.{token_at, tokens_at, too_many, TooMany, true, words_in, zero, ◌||◌, ℕ, ◌∙◌, ◌∷◌, ◌≡◌}
+use Rattle.pct_names.proofs.Names.{◌&&◌, ◌+◌, ◌-◌, [], ap, arith, Bool, cond, declares, declares_by, drop, exceeds_limit, false}
+use Rattle.pct_names.proofs.Names.{fault_at_line, first_wrong, is_declaration, is_statement, length, length-drop, length-map, Line, List}
+use Rattle.pct_names.proofs.Names.{locals_of, names_in, nat_le, nat_lt, None, not, Numbered, Option, option_map, option_map_or, parsed}
+use Rattle.pct_names.proofs.Names.{parsed_lines, ParsedLine, refl, Role, role_in, Some, suc, sum_by-cons, sym, Token, too_many, TooMany}
+use Rattle.pct_names.proofs.Names.{true, ◌||◌, ℕ, ◌∙◌, ◌∷◌, ◌≡◌}
 use Rattle.std.proofs.Common.{ltb-true, ltb-false}
 use Rattle.std.specs.List.{count_by}
-use Rattle.pct_model.specs.declared.line_kind.LineKind.TheVariants as line_kind
 use Rattle.pct_model.specs.declared.line_kind.SymbolKind.TheVariants as kind
-use Rattle.pct_model.specs.declared.line_kind.ArgumentKind.TheVariants as argument_kind
 use Rattle.pct_model.specs.declared.role.Role.TheVariants as role
 use Rattle.pct_model.specs.declared.parsed_line.Token.TheVariants as token
 use Rattle.pct_script.specs.declared.scan.LineOutline.{LineOutline}
 use Rattle.pct_script.specs.declared.limits.Counts.{Counts}
 use Rattle.pct_script.specs.Outlines.{outline_of, outlines_of}
 use Rattle.pct_script.specs.LineCounts.{none_yet, with_role, with_outline, limit_in}
-use Rattle.pct_grammar.proofs.OptionSteps.{bind_some, map_some, cond_cases}
+use Rattle.pct_grammar.proofs.SharedWords.{IsParsed, EachParsed}
+use Rattle.pct_grammar.proofs.ParsedFromWords.{DeclaresFunction, line_declares, parsed_lines_are_parsed}
+use Rattle.pct_grammar.proofs.Declarations.{all_names_in}
 
 -- ---- line by line
 
@@ -103,63 +101,13 @@ role_counted c _ many = by_count (λ t. t || false) (λ n. record c { statements
 
 -- ---- the names on a `fn` line
 
-abbrev is_name_kind : ArgumentKind → Bool
-is_name_kind argument_kind.Declared = true
-is_name_kind argument_kind.Local = true
-is_name_kind _ = false
-
-all_local : (k : ℕ) → list_all is_name_kind (replicate k argument_kind.Local) ≡ true
-all_local zero = refl
-all_local (suc k) = all_local k
-
-named_kinds : (f : LineKind) (k : ℕ) → declares_by kind.Function (syntax_of f).role ≡ true → list_all is_name_kind ((syntax_of f).argument_kinds k) ≡ true
-unfolding syntax_of declaration_syntax
-named_kinds (line_kind.Declares kind.Function) k e = all_local (k - 2)
-named_kinds _ k e = absurd cc
-
-name_there : (p : ArgumentKind) (w : List ℕ) (x : Token) → is_name_kind p ≡ true → token_at p w ≡ Some x → x ≡ token.Name w
-unfolding token_at
-name_there argument_kind.Declared w x t e = sym (cond_some (is_name w) (token.Name w) x e).1
-name_there argument_kind.Local w x t e = sym (cond_some (is_name w) (token.Name w) x e).1
-name_there _ w x t e = absurd cc
-
-all_names : (argument_kinds : List ArgumentKind) (words : List (List ℕ)) (parsed : List Token) → list_all is_name_kind argument_kinds ≡ true → tokens_at argument_kinds words ≡ Some parsed → length (names_in parsed) ≡ length parsed
-unfolding tokens_at
-all_names [] [] parsed t e = ap (λ ws. length (names_in ws)) (sym (same_Some [] parsed e)) ∙ ap length (same_Some [] parsed e)
-all_names (p ∷ argument_kinds) (w ∷ words) parsed t e =
-    let sections = and_parts (is_name_kind p) (list_all is_name_kind argument_kinds) t in
-    let b = bind_some (token_at p w) (λ first. option_map (λ others. first ∷ others) (tokens_at argument_kinds words)) parsed e in
-    let m = map_some (λ others. b.0 ∷ others) (tokens_at argument_kinds words) parsed b.2 in
-    let whole : token.Name w ∷ m.0 ≡ parsed = ap (λ x. x ∷ m.0) (sym (name_there p w b.0 sections.0 b.1)) ∙ m.2 in
-    subst (λ ws. length (names_in ws) ≡ length ws) whole (ap suc (all_names argument_kinds words m.0 sections.1 m.1))
-all_names _ _ parsed t e = absurd cc
-
-by_words : (ws : List (List ℕ)) (s : ParsedLine) → parsed_words ws ≡ Some s → declares kind.Function s ≡ true → length (names_in s.tokens) ≡ length s.tokens
-unfolding parsed_words
-by_words [] s e = absurd cc
-by_words (w ∷ words) s e =
-    let b = bind_some (line_kind_of w) (λ f. parsed_as f words) s e in
-    let m = map_some (λ (parsed : List Token). record { line_kind = b.0; tokens = parsed }) (tokens_at ((syntax_of b.0).argument_kinds (length words)) words) s b.2 in
-    subst (λ (line : ParsedLine). declares kind.Function line ≡ true → length (names_in line.tokens) ≡ length line.tokens) m.2
-    (λ t. all_names ((syntax_of b.0).argument_kinds (length words)) words m.0 (named_kinds b.0 (length words) t) m.1)
-
-named_parsed : (bytes : List ℕ) (s : ParsedLine) → parsed bytes ≡ Some s → declares kind.Function s ≡ true → length (names_in s.tokens) ≡ length s.tokens
-unfolding parsed
-named_parsed bytes s e = cond_cases _ (list_all is_allowed bytes) (parsed_words (words_in bytes)) None (Some s) e (λ t h. by_words (words_in bytes) s h) (λ t h. absurd cc)
-
 -- all tokens of a `fn` line are names
-abbrev EachNamed : List Line → Type 0
-EachNamed [] = Unit {0}
-EachNamed (l ∷ lines) = (declares kind.Function l.1 ≡ true → length (names_in l.1.tokens) ≡ length l.1.tokens) × EachNamed lines
-
-one_named : (l : Numbered (List ℕ)) (rest : List (Numbered (List ℕ))) (o : Option ParsedLine) → parsed l.1 ≡ o → EachNamed (filter_map parsed_numbered rest)
-    → EachNamed (cons_option (option_map {U = Line} (λ line. (l.0, line)) o) (filter_map parsed_numbered rest))
-one_named l rest None e others = others
-one_named l rest (Some s) e others = (named_parsed l.1 s e, others)
-
-each_named : (lines : List (Numbered (List ℕ))) → EachNamed (filter_map parsed_numbered lines)
-each_named [] = tt
-each_named (l ∷ lines) = one_named l lines (parsed l.1) refl (each_named lines)
+named : (line : ParsedLine) → IsParsed line → declares kind.Function line ≡ true → length (names_in line.tokens) ≡ length line.tokens
+named line from is =
+    let parsed : DeclaresFunction line.tokens = line_declares kind.Function line from is in
+    let locals = parsed.parameter ∷ parsed.others in
+    ap (λ (ws : List Token). length (names_in ws)) parsed.same ∙ ap (λ (names : List (List ℕ)). suc (length names)) (all_names_in locals)
+    ∙ ap suc (sym (length-map locals (λ w. token.Name w))) ∙ sym (ap length parsed.same)
 
 -- ---- lines
 
@@ -179,24 +127,24 @@ decided : (t : Bool) (c : Counts) (n : ℕ) (outlines : List (Numbered LineOutli
 decided true c n outlines = refl
 decided false c n outlines = refl
 
-one_limit : (before : List ParsedLine) (l : Line) (outlines : List (Numbered LineOutline)) → (declares kind.Function l.1 ≡ true → length (names_in l.1.tokens) ≡ length l.1.tokens)
+one_limit : (before : List ParsedLine) (l : Line) (outlines : List (Numbered LineOutline)) → IsParsed l.1
     → limit_in (counts_of before) ((l.0, outline_of l.1) ∷ outlines) ≡ cond (exceeds_limit before l.1) (Some l.0) (limit_in (counts_of (l.1 ∷ before)) outlines)
 unfolding limit_in with_outline exceeds_limit
-one_limit before l outlines resolve_name =
+one_limit before l outlines from =
     let c = counts_of before in
     let r = role_in l.1 in
     let many = nat_lt 8 (length (locals_of l.1)) in
-    ap (λ (t : Bool). option_map_or (λ d. limit_in d outlines) (cond t None (with_role c r)) (Some l.0)) (many_by l.1.tokens (declares kind.Function l.1) resolve_name)
+    ap (λ (t : Bool). option_map_or (λ d. limit_in d outlines) (cond t None (with_role c r)) (Some l.0)) (many_by l.1.tokens (declares kind.Function l.1) (named l.1 from))
     ∙ ap (λ (o : Option Counts). option_map_or (λ d. limit_in d outlines) o (Some l.0)) (role_counted c r many)
     ∙ decided (is_past c r many) (counted c r) l.0 outlines
     ∙ ap (λ (d : Counts). cond (is_past c r many) (Some l.0) (limit_in d outlines)) (sym (counts_more l.1 before))
 
-limits_by_counts : (before : List ParsedLine) (lines : List Line) → EachNamed lines → limit_in (counts_of before) (outlines_of lines) ≡ first_wrong exceeds_limit before lines
+limits_by_counts : (before : List ParsedLine) (lines : List Line) → EachParsed lines → limit_in (counts_of before) (outlines_of lines) ≡ first_wrong exceeds_limit before lines
 unfolding first_wrong
-limits_by_counts before [] resolve_name = limit_none (counts_of before)
-limits_by_counts before (l ∷ lines) resolve_name =
-    one_limit before l (outlines_of lines) resolve_name.0 ∙ ap (λ (o : Option ℕ). cond (exceeds_limit before l.1) (Some l.0) o) (limits_by_counts (l.1 ∷ before) lines resolve_name.1)
+limits_by_counts before [] from = limit_none (counts_of before)
+limits_by_counts before (l ∷ lines) from =
+    one_limit before l (outlines_of lines) from.0 ∙ ap (λ (o : Option ℕ). cond (exceeds_limit before l.1) (Some l.0) o) (limits_by_counts (l.1 ∷ before) lines from.1)
 
 pub limit_of_text : (text : List ℕ) → fault_at_line TooMany (limit_in none_yet (outlines_of (parsed_lines text))) ≡ too_many (parsed_lines text)
-unfolding too_many parsed_lines
-limit_of_text text = ap (fault_at_line TooMany) (limits_by_counts [] (filter_map parsed_numbered (spelled_lines text)) (each_named (spelled_lines text)))
+unfolding too_many
+limit_of_text text = ap (fault_at_line TooMany) (limits_by_counts [] (parsed_lines text) (parsed_lines_are_parsed text))

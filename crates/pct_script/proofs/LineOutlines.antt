@@ -7,7 +7,7 @@ use Rattle.pct_names.proofs.Names.{tokens_at, true, Unclosed, words_in, ℕ, ◌
 use Rattle.pct_script.specs.declared.scan.LineOutline.{LineOutline}
 use Rattle.pct_script.specs.Outlines.{outline_of_words, outline_numbered, outlines_in, outline_roles, outline_of, outlines_of}
 use Rattle.pct_grammar.proofs.TokensResolve.{words_at_lengths}
-use Rattle.pct_grammar.proofs.OptionSteps.{bind_some, map_some, cond_cases}
+use Rattle.pct_grammar.proofs.OptionFacts.{bind_some, map_some, cond_cases}
 
 -- ---- line by line
 

@@ -1,12 +1,7 @@
 -- The arguments of a line that have to be plain functions, token by token.
-use Rattle.pct_names.proofs.Names.{◌&&◌, ◌+◌, ◌++◌, ◌-◌, [], and_from, and_parts, ap, ap₂, ArgumentKind, arith, asks_plain, Bool, cond}
-use Rattle.pct_names.proofs.Names.{declaration_syntax, drop, false, length, LineKind, List, list_all, list_all-append, min, names_in, None}
-use Rattle.pct_names.proofs.Names.{not, plain_names, refl, replicate, slice_get, slice_get_cases, Some, suc, sym, syntax_of, Token, true}
-use Rattle.pct_names.proofs.Names.{zero, ℕ, ◌∙◌, ◌∷◌, ◌≡◌}
-use Rattle.pct_model.specs.declared.line_kind.ArgumentKind.TheVariants as argument_kind
-use Rattle.pct_model.specs.declared.line_kind.LineKind.TheVariants as line_kind
-use Rattle.pct_model.specs.declared.line_kind.SymbolKind.TheVariants as kind
-use Rattle.pct_script.specs.PlainArguments.{has_plain_arguments}
+use Rattle.pct_names.proofs.Names.{◌&&◌, ◌+◌, [], ap, ArgumentKind, arith, asks_plain, Bool, cond, drop, false, length, List, list_all}
+use Rattle.pct_names.proofs.Names.{list_all-append, names_in, None, plain_names, refl, slice_get, slice_get_cases, Some, suc, sym, Token}
+use Rattle.pct_names.proofs.Names.{true, ℕ, ◌∙◌, ◌∷◌, ◌≡◌}
 use Rattle.pct_script.proofs.FaultyWords.{argument_kind_first, past}
 
 -- the names of one token
@@ -53,35 +48,3 @@ module _ (P : List ℕ → Bool) where
   pub passes_here : (argument_kinds : List ArgumentKind) (at : ℕ) (p : ArgumentKind) (w : Token) (words : List Token) → slice_get argument_kinds at ≡ Some p → list_all P (names_here p w) ≡ true
       → list_all P (plain_names (drop (at + 1) argument_kinds) words) ≡ list_all P (plain_names (drop at argument_kinds) (w ∷ words))
   passes_here argument_kinds at p w words here right = sym (step argument_kinds at p w words here ∙ ap (λ (t : Bool). t && pass (drop (at + 1) argument_kinds) words) right)
-
--- ---- lines without such arguments
-
-abbrev no_plain : List ArgumentKind → Bool
-no_plain argument_kinds = list_all (λ p. not (asks_plain p)) argument_kinds
-
-none_named_here : (t : Bool) (p : ArgumentKind) (names : List (List ℕ)) → not t ≡ true → cond t names [] ≡ []
-none_named_here true p names none = absurd cc
-none_named_here false p names none = refl
-
-none_named : (argument_kinds : List ArgumentKind) (words : List Token) → no_plain argument_kinds ≡ true → plain_names argument_kinds words ≡ []
-unfolding plain_names
-none_named (p ∷ argument_kinds) (w ∷ words) none =
-    let both = and_parts (not (asks_plain p)) (no_plain argument_kinds) none in
-    ap₂ (λ a b. a ++ b) (none_named_here (asks_plain p) p (names_in (w ∷ [])) both.0) (none_named argument_kinds words both.1)
-none_named _ _ none = refl
-
-same_kinds : (n : ℕ) (p : ArgumentKind) → asks_plain p ≡ false → no_plain (replicate n p) ≡ true
-same_kinds zero p none = refl
-same_kinds (suc n) p none = and_from (not (asks_plain p)) (no_plain (replicate n p)) (ap not none) (same_kinds n p none)
-
-kinds_ask : (f : LineKind) (n : ℕ) → has_plain_arguments f ≡ false → no_plain ((syntax_of f).argument_kinds n) ≡ true
-unfolding syntax_of declaration_syntax
-kinds_ask (line_kind.Declares kind.Function) n none = same_kinds (n - 2) argument_kind.Local refl
-kinds_ask line_kind.Create n none = same_kinds (min 1 (n - 4)) argument_kind.Detached refl
-kinds_ask line_kind.AtFork n none = absurd cc
-kinds_ask line_kind.AtExit n none = absurd cc
-kinds_ask _ n none = refl
-
--- all names of a line without such arguments pass a test
-pub pass_without : (P : List ℕ → Bool) (f : LineKind) (n : ℕ) (words : List Token) → has_plain_arguments f ≡ false → list_all P (plain_names ((syntax_of f).argument_kinds n) words) ≡ true
-pass_without P f n words none = ap (list_all P) (none_named ((syntax_of f).argument_kinds n) words (kinds_ask f n none))

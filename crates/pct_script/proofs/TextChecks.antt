@@ -48,48 +48,38 @@ found_in_line text prefix l left e gone found = subst (λ check. IsFoundBy check
 pub left_are_parsed : (text : List ℕ) (prefix : List Line) (left : List (Numbered (List ℕ))) → IsStored text prefix left → spelling left ≡ None → list_all (λ l. is_some (parsed l.1)) left ≡ true
 left_are_parsed text prefix left gone none = gone.all (sym (spelling_or_parsed text) ∙ ap is_none (gone.spelling ∙ none))
 
-first_check : (s n t o : Option Fault) → s ≡ o → option_or s (option_or n (option_or t None)) ≡ option_or o (option_or n (option_or t None))
-first_check s n t o e = ap (λ f. option_or f (option_or n (option_or t None))) e
+-- the first fault of the checks after spelling, of stored lines
+abbrev fault_of_stored : List Line → Option Fault
+fault_of_stored lines = option_or (nesting (roles lines)) (option_or (fault_at_line TooMany (limit_in none_yet (outlines_of lines))) None)
 
-second_check : (n t o : Option Fault) → n ≡ o → option_or n (option_or t None) ≡ option_or o (option_or t None)
-second_check n t o e = ap (λ f. option_or f (option_or t None)) e
-
-third_check : (t o : Option Fault) → t ≡ o → option_or t None ≡ option_or o None
-third_check t o e = ap (λ f. option_or f None) e
+early_is : (text : List ℕ) (lines : List Line) → AreStored text lines → early_fault text ≡ fault_of_stored lines
+unfolding early_fault
+early_is text lines kept =
+    let all = parsed_lines text in
+    ap (λ (s : Option Fault). option_or s (option_or (nesting (roles all)) (option_or (too_many all) None))) kept.0
+    ∙ ap (λ (t : Option Fault). option_or (nesting (roles all)) (option_or t None)) (sym (limit_of_text text)) ∙ ap fault_of_stored (same_Some all lines kept.1)
 
 -- the check of nesting finds the first fault
 pub nests_wrong : (text : List ℕ) (lines : List Line) (e : ParseFault) → AreStored text lines → IsFoundBy (nesting (roles lines)) e → IsFoundBy (early_fault text) e
-unfolding early_fault
 nests_wrong text lines fault.NoMemory kept found = tt
 nests_wrong text lines (fault.Refused line why) kept found =
-    let n = nesting (roles (parsed_lines text)) in
-    let t = too_many (parsed_lines text) in
-    first_check (spelling (spelled_lines text)) n t None kept.0
-    ∙ second_check n t (Some (line, why)) (ap (λ (ls : List Line). nesting (roles ls)) (same_Some (parsed_lines text) lines kept.1) ∙ found)
+    early_is text lines kept ∙ ap (λ (n : Option Fault). option_or n (option_or (fault_at_line TooMany (limit_in none_yet (outlines_of lines))) None)) found
+
+-- without a fault of nesting, the check of limits decides
+limit_decides : (text : List ℕ) (lines : List Line) (limit found : Option Fault) → AreStored text lines → nesting (roles lines) ≡ None
+    → limit ≡ fault_at_line TooMany (limit_in none_yet (outlines_of lines)) → limit ≡ found → early_fault text ≡ option_or found None
+limit_decides text lines limit found kept nested is e =
+    early_is text lines kept ∙ ap (λ (n : Option Fault). option_or n (option_or (fault_at_line TooMany (limit_in none_yet (outlines_of lines))) None)) nested
+    ∙ ap (λ (t : Option Fault). option_or t None) (sym is ∙ e)
 
 -- the check of limits finds the first fault
 pub passes_a_limit : (text : List ℕ) (lines : List Line) (e : ParseFault) (limit : Option Fault) → AreStored text lines → nesting (roles lines) ≡ None
     → limit ≡ fault_at_line TooMany (limit_in none_yet (outlines_of lines)) → IsFoundBy limit e → IsFoundBy (early_fault text) e
-unfolding early_fault
 passes_a_limit text lines fault.NoMemory limit kept nested is found = tt
-passes_a_limit text lines (fault.Refused line why) limit kept nested is found =
-    let n = nesting (roles (parsed_lines text)) in
-    let t = too_many (parsed_lines text) in
-    let same = same_Some (parsed_lines text) lines kept.1 in
-    first_check (spelling (spelled_lines text)) n t None kept.0
-    ∙ second_check n t None (ap (λ (ls : List Line). nesting (roles ls)) same ∙ nested)
-    ∙ third_check t (Some (line, why)) (sym (limit_of_text text) ∙ ap (λ (ls : List Line). fault_at_line TooMany (limit_in none_yet (outlines_of ls))) same ∙ sym is ∙ found)
+passes_a_limit text lines (fault.Refused line why) limit kept nested is found = limit_decides text lines limit (Some (line, why)) kept nested is found
 
 -- no check finds a fault
 pub passes_all_three : (text : List ℕ) (lines : List Line) (read : List Line) (limit : Option Fault) → AreStored text lines → nesting (roles lines) ≡ None
     → limit ≡ fault_at_line TooMany (limit_in none_yet (outlines_of lines)) → limit ≡ None → read ≡ lines → (early_fault text ≡ None) × (Some (parsed_lines text) ≡ Some read)
-unfolding early_fault
 passes_all_three text lines read limit kept nested is none reads =
-    let n = nesting (roles (parsed_lines text)) in
-    let t = too_many (parsed_lines text) in
-    let same = same_Some (parsed_lines text) lines kept.1 in (
-      first_check (spelling (spelled_lines text)) n t None kept.0
-          ∙ second_check n t None (ap (λ (ls : List Line). nesting (roles ls)) same ∙ nested)
-          ∙ third_check t None (sym (limit_of_text text) ∙ ap (λ (ls : List Line). fault_at_line TooMany (limit_in none_yet (outlines_of ls))) same ∙ sym is ∙ none),
-      ap (λ (ls : List Line). Some ls) (same ∙ sym reads),
-    )
+    (limit_decides text lines limit None kept nested is none, ap (λ (ls : List Line). Some ls) (same_Some (parsed_lines text) lines kept.1 ∙ sym reads))

@@ -1,6 +1,5 @@
 pub mod Fault
 pub mod Fitting
-pub mod PlainArguments
 pub mod SpelledLines
 pub mod DeclaredNames
 pub mod PushCounts
@@ -13,4 +12,3 @@ pub mod Symbols
 pub mod UnknownNames
 pub mod StoredContents
 pub mod StatementLines
-pub mod LineRuns

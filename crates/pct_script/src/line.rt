@@ -7,7 +7,7 @@ ghost use Rattle.pct_model.specs.LineParsing.{parsed, parsed_words, words_in};
 use crate::arguments::tokens_at;
 use crate::spelling::line_kind_of;
 use pct_model::{ParsedLine, Role, SymbolKind};
-use pct_text::{count_words, next_word};
+use pct_text::{are_allowed, count_words, next_word};
 use std::alloc::{AllocError, Global};
 
 /// A parsed line with its number.
@@ -30,13 +30,16 @@ fn parsed_words(alloc: Global, line: &[u8]) -> Result<Option<ParsedLine>, AllocE
     Ok(Some(ParsedLine { line_kind, tokens }))
 }
 
-/// Parses a line. The result is `None` for a line that is misspelled, blank or a comment. A byte that is not allowed needs no
-/// check of its own: no word with one can be parsed.
-#[tactic(auto, using(crate::proofs::AllowedLines::parsed_by_words))]
+/// Parses a line. The result is `None` for a line that is misspelled, blank or a comment.
+#[tactic(auto, unfolding(pct_model::specs::LineParsing::parsed))]
 pub(crate) fn parse_line(alloc: Global, line: &[u8]) -> Result<Option<ParsedLine>, AllocError>
     ensures { IfOk result (λ found. found ≡ parsed line.now) }
 {
-    parsed_words(alloc, line)
+    if are_allowed(line) {
+        parsed_words(alloc, line)
+    } else {
+        Ok(None)
+    }
 }
 
 /// Appends the parsed line, if it can be parsed.

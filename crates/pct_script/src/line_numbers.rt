@@ -1,14 +1,13 @@
 //! The numbers of the lines of a script's statements.
 
-ghost use Rattle.std.specs.Prelude.{IfOk, MatchOption, None, OnOk, Some, [], length, slice_get, ◌++◌, ◌∷◌, ◌≡◌, ◌≤◌};
+ghost use Rattle.std.specs.Prelude.{IfOk, OnOk, if◌then◌else◌, length, [], ◌++◌, ◌∷◌, ◌≡◌, ◌≤◌};
 ghost use Rattle.pct_model.specs.declared.limits.TheConstants.{MAX_INPUT};
-ghost use Rattle.pct_script.specs.LineRuns.{with_more};
 ghost use Rattle.pct_script.specs.StatementLines.{line_at, statement_lines, LinesAreOfStatements, LinesAscend, LinesSpellStatements};
 
 use crate::line::declares;
 use crate::scan::{SpelledLines, next_parsed};
 use crate::sections::is_statement;
-use pct_model::SymbolKind;
+use pct_model::{Sequence, SymbolKind};
 use std::alloc::{AllocError, Global};
 use std::marker::Model;
 
@@ -16,70 +15,40 @@ use std::marker::Model;
 /// functions, with one number for each statement, in the order of the program counters.
 #[derive(Debug, Drop)]
 pub struct StatementLines {
-    /// The numbers of all functions, one function after the other.
-    numbers: Vec<u32>,
-    /// The index of the first number of each function.
-    starts: Vec<usize>,
+    functions: Vec<Sequence<u32>>,
 }
 
 impl Model for StatementLines {
-    ghost use Rattle.std.specs.Prelude.{ℕ, List, length};
-    ghost use Rattle.pct_script.specs.LineRuns.{AreStarts, lists_at};
+    ghost use Rattle.std.specs.Prelude.{ℕ, List};
 
     ghost Value = { List (List ℕ) };
 
-    ghost view = { λ lines. lists_at lines.numbers.items lines.starts.items };
-
-    ghost invariant = { λ lines. AreStarts (length lines.numbers.items) lines.starts.items };
+    ghost view = { λ lines. lines.functions.items };
 }
 
 impl StatementLines {
-    // No functions.
-    fn new(alloc: Global) -> StatementLines
-        ensures { result ≡ [] }
-    {
-        StatementLines {
-            numbers: Vec::new(alloc),
-            starts: Vec::new(alloc),
-        }
-    }
-
-    // Appends a function without statements.
-    fn push_function(&mut self) -> Result<(), AllocError>
-        ensures { OnOk result (self.new ≡ self.old ++ [] ∷ []) }
-    {
-        self.starts.push(self.numbers.len())?;
-        Ok(())
-    }
-
-    // Appends the number of a line to the last function.
-    fn push_number(&mut self, number: u32) -> Result<(), AllocError>
-        ensures { OnOk result (self.new ≡ with_more self.old (number ∷ [])) }
-    {
-        self.numbers.push(number)?;
-        Ok(())
-    }
-
-    // The numbers of a function's lines.
-    fn numbers_of(&self, func: usize) -> Option<&[u32]>
-        ensures { MatchOption result (slice_get self.now func ≡ None) (λ numbers. slice_get self.now func ≡ Some numbers.now) }
-    {
-        let start = *self.starts.get(func)?;
-        let end = self
-            .starts
-            .get(func + 1)
-            .copied()
-            .unwrap_or(self.numbers.len());
-        self.numbers.get(start..end)
-    }
-
     /// The number of the line of the statement of a function at this program counter, or `None` if there is no such
     /// statement.
     pub fn line(&self, func: u32, pc: u32) -> Option<u32>
         ensures { result ≡ line_at self.now func pc }
     {
-        self.numbers_of(func as usize)?.get(pc as usize).copied()
+        let numbers = self.functions.get(func as usize)?;
+        numbers.as_slice().get(pc as usize).copied()
     }
+}
+
+// Appends the numbers of the lines since the last declaration, if that was of a function.
+fn end_section(
+    functions: &mut Vec<Sequence<u32>>,
+    numbers: Vec<u32>,
+    in_function: bool,
+) -> Result<(), AllocError>
+    ensures { OnOk result (functions.new.items ≡ (if in_function then functions.old.items ++ numbers.items ∷ [] else functions.old.items)) }
+{
+    if in_function {
+        functions.push(Sequence::of(numbers))?;
+    }
+    Ok(())
 }
 
 /// The numbers of the lines of the statements of each function of a script's text. A line is a statement of the function
@@ -88,22 +57,21 @@ pub fn statement_lines(alloc: Global, text: &[u8]) -> Result<StatementLines, All
     requires { length text.now ≤ MAX_INPUT }
     ensures { IfOk result (λ lines. lines ≡ statement_lines text.now) }
 {
-    let mut found = StatementLines::new(alloc);
+    let mut functions = Vec::new(alloc);
+    let mut numbers = Vec::new(alloc);
     let mut in_function = false;
     let mut left = SpelledLines::of(text);
     while let Some((number, line)) = next_parsed(alloc, &mut left)? {
         if is_statement(&line) {
-            if in_function {
-                found.push_number(number)?;
-            }
+            numbers.push(number)?;
         } else {
+            end_section(&mut functions, numbers, in_function)?;
+            numbers = Vec::new(alloc);
             in_function = declares(SymbolKind::Function, &line);
-            if in_function {
-                found.push_function()?;
-            }
         }
     }
-    Ok(found)
+    end_section(&mut functions, numbers, in_function)?;
+    Ok(StatementLines { functions })
 }
 
 /// An empty function whose contract states the theorems. The line of each statement of the script that a text spells is a

@@ -7,12 +7,11 @@ ghost use Rattle.pct_model.specs.declared.line_kind.SymbolKind.TheVariants.{Func
 ghost use Rattle.pct_model.specs.Names.{index_among};
 ghost use Rattle.pct_model.specs.Sections.{role_in, names_in, names_declared, functions_in, split_sections, are_in_functions};
 ghost use Rattle.pct_model.specs.Checks.{first_that, asks_plain, is_plain, is_plain_section, is_plain_function, names_other, not_plain};
-ghost use Rattle.pct_script.specs.PlainArguments.{has_plain_arguments};
 
 use crate::line::{Line, role_in};
 use crate::sections::next_function;
 use crate::symbols::next_declared;
-use pct_model::{ArgumentKind, Block, LineKind, ParseWhy, ParsedLine, Role, SymbolKind, Token};
+use pct_model::{ArgumentKind, Block, ParseWhy, ParsedLine, Role, SymbolKind, Token};
 
 fn asks_plain(argument_kind: ArgumentKind) -> bool
     ensures { result ≡ asks_plain argument_kind }
@@ -97,24 +96,12 @@ fn is_plain_word(lines: &[Line], argument_kind: ArgumentKind, word: &Token) -> b
     }
 }
 
-fn has_plain_arguments(line_kind: LineKind) -> bool
-    ensures { result ≡ has_plain_arguments line_kind }
-{
-    match line_kind {
-        LineKind::AtFork | LineKind::AtExit => true,
-        _ => false,
-    }
-}
-
 // Whether the line names a function that is not plain as an argument that has to be plain.
-#[tactic(auto, unfolding(pct_model::specs::Checks::names_other), using(crate::proofs::PlainWords::pass_at_end, crate::proofs::PlainWords::pass_after, crate::proofs::PlainWords::fails_here, crate::proofs::PlainWords::passes_here, crate::proofs::PlainWords::pass_without))]
+#[tactic(auto, unfolding(pct_model::specs::Checks::names_other), using(crate::proofs::PlainWords::pass_at_end, crate::proofs::PlainWords::pass_after, crate::proofs::PlainWords::fails_here, crate::proofs::PlainWords::passes_here))]
 fn names_other(lines: &[Line], line: &ParsedLine) -> bool
     requires { (split_sections lines.now).preamble ≡ [] }
     ensures { result ≡ names_other lines.now line.now }
 {
-    if !has_plain_arguments(line.line_kind) {
-        return false;
-    }
     let words = line.tokens.as_slice();
     let mut at: usize = 0;
     let mut rest = words;

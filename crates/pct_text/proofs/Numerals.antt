@@ -43,13 +43,8 @@ value_is n (d ∷ ds) fits = value_step n d ds (is_digit d) (nat_le (n * 10 + (d
 
 numeral_by : (some all short fits : Bool) (n : ℕ) → cond (some && short) (cond (all && fits) (Some n) None) None ≡ cond (some && all && short && fits) (Some n) None
 numeral_by true true true fits n = refl
-numeral_by true true false fits n = refl
 numeral_by true false true fits n = refl
-numeral_by true false false fits n = refl
-numeral_by false true true fits n = refl
-numeral_by false true false fits n = refl
-numeral_by false false true fits n = refl
-numeral_by false false false fits n = refl
+numeral_by _ _ _ fits n = refl
 
 -- the loop over 1 to 10 digits gives the numeral
 pub numeral_as_read : (w : List ℕ) → numeral_in w ≡ numeral w
