@@ -12,6 +12,7 @@ pub mod joins
 pub mod waits
 pub mod slots
 pub mod steps
+pub mod results
 pub mod ends
 pub mod requests
 pub mod processes
