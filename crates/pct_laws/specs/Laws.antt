@@ -40,11 +40,11 @@ pub record Laws (script : Script) (config : Config) (entries : List Entry) (r : 
   -- a running thread makes the events of its next statement, with the values of the operands, unless it acts upon a request or its
   -- statement is a stop; a call suspends it for what the operands name, and it leaves the call with an event that names the same
   pub statements : StatementLaw script config entries
-  -- a call that has a result stores it in the variable that its statement names, as do `set` and `add`; and each other global keeps its
-  -- value, and each other local in a step that stores a result
+  -- a call that has a result stores it in the variable that its statement names, as do `set` and `add`; each other global keeps its
+  -- value, and so does each other local of a function that goes on
   pub results : ResultLaw script config entries
-  -- pthread_setspecific gives its thread the value of the operand; a new thread has NULL for each key; and a step changes no value of another
-  -- thread, unless it deletes the key, and nothing of the threads of another process
+  -- pthread_setspecific gives its thread the value of the operand; a new thread has NULL for each key, and each thread for a new key; and
+  -- a step changes no other value of another thread, and no thread of another process
   pub values : ValueLaw script config entries
   -- each join that returns gets the value of a thread that has ended, no thread is joined twice or while it is detached, and no
   -- request or detach names a thread outside the lifetime of its id

@@ -1,10 +1,10 @@
 -- The law of results: a call that has a result stores it in the variable that its statement names, as do `set` and `add`. One table has what
 -- each statement stores, as it is executed or as its call returns: the number that the event of the step reports, or else one of the state
--- before it. Each other global keeps its value, and each other local in a step that stores a result.
+-- before it. Each other global keeps its value, and so does each other local of a function that goes on.
 --
--- It leaves open what the events report (StatementLaw.antt, JoinLaw.antt, ProcessLaw.antt), and what happens to the locals in a step that
--- stores nothing.
-use Rattle.std.specs.Prelude.{◌≡◌, ℕ, ◌+◌, ◌%◌, if◌then◌else◌, Bool, false, List, [], ◌∷◌, nat_eq, slice_index, Option, Some, None, option_map}
+-- It leaves open what the events report (StatementLaw.antt, JoinLaw.antt, ProcessLaw.antt), and the locals of the functions below the one
+-- that executes the statement.
+use Rattle.std.specs.Prelude.{◌≡◌, ℕ, ◌+◌, ◌%◌, if◌then◌else◌, Bool, true, false, not, ◌||◌, List, [], ◌∷◌, length, nat_eq, slice_index, Option, Some, None, option_map}
 use Rattle.pct_model.specs.declared.event.Caller.TheVariants as caller
 use Rattle.pct_model.specs.declared.event.What.{What}
 use Rattle.pct_model.specs.declared.event.What.TheVariants as what
@@ -115,14 +115,18 @@ abbrev pub local_on_top : ℕ → List Frame → Option ℕ
 local_on_top i [] = None
 local_on_top i (frame ∷ below) = Some (slice_index frame.locals i)
 
+-- the function that executes the statement goes on: the step stores something, or the thread has as many frames as before
+abbrev pub goes_on_in_function : Script → ThreadStep → Bool
+goes_on_in_function script s = not (is_empty (stored script s)) || nat_eq (length s.after.frames) (length s.before.frames)
+
 -- ---- the law
 
 -- each variable has what the step stores in it, or else keeps its value
 pub record StoresResults (script : Script) (s : ThreadStep) : Type 0 where
   -- each global of the process
   pub globals : (i : ℕ) → slice_index s.process_after.shared.globals i ≡ after_stores (destination.Global i) (stored script s) (slice_index s.process.shared.globals i)
-  -- each local of the function that executes the statement, which goes on, if the step stores something
-  pub locals : is_empty (stored script s) ≡ false → (i : ℕ)
+  -- each local of the function that executes the statement, if it goes on
+  pub locals : goes_on_in_function script s ≡ true → (i : ℕ)
       → local_on_top i s.after.frames ≡ option_map (after_stores (destination.Local i) (stored script s)) (local_on_top i s.before.frames)
 
 -- the law of results, of the run of a schedule

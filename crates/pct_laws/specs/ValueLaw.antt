@@ -1,6 +1,6 @@
 -- The law of thread-specific data: pthread_setspecific gives its thread the value of the operand; a new thread has NULL for each key, and
--- the thread of a new process has the values of the thread that forked; a deleted key leaves NULL in each thread; and a step changes no
--- other value of another thread (XSH pthread_setspecific, pthread_key_create, pthread_key_delete, fork). Which values of its own thread a
+-- the thread of a new process has the values of the thread that forked; a new key has NULL in each thread, and a deleted one leaves NULL;
+-- and a step changes no other value of another thread (XSH pthread_setspecific, pthread_key_create, pthread_key_delete, fork). Which values of its own thread a
 -- step may change is in Ends.antt.
 use Rattle.std.specs.Prelude.{◌≡◌, ◌≢◌, ℕ, Bool, true, false, not, ◌||◌, List, nat_eq, Option, Some, None}
 use Rattle.std.specs.List.{list_any}
@@ -35,13 +35,20 @@ abbrev pub deletes_at : ℕ → What → Bool
 deletes_at place (what.KeyGone key) = nat_eq (key_place key) place
 deletes_at place _ = false
 
+-- the event is that a key is made on a place
+abbrev pub makes_at : ℕ → What → Bool
+makes_at place (what.KeyMade key) = nat_eq (key_place key) place
+makes_at place _ = false
+
 -- what a step does to the value at a place, of a thread of its process
 pub record KeepsThread (s : ThreadStep) (place tid : ℕ) (after : Thread) : Type 0 where
   -- another thread than its own keeps the value
   pub other : tid ≢ s.tid → (before : Thread) → thread_with tid s.process ≡ Some before → list_any (deletes_at place) s.events ≡ false → value_at place after.specific ≡ value_at place before.specific
   -- but for a key that is deleted: each thread has NULL at its place. No call reads it there but as the value of the next key on this place
   pub deleted : list_any (deletes_at place) s.events ≡ true → value_at place after.specific ≡ 0
-  -- a new thread has NULL
+  -- a new key has NULL in each thread
+  pub made : list_any (makes_at place) s.events ≡ true → value_at place after.specific ≡ 0
+  -- a new thread has NULL for each key
   pub new : thread_with tid s.process ≡ None → value_at place after.specific ≡ 0
 
 -- so it is at each place, of each thread

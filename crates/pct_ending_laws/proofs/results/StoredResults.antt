@@ -1,10 +1,10 @@
 -- The law of results: what each step of a run stores is what its statement stores, by the table.
-use Rattle.pct_names.proofs.Names.{[], act_if, acts_on_request, acts_or, adds, AllByRecursion, Alt, ap, at_pc, begins_fork, begins_join}
+use Rattle.pct_names.proofs.Names.{[], act_if, acts_on_request, acts_or, adds, AllByRecursion, Alt, ap, arith, at_pc, begins_fork, begins_join}
 use Rattle.pct_names.proofs.Names.{begins_sem_wait, begins_wait, begins_waitpid, body_at, Bool, broadcasts, calls, calls_handler}
 use Rattle.pct_names.proofs.Names.{calls_point, choices_at, cond, Config, creates, creates_by, creates_key, creates_key_by, deletes_key}
 use Rattle.pct_names.proofs.Names.{Dest, detaches, emits, ends_block, ends_by_exit, ends_join, ends_now, Entry, exits, fails_to_create}
 use Rattle.pct_names.proofs.Names.{fails_to_create_key, false, false≢true, finds_no_child, for_each, ForkAt, forks_by, Frame, FrameKind}
-use Rattle.pct_names.proofs.Names.{gets_self, gets_specific, goes_on, goes_on_after_handlers, goes_on_forking, HandlerCall, is_live_thread}
+use Rattle.pct_names.proofs.Names.{gets_self, gets_specific, goes_on, goes_on_after_handlers, goes_on_forking, HandlerCall, has_no_frame, inl, inr, is_live_thread}
 use Rattle.pct_names.proofs.Names.{exit_value_with, joins_at, jumps, leaves_handler, length, List, list_all, locks, MAX_FORK_HANDLERS, may_register, moved, Operand}
 use Rattle.pct_names.proofs.Names.{named_after, nat_eq, nat_lt, next_handler, next_of, NextStatement, None, NoStatement, offers, open_of}
 use Rattle.pct_names.proofs.Names.{Option, option_map, Optional, Others, others_of, Parent, Phase, point_kind, PointKind, pops, posts, Prepare}
@@ -12,7 +12,8 @@ use Rattle.pct_names.proofs.Names.{Process, pushes, reaps, reaps_if, refl, regis
 use Rattle.pct_names.proofs.Names.{returns_in_child, returns_in_parent, Run, run, runs, Script, sets, sets_mode, sets_specific, sets_state}
 use Rattle.pct_names.proofs.Names.{SharedState, signals_by, slice_index, Some, StatementIn, Status, Stmt, stop_at, stops_or, subst, suc, sym}
 use Rattle.pct_names.proofs.Names.{tests_cancel, Thread, thread_after, thread_at, thread_moved, Transition, transition_at, transition_by}
-use Rattle.pct_names.proofs.Names.{true, unlocks, value_of, waits_at, What, Why, ◌||◌, ℕ, ◌∙◌, ◌∷◌, ◌≡◌}
+use Rattle.pct_names.proofs.Names.{true, unlocks, value_of, waits_at, What, Why, without_first, not, ◌||◌, ℕ, ◌∙◌, ◌∷◌, ◌≡◌, ◌≢◌, ◌⊎◌}
+use Rattle.std.proofs.Common.{eqb-true}
 use Rattle.std.proofs.lemmas.Bool.{true≢false}
 use Rattle.pct_model.specs.declared.event.Caller.TheVariants as caller
 use Rattle.pct_model.specs.declared.event.What.TheVariants as what
@@ -26,11 +27,13 @@ use Rattle.pct_model.specs.declared.statement.Stmt.TheVariants as statement
 use Rattle.pct_model.specs.declared.transition.Action.TheVariants as action
 use Rattle.pct_model.specs.LineParsing.{is_empty}
 use Rattle.pct_laws.specs.CancelLaw.{acts_or_stops}
-use Rattle.pct_laws.specs.ResultLaw.{Store, stored_at, stored_by, stored, after_stores, local_on_top, StoresResults}
+use Rattle.pct_laws.specs.ResultLaw.{Store, stored_at, stored_by, stored, after_stores, goes_on_in_function, local_on_top, StoresResults}
 use Rattle.pct_transition_cases.proofs.PlacedStatements.{IsPlaced, is_placed}
-use Rattle.pct_transition_cases.proofs.TransitionCases.{TransitionCase, rests, variable_set, variable_added, thread_made, thread_not_made, join_ended, self_got, state_set, mode_set, fork_registered, fork_not_registered, fork_failed, fork_returned, child_reaped, no_child_found, child_lost, key_made, key_not_made, specific_got, exit_registered, exit_not_registered}
+use Rattle.pct_transition_cases.proofs.TransitionCases.{TransitionCase, rests, function_called, main_returned, start_returned, call_left, handler_left, exit_function_left, canceled, canceled_at_point, canceled_in_join, canceled_in_sem_wait, canceled_in_waitpid, ended_in_wait, fork_handler_called, fork_handler_left, handler_called, exit_called, handler_run, destructor_called, last_ended, last_ended_with_keys, process_exited, exit_function_called, variable_set, variable_added, thread_made, thread_not_made, join_ended, self_got, state_set, mode_set, fork_registered, fork_not_registered, fork_failed, fork_returned, child_reaped, no_child_found, child_lost, key_made, key_not_made, specific_got, exit_registered, exit_not_registered}
+use Rattle.pct_ending_laws.proofs.ThreadsOfRun.{threads_kept}
 use Rattle.pct_ending_laws.proofs.lift.ChangedThreads.{all_keep, named_keeps, changed_shared}
 use Rattle.pct_ending_laws.proofs.lift.EveryProcess.{moves_of_run, process_taken}
+use Rattle.pct_ending_laws.proofs.lift.MadeThreads.{IsLive}
 use Rattle.pct_ending_laws.proofs.lift.TakenSteps.{IsTaken}
 use Rattle.pct_ending_laws.proofs.lift.ThreadsAfter.{Moves, mover}
 use Rattle.pct_ending_laws.proofs.results.NamedVariables.{names_variables}
@@ -294,6 +297,55 @@ module _ (passes : ℕ) (body : List Stmt) (shared : SharedState) (t : Thread) (
   case_keeps (rests next s alive) = refl
   case_keeps _ = refl
 
+  -- one that does not keep them changes their number, but for a thread that has none
+  abbrev Changes : List Frame → List Frame → Type 0
+  Changes frames after = (length after ≢ length frames) ⊎ ((frames ≡ []) × (after ≡ []))
+
+  emptied : (frames : List Frame) → Changes frames []
+  emptied [] = inr (refl, refl)
+  emptied (frame ∷ below) = inl (λ same. absurd (omega (arith, same)))
+
+  shortened : (frames : List Frame) → Changes frames (without_first frames)
+  shortened [] = inr (refl, refl)
+  shortened (frame ∷ below) = inl (λ same. absurd (omega (arith, same)))
+
+  deepened : (new : Frame) (frames : List Frame) → Changes frames (new ∷ frames)
+  deepened new frames = inl (λ same. absurd (omega (arith, same)))
+
+  deepened_at : (new : Frame) (pc : ℕ) (frames : List Frame) → Changes frames (new ∷ at_pc pc frames)
+  deepened_at new pc [] = inl (λ same. absurd (omega (arith, same)))
+  deepened_at new pc (frame ∷ below) = inl (λ same. absurd (omega (arith, same)))
+
+  alone : (new : Frame) (frames : List Frame) → is_empty frames ≡ true → Changes frames (new ∷ [])
+  alone new [] none = inl (λ same. absurd (omega (arith, same)))
+  alone new (frame ∷ below) none = absurd (false≢true none)
+
+  case_changes : {next : NextStatement} {s : Status} {o : Transition} → TransitionCase passes body shared t others true next s o → is_empty t.frames ≡ has_no_frame s → list_all keeps_frames o.actions ≡ false → Changes t.frames (moved o t).frames
+  unfolding thread_after thread_at
+  case_changes (function_called frame f v room) has changes = deepened_at _ _ t.frames
+  case_changes (main_returned frame s v returns is once) has changes = emptied t.frames
+  case_changes (start_returned frame s v returns is) has changes = emptied t.frames
+  case_changes (call_left frame s v returns is) has changes = shortened t.frames
+  case_changes (handler_left frame s v returns is) has changes = shortened t.frames
+  case_changes (exit_function_left frame s v returns is) has changes = shortened t.frames
+  case_changes (canceled next asked may) has changes = emptied t.frames
+  case_changes (canceled_at_point next index asked) has changes = emptied t.frames
+  case_changes (canceled_in_join next id asked) has changes = emptied t.frames
+  case_changes (canceled_in_sem_wait next sem asked) has changes = emptied t.frames
+  case_changes (canceled_in_waitpid next pid asked) has changes = emptied t.frames
+  case_changes (ended_in_wait next c m free) has changes = emptied t.frames
+  case_changes (fork_handler_called next at call is) has changes = deepened _ t.frames
+  case_changes (fork_handler_left frame s v at returns is kept) has changes = shortened t.frames
+  case_changes (handler_called frame v f a handlers is room called) has changes = deepened_at _ _ t.frames
+  case_changes (exit_called frame v unbegun) has changes = emptied t.frames
+  case_changes (handler_run next f a handlers is) has changes = alone _ t.frames has
+  case_changes (destructor_called next k f key none is named among) has changes = alone _ t.frames has
+  case_changes (last_ended next none last due left) has changes = emptied t.frames
+  case_changes (last_ended_with_keys next left none last some made is none_left) has changes = emptied t.frames
+  case_changes (process_exited frame v once) has changes = emptied t.frames
+  case_changes (exit_function_called next f functions is) has changes = alone _ t.frames has
+  case_changes _ has changes = absurd (true≢false changes)
+
 -- ---- each step of a run
 
 top_at : (pc i : ℕ) (frames : List Frame) → local_on_top i (at_pc pc frames) ≡ local_on_top i frames
@@ -333,30 +385,57 @@ module _ (script : Script) (config : Config) where
     in_variables : InVariables script (stores_of o.actions)
     in_variables = case_named config.passes (body_at script t.frames) p.shared t (others_of config.slots r.world p t.id) script (is_placed script t.frames) case
 
+    -- the frames are those after its own actions
+    frames_are : (thread_moved e.tid o t).frames ≡ (moved o t).frames
+    frames_are =
+        all_keep (λ (u : Thread). u.frames) named_after (named_keeps (λ (u : Thread). u.frames) (λ t joined pending detached specific s same. refl)) o.actions (cond (is_live_thread e.tid t) (moved o t) t)
+        ∙ ap (λ (b : Bool). (cond b (moved o t) t).frames) (mover script config r.world p e t moves).live
+
     global_after : (i : ℕ) → slice_index (step_of script config r p e t).process_after.shared.globals i ≡ after_stores (destination.Global i) its (slice_index p.shared.globals i)
     global_after i =
         ap (λ (s : SharedState). slice_index s.globals i) (changed_shared e.tid o p) ∙ globals_after script o.actions p.shared in_variables have.globals i
         ∙ ap (λ (stores : List Store). after_stores (destination.Global i) stores (slice_index p.shared.globals i)) stores_are
 
-    -- a step that stores a number keeps the frames of its thread
-    keeps : is_empty its ≡ false → list_all keeps_frames o.actions ≡ true
-    keeps some = by_test (is_empty (stores_of o.actions)) (list_all keeps_frames o.actions) (ap (λ (stores : List Store). is_empty stores) stores_are ∙ some) (case_keeps config.passes (body_at script t.frames) p.shared t (others_of config.slots r.world p t.id) case)
-      where
-        by_test : (none kept : Bool) → none ≡ false → (none || kept) ≡ true → kept ≡ true
-        by_test true kept some one = absurd (true≢false some)
-        by_test false kept some one = one
-
-    local_after : is_empty its ≡ false → (i : ℕ) → local_on_top i (thread_moved e.tid o t).frames ≡ option_map (after_stores (destination.Local i) its) (local_on_top i t.frames)
-    local_after some i =
+    -- the locals, where the frames are kept
+    local_kept : list_all keeps_frames o.actions ≡ true → (i : ℕ) → local_on_top i (thread_moved e.tid o t).frames ≡ option_map (after_stores (destination.Local i) its) (local_on_top i t.frames)
+    local_kept kept i =
         let start : Thread = thread_at o.next t in
         let locals : HaveLocals script t.frames = (have.threads e.tid t (mover script config r.world p e t moves).found).locals in
-        ap (λ (frames : List Frame). local_on_top i frames) (
-            all_keep (λ (u : Thread). u.frames) named_after (named_keeps (λ (u : Thread). u.frames) (λ t joined pending detached specific s same. refl)) o.actions (cond (is_live_thread e.tid t) (moved o t) t)
-            ∙ ap (λ (b : Bool). (cond b (moved o t) t).frames) (mover script config r.world p e t moves).live
-            ∙ frames_moved o.actions (keeps some) start)
+        ap (λ (frames : List Frame). local_on_top i frames) (frames_are ∙ frames_moved o.actions kept start)
         ∙ local_with script (stores_of o.actions) start.frames in_variables (start_has script o.next t locals) i
         ∙ ap (λ (stores : List Store). option_map (after_stores (destination.Local i) stores) (local_on_top i start.frames)) stores_are
         ∙ ap (option_map (after_stores (destination.Local i) its)) (start_top o.next i t)
+
+    -- where they are not, the function does not go on, or there is none
+    local_changed : list_all keeps_frames o.actions ≡ false → goes_on_in_function script (step_of script config r p e t) ≡ true → (i : ℕ) → local_on_top i (thread_moved e.tid o t).frames ≡ option_map (after_stores (destination.Local i) its) (local_on_top i t.frames)
+    local_changed changes on i =
+        by_change (case_changes config.passes (body_at script t.frames) p.shared t (others_of config.slots r.world p t.id) case has_frames changes)
+      where
+        has_frames : is_empty t.frames ≡ has_no_frame t.status
+        has_frames = let it : IsLive p e.tid t = mover script config r.world p e t moves in (threads_kept script config before r is e.pid e.tid p t (process_taken script config before r is e p t taken) it.found it.here).frames
+
+        nothing : is_empty its ≡ true
+        nothing = by_test (is_empty (stores_of o.actions)) (ap (λ (stores : List Store). is_empty stores) stores_are) (ap (λ (b : Bool). is_empty (stores_of o.actions) || b) (sym changes) ∙ case_keeps config.passes (body_at script t.frames) p.shared t (others_of config.slots r.world p t.id) case)
+          where
+            by_test : (none : Bool) → none ≡ is_empty its → (none || false) ≡ true → is_empty its ≡ true
+            by_test true same one = sym same
+            by_test false same one = absurd (false≢true one)
+
+        same_number : length (thread_moved e.tid o t).frames ≡ length t.frames
+        same_number = eqb-true _ _ (sym (ap (λ (b : Bool). not b || nat_eq (length (thread_moved e.tid o t).frames) (length t.frames)) nothing) ∙ on)
+
+        by_change : Changes config.passes (body_at script t.frames) p.shared t (others_of config.slots r.world p t.id) t.frames (moved o t).frames → local_on_top i (thread_moved e.tid o t).frames ≡ option_map (after_stores (destination.Local i) its) (local_on_top i t.frames)
+        by_change (inl differs) = absurd (differs (sym (ap (λ (frames : List Frame). length frames) frames_are) ∙ same_number))
+        by_change (inr none) =
+            ap (λ (frames : List Frame). local_on_top i frames) (frames_are ∙ none.1)
+            ∙ sym (ap (λ (frames : List Frame). option_map (after_stores (destination.Local i) its) (local_on_top i frames)) none.0)
+
+    local_after : goes_on_in_function script (step_of script config r p e t) ≡ true → (i : ℕ) → local_on_top i (thread_moved e.tid o t).frames ≡ option_map (after_stores (destination.Local i) its) (local_on_top i t.frames)
+    local_after on i = by_kept (list_all keeps_frames o.actions) refl
+      where
+        by_kept : (kept : Bool) → list_all keeps_frames o.actions ≡ kept → local_on_top i (thread_moved e.tid o t).frames ≡ option_map (after_stores (destination.Local i) its) (local_on_top i t.frames)
+        by_kept true kept = local_kept kept i
+        by_kept false changes = local_changed changes on i
 
     results_of_step : StoresResults script (step_of script config r p e t)
     results_of_step = record { globals = global_after; locals = local_after }
