@@ -8,7 +8,7 @@ use Rattle.pct_laws.specs.CancelLaw.{acts_where_it_may, acts_at_calls}
 use Rattle.pct_laws.specs.Ends.{each_may_begin, KeepsValues}
 use Rattle.pct_laws.specs.Kept.{IsPlainFunction, IsSuspendedInJoin}
 use Rattle.pct_laws.specs.CondLaw.{owners_allow, waits_allow, hand_ons_allow}
-use Rattle.pct_laws.specs.ResultLaw.{StoresResults}
+use Rattle.pct_laws.specs.ResultLaw.{KeepsAnswer, StoresResults}
 use Rattle.pct_laws.specs.StatementLaw.{says_statement, suspends_by_call, each_names_its_wait}
 use Rattle.pct_laws.specs.ValueLaw.{sets_its_value, KeepsThreads}
 use Rattle.pct_ending_laws.proofs.lift.EachAllowed.{each_both}
@@ -35,6 +35,7 @@ use Rattle.pct_ending_laws.proofs.requests.AwakenedThreads.{awakened_of_run}
 use Rattle.pct_ending_laws.proofs.requests.CancelStates.{cancelability_of_run}
 use Rattle.pct_ending_laws.proofs.requests.LawfulRequests.{requests_of_run}
 use Rattle.pct_ending_laws.proofs.requests.PendingRequests.{pending_of_run}
+use Rattle.pct_ending_laws.proofs.results.ForkAnswers.{answers_of_run}
 use Rattle.pct_ending_laws.proofs.results.KeptVariables.{globals_of_run, locals_of_run, values_of_run}
 use Rattle.pct_ending_laws.proofs.results.OtherProcesses.{processes_of_run as other_processes_of_run}
 use Rattle.pct_ending_laws.proofs.results.SetValues.{sets_of_run}
@@ -99,7 +100,10 @@ every_run_keeps_laws script config entries r is = record {
     suspended = each_step script config (λ s. suspends_by_call script s ≡ true) (suspends_of_run script config) entries;
     named = each_step script config (λ s. each_names_its_wait s ≡ true) (names_of_run script config) entries;
   };
-  results = record { results = each_step script config (StoresResults script) (results_of_run script config) entries };
+  results = record {
+    results = each_step script config (StoresResults script) (results_of_run script config) entries;
+    answers = each_step script config (KeepsAnswer script) (answers_of_run script config) entries;
+  };
   values = record {
     set = each_step script config (λ s. sets_its_value script s ≡ true) (sets_of_run script config) entries;
     threads = each_step script config KeepsThreads (threads_of_run script config) entries;

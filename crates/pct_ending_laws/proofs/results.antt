@@ -3,6 +3,7 @@ pub mod NamedVariables
 pub mod Stores
 pub mod KeptVariables
 pub mod StoredResults
+pub mod ForkAnswers
 pub mod SetValues
 pub mod ValuesOfThreads
 pub mod OtherProcesses

@@ -12,6 +12,7 @@ use Rattle.pct_model.specs.declared.frame.Frame.{Frame}
 use Rattle.pct_model.specs.declared.schedule.Config.{Config}
 use Rattle.pct_model.specs.declared.schedule.Entry.{Entry}
 use Rattle.pct_model.specs.declared.script.Script.{Script}
+use Rattle.pct_model.specs.declared.state.ForkAt.{ForkAt}
 use Rattle.pct_model.specs.declared.state.Phase.TheVariants as phase
 use Rattle.pct_model.specs.declared.state.Status.{Status}
 use Rattle.pct_model.specs.declared.state.Status.TheVariants as status
@@ -119,6 +120,34 @@ local_on_top i (frame ∷ below) = Some (slice_index frame.locals i)
 abbrev pub goes_on_in_function : Script → ThreadStep → Bool
 goes_on_in_function script s = not (is_empty (stored script s)) || nat_eq (length s.after.frames) (length s.before.frames)
 
+-- ---- the answer of fork, which is stored as it returns
+
+-- the answer that the fork of a thread with this status and these kept values has got: the thread is in fork, or in one of its handlers
+abbrev pub answer_by : Status → Option ForkAt → Option ℕ
+answer_by (status.Forking phase index length answer) kept = Some answer
+answer_by _ kept = option_map (λ at. at.answer) kept
+
+abbrev pub fork_answer : Thread → Option ℕ
+fork_answer t = answer_by t.status t.kept
+
+-- the answer that fork gets in a step with these events: the id of the child, or 0 if none could be made
+abbrev pub answer_in : List What → Option ℕ
+answer_in (what.Forked pid ∷ []) = Some pid
+answer_in (what.Answer caller.Fork n ∷ []) = Some 0
+answer_in _ = None
+
+-- a running thread calls fork
+abbrev pub calls_fork : NextStatement → Status → Bool
+calls_fork (StatementIn frame (statement.Fork result child)) status.Running = true
+calls_fork next _ = false
+
+-- what a step does to the answer
+pub record KeepsAnswer (script : Script) (s : ThreadStep) : Type 0 where
+  -- the event by which a process is made, or not, gives it
+  pub given : (n : ℕ) → answer_in s.events ≡ Some n → fork_answer s.after ≡ Some n
+  -- the thread keeps it as long as it is in fork or in one of its handlers
+  pub kept : answer_in s.events ≡ None → calls_fork (next_of script s.before.frames) s.before.status ≡ false → (n m : ℕ) → fork_answer s.before ≡ Some n → fork_answer s.after ≡ Some m → n ≡ m
+
 -- ---- the law
 
 -- each variable has what the step stores in it, or else keeps its value
@@ -132,3 +161,4 @@ pub record StoresResults (script : Script) (s : ThreadStep) : Type 0 where
 -- the law of results, of the run of a schedule
 pub record ResultLaw (script : Script) (config : Config) (entries : List Entry) : Type 0 where
   pub results : EachStep script config entries (StoresResults script)
+  pub answers : EachStep script config entries (KeepsAnswer script)

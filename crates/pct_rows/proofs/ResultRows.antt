@@ -13,7 +13,7 @@ use Rattle.pct_model.specs.declared.state.Status.TheVariants as status
 use Rattle.pct_model.specs.declared.statement.Dest.TheVariants as destination
 use Rattle.pct_model.specs.declared.statement.Operand.TheVariants as operand
 use Rattle.pct_model.specs.declared.statement.Stmt.TheVariants as statement
-use Rattle.pct_laws.specs.ResultLaw.{Store, after_stores, local_on_top, stored, StoresResults}
+use Rattle.pct_laws.specs.ResultLaw.{KeepsAnswer, Store, after_stores, local_on_top, stored, StoresResults}
 use Rattle.pct_laws.specs.ThreadSteps.{ThreadStep}
 use Rattle.pct_rows.proofs.OnLiterals.{checks_on_literals, runs_on_literals}
 
@@ -242,6 +242,33 @@ where_there_is_no_child_fork_fails = keeps 7 (status.Forking phase.Parent 0 0 0)
 and_does_not_succeed : StoresResults script (step 7 (status.Forking phase.Parent 0 0 0) [] 7 0 7) → ⊥
 unfolding runs_on_literals
 and_does_not_succeed law = let n : ◌≡◌ {A = ℕ} 0 1 = no_local (law.locals refl 0) in omega (arith, n)
+
+-- ---- the answer of fork, until it returns
+
+-- a step of a thread in fork
+abbrev in_fork : Status → List What → Status → ThreadStep
+in_fork before events after = step_to (at 7 before 7 7) (at 7 after 7 7) events 7
+
+the_event_gives_the_answer : KeepsAnswer script (in_fork (status.Forking phase.Prepare 0 0 0) (what.Forked 2 ∷ []) (status.Forking phase.Parent 0 0 2))
+the_event_gives_the_answer = record { given = λ n said. said; kept = λ quiet other n m before after. absurd (none-some 2 (sym quiet)) }
+
+and_no_other_one : KeepsAnswer script (in_fork (status.Forking phase.Prepare 0 0 0) (what.Forked 2 ∷ []) (status.Forking phase.Parent 0 0 3)) → ⊥
+and_no_other_one law = let n : ◌≡◌ {A = ℕ} 3 2 = same_Some 3 2 (law.given 2 refl) in omega (arith, n)
+
+where_no_process_is_made_it_is_0 : KeepsAnswer script (in_fork (status.Forking phase.Prepare 0 0 0) (what.Answer caller.Fork 1 ∷ []) (status.Forking phase.Parent 0 0 2)) → ⊥
+where_no_process_is_made_it_is_0 law = let n : ◌≡◌ {A = ℕ} 2 0 = same_Some 2 0 (law.given 0 refl) in omega (arith, n)
+
+-- the parent handler of the only registration returns, or is called
+abbrev in_handler : Thread
+in_handler = record (at 10 status.Running 7 7) { kept = Some (record { phase = phase.Parent; next = 1; length = 1; answer = 2 }) }
+
+no_handler_changes_it : KeepsAnswer script (step_to in_handler (at 7 (status.Forking phase.Parent 1 1 0) 7 7) [] 7) → ⊥
+unfolding runs_on_literals
+no_handler_changes_it law = let n : ◌≡◌ {A = ℕ} 2 0 = law.kept refl refl 2 0 refl refl in omega (arith, n)
+
+nor_its_call : KeepsAnswer script (step_to (at 7 (status.Forking phase.Parent 0 1 0) 7 7) in_handler (what.ParentRun 0 ∷ []) 7) → ⊥
+unfolding runs_on_literals
+nor_its_call law = let n : ◌≡◌ {A = ℕ} 0 2 = law.kept refl refl 0 2 refl refl in omega (arith, n)
 
 -- ---- the script language
 
