@@ -2,9 +2,9 @@
 -- each statement stores, as it is executed or as its call returns: the number that the event of the step reports, or else one of the state
 -- before it. Each other global keeps its value, and so does each other local of a function that goes on.
 --
--- It leaves open what the events report (StatementLaw.antt, JoinLaw.antt, ProcessLaw.antt), and the locals of the functions below the one
--- that executes the statement.
-use Rattle.std.specs.Prelude.{◌≡◌, ℕ, ◌+◌, ◌%◌, if◌then◌else◌, Bool, true, false, not, ◌||◌, List, [], ◌∷◌, length, nat_eq, slice_index, Option, Some, None, option_map}
+-- It leaves open what the events report (StatementLaw.antt, JoinLaw.antt, ProcessLaw.antt), and the variables of other threads.
+use Rattle.std.specs.Prelude.{◌≡◌, ℕ, ◌+◌, ◌-◌, ◌%◌, if◌then◌else◌, Bool, true, false, List, [], ◌∷◌, length, map, drop, nat_eq, slice_index}
+use Rattle.std.specs.Prelude.{Option, Some, None, option_map}
 use Rattle.pct_model.specs.declared.event.Caller.TheVariants as caller
 use Rattle.pct_model.specs.declared.event.What.{What}
 use Rattle.pct_model.specs.declared.event.What.TheVariants as what
@@ -21,6 +21,7 @@ use Rattle.pct_model.specs.declared.statement.Dest.TheVariants as destination
 use Rattle.pct_model.specs.declared.statement.Operand.{Operand}
 use Rattle.pct_model.specs.declared.statement.Stmt.{Stmt}
 use Rattle.pct_model.specs.declared.statement.Stmt.TheVariants as statement
+use Rattle.pct_model.specs.Actions.{without_first}
 use Rattle.pct_model.specs.CancelCalls.{state_number, mode_number}
 use Rattle.pct_model.specs.Keys.{key_place, value_at}
 use Rattle.pct_model.specs.LineParsing.{is_empty}
@@ -116,9 +117,13 @@ abbrev pub local_on_top : ℕ → List Frame → Option ℕ
 local_on_top i [] = None
 local_on_top i (frame ∷ below) = Some (slice_index frame.locals i)
 
--- the function that executes the statement goes on: the step stores something, or the thread has as many frames as before
-abbrev pub goes_on_in_function : Script → ThreadStep → Bool
-goes_on_in_function script s = not (is_empty (stored script s)) || nat_eq (length s.after.frames) (length s.before.frames)
+-- the locals of the functions of some frames
+abbrev pub all_locals : List Frame → List (List ℕ)
+all_locals frames = map (λ frame. frame.locals) frames
+
+-- the frames without the newest ones, as many as they are more than some others
+abbrev pub left_of : List Frame → List Frame → List Frame
+left_of frames others = drop (length frames - length others) frames
 
 -- ---- the answer of fork, which is stored as it returns
 
@@ -146,17 +151,23 @@ pub record KeepsAnswer (script : Script) (s : ThreadStep) : Type 0 where
   -- the event by which a process is made, or not, gives it
   pub given : (n : ℕ) → answer_in s.events ≡ Some n → fork_answer s.after ≡ Some n
   -- the thread keeps it as long as it is in fork or in one of its handlers
-  pub kept : answer_in s.events ≡ None → calls_fork (next_of script s.before.frames) s.before.status ≡ false → (n m : ℕ) → fork_answer s.before ≡ Some n → fork_answer s.after ≡ Some m → n ≡ m
+  pub kept : answer_in s.events ≡ None → calls_fork (next_of script s.before.frames) s.before.status ≡ false → (n m : ℕ)
+      → fork_answer s.before ≡ Some n → fork_answer s.after ≡ Some m → n ≡ m
 
 -- ---- the law
 
 -- each variable has what the step stores in it, or else keeps its value
 pub record StoresResults (script : Script) (s : ThreadStep) : Type 0 where
   -- each global of the process
-  pub globals : (i : ℕ) → slice_index s.process_after.shared.globals i ≡ after_stores (destination.Global i) (stored script s) (slice_index s.process.shared.globals i)
-  -- each local of the function that executes the statement, if it goes on
-  pub locals : goes_on_in_function script s ≡ true → (i : ℕ)
+  pub globals : (i : ℕ)
+      → slice_index s.process_after.shared.globals i ≡ after_stores (destination.Global i) (stored script s) (slice_index s.process.shared.globals i)
+  -- if something is stored, each local of the function that executes the statement, which goes on
+  pub locals : is_empty (stored script s) ≡ false → (i : ℕ)
       → local_on_top i s.after.frames ≡ option_map (after_stores (destination.Local i) (stored script s)) (local_on_top i s.before.frames)
+  -- its callers keep their locals
+  pub callers : is_empty (stored script s) ≡ false → all_locals (without_first s.after.frames) ≡ all_locals (without_first s.before.frames)
+  -- if nothing is stored, each function that goes on keeps its locals: those without the ones that are called, and that return or end
+  pub kept : is_empty (stored script s) ≡ true → all_locals (left_of s.after.frames s.before.frames) ≡ all_locals (left_of s.before.frames s.after.frames)
 
 -- the law of results, of the run of a schedule
 pub record ResultLaw (script : Script) (config : Config) (entries : List Entry) : Type 0 where

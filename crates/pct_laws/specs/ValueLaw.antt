@@ -21,12 +21,14 @@ use Rattle.pct_laws.specs.ThreadSteps.{ThreadStep, EachStep}
 
 -- if the next statement is pthread_setspecific, the thread has the value of its operand for its key
 abbrev pub has_value_set : List ℕ → NextStatement → Thread → Bool
-has_value_set globals (StatementIn frame (statement.SetSpecific key v)) t = nat_eq (value_at (key_place (value_of globals frame key)) t.specific) (value_of globals frame v)
+has_value_set globals (StatementIn frame (statement.SetSpecific key v)) t =
+    nat_eq (value_at (key_place (value_of globals frame key)) t.specific) (value_of globals frame v)
 has_value_set globals _ t = true
 
 -- so it is after the step of a running thread, unless it acts upon a request or its statement is a stop
 abbrev pub sets_its_value : Script → ThreadStep → Bool
-sets_its_value script s = not (is_running s.before.status) || acts_or_stops s.events || has_value_set s.process.shared.globals (next_of script s.before.frames) s.after
+sets_its_value script s =
+    not (is_running s.before.status) || acts_or_stops s.events || has_value_set s.process.shared.globals (next_of script s.before.frames) s.after
 
 -- ---- the threads of the process
 
@@ -43,7 +45,8 @@ makes_at place _ = false
 -- what a step does to the value at a place, of a thread of its process
 pub record KeepsThread (s : ThreadStep) (place tid : ℕ) (after : Thread) : Type 0 where
   -- another thread than its own keeps the value
-  pub other : tid ≢ s.tid → (before : Thread) → thread_with tid s.process ≡ Some before → list_any (deletes_at place) s.events ≡ false → value_at place after.specific ≡ value_at place before.specific
+  pub other : tid ≢ s.tid → (before : Thread) → thread_with tid s.process ≡ Some before → list_any (deletes_at place) s.events ≡ false
+      → value_at place after.specific ≡ value_at place before.specific
   -- but for a key that is deleted: each thread has NULL at its place. No call reads it there but as the value of the next key on this place
   pub deleted : list_any (deletes_at place) s.events ≡ true → value_at place after.specific ≡ 0
   -- a new key has NULL in each thread

@@ -86,7 +86,8 @@ pub use Rattle.pct_model.specs.declared.frame.Frame.{Frame}
 pub use Rattle.pct_model.specs.declared.keyword.Keyword.{Keyword}
 pub use Rattle.pct_model.specs.declared.limits.TheConstants.{DEFAULT_BUDGET, DEFAULT_PASSES, DEFAULT_SEED, DEFAULT_SLOTS, DEFAULT_WORKERS}
 pub use Rattle.pct_model.specs.declared.limits.TheConstants.{MAX_BUDGET, MAX_DECLARED, MAX_FORK_HANDLERS, MAX_FRAMES, MAX_HANDLERS}
-pub use Rattle.pct_model.specs.declared.limits.TheConstants.{MAX_KEYS, MAX_PASSES, MAX_PROCESSES, MAX_SLOTS, MAX_WORKER, MIN_PASSES}
+pub use Rattle.pct_model.specs.declared.limits.TheConstants.{MAX_KEYS, MAX_LOCALS, MAX_PASSES, MAX_PROCESSES, MAX_SLOTS, MAX_WORKER}
+pub use Rattle.pct_model.specs.declared.limits.TheConstants.{MIN_PASSES}
 pub use Rattle.pct_model.specs.declared.line_kind.ArgumentKind.{ArgumentKind}
 pub use Rattle.pct_model.specs.declared.line_kind.LineKind.{LineKind}
 pub use Rattle.pct_model.specs.declared.line_kind.SymbolKind.{SymbolKind}
@@ -144,9 +145,9 @@ pub use Rattle.pct_model.specs.declared.stop.Why.TheVariants.{AsyncCall, ForkChi
 pub use Rattle.pct_model.specs.declared.transition.Action.{Action}
 pub use Rattle.pct_model.specs.declared.transition.NewThread.{NewThread}
 pub use Rattle.pct_model.specs.declared.transition.Transition.{Transition}
-pub use Rattle.pct_model.specs.Actions.{as_reaped, at_pc, changed, for_each, frames_written, has_ended, in_child, is_live_process, moved}
-pub use Rattle.pct_model.specs.Actions.{orphaned, process_made, process_moved, replica_of, set_local, thread_created, thread_moved}
-pub use Rattle.pct_model.specs.Actions.{threads_moved, without_first}
+pub use Rattle.pct_model.specs.Actions.{as_reaped, at_pc, changed, for_each, frames_written, globals_written, has_ended, in_child}
+pub use Rattle.pct_model.specs.Actions.{is_live_process, moved, orphaned, process_made, process_moved, replica_of, set_local}
+pub use Rattle.pct_model.specs.Actions.{thread_created, thread_moved, threads_moved, without_first}
 unfoldable pub use Rattle.pct_model.specs.Actions.{after_transition, child_by, child_of, inherited, named_after, other_process_after}
 unfoldable pub use Rattle.pct_model.specs.Actions.{process_after, shared_after, stop_after, thread_after, thread_at}
 pub use Rattle.pct_model.specs.CancelCalls.{is_optional, is_required, mode_if, mode_number, state_if, state_number, testcancel_point}

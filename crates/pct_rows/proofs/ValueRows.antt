@@ -1,11 +1,10 @@
 -- The law of thread-specific data: made steps that keep it, and made steps that do not. Each step that does not differs from one that does in
 -- one thing, and has the name of the sentence that it breaks.
 use Rattle.pct_names.proofs.Names.{[], ap, arith, codes, false, false≢true, first_process, is_static, IsTrue, List, new_frame, new_thread}
-use Rattle.pct_names.proofs.Names.{None, none-some, Option, Process, refl, same_Some, Script, Some, Status, Stmt, subst, suc, sym, Thread}
-use Rattle.pct_names.proofs.Names.{thread_with, true, value_at, What, zero, ℕ, ◌∙◌, ◌∷◌, ◌≡◌, ◌≢◌}
+use Rattle.pct_names.proofs.Names.{None, none-some, Process, refl, same_Some, Script, Some, Stmt, sym, Thread, true, value_at, What, ℕ, ◌∷◌}
+use Rattle.pct_names.proofs.Names.{◌≡◌, ◌≢◌}
 use Rattle.pct_model.specs.declared.event.What.TheVariants as what
 use Rattle.pct_model.specs.declared.state.FrameKind.TheVariants as kind
-use Rattle.pct_model.specs.declared.state.Status.TheVariants as status
 use Rattle.pct_model.specs.declared.statement.Operand.TheVariants as operand
 use Rattle.pct_model.specs.declared.statement.Stmt.TheVariants as statement
 use Rattle.pct_model.specs.declared.stop.Why.TheVariants as why
@@ -85,13 +84,15 @@ others_keep_their_values place = record {
 }
 
 a_value_that_is_set_is_of_its_thread : KeepsThreads (step_to (thread 1 1 7 8) [] (thread 2 1 7 8 ∷ [])) → ⊥
-a_value_that_is_set_is_of_its_thread law = let n : ◌≡◌ {A = ℕ} 8 7 = (law 1 2 (thread 2 1 7 8) refl).other differs (thread 2 0 7 7) refl refl in omega (arith, n)
+a_value_that_is_set_is_of_its_thread law =
+    let n : ◌≡◌ {A = ℕ} 8 7 = (law 1 2 (thread 2 1 7 8) refl).other differs (thread 2 0 7 7) refl refl in omega (arith, n)
 
 a_deleted_key_leaves_NULL : KeepsThreads (step_to (thread 1 1 7 0) (what.KeyGone 2 ∷ []) (thread 2 0 7 7 ∷ [])) → ⊥
 a_deleted_key_leaves_NULL law = let n : ◌≡◌ {A = ℕ} 7 0 = (law 1 2 (thread 2 0 7 7) refl).deleted refl in omega (arith, n)
 
 and_only_for_itself : KeepsThreads (step_to (thread 1 1 7 0) (what.KeyGone 2 ∷ []) (thread 2 0 0 0 ∷ [])) → ⊥
-and_only_for_itself law = let n : ◌≡◌ {A = ℕ} 0 7 = (law 0 2 (thread 2 0 0 0) refl).other differs (thread 2 0 7 7) refl refl in omega (arith, n)
+and_only_for_itself law =
+    let n : ◌≡◌ {A = ℕ} 0 7 = (law 0 2 (thread 2 0 0 0) refl).other differs (thread 2 0 7 7) refl refl in omega (arith, n)
 
 a_new_key_has_NULL : KeepsThreads (step_to (thread 1 1 7 0) (what.KeyMade 2 ∷ []) (thread 2 0 7 7 ∷ [])) → ⊥
 a_new_key_has_NULL law = let n : ◌≡◌ {A = ℕ} 7 0 = (law 1 2 (thread 2 0 7 7) refl).made refl in omega (arith, n)

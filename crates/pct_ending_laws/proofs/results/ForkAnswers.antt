@@ -1,15 +1,19 @@
 -- The law of results, of the answer of fork: the event by which a process is made, or not, gives it to the thread, which keeps it until its fork
 -- returns.
-use Rattle.pct_names.proofs.Names.{[], ap, body_at, Bool, Cause, cond, Config, Entry, false, false≢true, ForkAt, Frame, is_live_thread}
-use Rattle.pct_names.proofs.Names.{is_some, KeyValues, List, moved, named_after, next_of, NextStatement, None, none-some, Option, option_and_then, option_map, Others, others_of}
-use Rattle.pct_names.proofs.Names.{Process, refl, Run, run, same_Some, Script, SharedState, Some, Status, Stmt, subst, sym, Thread, thread_after, thread_at}
-use Rattle.pct_names.proofs.Names.{thread_moved, thread_with, Transition, transition_by, true, What, ℕ, ◌∙◌, ◌∷◌, ◌≡◌}
+use Rattle.pct_names.proofs.Names.{[], ap, body_at, Bool, cond, Config, Entry, false, ForkAt, Frame, is_live_thread, is_some, List, moved}
+use Rattle.pct_names.proofs.Names.{named_after, next_of, NextStatement, None, none-some, Option, option_and_then, option_map, Others}
+use Rattle.pct_names.proofs.Names.{others_of, Process, refl, Run, run, same_Some, Script, SharedState, Some, Status, Stmt, sym, Thread}
+use Rattle.pct_names.proofs.Names.{thread_after, thread_at, thread_moved, thread_with, Transition, transition_by, true, What, ℕ, ◌∙◌, ◌∷◌}
+use Rattle.pct_names.proofs.Names.{◌≡◌}
 use Rattle.std.proofs.lemmas.Bool.{true≢false}
-use Rattle.pct_model.specs.declared.state.Phase.{Phase}
 use Rattle.pct_model.specs.declared.state.Status.TheVariants as status
 use Rattle.pct_laws.specs.Kept.{is_in_fork_handler}
 use Rattle.pct_laws.specs.ResultLaw.{answer_by, fork_answer, answer_in, calls_fork, KeepsAnswer}
-use Rattle.pct_transition_cases.proofs.TransitionCases.{TransitionCase, main_returned, start_returned, call_left, handler_left, exit_function_left, canceled, canceled_at_point, canceled_in_join, canceled_in_sem_wait, canceled_in_waitpid, ended_in_wait, exit_called, last_ended, last_ended_with_keys, process_exited, fork_begun, fork_handler_called, fork_handler_left, process_forked, process_not_forked, fork_failed, fork_returned}
+use Rattle.pct_transition_cases.proofs.TransitionCases.{TransitionCase, main_returned, start_returned, call_left, handler_left}
+use Rattle.pct_transition_cases.proofs.TransitionCases.{exit_function_left, canceled, canceled_at_point, canceled_in_join}
+use Rattle.pct_transition_cases.proofs.TransitionCases.{canceled_in_sem_wait, canceled_in_waitpid, ended_in_wait, exit_called, last_ended}
+use Rattle.pct_transition_cases.proofs.TransitionCases.{last_ended_with_keys, process_exited, fork_begun, fork_handler_called}
+use Rattle.pct_transition_cases.proofs.TransitionCases.{fork_handler_left, process_forked, process_not_forked, fork_failed, fork_returned}
 use Rattle.pct_ending_laws.proofs.ForksOfRun.{forks_of_run}
 use Rattle.pct_ending_laws.proofs.lift.ChangedThreads.{all_keep, named_keeps, same_settled}
 use Rattle.pct_ending_laws.proofs.lift.EveryProcess.{moves_of_run, process_taken}
@@ -35,7 +39,8 @@ module _ (passes : ℕ) (body : List Stmt) (shared : SharedState) (t : Thread) (
   with s = record t { status = s }
 
   -- the event gives the answer
-  case_given : {next : NextStatement} {s : Status} {o : Transition} → TransitionCase passes body shared t others true next s o → (n : ℕ) → answer_in o.events ≡ Some n → fork_answer (moved o (with s)) ≡ Some n
+  case_given : {next : NextStatement} {s : Status} {o : Transition} → TransitionCase passes body shared t others true next s o → (n : ℕ)
+      → answer_in o.events ≡ Some n → fork_answer (moved o (with s)) ≡ Some n
   unfolding thread_after thread_at
   case_given (process_forked next index length answer new is) n said = said
   case_given (process_not_forked next index length answer) n said = said
@@ -47,7 +52,9 @@ module _ (passes : ℕ) (body : List Stmt) (shared : SharedState) (t : Thread) (
   gone {n} {m} kept none after = absurd (none-some m (sym (ap (option_map (λ (at : ForkAt). at.answer)) none) ∙ after))
 
   -- any other step keeps it
-  case_kept : {next : NextStatement} {s : Status} {o : Transition} → TransitionCase passes body shared t others true next s o → HasNone s t.kept → answer_in o.events ≡ None → calls_fork next s ≡ false → (n m : ℕ) → fork_answer (with s) ≡ Some n → fork_answer (moved o (with s)) ≡ Some m → n ≡ m
+  case_kept : {next : NextStatement} {s : Status} {o : Transition} → TransitionCase passes body shared t others true next s o
+      → HasNone s t.kept → answer_in o.events ≡ None → calls_fork next s ≡ false → (n m : ℕ) → fork_answer (with s) ≡ Some n
+      → fork_answer (moved o (with s)) ≡ Some m → n ≡ m
   unfolding thread_after thread_at
   case_kept (main_returned frame s v returns is once) none quiet other n m before after = absurd (none-some m after)
   case_kept (start_returned frame s v returns is) none quiet other n m before after = absurd (none-some m after)
@@ -62,7 +69,8 @@ module _ (passes : ℕ) (body : List Stmt) (shared : SharedState) (t : Thread) (
   case_kept (ended_in_wait next c mutex free) none quiet other n m before after = absurd (none-some m after)
   case_kept (exit_called frame v unbegun) none quiet other n m before after = absurd (none-some m after)
   case_kept (last_ended next handlers last due left) none quiet other n m before after = absurd (none-some m after)
-  case_kept (last_ended_with_keys next left handlers last some made is none_left) none quiet other n m before after = absurd (none-some m after)
+  case_kept (last_ended_with_keys next left handlers last some made is none_left) none quiet other n m before after =
+      absurd (none-some m after)
   case_kept (process_exited frame v once) none quiet other n m before after = absurd (none-some m after)
   case_kept (fork_begun frame result child unbegun) none quiet other n m before after = absurd (true≢false other)
   case_kept (process_forked next index length answer new is) none quiet other n m before after = absurd (none-some new (sym quiet))

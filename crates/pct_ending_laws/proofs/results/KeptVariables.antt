@@ -1,12 +1,10 @@
 -- After every run each process has the globals of the script, each frame has its locals, and each thread has a value for each place of keys.
-use Rattle.pct_names.proofs.Names.{◌&&◌, [], Action, All, All-from_recursion, AllByRecursion, ap, at_pc, Bool, changed, child_of, cond, cond_some}
-use Rattle.pct_names.proofs.Names.{Config, Dest, Entry, false, find, first_process, for_each, Frame, frames_written, is_live_thread}
-use Rattle.pct_names.proofs.Names.{is_waiting_on, key_place, length, length-replicate, List, made_process, MAX_KEYS, moved, named_after}
-use Rattle.pct_names.proofs.Names.{nat_eq, not, option_and_then_some, Option, None, Process, refl, Script, SharedState, Some, subst, sym}
-use Rattle.pct_names.proofs.Names.{Thread, thread_after, thread_at, thread_with, Transition, transition_by, true, unblocked, World, ℕ}
-use Rattle.pct_names.proofs.Names.{without_first, made_thread, Run, run, ◌∙◌, ◌∷◌, ◌≡◌}
+use Rattle.pct_names.proofs.Names.{◌&&◌, [], Action, All, All-from_recursion, ap, at_pc, Bool, changed, child_of, cond, cond_some, Config}
+use Rattle.pct_names.proofs.Names.{Dest, false, find, for_each, Frame, frames_written, is_live_thread, is_waiting_on, key_place, length}
+use Rattle.pct_names.proofs.Names.{length-replicate, List, made_process, MAX_KEYS, MAX_LOCALS, moved, named_after, nat_eq, None, not}
+use Rattle.pct_names.proofs.Names.{Option, option_and_then_some, Process, refl, Script, SharedState, Some, subst, sym, Thread, thread_after}
+use Rattle.pct_names.proofs.Names.{thread_at, thread_with, Transition, transition_by, true, unblocked, without_first, ℕ, ◌∙◌, ◌∷◌, ◌≡◌}
 use Rattle.std.proofs.lemmas.List.{length-set}
-use Rattle.pct_model.specs.declared.limits.TheConstants.{MAX_LOCALS}
 use Rattle.pct_model.specs.declared.state.Cause.TheVariants as cause
 use Rattle.pct_model.specs.declared.statement.Dest.TheVariants as destination
 use Rattle.pct_model.specs.declared.transition.Action.TheVariants as action
@@ -14,7 +12,7 @@ use Rattle.pct_laws.specs.Kept.{EachProcess, EachThread}
 use Rattle.pct_ending_laws.proofs.lift.ChangedThreads.{changed_shared, other_threads, other_shared}
 use Rattle.pct_ending_laws.proofs.lift.TakenSteps.{AfterEveryRun}
 use Rattle.pct_ending_laws.proofs.lift.MadeThreads.{IsLive}
-use Rattle.pct_ending_laws.proofs.lift.ThreadsAfter.{initial_thread, created_thread, Moves, mover, each_after}
+use Rattle.pct_ending_laws.proofs.lift.ThreadsAfter.{initial_thread, Moves, mover, each_after}
 use Rattle.pct_ending_laws.proofs.lift.InheritedThreads.{each_heir}
 use Rattle.pct_ending_laws.proofs.lift.EveryProcess.{OfEveryProcess, IsProcessRule, unread, every_process_keeps, moves_of_run}
 use Rattle.pct_ending_laws.proofs.results.Stores.{HaveLocals, globals_kept}
@@ -49,27 +47,36 @@ module _ (script : Script) where
   own_keeps (action.Call f a kind) t have = record { locals = (refl, have.locals); values = have.values }
   own_keeps (action.CallAlone f a kind) t have = record { locals = (refl, tt); values = have.values }
   own_keeps (action.Leave status) t have = record { locals = left t.frames have.locals; values = have.values }
-  own_keeps (action.SetSpecific k v) t have = record { locals = have.locals; values = length-set t.specific.values (key_place k) v ∙ have.values }
+  own_keeps (action.SetSpecific k v) t have =
+      record { locals = have.locals; values = length-set t.specific.values (key_place k) v ∙ have.values }
   own_keeps (action.TakeKey k) t have = record { locals = have.locals; values = length-set t.specific.values (key_place k) 0 ∙ have.values }
   own_keeps (action.BeginEnd why) t have = record { locals = tt; values = have.values }
   own_keeps (action.BeginExit v) t have = record { locals = tt; values = have.values }
   own_keeps _ t have = record { locals = have.locals; values = have.values }
 
-  named_if : (named : Bool) (changed t : Thread) → HasVariables script changed → HasVariables script t → HasVariables script (cond named changed t)
+  named_if : (named : Bool) (changed t : Thread) → HasVariables script changed → HasVariables script t
+      → HasVariables script (cond named changed t)
   named_if true changed t has_changed have = has_changed
   named_if false changed t has_changed have = have
 
   named_keeps : (a : Action) (t : Thread) → HasVariables script t → HasVariables script (named_after a t)
   unfolding named_after
-  named_keeps (action.EndJoin id) t have = named_if (is_live_thread id t) (record t { joined = true }) t (record { locals = have.locals; values = have.values }) have
-  named_keeps (action.Request id) t have = named_if (is_live_thread id t && not t.ended) (record t { pending = true }) t (record { locals = have.locals; values = have.values }) have
-  named_keeps (action.Detach id) t have = named_if (is_live_thread id t) (record t { detached = true }) t (record { locals = have.locals; values = have.values }) have
-  named_keeps (action.Wake id) t have = named_if (is_live_thread id t) (record t { status = unblocked cause.Signalled t.status }) t (record { locals = have.locals; values = have.values }) have
-  named_keeps (action.WakeAll c) t have = named_if (is_waiting_on c t.status) (record t { status = unblocked cause.Broadcast t.status }) t (record { locals = have.locals; values = have.values }) have
-  named_keeps (action.DeleteKey k) t have = record { locals = have.locals; values = length-set t.specific.values (key_place k) 0 ∙ have.values }
+  named_keeps (action.EndJoin id) t have =
+      named_if (is_live_thread id t) (record t { joined = true }) t (record { locals = have.locals; values = have.values }) have
+  named_keeps (action.Request id) t have =
+      named_if (is_live_thread id t && not t.ended) (record t { pending = true }) t (record { locals = have.locals; values = have.values }) have
+  named_keeps (action.Detach id) t have =
+      named_if (is_live_thread id t) (record t { detached = true }) t (record { locals = have.locals; values = have.values }) have
+  named_keeps (action.Wake id) t have =
+      named_if (is_live_thread id t) (record t { status = unblocked cause.Signalled t.status }) t (record { locals = have.locals; values = have.values }) have
+  named_keeps (action.WakeAll c) t have =
+      named_if (is_waiting_on c t.status) (record t { status = unblocked cause.Broadcast t.status }) t (record { locals = have.locals; values = have.values }) have
+  named_keeps (action.DeleteKey k) t have =
+      record { locals = have.locals; values = length-set t.specific.values (key_place k) 0 ∙ have.values }
   named_keeps _ t have = have
 
-  all_keep : (change : Action → Thread → Thread) → ((a : Action) (t : Thread) → HasVariables script t → HasVariables script (change a t)) → (actions : List Action) (t : Thread) → HasVariables script t → HasVariables script (for_each change actions t)
+  all_keep : (change : Action → Thread → Thread) → ((a : Action) (t : Thread) → HasVariables script t → HasVariables script (change a t))
+      → (actions : List Action) (t : Thread) → HasVariables script t → HasVariables script (for_each change actions t)
   all_keep change keeps [] t have = have
   all_keep change keeps (a ∷ actions) t have = all_keep change keeps actions (change a t) (keeps a t have)
 
@@ -78,8 +85,10 @@ module _ (script : Script) where
   going_on_keeps None t have = have
   going_on_keeps (Some pc) t have = record { locals = gone_on pc t.frames have.locals; values = have.values }
 
-  moved_keeps : (o : Transition) (t : Thread) (live : Bool) → HasVariables script t → HasVariables script (for_each named_after o.actions (cond live (moved o t) t))
-  moved_keeps o t true have = all_keep named_after named_keeps o.actions (moved o t) (all_keep thread_after own_keeps o.actions (thread_at o.next t) (going_on_keeps o.next t have))
+  moved_keeps : (o : Transition) (t : Thread) (live : Bool) → HasVariables script t
+      → HasVariables script (for_each named_after o.actions (cond live (moved o t) t))
+  moved_keeps o t true have =
+      all_keep named_after named_keeps o.actions (moved o t) (all_keep thread_after own_keeps o.actions (thread_at o.next t) (going_on_keeps o.next t have))
   moved_keeps o t false have = all_keep named_after named_keeps o.actions t have
 
   -- ---- processes
@@ -118,17 +127,22 @@ module _ (script : Script) where
 
   -- after every run
   pub variables_of_run : (config : Config) → AfterEveryRun script config (OfEveryProcess HaveVariables)
-  variables_of_run config = every_process_keeps script config (Moves script config) HaveVariables (variables_rule config) (moves_of_run script config)
+  variables_of_run config =
+      every_process_keeps script config (Moves script config) HaveVariables (variables_rule config) (moves_of_run script config)
 
-  pub globals_of_run : (config : Config) → AfterEveryRun script config (λ r. EachProcess r.world (λ pid p. length p.shared.globals ≡ length script.globals))
+  pub globals_of_run : (config : Config)
+      → AfterEveryRun script config (λ r. EachProcess r.world (λ pid p. length p.shared.globals ≡ length script.globals))
   globals_of_run config entries r is pid p made = (variables_of_run config entries r is pid p made).globals
 
   thread_of_run : (config : Config) → AfterEveryRun script config (λ r. EachThread r.world (λ pid tid t. HasVariables script t))
   thread_of_run config entries r is pid tid t made here =
       option_and_then_some (thread_with tid) (made_process pid r.world) t made (λ p process_is thread_is. (variables_of_run config entries r is pid p process_is).threads tid t thread_is)
 
-  pub locals_of_run : (config : Config) → AfterEveryRun script config (λ r. EachThread r.world (λ pid tid t. All (λ (frame : Frame). length frame.locals ≡ MAX_LOCALS) t.frames))
-  locals_of_run config entries r is pid tid t made here = All-from_recursion (λ (frame : Frame). length frame.locals ≡ MAX_LOCALS) t.frames (thread_of_run config entries r is pid tid t made here).locals
+  pub locals_of_run : (config : Config)
+      → AfterEveryRun script config (λ r. EachThread r.world (λ pid tid t. All (λ (frame : Frame). length frame.locals ≡ MAX_LOCALS) t.frames))
+  locals_of_run config entries r is pid tid t made here =
+      All-from_recursion (λ (frame : Frame). length frame.locals ≡ MAX_LOCALS) t.frames (thread_of_run config entries r is pid tid t made here).locals
 
-  pub values_of_run : (config : Config) → AfterEveryRun script config (λ r. EachThread r.world (λ pid tid t. length t.specific.values ≡ MAX_KEYS))
+  pub values_of_run : (config : Config)
+      → AfterEveryRun script config (λ r. EachThread r.world (λ pid tid t. length t.specific.values ≡ MAX_KEYS))
   values_of_run config entries r is pid tid t made here = (thread_of_run config entries r is pid tid t made here).values

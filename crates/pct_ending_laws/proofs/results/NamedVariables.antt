@@ -1,9 +1,9 @@
 -- The variables in which a script's statements store a number are globals of the script, and locals of a frame.
-use Rattle.pct_names.proofs.Names.{◌<◌, ◌≤◌, [], AllByRecursion, and_parts, arith, Dest, encode, Frame, Func, has_first_word, has_line}
-use Rattle.pct_names.proofs.Names.{has_lines, has_word, have_words, length, List, list_all, nat_le, None, none-some, Option, option_and_then, refl}
-use Rattle.pct_names.proofs.Names.{Script, slice_get, Some, statement_at, StatementIn, Stmt, syntax_of, true, ℕ, ◌∷◌, ◌≡◌}
+use Rattle.pct_names.proofs.Names.{◌<◌, [], AllByRecursion, and_parts, arith, Dest, encode, Frame, Func, has_first_word, has_line}
+use Rattle.pct_names.proofs.Names.{has_lines, has_word, have_words, length, List, list_all, MAX_LOCALS, nat_le, None, none-some, Option}
+use Rattle.pct_names.proofs.Names.{option_and_then, refl, Script, slice_get, Some, statement_at, StatementIn, Stmt, syntax_of, true, ℕ, ◌∷◌}
+use Rattle.pct_names.proofs.Names.{◌≡◌, ◌≤◌}
 use Rattle.std.proofs.lemmas.Bool.{leb-true}
-use Rattle.pct_model.specs.declared.limits.TheConstants.{MAX_LOCALS}
 use Rattle.pct_model.specs.declared.line_kind.ArgumentKind.TheVariants as argument_kind
 use Rattle.pct_model.specs.declared.statement.Dest.TheVariants as destination
 use Rattle.pct_model.specs.declared.statement.Stmt.TheVariants as statement
@@ -55,20 +55,25 @@ module _ (script : Script) where
     unfolding has_line has_first_word have_words encode syntax_of
     in_line (statement.Set d v) line = (named_as_variable d (and_parts _ _ line).0, tt)
     in_line (statement.Add d v) line = (named_as_variable d (and_parts _ _ line).0, tt)
-    in_line (statement.Create result id f v detached) line = let parts = and_parts _ _ line in (named result parts.0, (named id (and_parts _ _ parts.1).0, tt))
+    in_line (statement.Create result id f v detached) line =
+        let parts = and_parts _ _ line in (named result parts.0, (named id (and_parts _ _ parts.1).0, tt))
     in_line (statement.Join id d) line = (named d (and_parts _ _ (and_parts _ _ line).1).0, tt)
     in_line (statement.SelfId d) line = (named d (and_parts _ _ line).0, tt)
     in_line (statement.SetState enable old) line = (named old (and_parts _ _ (and_parts _ _ line).1).0, tt)
     in_line (statement.SetMode asynchronous old) line = (named old (and_parts _ _ (and_parts _ _ line).1).0, tt)
-    in_line (statement.KeyCreate result key destructor) line = let parts = and_parts _ _ line in (named result parts.0, (named key (and_parts _ _ parts.1).0, tt))
+    in_line (statement.KeyCreate result key destructor) line =
+        let parts = and_parts _ _ line in (named result parts.0, (named key (and_parts _ _ parts.1).0, tt))
     in_line (statement.GetSpecific d key) line = (named d (and_parts _ _ line).0, tt)
     in_line (statement.AtFork result prepare parent child) line = (named result (and_parts _ _ line).0, tt)
-    in_line (statement.Fork result child) line = let parts = and_parts _ _ line in (named result parts.0, (named child (and_parts _ _ parts.1).0, tt))
-    in_line (statement.WaitPid result pid d) line = let parts = and_parts _ _ line in (named result parts.0, (named d (and_parts _ _ (and_parts _ _ parts.1).1).0, tt))
+    in_line (statement.Fork result child) line =
+        let parts = and_parts _ _ line in (named result parts.0, (named child (and_parts _ _ parts.1).0, tt))
+    in_line (statement.WaitPid result pid d) line =
+        let parts = and_parts _ _ line in (named result parts.0, (named d (and_parts _ _ (and_parts _ _ parts.1).1).0, tt))
     in_line (statement.AtExit result f) line = (named result (and_parts _ _ line).0, tt)
     in_line _ line = tt
 
-  in_function : (frame : Frame) (s : Stmt) (func : Option Func) → slice_get script.funcs frame.func ≡ func → option_and_then (λ (f : Func). slice_get f.body frame.pc) func ≡ Some s → AllByRecursion IsVariable (destinations s)
+  in_function : (frame : Frame) (s : Stmt) (func : Option Func) → slice_get script.funcs frame.func ≡ func
+      → option_and_then (λ (f : Func). slice_get f.body frame.pc) func ≡ Some s → AllByRecursion IsVariable (destinations s)
   in_function frame s None is at = absurd (none-some s at)
   in_function frame s (Some f) is at =
       let spelled : list_all (has_lines (contents script)) script.funcs ≡ true = (text_parts (contents script) (passes_all (contents script) script.passes_checks).text).funcs in
@@ -77,6 +82,7 @@ module _ (script : Script) where
       in_line f.locals (leb-true (length f.locals) 8 few) s (item_passes (has_line (contents script) f.locals) f.body frame.pc s (lines_of_function (contents script) f lines).body at)
 
   -- the destinations of the next statement of a thread are variables
-  pub names_variables : {frames : List Frame} {body : List Stmt} {frame : Frame} {s : Stmt} → IsPlaced script frames body (StatementIn frame s) → AllByRecursion IsVariable (destinations s)
+  pub names_variables : {frames : List Frame} {body : List Stmt} {frame : Frame} {s : Stmt}
+      → IsPlaced script frames body (StatementIn frame s) → AllByRecursion IsVariable (destinations s)
   unfolding statement_at
   names_variables {frame = frame} {s = s} placed = in_function frame s (slice_get script.funcs frame.func) refl (statement_placed placed)

@@ -1,9 +1,9 @@
 -- The law of thread-specific data: pthread_setspecific gives its thread the value of its operand.
-use Rattle.pct_names.proofs.Names.{◌-◌, ◌<◌, ◌||◌, [], acts_on_request, acts_or, Alt, ap, arith, Bool, cond, Config, Entry, false, Frame, is_none, key_place}
-use Rattle.pct_names.proofs.Names.{key_with, KeyValues, length, List, MAX_KEYS, next_of, NextStatement, not, None, NoStatement, Operand}
-use Rattle.pct_names.proofs.Names.{Option, or_right, Others, others_of, Process, refl, Run, run, runs, Script, sets_specific, SharedState}
-use Rattle.pct_names.proofs.Names.{Some, StatementIn, Status, Stmt, stop_at, stops_or, subst, suc, sym, Thread, thread_moved, Transition}
-use Rattle.pct_names.proofs.Names.{transition_at, transition_by, true, value_of, Why, body_at, choices_at, offers, ℕ, ◌∙◌, ◌∷◌, ◌≡◌}
+use Rattle.pct_names.proofs.Names.{◌-◌, ◌<◌, acts_on_request, acts_or, Alt, ap, arith, body_at, Bool, cond, Config, Entry, false, Frame}
+use Rattle.pct_names.proofs.Names.{key_place, KeyValues, length, List, MAX_KEYS, next_of, NextStatement, None, NoStatement, not, Option}
+use Rattle.pct_names.proofs.Names.{or_right, Others, others_of, Process, refl, Run, run, runs, Script, sets_specific, SharedState, Some}
+use Rattle.pct_names.proofs.Names.{StatementIn, Status, Stmt, stop_at, stops_or, subst, sym, Thread, thread_moved, Transition}
+use Rattle.pct_names.proofs.Names.{transition_at, transition_by, true, value_of, Why, ◌||◌, ℕ, ◌∙◌, ◌≡◌}
 use Rattle.std.proofs.Common.{eq-eqb}
 use Rattle.std.proofs.lemmas.List.{get_or-set_same}
 use Rattle.std.proofs.lemmas.Nat.{mod_below}
@@ -32,21 +32,25 @@ module _ (passes : ℕ) (body : List Stmt) (shared : SharedState) (t : Thread) (
   IsSet next own = has_value_set shared.globals next (record t { specific = own })
 
   -- the law speaks of the data alone
-  same_data : (next : NextStatement) (u : Thread) (own : KeyValues) → u.specific ≡ own → IsSet next own ≡ true → has_value_set shared.globals next u ≡ true
+  same_data : (next : NextStatement) (u : Thread) (own : KeyValues) → u.specific ≡ own → IsSet next own ≡ true
+      → has_value_set shared.globals next u ≡ true
   same_data NoStatement u own is set = refl
   same_data (StatementIn frame (statement.SetSpecific key v)) u own is set =
       ap (λ (x : KeyValues). has_value_set shared.globals (StatementIn frame (statement.SetSpecific key v)) (record t { specific = x })) is ∙ set
   same_data (StatementIn frame _) u own is set = refl
 
   -- the value is that of the operand
-  value_set : (choice : Alt) (frame : Frame) (s : Stmt) → IsSet (StatementIn frame s) (data_after (runs passes body shared t others choice frame s)) ≡ true
+  value_set : (choice : Alt) (frame : Frame) (s : Stmt)
+      → IsSet (StatementIn frame s) (data_after (runs passes body shared t others choice frame s)) ≡ true
   unfolding runs sets_specific
   value_set choice frame (statement.SetSpecific key v) =
       let place : ℕ = key_place (value_of shared.globals frame key) in
       eq-eqb _ _ (get_or-set_same t.specific.values place (value_of shared.globals frame v) 0 (subst (λ (n : ℕ). place < n) (sym values) (mod_below (value_of shared.globals frame key - 1) MAX_KEYS (omega arith))))
   value_set choice frame _ = refl
 
-  unless_stopped : (frame : Frame) (s : Stmt) (stop : Option Why) (other : Transition) → IsSet (StatementIn frame s) (data_after other) ≡ true → (acts_or_stops (stops_or stop other).events || IsSet (StatementIn frame s) (data_after (stops_or stop other))) ≡ true
+  unless_stopped : (frame : Frame) (s : Stmt) (stop : Option Why) (other : Transition)
+      → IsSet (StatementIn frame s) (data_after other) ≡ true
+      → (acts_or_stops (stops_or stop other).events || IsSet (StatementIn frame s) (data_after (stops_or stop other))) ≡ true
   unless_stopped frame s (Some why) other set = refl
   unless_stopped frame s None other set = or_right (acts_or_stops other.events) (IsSet (StatementIn frame s) (data_after other)) set
 
@@ -59,10 +63,12 @@ module _ (passes : ℕ) (body : List Stmt) (shared : SharedState) (t : Thread) (
   unfolding transition_at acts_on_request
   running_sets (alt.Act n) next = refl
   running_sets choice NoStatement = refl
-  running_sets choice (StatementIn frame s) = unless_stopped frame s (stop_at body shared t others frame s) (runs passes body shared t others choice frame s) (value_set choice frame s)
+  running_sets choice (StatementIn frame s) =
+      unless_stopped frame s (stop_at body shared t others frame s) (runs passes body shared t others choice frame s) (value_set choice frame s)
 
   -- what follows of two tests, for the thread after a step
-  then_has : (next : NextStatement) (u : Thread) (own : KeyValues) (acts : Bool) → u.specific ≡ own → (acts || IsSet next own) ≡ true → (acts || has_value_set shared.globals next u) ≡ true
+  then_has : (next : NextStatement) (u : Thread) (own : KeyValues) (acts : Bool) → u.specific ≡ own → (acts || IsSet next own) ≡ true
+      → (acts || has_value_set shared.globals next u) ≡ true
   then_has next u own true is set = refl
   then_has next u own false is set = same_data next u own is set
 
@@ -74,7 +80,8 @@ if_runs false acts set then = refl
 
 module _ (script : Script) (config : Config) where
   -- so it is of the step of an entry that moves a thread
-  sets_of_step : (before : List Entry) (r : Run) → run script config before ≡ Some r → (e : Entry) (p : Process) (t : Thread) → IsTaken script config r.world e p t → sets_its_value script (step_of script config r p e t) ≡ true
+  sets_of_step : (before : List Entry) (r : Run) → run script config before ≡ Some r → (e : Entry) (p : Process) (t : Thread)
+      → IsTaken script config r.world e p t → sets_its_value script (step_of script config r p e t) ≡ true
   sets_of_step before r is e p t taken =
       let o : Transition = transition_by script config r.world p t e.alt in
       let moves : Moves script config r.world p e t = moves_of_run script config before r is e p t taken in

@@ -1,14 +1,12 @@
 -- What the actions of a transition store in variables: the numbers that it writes, in order, and nothing else.
-use Rattle.pct_names.proofs.Names.{◌<◌, [], Action, AllByRecursion, and_parts, ap, at_pc, Bool, cond, Dest, eqb-false, false, false≢true, for_each}
-use Rattle.pct_names.proofs.Names.{Frame, frames_written, length, List, list_all, nat_eq, None, Option, option_map, refl, Script, set_local}
-use Rattle.pct_names.proofs.Names.{shared_after, SharedState, slice_index, slice_set, Some, subst, sym, Thread, thread_after, thread_at}
-use Rattle.pct_names.proofs.Names.{true, ℕ, ◌∙◌, ◌∷◌, ◌≡◌}
+use Rattle.pct_names.proofs.Names.{◌<◌, [], Action, AllByRecursion, and_parts, ap, Bool, cond, eqb-false, false, false≢true, for_each}
+use Rattle.pct_names.proofs.Names.{Frame, frames_written, globals_written, length, List, list_all, MAX_LOCALS, nat_eq, option_map, refl}
+use Rattle.pct_names.proofs.Names.{Script, shared_after, SharedState, slice_index, slice_set, Some, subst, sym, Thread, thread_after, true}
+use Rattle.pct_names.proofs.Names.{without_first, ℕ, ◌∙◌, ◌∷◌, ◌≡◌}
 use Rattle.std.proofs.Common.{eqb-true}
 use Rattle.std.proofs.lemmas.List.{get_or-set_same, get_or-set_other, length-set}
-use Rattle.pct_model.specs.declared.limits.TheConstants.{MAX_LOCALS}
 use Rattle.pct_model.specs.declared.statement.Dest.TheVariants as destination
 use Rattle.pct_model.specs.declared.transition.Action.TheVariants as action
-use Rattle.pct_model.specs.Actions.{globals_written}
 use Rattle.pct_laws.specs.ResultLaw.{Store, after_stores, local_on_top}
 use Rattle.pct_ending_laws.proofs.results.NamedVariables.{IsVariable}
 
@@ -29,7 +27,8 @@ frames_with (store ∷ later) frames = frames_with later (frames_written store.0
 
 -- ---- actions
 
-globals_moved : (actions : List Action) (s : SharedState) → (for_each shared_after actions s).globals ≡ globals_with (stores_of actions) s.globals
+globals_moved : (actions : List Action) (s : SharedState)
+    → (for_each shared_after actions s).globals ≡ globals_with (stores_of actions) s.globals
 unfolding shared_after
 globals_moved [] s = refl
 globals_moved (action.Write d v ∷ actions) s = globals_moved actions (shared_after (action.Write d v) s)
@@ -44,7 +43,8 @@ keeps_frames (action.BeginEnd why) = false
 keeps_frames (action.BeginExit v) = false
 keeps_frames _ = true
 
-frames_after : (a : Action) → keeps_frames a ≡ true → (actions : List Action) (t : Thread) → frames_with (stores_of actions) (thread_after a t).frames ≡ frames_with (stores_of (a ∷ actions)) t.frames
+frames_after : (a : Action) → keeps_frames a ≡ true → (actions : List Action) (t : Thread)
+    → frames_with (stores_of actions) (thread_after a t).frames ≡ frames_with (stores_of (a ∷ actions)) t.frames
 unfolding thread_after
 frames_after (action.Call f a kind) keeps actions t = absurd (false≢true keeps)
 frames_after (action.CallAlone f a kind) keeps actions t = absurd (false≢true keeps)
@@ -54,11 +54,20 @@ frames_after (action.BeginExit v) keeps actions t = absurd (false≢true keeps)
 frames_after (action.Write d v) keeps actions t = refl
 frames_after _ keeps actions t = refl
 
-pub frames_moved : (actions : List Action) → list_all keeps_frames actions ≡ true → (t : Thread) → (for_each thread_after actions t).frames ≡ frames_with (stores_of actions) t.frames
+pub frames_moved : (actions : List Action) → list_all keeps_frames actions ≡ true → (t : Thread)
+    → (for_each thread_after actions t).frames ≡ frames_with (stores_of actions) t.frames
 frames_moved [] keeps t = refl
 frames_moved (a ∷ actions) keeps t =
     let parts : (keeps_frames a ≡ true) × (list_all keeps_frames actions ≡ true) = and_parts (keeps_frames a) (list_all keeps_frames actions) keeps in
     frames_moved actions parts.1 (thread_after a t) ∙ frames_after a parts.0 actions t
+
+-- the frames below the top one stay
+pub below_with : (stores : List Store) (frames : List Frame) → without_first (frames_with stores frames) ≡ without_first frames
+below_with [] frames = refl
+below_with ((destination.Drop, v) ∷ later) frames = below_with later frames
+below_with ((destination.Global j, v) ∷ later) frames = below_with later frames
+below_with ((destination.Local j, v) ∷ later) [] = below_with later []
+below_with ((destination.Local j, v) ∷ later) (frame ∷ below) = below_with later (record frame { locals = slice_set frame.locals j v } ∷ below)
 
 -- ---- one number
 
@@ -77,7 +86,8 @@ module _ (script : Script) where
 
   -- ---- globals
 
-  global_with : (stores : List Store) (globals : List ℕ) → InVariables stores → length globals ≡ length script.globals → (i : ℕ) → slice_index (globals_with stores globals) i ≡ after_stores (destination.Global i) stores (slice_index globals i)
+  global_with : (stores : List Store) (globals : List ℕ) → InVariables stores → length globals ≡ length script.globals → (i : ℕ)
+      → slice_index (globals_with stores globals) i ≡ after_stores (destination.Global i) stores (slice_index globals i)
   global_with [] globals are same i = refl
   global_with ((destination.Drop, v) ∷ later) globals are same i = global_with later globals are.1 same i
   global_with ((destination.Local j, v) ∷ later) globals are same i = global_with later globals are.1 same i
@@ -86,9 +96,11 @@ module _ (script : Script) where
       ∙ ap (after_stores (destination.Global i) later) (item_written globals j v i (subst (λ (n : ℕ). j < n) (sym same) are.0))
 
   -- the globals after a transition
-  pub globals_after : (actions : List Action) (s : SharedState) → InVariables (stores_of actions) → length s.globals ≡ length script.globals → (i : ℕ)
+  pub globals_after : (actions : List Action) (s : SharedState) → InVariables (stores_of actions)
+      → length s.globals ≡ length script.globals → (i : ℕ)
       → slice_index (for_each shared_after actions s).globals i ≡ after_stores (destination.Global i) (stores_of actions) (slice_index s.globals i)
-  globals_after actions s are same i = ap (λ (globals : List ℕ). slice_index globals i) (globals_moved actions s) ∙ global_with (stores_of actions) s.globals are same i
+  globals_after actions s are same i =
+      ap (λ (globals : List ℕ). slice_index globals i) (globals_moved actions s) ∙ global_with (stores_of actions) s.globals are same i
 
   -- ---- locals
 
@@ -96,7 +108,8 @@ module _ (script : Script) where
   abbrev pub HaveLocals : List Frame → Type 0
   HaveLocals = AllByRecursion (λ (frame : Frame). length frame.locals ≡ MAX_LOCALS)
 
-  pub local_with : (stores : List Store) (frames : List Frame) → InVariables stores → HaveLocals frames → (i : ℕ) → local_on_top i (frames_with stores frames) ≡ option_map (after_stores (destination.Local i) stores) (local_on_top i frames)
+  pub local_with : (stores : List Store) (frames : List Frame) → InVariables stores → HaveLocals frames → (i : ℕ)
+      → local_on_top i (frames_with stores frames) ≡ option_map (after_stores (destination.Local i) stores) (local_on_top i frames)
   local_with [] [] are have i = refl
   local_with [] (frame ∷ below) are have i = refl
   local_with ((destination.Drop, v) ∷ later) [] are have i = local_with later [] are.1 have i
