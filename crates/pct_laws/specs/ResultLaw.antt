@@ -121,7 +121,7 @@ local_on_top i (frame ∷ below) = Some (slice_index frame.locals i)
 abbrev pub all_locals : List Frame → List (List ℕ)
 all_locals frames = map (λ frame. frame.locals) frames
 
--- the frames without the newest ones, as many as they are more than some others
+-- the oldest of some frames, at most as many as there are others
 abbrev pub left_of : List Frame → List Frame → List Frame
 left_of frames others = drop (length frames - length others) frames
 
@@ -132,6 +132,7 @@ abbrev pub answer_by : Status → Option ForkAt → Option ℕ
 answer_by (status.Forking phase index length answer) kept = Some answer
 answer_by _ kept = option_map (λ at. at.answer) kept
 
+-- the answer that the fork of a thread has got
 abbrev pub fork_answer : Thread → Option ℕ
 fork_answer t = answer_by t.status t.kept
 
@@ -166,7 +167,7 @@ pub record StoresResults (script : Script) (s : ThreadStep) : Type 0 where
       → local_on_top i s.after.frames ≡ option_map (after_stores (destination.Local i) (stored script s)) (local_on_top i s.before.frames)
   -- its callers keep their locals
   pub callers : is_empty (stored script s) ≡ false → all_locals (without_first s.after.frames) ≡ all_locals (without_first s.before.frames)
-  -- if nothing is stored, each function that goes on keeps its locals: those without the ones that are called, and that return or end
+  -- if nothing is stored, each function that goes on keeps its locals: those but for one that is called, or those that return or end
   pub kept : is_empty (stored script s) ≡ true → all_locals (left_of s.after.frames s.before.frames) ≡ all_locals (left_of s.before.frames s.after.frames)
 
 -- the law of results, of the run of a schedule
