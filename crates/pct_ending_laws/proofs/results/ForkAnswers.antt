@@ -1,21 +1,18 @@
 -- The law of results, of the answer of fork: the event by which a process is made, or not, gives it to the thread, which keeps it until its fork
 -- returns.
 use Rattle.pct_names.proofs.Names.{[], ap, body_at, Bool, cond, Config, Entry, false, ForkAt, Frame, is_live_thread, is_some, List, moved}
-use Rattle.pct_names.proofs.Names.{named_after, next_of, NextStatement, None, none-some, Option, option_and_then, option_map, Others}
-use Rattle.pct_names.proofs.Names.{others_of, Process, refl, Run, run, same_Some, Script, SharedState, Some, Status, Stmt, sym, Thread}
-use Rattle.pct_names.proofs.Names.{thread_after, thread_at, thread_moved, thread_with, Transition, transition_by, true, What, ℕ, ◌∙◌, ◌∷◌}
-use Rattle.pct_names.proofs.Names.{◌≡◌}
+use Rattle.pct_names.proofs.Names.{next_of, NextStatement, None, none-some, Option, option_and_then, option_map, Others, others_of}
+use Rattle.pct_names.proofs.Names.{own_after, OwnAction, Process, refl, Run, run, same_Some, Script, SharedState, Some, Status, Stmt, sym}
+use Rattle.pct_names.proofs.Names.{Thread, thread_at, thread_moved, thread_with, Transition, transition_by, true, What, ℕ, ◌∙◌, ◌∷◌, ◌≡◌}
 use Rattle.std.proofs.lemmas.Bool.{true≢false}
 use Rattle.pct_model.specs.declared.state.Status.TheVariants as status
+use Rattle.pct_model.specs.declared.transition.OwnAction.TheVariants as own_action
 use Rattle.pct_laws.specs.Kept.{is_in_fork_handler}
 use Rattle.pct_laws.specs.ResultLaw.{answer_by, fork_answer, answer_in, calls_fork, KeepsAnswer}
-use Rattle.pct_transition_cases.proofs.TransitionCases.{TransitionCase, main_returned, start_returned, call_left, handler_left}
-use Rattle.pct_transition_cases.proofs.TransitionCases.{exit_function_left, canceled, canceled_at_point, canceled_in_join}
-use Rattle.pct_transition_cases.proofs.TransitionCases.{canceled_in_sem_wait, canceled_in_waitpid, ended_in_wait, exit_called, last_ended}
-use Rattle.pct_transition_cases.proofs.TransitionCases.{last_ended_with_keys, process_exited, fork_begun, fork_handler_called}
-use Rattle.pct_transition_cases.proofs.TransitionCases.{fork_handler_left, process_forked, process_not_forked, fork_failed, fork_returned}
+use Rattle.pct_transition_cases.proofs.TransitionCases.{TransitionCase, fork_begun, fork_handler_called, fork_handler_left, process_forked}
+use Rattle.pct_transition_cases.proofs.TransitionCases.{process_not_forked, fork_failed, fork_returned}
 use Rattle.pct_process_laws.proofs.ForksOfRun.{forks_of_run}
-use Rattle.pct_thread_invariants.proofs.lift.ChangedThreads.{all_keep, named_keeps, same_settled}
+use Rattle.pct_thread_invariants.proofs.lift.ChangedThreads.{named_keeps, same_settled}
 use Rattle.pct_thread_invariants.proofs.lift.EveryProcess.{moves_of_run, process_taken}
 use Rattle.pct_thread_invariants.proofs.lift.HandlerEvents.{of_each_phase}
 use Rattle.pct_thread_invariants.proofs.lift.MadeThreads.{IsLive}
@@ -33,6 +30,14 @@ has_none (status.Forking phase index length answer) frames None is = refl
 has_none (status.Forking phase index length answer) frames (Some at) is = absurd (true≢false is)
 has_none _ frames kept is = tt
 
+-- after the action, if there is one, the thread is in no fork
+abbrev leaves_fork : Option OwnAction → Bool
+leaves_fork (Some (own_action.Leave status)) = true
+leaves_fork (Some (own_action.BeginEnd why)) = true
+leaves_fork (Some own_action.BeginExit) = true
+leaves_fork (Some own_action.EndLast) = true
+leaves_fork _ = false
+
 module _ (passes : ℕ) (body : List Stmt) (shared : SharedState) (t : Thread) (others : Others) where
   -- the thread with a status
   abbrev with : Status → Thread
@@ -41,45 +46,36 @@ module _ (passes : ℕ) (body : List Stmt) (shared : SharedState) (t : Thread) (
   -- the event gives the answer
   case_given : {next : NextStatement} {s : Status} {o : Transition} → TransitionCase passes body shared t others true next s o → (n : ℕ)
       → answer_in o.events ≡ Some n → fork_answer (moved o (with s)) ≡ Some n
-  unfolding thread_after thread_at
+  unfolding own_after thread_at
   case_given (process_forked next index length answer new is) n said = said
   case_given (process_not_forked next index length answer) n said = said
   case_given (fork_handler_called next at call is) n said =
       absurd (none-some n (sym (of_each_phase (λ (w : What). answer_in (w ∷ []) ≡ None) call.func refl refl refl at.phase) ∙ said))
   case_given _ n said = absurd (none-some n said)
 
-  gone : {n m : ℕ} → (kept : Option ForkAt) → kept ≡ None → option_map (λ (at : ForkAt). at.answer) kept ≡ Some m → n ≡ m
-  gone {n} {m} kept none after = absurd (none-some m (sym (ap (option_map (λ (at : ForkAt). at.answer)) none) ∙ after))
+  -- any other step keeps it, unless it leaves the fork
+  record Stays (o : Transition) (s : Status) : Type 0 where
+    leaves : Bool
+    is : fork_answer (moved o (with s)) ≡ cond leaves None (fork_answer (with s))
 
-  -- any other step keeps it
-  case_kept : {next : NextStatement} {s : Status} {o : Transition} → TransitionCase passes body shared t others true next s o
-      → HasNone s t.kept → answer_in o.events ≡ None → calls_fork next s ≡ false → (n m : ℕ) → fork_answer (with s) ≡ Some n
-      → fork_answer (moved o (with s)) ≡ Some m → n ≡ m
-  unfolding thread_after thread_at
-  case_kept (main_returned frame s v returns is once) none quiet other n m before after = absurd (none-some m after)
-  case_kept (start_returned frame s v returns is) none quiet other n m before after = absurd (none-some m after)
-  case_kept (call_left frame s v returns is) none quiet other n m before after = absurd (none-some m after)
-  case_kept (handler_left frame s v returns is) none quiet other n m before after = absurd (none-some m after)
-  case_kept (exit_function_left frame s v returns is) none quiet other n m before after = absurd (none-some m after)
-  case_kept (canceled next asked may) none quiet other n m before after = absurd (none-some m after)
-  case_kept (canceled_at_point next index asked) none quiet other n m before after = absurd (none-some m after)
-  case_kept (canceled_in_join next id asked) none quiet other n m before after = absurd (none-some m after)
-  case_kept (canceled_in_sem_wait next sem asked) none quiet other n m before after = absurd (none-some m after)
-  case_kept (canceled_in_waitpid next pid asked) none quiet other n m before after = absurd (none-some m after)
-  case_kept (ended_in_wait next c mutex free) none quiet other n m before after = absurd (none-some m after)
-  case_kept (exit_called frame v unbegun) none quiet other n m before after = absurd (none-some m after)
-  case_kept (last_ended next handlers last due left) none quiet other n m before after = absurd (none-some m after)
-  case_kept (last_ended_with_keys next left handlers last some made is none_left) none quiet other n m before after =
-      absurd (none-some m after)
-  case_kept (process_exited frame v once) none quiet other n m before after = absurd (none-some m after)
-  case_kept (fork_begun frame result child unbegun) none quiet other n m before after = absurd (true≢false other)
-  case_kept (process_forked next index length answer new is) none quiet other n m before after = absurd (none-some new (sym quiet))
-  case_kept (process_not_forked next index length answer) none quiet other n m before after = absurd (none-some 0 (sym quiet))
-  case_kept (fork_failed frame result child index length pid) none quiet other n m before after = gone t.kept none after
-  case_kept (fork_returned frame result child phase index length pid value) none quiet other n m before after = gone t.kept none after
-  case_kept (fork_handler_left frame s v at returns is kept) none quiet other n m before after =
-      same_Some n m (sym before ∙ ap (option_map (λ (x : ForkAt). x.answer)) kept ∙ after)
-  case_kept _ none quiet other n m before after = same_Some n m (sym before ∙ after)
+  case_stays : {next : NextStatement} {s : Status} {o : Transition} → TransitionCase passes body shared t others true next s o
+      → HasNone s t.kept → answer_in o.events ≡ None → calls_fork next s ≡ false → Stays o s
+  unfolding own_after thread_at
+  case_stays (fork_begun frame result child unbegun) none quiet other = absurd (true≢false other)
+  case_stays (process_forked next index length answer new is) none quiet other = absurd (none-some new (sym quiet))
+  case_stays (process_not_forked next index length answer) none quiet other = absurd (none-some 0 (sym quiet))
+  case_stays (fork_failed frame result child index length pid) none quiet other =
+      record { leaves = true; is = ap (option_map (λ (at : ForkAt). at.answer)) none }
+  case_stays (fork_returned frame result child phase index length pid value) none quiet other =
+      record { leaves = true; is = ap (option_map (λ (at : ForkAt). at.answer)) none }
+  case_stays (fork_handler_left frame s v at returns is kept) none quiet other =
+      record { leaves = false; is = sym (ap (option_map (λ (x : ForkAt). x.answer)) kept) }
+  case_stays {o = o} _ none quiet other = record { leaves = leaves_fork o.own; is = refl }
+
+-- two answers of which the second is the first, or none
+one_answer : (n m : ℕ) (leaves : Bool) {before after : Option ℕ} → after ≡ cond leaves None before → before ≡ Some n → after ≡ Some m → n ≡ m
+one_answer n m true is was then = absurd (none-some m (sym is ∙ then))
+one_answer n m false is was then = same_Some n m (sym was ∙ sym is ∙ then)
 
 -- ---- each step of a run
 
@@ -96,7 +92,7 @@ module _ (script : Script) (config : Config) where
 
     answer_is : fork_answer (thread_moved e.tid o t) ≡ fork_answer (moved o t)
     answer_is =
-        all_keep fork_answer named_after (named_keeps fork_answer (λ t joined pending detached specific s same. same_settled (λ (st : Status). answer_by st t.kept) (λ c m why. refl) s t.status same)) o.actions (cond (is_live_thread e.tid t) (moved o t) t)
+        named_keeps fork_answer (λ t joined pending detached specific s same. same_settled (λ (st : Status). answer_by st t.kept) (λ c m why. refl) s t.status same) o.named (cond (is_live_thread e.tid t) (moved o t) t)
         ∙ ap (λ (b : Bool). fork_answer (cond b (moved o t) t)) (mover script config r.world p e t moves).live
 
     none : HasNone t.status t.kept
@@ -107,7 +103,9 @@ module _ (script : Script) (config : Config) where
     answers_of_step : KeepsAnswer script (step_of script config r p e t)
     answers_of_step = record {
       given = λ n said. answer_is ∙ case_given config.passes (body_at script t.frames) p.shared t (others_of config.slots r.world p t.id) case n said;
-      kept = λ quiet other n m was after. case_kept config.passes (body_at script t.frames) p.shared t (others_of config.slots r.world p t.id) case none quiet other n m was (sym answer_is ∙ after);
+      kept = λ quiet other n m was after.
+          let it = case_stays config.passes (body_at script t.frames) p.shared t (others_of config.slots r.world p t.id) case none quiet other in
+          one_answer n m it.leaves (answer_is ∙ it.is) was after;
     }
 
   -- each step of a run keeps the answer of a fork

@@ -1,15 +1,17 @@
 -- After every run each process has the globals of the script, each frame has its locals, and each thread has a value for each place of keys.
-use Rattle.pct_names.proofs.Names.{◌&&◌, [], Action, All, All-from_recursion, ap, at_pc, Bool, changed, child_of, cond, cond_some, Config}
-use Rattle.pct_names.proofs.Names.{Dest, false, find, for_each, Frame, frames_written, is_live_thread, is_waiting_on, key_place, length}
-use Rattle.pct_names.proofs.Names.{length-replicate, List, made_process, MAX_KEYS, MAX_LOCALS, moved, named_after, nat_eq, None, not}
-use Rattle.pct_names.proofs.Names.{Option, option_and_then_some, Process, refl, Script, SharedState, Some, subst, sym, Thread, thread_after}
-use Rattle.pct_names.proofs.Names.{thread_at, thread_with, Transition, transition_by, true, unblocked, without_first, ℕ, ◌∙◌, ◌∷◌, ◌≡◌}
+use Rattle.pct_names.proofs.Names.{[], All, All-from_recursion, ap, at_pc, Bool, child_of, cond, cond_some, Config, Dest, false, find}
+use Rattle.pct_names.proofs.Names.{Frame, frames_written, is_live_thread, key_place, KeyValues, length, length-replicate, List}
+use Rattle.pct_names.proofs.Names.{made_process, MAX_KEYS, MAX_LOCALS, moved, NamedAction, nat_eq, None, Option, option_and_then_some}
+use Rattle.pct_names.proofs.Names.{own_after, OwnAction, Process, refl, Script, SharedState, slice_set, Some, subst, sym, Thread, thread_at}
+use Rattle.pct_names.proofs.Names.{thread_moved, thread_with, Transition, transition_by, true, without_first, written, ℕ, ◌∙◌, ◌∷◌, ◌≡◌}
 use Rattle.std.proofs.lemmas.List.{length-set}
-use Rattle.pct_model.specs.declared.state.Cause.TheVariants as cause
 use Rattle.pct_model.specs.declared.statement.Dest.TheVariants as destination
-use Rattle.pct_model.specs.declared.transition.Action.TheVariants as action
+use Rattle.pct_model.specs.declared.transition.NamedAction.TheVariants as named_action
+use Rattle.pct_model.specs.declared.transition.OwnAction.TheVariants as own_action
 use Rattle.pct_laws.specs.Kept.{EachProcess, EachThread}
-use Rattle.pct_thread_invariants.proofs.lift.ChangedThreads.{changed_shared, other_threads, other_shared}
+use Rattle.pct_thread_invariants.proofs.lift.ChangedThreads.{either_keeps, named_keeps, changed_shared, other_threads, other_shared}
+use Rattle.pct_thread_invariants.proofs.keys.KeptKeys.{own_data, named_data}
+use Rattle.pct_thread_invariants.proofs.keys.KeysOfProcesses.{data_moved}
 use Rattle.pct_thread_invariants.proofs.lift.TakenSteps.{AfterEveryRun}
 use Rattle.pct_thread_invariants.proofs.lift.MadeThreads.{IsLive}
 use Rattle.pct_thread_invariants.proofs.lift.ThreadsAfter.{initial_thread, Moves, mover, each_after}
@@ -26,70 +28,64 @@ pub record HasVariables (script : Script) (t : Thread) : Type 0 where
 
 module _ (script : Script) where
   -- a number that is written, a new pc, and a return keep the locals
-  written : (d : Dest) (v : ℕ) (frames : List Frame) → HaveLocals script frames → HaveLocals script (frames_written d v frames)
-  written destination.Drop v frames have = have
-  written (destination.Global i) v frames have = have
-  written (destination.Local i) v [] have = tt
-  written (destination.Local i) v (frame ∷ below) have = (length-set frame.locals i v ∙ have.0, have.1)
+  all_written : (writes : List (Dest × ℕ)) (frames : List Frame) → HaveLocals script frames
+      → HaveLocals script (written frames_written writes frames)
+  all_written [] frames have = have
+  all_written ((destination.Local i, v) ∷ writes) [] have = all_written writes [] have
+  all_written ((destination.Local i, v) ∷ writes) (frame ∷ below) have =
+      all_written writes (record frame { locals = slice_set frame.locals i v } ∷ below) (length-set frame.locals i v ∙ have.0, have.1)
+  all_written ((_, v) ∷ writes) frames have = all_written writes frames have
 
-  pub gone_on : (pc : ℕ) (frames : List Frame) → HaveLocals script frames → HaveLocals script (at_pc pc frames)
+  gone_on : (pc : ℕ) (frames : List Frame) → HaveLocals script frames → HaveLocals script (at_pc pc frames)
   gone_on pc [] have = tt
   gone_on pc (frame ∷ below) have = have
+
+  pub start_has : (next : Option ℕ) (t : Thread) → HaveLocals script t.frames → HaveLocals script (thread_at next t).frames
+  unfolding thread_at
+  start_has None t have = have
+  start_has (Some pc) t have = gone_on pc t.frames have
 
   left : (frames : List Frame) → HaveLocals script frames → HaveLocals script (without_first frames)
   left [] have = tt
   left (frame ∷ below) have = have.1
 
+  own_keeps : (a : Option OwnAction) (t : Thread) → HaveLocals script t.frames → HaveLocals script (own_after a t).frames
+  unfolding own_after
+  own_keeps (Some (own_action.Call f a kind)) t have = (refl, have)
+  own_keeps (Some (own_action.CallHandler f a)) t have = (refl, have)
+  own_keeps (Some (own_action.CallForkHandler at f)) t have = (refl, have)
+  own_keeps (Some (own_action.RunHandler f a)) t have = (refl, tt)
+  own_keeps (Some (own_action.RunDestructor k f v)) t have = (refl, tt)
+  own_keeps (Some (own_action.RunExitFunction f)) t have = (refl, tt)
+  own_keeps (Some (own_action.Leave status)) t have = left t.frames have
+  own_keeps (Some (own_action.BeginEnd why)) t have = tt
+  own_keeps (Some own_action.BeginExit) t have = tt
+  own_keeps (Some own_action.EndLast) t have = tt
+  own_keeps _ t have = have
+
+  -- so does the data of a thread its number of values
+  own_values : (a : Option OwnAction) (own : KeyValues) → length (own_data a own).values ≡ length own.values
+  own_values (Some (own_action.SetSpecific k v)) own = length-set own.values (key_place k) v
+  own_values (Some (own_action.RunDestructor k f v)) own = length-set own.values (key_place k) 0
+  own_values _ own = refl
+
+  named_values : (a : Option NamedAction) (own : KeyValues) → length (named_data a own).values ≡ length own.values
+  named_values (Some (named_action.ForgetKey k)) own = length-set own.values (key_place k) 0
+  named_values _ own = refl
+
   -- each thread that a transition changes keeps them
-  own_keeps : (a : Action) (t : Thread) → HasVariables script t → HasVariables script (thread_after a t)
-  unfolding thread_after
-  own_keeps (action.Write d v) t have = record { locals = written d v t.frames have.locals; values = have.values }
-  own_keeps (action.Call f a kind) t have = record { locals = (refl, have.locals); values = have.values }
-  own_keeps (action.CallAlone f a kind) t have = record { locals = (refl, tt); values = have.values }
-  own_keeps (action.Leave status) t have = record { locals = left t.frames have.locals; values = have.values }
-  own_keeps (action.SetSpecific k v) t have =
-      record { locals = have.locals; values = length-set t.specific.values (key_place k) v ∙ have.values }
-  own_keeps (action.TakeKey k) t have = record { locals = have.locals; values = length-set t.specific.values (key_place k) 0 ∙ have.values }
-  own_keeps (action.BeginEnd why) t have = record { locals = tt; values = have.values }
-  own_keeps (action.BeginExit v) t have = record { locals = tt; values = have.values }
-  own_keeps _ t have = record { locals = have.locals; values = have.values }
-
-  named_if : (named : Bool) (changed t : Thread) → HasVariables script changed → HasVariables script t
-      → HasVariables script (cond named changed t)
-  named_if true changed t has_changed have = has_changed
-  named_if false changed t has_changed have = have
-
-  named_keeps : (a : Action) (t : Thread) → HasVariables script t → HasVariables script (named_after a t)
-  unfolding named_after
-  named_keeps (action.EndJoin id) t have =
-      named_if (is_live_thread id t) (record t { joined = true }) t (record { locals = have.locals; values = have.values }) have
-  named_keeps (action.Request id) t have =
-      named_if (is_live_thread id t && not t.ended) (record t { pending = true }) t (record { locals = have.locals; values = have.values }) have
-  named_keeps (action.Detach id) t have =
-      named_if (is_live_thread id t) (record t { detached = true }) t (record { locals = have.locals; values = have.values }) have
-  named_keeps (action.Wake id) t have =
-      named_if (is_live_thread id t) (record t { status = unblocked cause.Signalled t.status }) t (record { locals = have.locals; values = have.values }) have
-  named_keeps (action.WakeAll c) t have =
-      named_if (is_waiting_on c t.status) (record t { status = unblocked cause.Broadcast t.status }) t (record { locals = have.locals; values = have.values }) have
-  named_keeps (action.DeleteKey k) t have =
-      record { locals = have.locals; values = length-set t.specific.values (key_place k) 0 ∙ have.values }
-  named_keeps _ t have = have
-
-  all_keep : (change : Action → Thread → Thread) → ((a : Action) (t : Thread) → HasVariables script t → HasVariables script (change a t))
-      → (actions : List Action) (t : Thread) → HasVariables script t → HasVariables script (for_each change actions t)
-  all_keep change keeps [] t have = have
-  all_keep change keeps (a ∷ actions) t have = all_keep change keeps actions (change a t) (keeps a t have)
-
-  going_on_keeps : (next : Option ℕ) (t : Thread) → HasVariables script t → HasVariables script (thread_at next t)
-  unfolding thread_at
-  going_on_keeps None t have = have
-  going_on_keeps (Some pc) t have = record { locals = gone_on pc t.frames have.locals; values = have.values }
-
-  moved_keeps : (o : Transition) (t : Thread) (live : Bool) → HasVariables script t
-      → HasVariables script (for_each named_after o.actions (cond live (moved o t) t))
-  moved_keeps o t true have =
-      all_keep named_after named_keeps o.actions (moved o t) (all_keep thread_after own_keeps o.actions (thread_at o.next t) (going_on_keeps o.next t have))
-  moved_keeps o t false have = all_keep named_after named_keeps o.actions t have
+  moved_keeps : (tid : ℕ) (o : Transition) (t : Thread) → HasVariables script t → HasVariables script (thread_moved tid o t)
+  moved_keeps tid o t have = record {
+    locals = subst (HaveLocals script) (sym (named_keeps (λ (u : Thread). u.frames) (λ t joined pending detached specific s same. refl) o.named _)) (by_live (is_live_thread tid t));
+    values =
+        ap (λ (own : KeyValues). length own.values) (data_moved tid o t) ∙ named_values o.named _
+        ∙ either_keeps (λ (own : KeyValues). length own.values) (is_live_thread tid t) (own_data o.own t.specific) t.specific t.specific (own_values o.own t.specific) refl
+        ∙ have.values;
+  }
+    where
+      by_live : (live : Bool) → HaveLocals script (cond live (moved o t) t).frames
+      by_live true = own_keeps o.own _ (all_written o.writes (thread_at o.next t).frames (start_has o.next t have.locals))
+      by_live false = have.locals
 
   -- ---- processes
 
@@ -106,9 +102,11 @@ module _ (script : Script) where
       threads = λ tid t is. subst (HasVariables script) (cond_some (nat_eq 1 tid) (initial_thread script) t is).1 (record { locals = (refl, tt); values = length-replicate {A = ℕ} MAX_KEYS 0 });
     };
     own = λ w p e t k moves have. record {
-      globals = ap (λ (s : SharedState). length s.globals) (changed_shared e.tid (transition_by script config w p t e.alt) p) ∙ globals_kept (transition_by script config w p t e.alt).actions p.shared ∙ have.globals;
+      globals =
+          let o : Transition = transition_by script config w p t e.alt in
+          ap (λ (s : SharedState). length s.globals) (changed_shared e.tid o p) ∙ globals_kept o p.shared ∙ have.globals;
       threads = each_after script config w p e t moves (λ id u. HasVariables script u)
-          (λ id u is. moved_keeps (transition_by script config w p t e.alt) u (is_live_thread e.tid u) (have.threads id u is))
+          (λ id u is. moved_keeps e.tid (transition_by script config w p t e.alt) u (have.threads id u is))
           (λ id new makes. record { locals = (refl, tt); values = length-replicate {A = ℕ} MAX_KEYS 0 });
     };
     born = λ w p e t k new moves fork have.

@@ -1,7 +1,7 @@
 -- The law of thread-specific data, of other processes: a step keeps the threads of a process that was made before, and what they share; and in
 -- the process that a fork makes the thread that forked has its values.
-use Rattle.pct_names.proofs.Names.{after_transition, ap, Bool, child_of, cond, Config, Entry, false, false≢true, find, for_each, Forked}
-use Rattle.pct_names.proofs.Names.{forks_by, KeyValues, Legal, List, list_any, made_process, nat_eq, NextStatement, None, none-some, Option}
+use Rattle.pct_names.proofs.Names.{after_transition, ap, Bool, child_of, cond, Config, Entry, false, false≢true, find, Forked, forks_by}
+use Rattle.pct_names.proofs.Names.{KeyValues, Legal, List, list_any, made_process, nat_eq, NextStatement, None, none-some, Option}
 use Rattle.pct_names.proofs.Names.{option_map, option_or, other_process_after, Others, Process, process_moved, refl, Run, run, same_Some}
 use Rattle.pct_names.proofs.Names.{Script, SharedState, Some, Status, Stmt, subst, sym, Thread, thread_with, Transition, transition_by}
 use Rattle.pct_names.proofs.Names.{true, What, ℕ, ◌∙◌, ◌≡◌}
@@ -11,7 +11,6 @@ use Rattle.pct_laws.specs.ThreadSteps.{ThreadStep}
 use Rattle.pct_laws.specs.ValueLaw.{KeepsProcess}
 use Rattle.pct_transition_cases.proofs.TransitionCases.{TransitionCase, specific_set, key_deleted, destructor_called, pass_begun}
 use Rattle.pct_thread_invariants.proofs.keys.KeptKeys.{own_data, named_data}
-use Rattle.pct_ending_laws.proofs.keys.KeyActions.{first_of, key_actions}
 use Rattle.pct_thread_invariants.proofs.keys.KeysOfProcesses.{data_moved}
 use Rattle.pct_thread_invariants.proofs.lift.ChangedThreads.{other_threads, other_shared}
 use Rattle.pct_thread_invariants.proofs.lift.CreatedThreads.{Makes, makes_none, forks}
@@ -36,7 +35,7 @@ abbrev KeepsItsValues : ThreadStep → Type 0
 KeepsItsValues s = list_any is_fork_event s.events ≡ true → s.after.specific.values ≡ s.before.specific.values
 
 case_forks : {passes : ℕ} {body : List Stmt} {shared : SharedState} {t : Thread} {others : Others} {next : NextStatement} {s : Status} {o : Transition} → TransitionCase passes body shared t others true next s o
-    → list_any is_fork_event o.events ≡ true → (own : KeyValues) → named_data (first_of o.actions) (own_data (first_of o.actions) own) ≡ own
+    → list_any is_fork_event o.events ≡ true → (own : KeyValues) → named_data o.named (own_data o.own own) ≡ own
 case_forks (specific_set frame key v named) said own = absurd (false≢true said)
 case_forks (key_deleted frame key named) said own = absurd (false≢true said)
 case_forks (destructor_called next k f key none is named among) said own = absurd (false≢true said)
@@ -50,8 +49,7 @@ module _ (script : Script) (config : Config) where
       let o : Transition = transition_by script config r.world p t e.alt in
       let moves : Moves script config r.world p e t = moves_of_run script config before r is e p t taken in
       ap (λ (own : KeyValues). own.values) (
-          data_moved e.tid o (key_actions script config r.world p t e.alt moves.offered).rest t
-          ∙ ap (λ (live : Bool). named_data (first_of o.actions) (cond live (own_data (first_of o.actions) t.specific) t.specific)) (mover script config r.world p e t moves).live
+          data_moved e.tid o t ∙ ap (λ (live : Bool). named_data o.named (cond live (own_data o.own t.specific) t.specific)) (mover script config r.world p e t moves).live
           ∙ case_forks (case_of_step script config r.world p e t moves) said t.specific)
 
   forker_of_run : EveryStep script config KeepsItsValues
@@ -80,7 +78,7 @@ module _ (script : Script) (config : Config) where
     made_before : (pid : ℕ) (q after : Process) → (e.pid ≡ pid → ⊥) → made_process pid r.world ≡ Some q
         → made_process pid (after_transition e.pid e.tid o r.world) ≡ Some after → (after.threads ≡ q.threads) × (after.shared ≡ q.shared)
     made_before pid q after differs was made =
-        let moved : for_each (other_process_after e.pid) o.actions q ≡ after =
+        let moved : other_process_after e.pid o.process q ≡ after =
         sym (other_process_is e.pid e.tid o q pid (found_passes (λ (x : Process). nat_eq x.pid pid) r.world.processes q was) (ne_eqb e.pid pid differs))
         ∙ same_Some (process_moved e.pid e.tid o q) after (sym (process_is pid (Some q) was) ∙ made) in
         (ap (λ (x : Process). x.threads) (sym moved) ∙ other_threads e.pid o q, ap (λ (x : Process). x.shared) (sym moved) ∙ other_shared e.pid o q)

@@ -13,7 +13,6 @@ use Rattle.pct_model.specs.declared.statement.Stmt.TheVariants as statement
 use Rattle.pct_laws.specs.CancelLaw.{is_running, acts_or_stops}
 use Rattle.pct_laws.specs.ValueLaw.{has_value_set, sets_its_value}
 use Rattle.pct_thread_invariants.proofs.keys.KeptKeys.{own_data, named_data}
-use Rattle.pct_ending_laws.proofs.keys.KeyActions.{first_of, key_actions}
 use Rattle.pct_thread_invariants.proofs.keys.KeysOfProcesses.{data_moved}
 use Rattle.pct_thread_invariants.proofs.lift.EveryProcess.{moves_of_run, process_taken}
 use Rattle.pct_thread_invariants.proofs.lift.TakenSteps.{IsTaken}
@@ -23,9 +22,9 @@ use Rattle.pct_ending_laws.proofs.results.KeptVariables.{variables_of_run}
 use Rattle.pct_thread_invariants.proofs.lift.MovedThreads.{EveryStep, step_of, every_step}
 
 module _ (passes : ℕ) (body : List Stmt) (shared : SharedState) (t : Thread) (others : Others) (values : length t.specific.values ≡ MAX_KEYS) where
-  -- the data of the thread after a transition of which only the first action changes them
+  -- the data of the thread after a transition
   abbrev pub data_after : Transition → KeyValues
-  data_after o = named_data (first_of o.actions) (own_data (first_of o.actions) t.specific)
+  data_after o = named_data o.named (own_data o.own t.specific)
 
   -- the thread has the value of a statement, in these data
   abbrev IsSet : NextStatement → KeyValues → Bool
@@ -90,8 +89,7 @@ module _ (script : Script) (config : Config) where
       let next : NextStatement = next_of script t.frames in
       let values : length t.specific.values ≡ MAX_KEYS = ((variables_of_run script config before r is e.pid p (process_taken script config before r is e p t taken)).threads e.tid t (mover script config r.world p e t moves).found).values in
       let its_data : (thread_moved e.tid o t).specific ≡ data_after config.passes body p.shared t others values o =
-      data_moved e.tid o (key_actions script config r.world p t e.alt moves.offered).rest t
-      ∙ ap (λ (live : Bool). named_data (first_of o.actions) (cond live (own_data (first_of o.actions) t.specific) t.specific)) (mover script config r.world p e t moves).live in
+      data_moved e.tid o t ∙ ap (λ (live : Bool). named_data o.named (cond live (own_data o.own t.specific) t.specific)) (mover script config r.world p e t moves).live in
       if_runs (is_running t.status) (acts_or_stops o.events) (has_value_set p.shared.globals next (thread_moved e.tid o t)) (λ running.
       then_has config.passes body p.shared t others values next (thread_moved e.tid o t) (data_after config.passes body p.shared t others values o) (acts_or_stops o.events) its_data
       (subst (Sets config.passes body p.shared t others values e.alt next) (sym (its_status t.status running)) (running_sets config.passes body p.shared t others values e.alt next)))

@@ -1,73 +1,49 @@
--- What the actions of a transition store in variables: the numbers that it writes, in order, and nothing else.
-use Rattle.pct_names.proofs.Names.{◌<◌, [], Action, AllByRecursion, and_parts, ap, Bool, cond, eqb-false, false, false≢true, for_each}
-use Rattle.pct_names.proofs.Names.{Frame, frames_written, globals_written, length, List, list_all, MAX_LOCALS, nat_eq, option_map, refl}
-use Rattle.pct_names.proofs.Names.{Script, shared_after, SharedState, slice_index, slice_set, Some, subst, sym, Thread, thread_after, true}
-use Rattle.pct_names.proofs.Names.{without_first, ℕ, ◌∙◌, ◌∷◌, ◌≡◌}
+-- What a transition stores in variables: the values that it writes, in order, and nothing else.
+use Rattle.pct_names.proofs.Names.{◌<◌, [], AllByRecursion, ap, Bool, cond, eqb-false, false, false≢true, Frame, frames_written}
+use Rattle.pct_names.proofs.Names.{globals_written, length, List, MAX_LOCALS, moved, nat_eq, None, Option, option_map, own_after, OwnAction}
+use Rattle.pct_names.proofs.Names.{refl, Script, shared_after, shared_moved, SharedAction, SharedState, slice_index, slice_set, Some, subst}
+use Rattle.pct_names.proofs.Names.{sym, Thread, thread_at, Transition, true, without_first, written, ℕ, ◌∙◌, ◌∷◌, ◌≡◌}
 use Rattle.std.proofs.Common.{eqb-true}
 use Rattle.std.proofs.lemmas.List.{get_or-set_same, get_or-set_other, length-set}
 use Rattle.pct_model.specs.declared.statement.Dest.TheVariants as destination
-use Rattle.pct_model.specs.declared.transition.Action.TheVariants as action
+use Rattle.pct_model.specs.declared.transition.OwnAction.TheVariants as own_action
+use Rattle.pct_model.specs.declared.transition.SharedAction.TheVariants as shared_action
 use Rattle.pct_laws.specs.ResultLaw.{Store, after_stores, local_on_top}
 use Rattle.pct_ending_laws.proofs.results.NamedVariables.{IsVariable}
 
--- the numbers that actions write
-abbrev pub stores_of : List Action → List Store
-stores_of [] = []
-stores_of (action.Write d v ∷ actions) = (d, v) ∷ stores_of actions
-stores_of (_ ∷ actions) = stores_of actions
-
--- the globals, and the frames, with these numbers
-abbrev globals_with : List Store → List ℕ → List ℕ
-globals_with [] globals = globals
-globals_with (store ∷ later) globals = globals_with later (globals_written store.0 store.1 globals)
-
-abbrev pub frames_with : List Store → List Frame → List Frame
-frames_with [] frames = frames
-frames_with (store ∷ later) frames = frames_with later (frames_written store.0 store.1 frames)
-
 -- ---- actions
 
-globals_moved : (actions : List Action) (s : SharedState)
-    → (for_each shared_after actions s).globals ≡ globals_with (stores_of actions) s.globals
+-- no action changes the globals
+shared_keeps : (a : Option SharedAction) (s : SharedState) → (shared_after a s).globals ≡ s.globals
 unfolding shared_after
-globals_moved [] s = refl
-globals_moved (action.Write d v ∷ actions) s = globals_moved actions (shared_after (action.Write d v) s)
-globals_moved (a ∷ actions) s = globals_moved actions (shared_after a s)
+shared_keeps (Some shared_action.TakeExit) s = refl
+shared_keeps _ s = refl
 
--- the action keeps the frames of its thread, but for a number that it writes
-abbrev pub keeps_frames : Action → Bool
-keeps_frames (action.Call f a kind) = false
-keeps_frames (action.CallAlone f a kind) = false
-keeps_frames (action.Leave status) = false
-keeps_frames (action.BeginEnd why) = false
-keeps_frames (action.BeginExit v) = false
-keeps_frames _ = true
+-- the action, if there is one, sets the cancelability
+abbrev pub stays : Option OwnAction → Bool
+stays None = true
+stays (Some (own_action.SetState state)) = true
+stays (Some (own_action.SetMode mode)) = true
+stays _ = false
 
-frames_after : (a : Action) → keeps_frames a ≡ true → (actions : List Action) (t : Thread)
-    → frames_with (stores_of actions) (thread_after a t).frames ≡ frames_with (stores_of (a ∷ actions)) t.frames
-unfolding thread_after
-frames_after (action.Call f a kind) keeps actions t = absurd (false≢true keeps)
-frames_after (action.CallAlone f a kind) keeps actions t = absurd (false≢true keeps)
-frames_after (action.Leave status) keeps actions t = absurd (false≢true keeps)
-frames_after (action.BeginEnd why) keeps actions t = absurd (false≢true keeps)
-frames_after (action.BeginExit v) keeps actions t = absurd (false≢true keeps)
-frames_after (action.Write d v) keeps actions t = refl
-frames_after _ keeps actions t = refl
+own_stays : (a : Option OwnAction) → stays a ≡ true → (t : Thread) → (own_after a t).frames ≡ t.frames
+unfolding own_after
+own_stays None is t = refl
+own_stays (Some (own_action.SetState state)) is t = refl
+own_stays (Some (own_action.SetMode mode)) is t = refl
+own_stays _ is t = absurd (false≢true is)
 
-pub frames_moved : (actions : List Action) → list_all keeps_frames actions ≡ true → (t : Thread)
-    → (for_each thread_after actions t).frames ≡ frames_with (stores_of actions) t.frames
-frames_moved [] keeps t = refl
-frames_moved (a ∷ actions) keeps t =
-    let parts : (keeps_frames a ≡ true) × (list_all keeps_frames actions ≡ true) = and_parts (keeps_frames a) (list_all keeps_frames actions) keeps in
-    frames_moved actions parts.1 (thread_after a t) ∙ frames_after a parts.0 actions t
+-- such a thread goes on in its frames, with the values that are written
+pub frames_moved : (o : Transition) → stays o.own ≡ true → (t : Thread)
+    → (moved o t).frames ≡ written frames_written o.writes (thread_at o.next t).frames
+frames_moved o is t = own_stays o.own is _
 
 -- the frames below the top one stay
-pub below_with : (stores : List Store) (frames : List Frame) → without_first (frames_with stores frames) ≡ without_first frames
+pub below_with : (stores : List Store) (frames : List Frame) → without_first (written frames_written stores frames) ≡ without_first frames
 below_with [] frames = refl
-below_with ((destination.Drop, v) ∷ later) frames = below_with later frames
-below_with ((destination.Global j, v) ∷ later) frames = below_with later frames
 below_with ((destination.Local j, v) ∷ later) [] = below_with later []
 below_with ((destination.Local j, v) ∷ later) (frame ∷ below) = below_with later (record frame { locals = slice_set frame.locals j v } ∷ below)
+below_with ((_, v) ∷ later) frames = below_with later frames
 
 -- ---- one number
 
@@ -87,20 +63,18 @@ module _ (script : Script) where
   -- ---- globals
 
   global_with : (stores : List Store) (globals : List ℕ) → InVariables stores → length globals ≡ length script.globals → (i : ℕ)
-      → slice_index (globals_with stores globals) i ≡ after_stores (destination.Global i) stores (slice_index globals i)
+      → slice_index (written globals_written stores globals) i ≡ after_stores (destination.Global i) stores (slice_index globals i)
   global_with [] globals are same i = refl
-  global_with ((destination.Drop, v) ∷ later) globals are same i = global_with later globals are.1 same i
-  global_with ((destination.Local j, v) ∷ later) globals are same i = global_with later globals are.1 same i
   global_with ((destination.Global j, v) ∷ later) globals are same i =
       global_with later (slice_set globals j v) are.1 (length-set globals j v ∙ same) i
       ∙ ap (after_stores (destination.Global i) later) (item_written globals j v i (subst (λ (n : ℕ). j < n) (sym same) are.0))
+  global_with ((_, v) ∷ later) globals are same i = global_with later globals are.1 same i
 
   -- the globals after a transition
-  pub globals_after : (actions : List Action) (s : SharedState) → InVariables (stores_of actions)
-      → length s.globals ≡ length script.globals → (i : ℕ)
-      → slice_index (for_each shared_after actions s).globals i ≡ after_stores (destination.Global i) (stores_of actions) (slice_index s.globals i)
-  globals_after actions s are same i =
-      ap (λ (globals : List ℕ). slice_index globals i) (globals_moved actions s) ∙ global_with (stores_of actions) s.globals are same i
+  pub globals_after : (o : Transition) (s : SharedState) → InVariables o.writes → length s.globals ≡ length script.globals → (i : ℕ)
+      → slice_index (shared_moved o s).globals i ≡ after_stores (destination.Global i) o.writes (slice_index s.globals i)
+  globals_after o s are same i =
+      ap (λ (globals : List ℕ). slice_index globals i) (shared_keeps o.shared _) ∙ global_with o.writes s.globals are same i
 
   -- ---- locals
 
@@ -109,26 +83,21 @@ module _ (script : Script) where
   HaveLocals = AllByRecursion (λ (frame : Frame). length frame.locals ≡ MAX_LOCALS)
 
   pub local_with : (stores : List Store) (frames : List Frame) → InVariables stores → HaveLocals frames → (i : ℕ)
-      → local_on_top i (frames_with stores frames) ≡ option_map (after_stores (destination.Local i) stores) (local_on_top i frames)
+      → local_on_top i (written frames_written stores frames) ≡ option_map (after_stores (destination.Local i) stores) (local_on_top i frames)
   local_with [] [] are have i = refl
   local_with [] (frame ∷ below) are have i = refl
-  local_with ((destination.Drop, v) ∷ later) [] are have i = local_with later [] are.1 have i
-  local_with ((destination.Local j, v) ∷ later) [] are have i = local_with later [] are.1 have i
-  local_with ((destination.Global j, v) ∷ later) [] are have i = local_with later [] are.1 have i
-  local_with ((destination.Drop, v) ∷ later) (frame ∷ below) are have i = local_with later (frame ∷ below) are.1 have i
-  local_with ((destination.Global j, v) ∷ later) (frame ∷ below) are have i = local_with later (frame ∷ below) are.1 have i
   local_with ((destination.Local j, v) ∷ later) (frame ∷ below) are have i =
       local_with later (record frame { locals = slice_set frame.locals j v } ∷ below) are.1 (length-set frame.locals j v ∙ have.0, have.1) i
       ∙ ap (λ (n : ℕ). Some (after_stores (destination.Local i) later n)) (item_written frame.locals j v i (subst (λ (n : ℕ). j < n) (sym have.0) are.0))
+  local_with ((_, v) ∷ later) frames are have i = local_with later frames are.1 have i
 
 -- ---- lengths
 
-length_with : (stores : List Store) (globals : List ℕ) → length (globals_with stores globals) ≡ length globals
+length_with : (stores : List Store) (globals : List ℕ) → length (written globals_written stores globals) ≡ length globals
 length_with [] globals = refl
-length_with ((destination.Drop, v) ∷ later) globals = length_with later globals
-length_with ((destination.Local j, v) ∷ later) globals = length_with later globals
 length_with ((destination.Global j, v) ∷ later) globals = length_with later (slice_set globals j v) ∙ length-set globals j v
+length_with ((_, v) ∷ later) globals = length_with later globals
 
 -- a transition keeps the number of globals
-pub globals_kept : (actions : List Action) (s : SharedState) → length (for_each shared_after actions s).globals ≡ length s.globals
-globals_kept actions s = ap (λ (globals : List ℕ). length globals) (globals_moved actions s) ∙ length_with (stores_of actions) s.globals
+pub globals_kept : (o : Transition) (s : SharedState) → length (shared_moved o s).globals ≡ length s.globals
+globals_kept o s = ap (λ (globals : List ℕ). length globals) (shared_keeps o.shared _) ∙ length_with o.writes s.globals

@@ -1,17 +1,16 @@
 -- The law of thread-specific data, of the threads of a process: a step changes no value of another thread than its own, but NULL is left at the
 -- place of a key that is deleted; and a new thread has NULL for each key.
-use Rattle.pct_names.proofs.Names.{[], Action, and_left, ap, Bool, cond, Config, Entry, eqb-false, false, false≢true, holds_slot}
-use Rattle.pct_names.proofs.Names.{is_live_thread, is_none, Key, key_at, key_place, KeyPlace, KeyValues, List, list_any, MAX_KEYS, nat_eq}
+use Rattle.pct_names.proofs.Names.{[], and_left, ap, Bool, cond, Config, Entry, eqb-false, false, false≢true, holds_slot, is_live_thread}
+use Rattle.pct_names.proofs.Names.{is_none, Key, key_at, key_place, KeyPlace, KeyValues, List, list_any, MAX_KEYS, NamedAction, nat_eq}
 use Rattle.pct_names.proofs.Names.{new_keys, next_key, NextStatement, None, none-some, Option, option_map_or, Others, Process, refl, Run}
 use Rattle.pct_names.proofs.Names.{run, same_Some, Script, SharedState, slice_get, Some, Status, Stmt, subst, sym, Thread, thread_moved}
 use Rattle.pct_names.proofs.Names.{thread_with, Transition, transition_by, true, value_at, What, without_value, ℕ, ◌∙◌, ◌∷◌, ◌≡◌, ◌≢◌}
 use Rattle.std.proofs.Common.{eqb-true, get_or-set_other, ne_eqb}
 use Rattle.std.proofs.Math.Bool.{or-false}
-use Rattle.pct_model.specs.declared.transition.Action.TheVariants as action
+use Rattle.pct_model.specs.declared.transition.NamedAction.TheVariants as named_action
 use Rattle.pct_laws.specs.ValueLaw.{deletes_at, makes_at, KeepsThread, KeepsThreads}
 use Rattle.pct_transition_cases.proofs.TransitionCases.{TransitionCase, fork_handler_called, key_deleted, key_made}
 use Rattle.pct_thread_invariants.proofs.keys.KeptKeys.{own_data, named_data}
-use Rattle.pct_ending_laws.proofs.keys.KeyActions.{first_of, key_actions}
 use Rattle.pct_thread_invariants.proofs.keys.KeyPlaces.{default_of_replicate, default_set, place_of_next}
 use Rattle.pct_thread_invariants.proofs.keys.KeysOfProcesses.{data_moved, keys_of_run}
 use Rattle.pct_thread_invariants.proofs.lift.EveryProcess.{moves_of_run, process_taken}
@@ -23,24 +22,23 @@ use Rattle.pct_thread_invariants.proofs.lift.ThreadsAfter.{created_thread, Moves
 use Rattle.pct_thread_invariants.proofs.lift.MovedThreads.{EveryStep, step_of, case_of_step, every_step}
 
 module _ (place : ℕ) where
-  -- the action deletes the key on the place
-  abbrev deletes : Action → Bool
-  deletes (action.DeleteKey k) = nat_eq (key_place k) place
+  -- the action, if there is one, deletes the key on the place
+  abbrev deletes : Option NamedAction → Bool
+  deletes (Some (named_action.ForgetKey k)) = nat_eq (key_place k) place
   deletes _ = false
 
-  -- a transition has the event that a key is deleted exactly if its first action deletes it
+  -- a transition has the event that a key is deleted exactly if an action deletes it
   case_deletes : {passes : ℕ} {body : List Stmt} {shared : SharedState} {t : Thread} {others : Others} {next : NextStatement} {s : Status} {o : Transition} → TransitionCase passes body shared t others true next s o
-      → list_any (deletes_at place) o.events ≡ deletes (first_of o.actions)
+      → list_any (deletes_at place) o.events ≡ deletes o.named
   case_deletes (key_deleted frame key named) = or-false _
   case_deletes (fork_handler_called next at call is) =
       of_each_phase (λ (w : What). list_any (deletes_at place) (w ∷ []) ≡ false) call.func refl refl refl at.phase
   case_deletes _ = refl
 
-  -- where a transition has the event that a key is made, the place has no key before it, and its first action changes no data
-  record Makes (keys : List KeyPlace) (a : Action) : Type 0 where
+  -- where a transition has the event that a key is made, the place has no key before it, and its actions change no data
+  record Makes (keys : List KeyPlace) (o : Transition) : Type 0 where
     unused : key_at keys place ≡ None
-    kept : (own : KeyValues) → value_at place (named_data a own) ≡ value_at place own
-    own_kept : (own : KeyValues) → value_at place (own_data a own) ≡ value_at place own
+    kept : (own : KeyValues) (live : Bool) → value_at place (named_data o.named (cond live (own_data o.own own) own)) ≡ value_at place own
 
   -- the place of a new key has no key
   is_unused : (keys : List KeyPlace) (k : ℕ) → list_any (nat_eq k) (new_keys keys) ≡ true → nat_eq (key_place k) place ≡ true
@@ -55,21 +53,26 @@ module _ (place : ℕ) where
       none_is (Some key) is = absurd (false≢true is)
 
   case_makes : {passes : ℕ} {body : List Stmt} {shared : SharedState} {t : Thread} {others : Others} {next : NextStatement} {s : Status} {o : Transition} → TransitionCase passes body shared t others true next s o
-      → list_any (makes_at place) o.events ≡ true → Makes shared.keys (first_of o.actions)
+      → list_any (makes_at place) o.events ≡ true → Makes shared.keys o
   case_makes {shared = shared} (key_made frame result key destructor k among) said =
-      record { unused = is_unused shared.keys k (among refl) (sym (or-false _) ∙ said); kept = λ own. refl; own_kept = λ own. refl }
+      record { unused = is_unused shared.keys k (among refl) (sym (or-false _) ∙ said); kept = unchanged }
+    where
+      unchanged : (own : KeyValues) (live : Bool) → value_at place (cond live own own) ≡ value_at place own
+      unchanged own true = refl
+      unchanged own false = refl
+
   case_makes (fork_handler_called next at call is) said =
       absurd (false≢true (of_each_phase (λ (w : What). list_any (makes_at place) (w ∷ []) ≡ true → false ≡ true) call.func (λ is. is) (λ is. is) (λ is. is) at.phase said))
   case_makes _ said = absurd (false≢true said)
 
   -- the data of a thread that does not act
-  named_kept : (a : Action) → deletes a ≡ false → (own : KeyValues) → value_at place (named_data a own) ≡ value_at place own
-  named_kept (action.DeleteKey k) other own =
+  named_kept : (a : Option NamedAction) → deletes a ≡ false → (own : KeyValues) → value_at place (named_data a own) ≡ value_at place own
+  named_kept (Some (named_action.ForgetKey k)) other own =
       get_or-set_other own.values (key_place k) place 0 0 (λ same. eqb-false (key_place k) place other (sym same))
   named_kept _ other own = refl
 
-  named_gone : (a : Action) → deletes a ≡ true → (own : KeyValues) → value_at place (named_data a own) ≡ 0
-  named_gone (action.DeleteKey k) is own =
+  named_gone : (a : Option NamedAction) → deletes a ≡ true → (own : KeyValues) → value_at place (named_data a own) ≡ 0
+  named_gone (Some (named_action.ForgetKey k)) is own =
       subst (λ (n : ℕ). value_at n (without_value (key_place k) own) ≡ 0) (eqb-true (key_place k) place is) (default_set own.values (key_place k) 0)
   named_gone _ is own = absurd (false≢true is)
 
@@ -83,12 +86,11 @@ module _ (script : Script) (config : Config) where
     moves : Moves script config r.world p e t
     moves = moves_of_run script config before r is e p t taken
 
-    -- the data of a thread that was made before
-    data_of : (u : Thread)
-        → (thread_moved e.tid o u).specific ≡ named_data (first_of o.actions) (cond (is_live_thread e.tid u) (own_data (first_of o.actions) u.specific) u.specific)
-    data_of u = data_moved e.tid o (key_actions script config r.world p t e.alt moves.offered).rest u
+    -- the data of a thread, whether it makes the step or not, after its own action
+    abbrev own_of : Bool → Thread → KeyValues
+    own_of live u = cond live (own_data o.own u.specific) u.specific
 
-    events_say : (place : ℕ) → list_any (deletes_at place) o.events ≡ deletes place (first_of o.actions)
+    events_say : (place : ℕ) → list_any (deletes_at place) o.events ≡ deletes place o.named
     events_say place = case_deletes place (case_of_step script config r.world p e t moves)
 
     -- another one
@@ -101,21 +103,16 @@ module _ (script : Script) (config : Config) where
         → KeepsThread (step_of script config r p e t) place tid (thread_moved e.tid o u)
     moved_keeps place tid u found = record {
       other = λ differs was was_found quiet.
-          ap (value_at place) (data_of u ∙ ap (λ (live : Bool). named_data (first_of o.actions) (cond live (own_data (first_of o.actions) u.specific) u.specific)) (is_another tid u found differs))
-          ∙ named_kept place (first_of o.actions) (sym (events_say place) ∙ quiet) u.specific
+          ap (value_at place) (data_moved e.tid o u ∙ ap (λ (live : Bool). named_data o.named (own_of live u)) (is_another tid u found differs))
+          ∙ named_kept place o.named (sym (events_say place) ∙ quiet) u.specific
           ∙ ap (λ (x : Thread). value_at place x.specific) (same_Some u was (sym found ∙ was_found));
-      deleted = λ gone. ap (value_at place) (data_of u) ∙ named_gone place (first_of o.actions) (sym (events_say place) ∙ gone) (cond (is_live_thread e.tid u) (own_data (first_of o.actions) u.specific) u.specific);
+      deleted = λ gone. ap (value_at place) (data_moved e.tid o u) ∙ named_gone place o.named (sym (events_say place) ∙ gone) (own_of (is_live_thread e.tid u) u);
       made = λ said.
-          let makes : Makes place p.shared.keys (first_of o.actions) = case_makes place (case_of_step script config r.world p e t moves) said in
-          ap (value_at place) (data_of u) ∙ makes.kept (cond (is_live_thread e.tid u) (own_data (first_of o.actions) u.specific) u.specific)
-          ∙ own_or_not (is_live_thread e.tid u) (makes.own_kept u.specific) ∙ ((keys_of_run script config before r is e.pid p (process_taken script config before r is e p t taken)).empty tid u found place makes.unused).0;
+          let makes : Makes place p.shared.keys o = case_makes place (case_of_step script config r.world p e t moves) said in
+          ap (value_at place) (data_moved e.tid o u) ∙ makes.kept u.specific (is_live_thread e.tid u)
+          ∙ ((keys_of_run script config before r is e.pid p (process_taken script config before r is e p t taken)).empty tid u found place makes.unused).0;
       new = λ none. absurd (none-some u (sym none ∙ found));
     }
-      where
-        own_or_not : (live : Bool) → value_at place (own_data (first_of o.actions) u.specific) ≡ value_at place u.specific
-            → value_at place (cond live (own_data (first_of o.actions) u.specific) u.specific) ≡ value_at place u.specific
-        own_or_not true kept = kept
-        own_or_not false kept = refl
 
     keeps_by : (place tid : ℕ) (u : Thread) {found : Option Thread} → After script config r.world p e t moves tid found → found ≡ Some u
         → KeepsThread (step_of script config r p e t) place tid u
