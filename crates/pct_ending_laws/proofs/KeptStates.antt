@@ -8,7 +8,9 @@ use Rattle.pct_laws.specs.CancelLaw.{acts_where_it_may, acts_at_calls}
 use Rattle.pct_laws.specs.Ends.{each_may_begin, KeepsValues}
 use Rattle.pct_laws.specs.Kept.{IsPlainFunction, IsSuspendedInJoin}
 use Rattle.pct_laws.specs.CondLaw.{owners_allow, waits_allow, hand_ons_allow}
+use Rattle.pct_laws.specs.ResultLaw.{KeepsAnswer, StoresResults}
 use Rattle.pct_laws.specs.StatementLaw.{says_statement, suspends_by_call, each_names_its_wait}
+use Rattle.pct_laws.specs.ValueLaw.{sets_its_value, KeepsThreads}
 use Rattle.pct_thread_invariants.proofs.lift.EachAllowed.{each_both}
 use Rattle.pct_ending_laws.specs.EndingLaws.{RunsKeepLaws, StatesAreKept}
 use Rattle.pct_thread_invariants.proofs.exits.RegisteredFunctions.{registered_of_run}
@@ -33,6 +35,12 @@ use Rattle.pct_cancel_laws.proofs.requests.AwakenedThreads.{awakened_of_run}
 use Rattle.pct_cancel_laws.proofs.requests.CancelStates.{cancelability_of_run}
 use Rattle.pct_cancel_laws.proofs.requests.LawfulRequests.{requests_of_run}
 use Rattle.pct_cancel_laws.proofs.requests.PendingRequests.{pending_of_run}
+use Rattle.pct_ending_laws.proofs.results.ForkAnswers.{answers_of_run}
+use Rattle.pct_ending_laws.proofs.results.KeptVariables.{globals_of_run, locals_of_run, values_of_run}
+use Rattle.pct_ending_laws.proofs.results.OtherProcesses.{processes_of_run as other_processes_of_run}
+use Rattle.pct_ending_laws.proofs.results.SetValues.{sets_of_run}
+use Rattle.pct_ending_laws.proofs.results.StoredResults.{results_of_run}
+use Rattle.pct_ending_laws.proofs.results.ValuesOfThreads.{threads_of_run}
 use Rattle.pct_join_laws.proofs.slots.LawfulCreations.{slots_of_run}
 use Rattle.pct_ending_laws.proofs.steps.CalledFunctions.{each_is_called_of_run}
 use Rattle.pct_ending_laws.proofs.steps.EndStages.{each_may_begin_of_run}
@@ -92,6 +100,15 @@ every_run_keeps_laws script config entries r is = record {
     suspended = each_step script config (λ s. suspends_by_call script s ≡ true) (suspends_of_run script config) entries;
     named = each_step script config (λ s. each_names_its_wait s ≡ true) (names_of_run script config) entries;
   };
+  results = record {
+    results = each_step script config (StoresResults script) (results_of_run script config) entries;
+    answers = each_step script config (KeepsAnswer script) (answers_of_run script config) entries;
+  };
+  values = record {
+    set = each_step script config (λ s. sets_its_value script s ≡ true) (sets_of_run script config) entries;
+    threads = each_step script config KeepsThreads (threads_of_run script config) entries;
+    processes = other_processes_of_run script config entries;
+  };
   joins = joins_of_run script config entries r is;
   conds = each_both (λ e earlier. owners_allow e earlier && waits_allow e earlier) hand_ons_allow r.events (each_both owners_allow waits_allow r.events (owners_of_run script config entries r is) (waits_of_run script config entries r is)) (hand_ons_of_run script config entries r is);
   creations = slots_of_run script config entries r is;
@@ -103,6 +120,9 @@ pub every_state_is_kept : StatesAreKept
 every_state_is_kept script config entries r is = record {
   numbers = numbers_of_run script config entries r is;
   known = known_of_run script config entries r is;
+  globals = globals_of_run script config entries r is;
+  locals = locals_of_run script config entries r is;
+  values = values_of_run script config entries r is;
   keys = keys_kept script config entries r is;
   reported_keys = key_events_of_run script config entries r is;
   ended = end_status_of_run script config entries r is;

@@ -7,7 +7,7 @@ use Rattle.pct_model.specs.declared.event.Event.{Event}
 use Rattle.pct_model.specs.declared.event.What.{What}
 use Rattle.pct_model.specs.declared.event.What.TheVariants as what
 use Rattle.pct_model.specs.declared.frame.Frame.{Frame}
-use Rattle.pct_model.specs.declared.limits.TheConstants.{MAX_FRAMES, MAX_KEYS}
+use Rattle.pct_model.specs.declared.limits.TheConstants.{MAX_FRAMES, MAX_KEYS, MAX_LOCALS}
 use Rattle.pct_model.specs.declared.process.ForkHandlers.{ForkHandlers}
 use Rattle.pct_model.specs.declared.script.Script.{Script}
 use Rattle.pct_model.specs.declared.schedule.Config.{Config}
@@ -369,6 +369,10 @@ pub record Kept (script : Script) (config : Config) (w : World) (events : List E
   pub numbers : NumbersThreads config.slots w events
   -- the threads that were made and are not gone are the known ones
   pub known : (pid tid : ℕ) → is_known pid tid events ≡ option_map_or (λ t. not t.gone) (made_thread pid tid w) false
+  -- each process has the globals of the script, each frame has MAX_LOCALS locals, and each thread has MAX_KEYS values
+  pub globals : EachProcess w (λ pid p. length p.shared.globals ≡ length script.globals)
+  pub locals : EachThread w (λ pid tid t. All (λ (frame : Frame). length frame.locals ≡ MAX_LOCALS) t.frames)
+  pub values : EachThread w (λ pid tid t. length t.specific.values ≡ MAX_KEYS)
   -- the keys of each process
   pub keys : EachProcess w (λ pid p. KeysKept script p.shared.keys)
   -- there is a key with a number in a process exactly if the events report so

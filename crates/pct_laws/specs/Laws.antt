@@ -14,7 +14,9 @@ use Rattle.pct_laws.specs.Ends.{Ends}
 use Rattle.pct_laws.specs.JoinLaw as JoinLaw
 use Rattle.pct_laws.specs.ProcessLaw as ProcessLaw
 use Rattle.pct_laws.specs.RanAll as RanAll
+use Rattle.pct_laws.specs.ResultLaw.{ResultLaw}
 use Rattle.pct_laws.specs.StatementLaw.{StatementLaw}
+use Rattle.pct_laws.specs.ValueLaw.{ValueLaw}
 use Rattle.pct_model.specs.Run.{Run}
 
 -- the laws of the run of a schedule, and of its events, newest first
@@ -38,6 +40,12 @@ pub record Laws (script : Script) (config : Config) (entries : List Entry) (r : 
   -- a running thread makes the events of its next statement, with the values of the operands, unless it acts upon a request or its
   -- statement is a stop; a call suspends it for what the operands name, and it leaves the call with an event that names the same
   pub statements : StatementLaw script config entries
+  -- a call that has a result stores it in the variable that its statement names, as do `set` and `add`; each other global keeps its
+  -- value, and so does each other local of a function that goes on
+  pub results : ResultLaw script config entries
+  -- pthread_setspecific gives its thread the value of the operand; a new thread has NULL for each key, and each thread for a new key; and
+  -- a step changes no other value of another thread, and no thread of another process
+  pub values : ValueLaw script config entries
   -- each join that returns gets the value of a thread that has ended, no thread is joined twice or while it is detached, and no
   -- request or detach names a thread outside the lifetime of its id
   pub joins : each JoinLaw.allows r.events ≡ true

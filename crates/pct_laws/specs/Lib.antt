@@ -21,6 +21,9 @@ pub mod Kept
 pub mod RequestsLaw
 pub mod CancelLaw
 pub mod StatementLaw
+pub mod ResultLaw
+pub mod ProcessSteps
+pub mod ValueLaw
 pub mod JoinLaw
 pub mod CondLaw
 pub mod SlotLaw

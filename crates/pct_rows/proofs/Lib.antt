@@ -18,6 +18,8 @@ mod ProcessLawRows
 mod RequestRows
 mod ActRows
 mod StatementRows
+mod ResultRows
+mod ValueRows
 mod OneLawRows
 mod OptionRows
 mod EventRows

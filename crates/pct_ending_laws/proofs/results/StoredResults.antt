@@ -1,0 +1,375 @@
+-- The law of results: what each step of a run stores is what its statement stores, by the table.
+use Rattle.pct_names.proofs.Names.{◌&&◌, ◌-◌, [], acts_on_request, acts_or, adds, Alt, ap, ap₂, arith, at_pc, body_at, Bool, calls_handler}
+use Rattle.pct_names.proofs.Names.{choices_at, cond, Config, Dest, drop, drop_all, Entry, false, false≢true, forks_by, Frame}
+use Rattle.pct_names.proofs.Names.{frames_written, gets_self, gets_specific, goes_on, goes_on_forking, handler_event, HandlerCall}
+use Rattle.pct_names.proofs.Names.{has_no_frame, is_forking, is_live_thread, length, length-map, List, MAX_FORK_HANDLERS, may_register}
+use Rattle.pct_names.proofs.Names.{moved, nat_eq, nat_lt, next_of, NextStatement, None, NoStatement, not, offers, Option, option_map}
+use Rattle.pct_names.proofs.Names.{Others, others_of, own_after, OwnAction, Parent, Phase, Prepare, Process, refl, registers_fork}
+use Rattle.pct_names.proofs.Names.{registers_if, returns_in_child, returns_in_parent, Run, run, runs, Script, sets, SharedState}
+use Rattle.pct_names.proofs.Names.{slice_index, Some, StatementIn, Status, Stmt, stop_at, stops_or, subst, suc, sym, Thread, thread_at}
+use Rattle.pct_names.proofs.Names.{thread_moved, Transition, transition_at, transition_by, true, What, Why, without_first, written, ◌||◌, ℕ}
+use Rattle.pct_names.proofs.Names.{◌∙◌, ◌∷◌, ◌≡◌}
+use Rattle.std.proofs.lemmas.Bool.{cond_both, true≢false}
+use Rattle.std.proofs.lemmas.List.{drop-map}
+use Rattle.pct_model.specs.declared.event.Caller.TheVariants as caller
+use Rattle.pct_model.specs.declared.event.What.TheVariants as what
+use Rattle.pct_model.specs.declared.schedule.Alt.TheVariants as alt
+use Rattle.pct_model.specs.declared.state.Phase.TheVariants.{Child as ChildPhase}
+use Rattle.pct_model.specs.declared.state.Status.TheVariants as status
+use Rattle.pct_model.specs.declared.statement.Dest.TheVariants as destination
+use Rattle.pct_model.specs.declared.statement.Stmt.TheVariants as statement
+use Rattle.pct_model.specs.declared.transition.OwnAction.TheVariants as own_action
+use Rattle.pct_model.specs.LineParsing.{is_empty}
+use Rattle.pct_laws.specs.CancelLaw.{acts_or_stops}
+use Rattle.pct_laws.specs.ResultLaw.{all_locals, left_of, Store, stored_at, stored_by, stored, after_stores, local_on_top, StoresResults}
+use Rattle.pct_transition_cases.proofs.TransitionCases.{TransitionCase, Leads, Returns, past_if, by_return, by_end, rests, jumped}
+use Rattle.pct_transition_cases.proofs.TransitionCases.{variable_set, variable_added, main_returned, start_returned, call_left}
+use Rattle.pct_transition_cases.proofs.TransitionCases.{handler_left, exit_function_left, thread_made, thread_not_made, join_ended}
+use Rattle.pct_transition_cases.proofs.TransitionCases.{self_got, state_set, mode_set, fork_registered, fork_not_registered}
+use Rattle.pct_transition_cases.proofs.TransitionCases.{fork_handler_called, fork_handler_left, fork_failed, fork_returned, child_reaped}
+use Rattle.pct_transition_cases.proofs.TransitionCases.{no_child_found, child_lost, key_made, key_not_made, specific_got, exit_registered}
+use Rattle.pct_transition_cases.proofs.TransitionCases.{exit_not_registered}
+use Rattle.pct_transition_cases.proofs.PlacedStatements.{IsPlaced, is_placed}
+use Rattle.pct_thread_invariants.proofs.ThreadsOfRun.{threads_kept}
+use Rattle.pct_thread_invariants.proofs.lift.ChangedThreads.{either_keeps, named_keeps, changed_shared}
+use Rattle.pct_thread_invariants.proofs.lift.EveryProcess.{moves_of_run, process_taken}
+use Rattle.pct_thread_invariants.proofs.lift.MadeThreads.{IsLive}
+use Rattle.pct_thread_invariants.proofs.lift.TakenSteps.{IsTaken}
+use Rattle.pct_thread_invariants.proofs.lift.ThreadsAfter.{Moves, mover}
+use Rattle.pct_ending_laws.proofs.results.NamedVariables.{names_variables}
+use Rattle.pct_ending_laws.proofs.results.Stores.{stays, frames_moved, below_with, InVariables, globals_after, HaveLocals, local_with}
+use Rattle.pct_ending_laws.proofs.results.KeptVariables.{HaveVariables, start_has, variables_of_run}
+use Rattle.pct_thread_invariants.proofs.lift.MovedThreads.{EveryStep, step_of, case_of_step, every_step}
+
+-- ---- the locals of the functions that go on
+
+-- the new frame of the action is to be the only one
+abbrev is_alone : Option OwnAction → Bool
+is_alone (Some (own_action.RunHandler f a)) = true
+is_alone (Some (own_action.RunDestructor k f v)) = true
+is_alone (Some (own_action.RunExitFunction f)) = true
+is_alone _ = false
+
+-- the oldest of some items, at most as many as there are others
+abbrev left : {T : Type 0} → List T → List T → List T
+left xs ys = drop (length xs - length ys) xs
+
+locals_left : (xs ys : List Frame) → all_locals (left_of xs ys) ≡ left (all_locals xs) (all_locals ys)
+locals_left xs ys =
+    let locals : Frame → List ℕ = λ frame. frame.locals in
+    sym (drop-map locals (length xs - length ys) xs) ∙ ap₂ (λ (m n : ℕ). drop (m - n) (all_locals xs)) (sym (length-map xs locals)) (sym (length-map ys locals))
+
+-- the same are left of both
+abbrev Leave : {T : Type 0} → List T → List T → Type 0
+Leave xs ys = left xs ys ≡ left ys xs
+
+module _ {T : Type 0} where
+  emptied : (xs : List T) → Leave [] xs
+  emptied xs = drop_all (0 - length xs) [] (omega arith) ∙ sym (drop_all (length xs - 0) xs (omega arith))
+
+  deepened : (new : T) (xs : List T) → Leave (new ∷ xs) xs
+  deepened new xs =
+      let one : suc (length xs) - length xs ≡ 1 = omega arith in
+      let none : length xs - suc (length xs) ≡ 0 = omega arith in
+      ap (λ (n : ℕ). drop n (new ∷ xs)) one ∙ sym (ap (λ (n : ℕ). drop n xs) none)
+
+  alone : (new : T) (xs : List T) → is_empty xs ≡ true → Leave (new ∷ []) xs
+  alone new [] none = deepened new []
+  alone new (x ∷ xs) none = absurd (false≢true none)
+
+shortened : (frames : List Frame) → Leave (all_locals (without_first frames)) (all_locals frames)
+shortened [] = refl
+shortened (frame ∷ below) = sym (deepened frame.locals (all_locals below))
+
+-- an action leaves the locals of the functions that go on
+own_leaves : (a : Option OwnAction) (t : Thread) → (not (is_alone a) || is_empty (all_locals t.frames)) ≡ true
+    → Leave (all_locals (own_after a t).frames) (all_locals t.frames)
+unfolding own_after
+own_leaves (Some (own_action.Call f a kind)) t none = deepened _ (all_locals t.frames)
+own_leaves (Some (own_action.CallHandler f a)) t none = deepened _ (all_locals t.frames)
+own_leaves (Some (own_action.CallForkHandler at f)) t none = deepened _ (all_locals t.frames)
+own_leaves (Some (own_action.RunHandler f a)) t none = alone _ (all_locals t.frames) none
+own_leaves (Some (own_action.RunDestructor k f v)) t none = alone _ (all_locals t.frames) none
+own_leaves (Some (own_action.RunExitFunction f)) t none = alone _ (all_locals t.frames) none
+own_leaves (Some (own_action.Leave status)) t none = shortened t.frames
+own_leaves (Some (own_action.BeginEnd why)) t none = emptied (all_locals t.frames)
+own_leaves (Some own_action.BeginExit) t none = emptied (all_locals t.frames)
+own_leaves (Some own_action.EndLast) t none = emptied (all_locals t.frames)
+own_leaves _ t none = refl
+
+-- a transition that neither writes nor has an event
+abbrev is_nothing : Transition → Bool
+is_nothing o = is_empty o.writes && is_empty o.events
+
+module _ (passes : ℕ) (body : List Stmt) (shared : SharedState) (t : Thread) (others : Others) where
+  -- a transition of the thread, with a status and its next statement, stores what the table has
+  abbrev pub StoresIts : NextStatement → Status → Transition → Type 0
+  StoresIts next s o = o.writes ≡ cond (acts_or_stops o.events) [] (stored_by shared t next s o.events)
+
+  -- what the thread does by a choice
+  abbrev does : Alt → NextStatement → Status → Transition
+  does choice next s = acts_or choice s (transition_at passes body shared t others choice next s)
+
+  -- ---- a thread that does nothing, where the table has something without an event
+
+  runs_something : (room : Bool) (next : ℕ) (result : Dest) (f : ℕ) → is_nothing (registers_if room next result f) ≡ false
+  unfolding registers_if
+  runs_something true next result f = refl
+  runs_something false next result f = refl
+
+  runs_nothing : (choice : Alt) (frame : Frame) (s : Stmt) → is_nothing (runs passes body shared t others choice frame s) ≡ true
+      → stored_at shared t frame s [] ≡ []
+  unfolding runs sets adds gets_self gets_specific registers_fork
+  runs_nothing choice frame (statement.Set d v) is = absurd (false≢true is)
+  runs_nothing choice frame (statement.Add d v) is = absurd (false≢true is)
+  runs_nothing choice frame (statement.SelfId d) is = absurd (false≢true is)
+  runs_nothing choice frame (statement.GetSpecific d key) is = absurd (false≢true is)
+  runs_nothing choice frame (statement.AtFork result prepare parent child) is =
+      absurd (false≢true (sym (either_keeps is_nothing (nat_lt (length shared.fork_handlers) MAX_FORK_HANDLERS) _ _ (gets_self 0 result 0) refl refl) ∙ is))
+  runs_nothing choice frame (statement.AtExit result f) is = absurd (false≢true (sym (runs_something (may_register shared) (suc frame.pc) result f) ∙ is))
+  runs_nothing choice frame _ is = refl
+
+  stops_nothing : (frame : Frame) (s : Stmt) (stop : Option Why) (goes : Transition) → (is_nothing goes ≡ true → stored_at shared t frame s [] ≡ [])
+      → is_nothing (stops_or stop goes) ≡ true → stored_at shared t frame s [] ≡ []
+  stops_nothing frame s (Some why) goes none is = absurd (false≢true is)
+  stops_nothing frame s None goes none is = none is
+
+  does_nothing : (choice : Alt) (next : NextStatement) (s : Status) → is_forking s ≡ false → is_nothing (does choice next s) ≡ true
+      → stored_by shared t next s [] ≡ []
+  unfolding transition_at acts_on_request
+  does_nothing choice NoStatement s other is = refl
+  does_nothing (alt.Act n) (StatementIn frame st) status.Running other is = absurd (false≢true is)
+  does_nothing choice (StatementIn frame st) status.Running other is =
+      stops_nothing frame st (stop_at body shared t others frame st) (runs passes body shared t others choice frame st) (runs_nothing choice frame st) is
+  does_nothing choice (StatementIn frame (statement.Join id d)) (status.Joining target) other is = refl
+  does_nothing choice (StatementIn frame _) (status.Joining target) other is = refl
+  does_nothing choice (StatementIn frame (statement.WaitPid result pid d)) (status.InWaitPid child) other is = refl
+  does_nothing choice (StatementIn frame _) (status.InWaitPid child) other is = refl
+  does_nothing choice (StatementIn frame st) (status.Forking phase index length answer) other is = absurd (true≢false other)
+  does_nothing choice (StatementIn frame st) _ other is = refl
+
+  -- ---- a thread that is not in fork
+
+  leads_nothing : {frame : Frame} {s : Stmt} {pc : ℕ} → Leads body shared.globals frame s pc → stored_at shared t frame s [] ≡ []
+  leads_nothing (past_if v) = refl
+  leads_nothing _ = refl
+
+  returns_nothing : {frame : Frame} {s : Stmt} {v : ℕ} → Returns body shared.globals frame s v → (events : List What)
+      → stored_at shared t frame s events ≡ []
+  returns_nothing (by_return v) events = refl
+  returns_nothing (by_end none) events = refl
+
+  case_stores : (next : NextStatement) {s : Status} {o : Transition} → TransitionCase passes body shared t others true next s o
+      → is_forking s ≡ false → (is_nothing o ≡ true → stored_by shared t next s [] ≡ []) → StoresIts next s o
+  case_stores NoStatement (rests next s alive) other nothing = refl
+  case_stores NoStatement (fork_handler_called next at call is) other nothing = absurd (true≢false other)
+  case_stores NoStatement _ other nothing = refl
+  case_stores next (rests _ s alive) other nothing = sym (nothing refl)
+  case_stores next (jumped frame s pc leads) other nothing = sym (leads_nothing leads)
+  case_stores next (main_returned frame s v returns is once) other nothing = sym (returns_nothing returns _)
+  case_stores next (start_returned frame s v returns is) other nothing = sym (returns_nothing returns _)
+  case_stores next (call_left frame s v returns is) other nothing = sym (returns_nothing returns [])
+  case_stores next (handler_left frame s v returns is) other nothing = sym (returns_nothing returns [])
+  case_stores next (exit_function_left frame s v returns is) other nothing = sym (returns_nothing returns [])
+  case_stores next (fork_handler_left frame s v at returns is kept) other nothing = sym (returns_nothing returns [])
+  case_stores next (fork_handler_called _ at call is) other nothing = absurd (true≢false other)
+  case_stores next (fork_failed frame result child index length pid) other nothing = absurd (true≢false other)
+  case_stores next (fork_returned frame result child phase index length pid value) other nothing = absurd (true≢false other)
+  case_stores (StatementIn frame s) _ other nothing = refl
+
+  -- ---- a thread in fork
+
+  -- the table has nothing for one event
+  with_event : (phase : Phase) (index length answer : ℕ) (w : What) (next : NextStatement)
+      → ◌≡◌ {A = List Store} [] (cond (acts_or_stops (w ∷ [])) [] (stored_by shared t next (status.Forking phase index length answer) (w ∷ [])))
+  with_event phase index length answer w next =
+      sym (cond_both (acts_or_stops (w ∷ [])) [] _ (λ (stores : List Store). stores ≡ []) (λ acts. refl) (λ acts. by_statement phase next))
+    where
+      by_statement : (phase : Phase) (next : NextStatement) → stored_by shared t next (status.Forking phase index length answer) (w ∷ []) ≡ []
+      by_statement phase NoStatement = refl
+      by_statement Prepare (StatementIn frame s) = refl
+      by_statement Parent (StatementIn frame (statement.Fork result child)) = refl
+      by_statement Parent (StatementIn frame _) = refl
+      by_statement ChildPhase (StatementIn frame (statement.Fork result child)) = refl
+      by_statement ChildPhase (StatementIn frame _) = refl
+
+  returned_in_parent : (frame : Frame) (result child : Dest) (index length pid : ℕ)
+      → StoresIts (StatementIn frame (statement.Fork result child)) (status.Forking Parent index length pid) (returns_in_parent pid (suc frame.pc) result child)
+  unfolding returns_in_parent
+  returned_in_parent frame result child index length pid = by_pid (nat_eq pid 0) refl
+    where
+      by_pid : (failed : Bool) → nat_eq pid 0 ≡ failed
+          → StoresIts (StatementIn frame (statement.Fork result child)) (status.Forking Parent index length pid) (cond failed (record (goes_on (suc frame.pc) []) { writes = (result, 1) ∷ [] }) (record (goes_on (suc frame.pc) []) { writes = (result, 0) ∷ (child, pid) ∷ [] }))
+      by_pid true is = sym (ap (λ (b : Bool). cond b ((result, 1) ∷ []) ((result, 0) ∷ (child, pid) ∷ [])) is)
+      by_pid false is = sym (ap (λ (b : Bool). cond b ((result, 1) ∷ []) ((result, 0) ∷ (child, pid) ∷ [])) is)
+
+  forking : (found : Option HandlerCall) (phase : Phase) (index length answer : ℕ) (new : Option ℕ) (next : NextStatement)
+      → StoresIts next (status.Forking phase index length answer) (goes_on_forking found (record { phase = phase; next = index; length = length; answer = answer }) new next)
+  unfolding calls_handler forks_by returns_in_child
+  forking (Some call) phase index length answer new next = with_event phase index length answer (handler_event phase call.func) next
+  forking None Prepare index length answer (Some pid) next = with_event Prepare index length answer (what.Forked pid) next
+  forking None Prepare index length answer None next = with_event Prepare index length answer (what.Answer caller.Fork 1) next
+  forking None Parent index length answer new NoStatement = refl
+  forking None Parent index length answer new (StatementIn frame (statement.Fork result child)) = returned_in_parent frame result child index length answer
+  forking None Parent index length answer new (StatementIn frame _) = refl
+  forking None ChildPhase index length answer new NoStatement = refl
+  forking None ChildPhase index length answer new (StatementIn frame (statement.Fork result child)) = refl
+  forking None ChildPhase index length answer new (StatementIn frame _) = refl
+
+  in_fork : (choice : Alt) (phase : Phase) (index length answer : ℕ) (next : NextStatement)
+      → offers (choices_at body shared t others next (status.Forking phase index length answer)) choice ≡ true
+      → StoresIts next (status.Forking phase index length answer) (does choice next (status.Forking phase index length answer))
+  unfolding transition_at choices_at
+  in_fork (alt.Act n) phase index length answer next offered = absurd (false≢true offered)
+  in_fork _ phase index length answer NoStatement offered = forking _ phase index length answer others.family.new_pid NoStatement
+  in_fork _ phase index length answer (StatementIn frame s) offered = forking _ phase index length answer others.family.new_pid (StatementIn frame s)
+
+  stores_its : (choice : Alt) (next : NextStatement) (s : Status) → offers (choices_at body shared t others next s) choice ≡ true
+      → TransitionCase passes body shared t others true next s (does choice next s) → StoresIts next s (does choice next s)
+  stores_its choice next (status.Forking phase index length answer) offered case = in_fork choice phase index length answer next offered
+  stores_its choice next s offered case = case_stores next case refl (does_nothing choice next s refl)
+
+  -- ---- what is stored, and where
+
+  -- a transition stores numbers in variables of the script
+  case_named : (script : Script) {frames : List Frame} {next : NextStatement} {s : Status} {o : Transition}
+      → IsPlaced script frames body next → TransitionCase passes body shared t others true next s o
+      → InVariables script o.writes
+  case_named script placed (variable_set frame d v) = names_variables script placed
+  case_named script placed (variable_added frame d v) = names_variables script placed
+  case_named script placed (thread_made frame result id f v detached new among) = names_variables script placed
+  case_named script placed (thread_not_made frame result id f v detached) = ((names_variables script placed).0, tt)
+  case_named script placed (join_ended frame operand d id v target is ended) = names_variables script placed
+  case_named script placed (self_got frame d) = names_variables script placed
+  case_named script placed (state_set frame enable old unhandled) = names_variables script placed
+  case_named script placed (mode_set frame asynchronous old) = names_variables script placed
+  case_named script placed (fork_registered frame result handlers room) = names_variables script placed
+  case_named script placed (fork_not_registered frame result prepare parent child) = names_variables script placed
+  case_named script placed (fork_failed frame result child index length pid) = ((names_variables script placed).0, tt)
+  case_named script placed (fork_returned frame result child phase index length pid value) = names_variables script placed
+  case_named script placed (child_reaped frame result d operand pid n child is ended) = names_variables script placed
+  case_named script placed (no_child_found frame result d operand unasked) = ((names_variables script placed).0, tt)
+  case_named script placed (child_lost frame result d operand pid) = ((names_variables script placed).0, tt)
+  case_named script placed (key_made frame result key destructor k among) = names_variables script placed
+  case_named script placed (key_not_made frame result key destructor) = ((names_variables script placed).0, tt)
+  case_named script placed (specific_got frame d key) = names_variables script placed
+  case_named script placed (exit_registered frame result f may) = names_variables script placed
+  case_named script placed (exit_not_registered frame result f) = names_variables script placed
+  case_named script placed _ = tt
+
+  -- one that stores a number keeps the frames of the thread
+  case_stays : {next : NextStatement} {s : Status} {o : Transition} → TransitionCase passes body shared t others true next s o
+      → (is_empty o.writes || stays o.own) ≡ true
+  case_stays (rests next s alive) = refl
+  case_stays _ = refl
+
+  -- a frame that is to be the only one is made for a thread without a frame
+  case_alone : {next : NextStatement} {s : Status} {o : Transition} → TransitionCase passes body shared t others true next s o
+      → (not (is_alone o.own) || has_no_frame s) ≡ true
+  case_alone (rests next s alive) = refl
+  case_alone _ = refl
+
+-- ---- each step of a run
+
+-- what does not see a pc is the same of a thread that goes on
+started : {V : Type 0} (view : List Frame → V) → ((pc : ℕ) (frame : Frame) (below : List Frame) → view (record frame { pc = pc } ∷ below) ≡ view (frame ∷ below))
+    → (next : Option ℕ) (t : Thread) → view (thread_at next t).frames ≡ view t.frames
+unfolding thread_at
+started view same None t = refl
+started view same (Some pc) t = by_frames t.frames
+  where
+    by_frames : (frames : List Frame) → view (at_pc pc frames) ≡ view frames
+    by_frames [] = refl
+    by_frames (frame ∷ below) = same pc frame below
+
+module _ (script : Script) (config : Config) where
+  module _ (before : List Entry) (r : Run) (is : run script config before ≡ Some r) (e : Entry) (p : Process) (t : Thread) (taken : IsTaken script config r.world e p t) where
+    abbrev o : Transition
+    o = transition_by script config r.world p t e.alt
+
+    abbrev its : List Store
+    its = stored script (step_of script config r p e t)
+
+    moves : Moves script config r.world p e t
+    moves = moves_of_run script config before r is e p t taken
+
+    case : TransitionCase config.passes (body_at script t.frames) p.shared t (others_of config.slots r.world p t.id) true (next_of script t.frames) t.status o
+    case = case_of_step script config r.world p e t moves
+
+    have : HaveVariables script p
+    have = variables_of_run script config before r is e.pid p (process_taken script config before r is e p t taken)
+
+    stores_are : o.writes ≡ its
+    stores_are = stores_its config.passes (body_at script t.frames) p.shared t (others_of config.slots r.world p t.id) e.alt (next_of script t.frames) t.status taken.offered case
+
+    in_variables : InVariables script o.writes
+    in_variables = case_named config.passes (body_at script t.frames) p.shared t (others_of config.slots r.world p t.id) script (is_placed script t.frames) case
+
+    -- the frames are those after its own actions
+    frames_are : (thread_moved e.tid o t).frames ≡ (moved o t).frames
+    frames_are =
+        named_keeps (λ (u : Thread). u.frames) (λ t joined pending detached specific s same. refl) o.named (cond (is_live_thread e.tid t) (moved o t) t)
+        ∙ ap (λ (b : Bool). (cond b (moved o t) t).frames) (mover script config r.world p e t moves).live
+
+    global_after : (i : ℕ)
+        → slice_index (step_of script config r p e t).process_after.shared.globals i ≡ after_stores (destination.Global i) its (slice_index p.shared.globals i)
+    global_after i =
+        ap (λ (s : SharedState). slice_index s.globals i) (changed_shared e.tid o p) ∙ globals_after script o p.shared in_variables have.globals i
+        ∙ ap (λ (stores : List Store). after_stores (destination.Global i) stores (slice_index p.shared.globals i)) stores_are
+
+    -- a step that stores a number keeps the frames of its thread
+    frames_stay : is_empty its ≡ false → (thread_moved e.tid o t).frames ≡ written frames_written o.writes (thread_at o.next t).frames
+    frames_stay some =
+        let kept : stays o.own ≡ true =
+        sym (ap (λ (none : Bool). none || stays o.own) (ap (λ (stores : List Store). is_empty stores) stores_are ∙ some))
+        ∙ case_stays config.passes (body_at script t.frames) p.shared t (others_of config.slots r.world p t.id) case in
+        frames_are ∙ frames_moved o kept t
+
+    local_after : is_empty its ≡ false → (i : ℕ)
+        → local_on_top i (thread_moved e.tid o t).frames ≡ option_map (after_stores (destination.Local i) its) (local_on_top i t.frames)
+    local_after some i =
+        let locals : HaveLocals script t.frames = (have.threads e.tid t (mover script config r.world p e t moves).found).locals in
+        ap (local_on_top i) (frames_stay some) ∙ local_with script o.writes (thread_at o.next t).frames in_variables (start_has script o.next t locals) i
+        ∙ ap₂ (λ (stores : List Store) (v : Option ℕ). option_map (after_stores (destination.Local i) stores) v) stores_are (started (local_on_top i) (λ pc frame below. refl) o.next t)
+
+    callers_after : is_empty its ≡ false → all_locals (without_first (thread_moved e.tid o t).frames) ≡ all_locals (without_first t.frames)
+    callers_after some =
+        ap (λ (frames : List Frame). all_locals frames)
+        (ap (λ (frames : List Frame). without_first frames) (frames_stay some) ∙ below_with o.writes (thread_at o.next t).frames
+        ∙ started (λ (frames : List Frame). without_first frames) (λ pc frame below. refl) o.next t)
+
+    -- one that stores nothing leaves the locals of the functions that go on
+    leaves : is_empty its ≡ true → Leave (all_locals (moved o t).frames) (all_locals t.frames)
+    leaves none =
+        let it : IsLive p e.tid t = mover script config r.world p e t moves in
+        let at : Thread = thread_at o.next t in
+        let frames : List Frame = written frames_written o.writes at.frames in
+        let same : all_locals frames ≡ all_locals t.frames =
+        ap (λ (stores : List Store). all_locals (written frames_written stores at.frames)) (stores_are ∙ no_stores its none)
+        ∙ started (λ (frames : List Frame). all_locals frames) (λ pc frame below. refl) o.next t in
+        let has : is_empty (all_locals frames) ≡ has_no_frame t.status =
+        ap (λ (locals : List (List ℕ)). is_empty locals) same ∙ no_locals t.frames
+        ∙ (threads_kept script config before r is e.pid e.tid p t (process_taken script config before r is e p t taken) it.found it.here).frames in
+        subst (λ (locals : List (List ℕ)). Leave (all_locals (moved o t).frames) locals) same (own_leaves o.own (record at { frames = frames }) (
+            ap (λ (none : Bool). not (is_alone o.own) || none) has
+            ∙ case_alone config.passes (body_at script t.frames) p.shared t (others_of config.slots r.world p t.id) case))
+      where
+        no_stores : (stores : List Store) → is_empty stores ≡ true → stores ≡ []
+        no_stores [] is = refl
+        no_stores (store ∷ later) is = absurd (false≢true is)
+
+        no_locals : (frames : List Frame) → is_empty (all_locals frames) ≡ is_empty frames
+        no_locals [] = refl
+        no_locals (frame ∷ below) = refl
+
+    kept_after : is_empty its ≡ true → all_locals (left_of (thread_moved e.tid o t).frames t.frames) ≡ all_locals (left_of t.frames (thread_moved e.tid o t).frames)
+    kept_after none =
+        subst (λ (frames : List Frame). all_locals (left_of frames t.frames) ≡ all_locals (left_of t.frames frames)) (sym frames_are)
+        (locals_left (moved o t).frames t.frames ∙ leaves none ∙ sym (locals_left t.frames (moved o t).frames))
+
+    results_of_step : StoresResults script (step_of script config r p e t)
+    results_of_step = record { globals = global_after; locals = local_after; callers = callers_after; kept = kept_after }
+
+  -- each step stores what its statement stores
+  pub results_of_run : EveryStep script config (StoresResults script)
+  results_of_run = every_step script config (StoresResults script) results_of_step
