@@ -86,8 +86,7 @@ pub use Rattle.pct_model.specs.declared.frame.Frame.{Frame}
 pub use Rattle.pct_model.specs.declared.keyword.Keyword.{Keyword}
 pub use Rattle.pct_model.specs.declared.limits.TheConstants.{DEFAULT_BUDGET, DEFAULT_PASSES, DEFAULT_SEED, DEFAULT_SLOTS, DEFAULT_WORKERS}
 pub use Rattle.pct_model.specs.declared.limits.TheConstants.{MAX_BUDGET, MAX_DECLARED, MAX_FORK_HANDLERS, MAX_FRAMES, MAX_HANDLERS}
-pub use Rattle.pct_model.specs.declared.limits.TheConstants.{MAX_KEYS, MAX_LOCALS, MAX_PASSES, MAX_PROCESSES, MAX_SLOTS, MAX_WORKER}
-pub use Rattle.pct_model.specs.declared.limits.TheConstants.{MIN_PASSES}
+pub use Rattle.pct_model.specs.declared.limits.TheConstants.{MAX_KEYS, MAX_PASSES, MAX_PROCESSES, MAX_SLOTS, MAX_WORKER, MIN_PASSES}
 pub use Rattle.pct_model.specs.declared.line_kind.ArgumentKind.{ArgumentKind}
 pub use Rattle.pct_model.specs.declared.line_kind.LineKind.{LineKind}
 pub use Rattle.pct_model.specs.declared.line_kind.SymbolKind.{SymbolKind}

@@ -73,7 +73,8 @@ module _ (passes : ℕ) (body : List Stmt) (shared : SharedState) (t : Thread) (
   case_stays {o = o} _ none quiet other = record { leaves = leaves_fork o.own; is = refl }
 
 -- two answers of which the second is the first, or none
-one_answer : (n m : ℕ) (leaves : Bool) {before after : Option ℕ} → after ≡ cond leaves None before → before ≡ Some n → after ≡ Some m → n ≡ m
+one_answer : (n m : ℕ) (leaves : Bool) {before after : Option ℕ} → after ≡ cond leaves None before → before ≡ Some n → after ≡ Some m
+    → n ≡ m
 one_answer n m true is was then = absurd (none-some m (sym is ∙ then))
 one_answer n m false is was then = same_Some n m (sym was ∙ sym is ∙ then)
 

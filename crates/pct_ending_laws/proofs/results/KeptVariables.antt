@@ -1,10 +1,11 @@
 -- After every run each process has the globals of the script, each frame has its locals, and each thread has a value for each place of keys.
 use Rattle.pct_names.proofs.Names.{[], All, All-from_recursion, ap, at_pc, Bool, child_of, cond, cond_some, Config, Dest, false, find}
 use Rattle.pct_names.proofs.Names.{Frame, frames_written, is_live_thread, key_place, KeyValues, length, length-replicate, List}
-use Rattle.pct_names.proofs.Names.{made_process, MAX_KEYS, MAX_LOCALS, moved, NamedAction, nat_eq, None, Option, option_and_then_some}
-use Rattle.pct_names.proofs.Names.{own_after, OwnAction, Process, refl, Script, SharedState, slice_set, Some, subst, sym, Thread, thread_at}
+use Rattle.pct_names.proofs.Names.{made_process, MAX_KEYS, moved, NamedAction, nat_eq, None, Option, option_and_then_some, own_after}
+use Rattle.pct_names.proofs.Names.{OwnAction, Process, refl, Script, SharedState, slice_set, Some, subst, sym, Thread, thread_at}
 use Rattle.pct_names.proofs.Names.{thread_moved, thread_with, Transition, transition_by, true, without_first, written, ℕ, ◌∙◌, ◌∷◌, ◌≡◌}
 use Rattle.std.proofs.lemmas.List.{length-set}
+use Rattle.pct_model.specs.declared.limits.TheConstants.{MAX_LOCALS}
 use Rattle.pct_model.specs.declared.statement.Dest.TheVariants as destination
 use Rattle.pct_model.specs.declared.transition.NamedAction.TheVariants as named_action
 use Rattle.pct_model.specs.declared.transition.OwnAction.TheVariants as own_action
@@ -76,10 +77,12 @@ module _ (script : Script) where
   -- each thread that a transition changes keeps them
   moved_keeps : (tid : ℕ) (o : Transition) (t : Thread) → HasVariables script t → HasVariables script (thread_moved tid o t)
   moved_keeps tid o t have = record {
-    locals = subst (HaveLocals script) (sym (named_keeps (λ (u : Thread). u.frames) (λ t joined pending detached specific s same. refl) o.named _)) (by_live (is_live_thread tid t));
+    locals =
+        subst (HaveLocals script) (sym (named_keeps (λ (u : Thread). u.frames) (λ t joined pending detached specific s same. refl) o.named _))
+        (by_live (is_live_thread tid t));
     values =
         ap (λ (own : KeyValues). length own.values) (data_moved tid o t) ∙ named_values o.named _
-        ∙ either_keeps (λ (own : KeyValues). length own.values) (is_live_thread tid t) (own_data o.own t.specific) t.specific t.specific (own_values o.own t.specific) refl
+        ∙ either_keeps (λ (own : KeyValues). length own.values) (is_live_thread tid t) _ t.specific t.specific (own_values o.own t.specific) refl
         ∙ have.values;
   }
     where

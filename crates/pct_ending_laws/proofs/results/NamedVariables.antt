@@ -1,9 +1,10 @@
 -- The variables in which a script's statements store a number are globals of the script, and locals of a frame.
 use Rattle.pct_names.proofs.Names.{◌<◌, [], AllByRecursion, and_parts, arith, Dest, encode, Frame, Func, has_first_word, has_line}
-use Rattle.pct_names.proofs.Names.{has_lines, has_word, have_words, length, List, list_all, MAX_LOCALS, nat_le, None, none-some, Option}
+use Rattle.pct_names.proofs.Names.{has_lines, has_word, have_words, length, List, list_all, nat_le, None, none-some, Option}
 use Rattle.pct_names.proofs.Names.{option_and_then, refl, Script, slice_get, Some, statement_at, StatementIn, Stmt, syntax_of, true, ℕ, ◌∷◌}
 use Rattle.pct_names.proofs.Names.{◌≡◌, ◌≤◌}
 use Rattle.std.proofs.lemmas.Bool.{leb-true}
+use Rattle.pct_model.specs.declared.limits.TheConstants.{MAX_LOCALS}
 use Rattle.pct_model.specs.declared.line_kind.ArgumentKind.TheVariants as argument_kind
 use Rattle.pct_model.specs.declared.statement.Dest.TheVariants as destination
 use Rattle.pct_model.specs.declared.statement.Stmt.TheVariants as statement

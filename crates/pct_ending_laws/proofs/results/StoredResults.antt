@@ -57,7 +57,8 @@ left xs ys = drop (length xs - length ys) xs
 locals_left : (xs ys : List Frame) → all_locals (left_of xs ys) ≡ left (all_locals xs) (all_locals ys)
 locals_left xs ys =
     let locals : Frame → List ℕ = λ frame. frame.locals in
-    sym (drop-map locals (length xs - length ys) xs) ∙ ap₂ (λ (m n : ℕ). drop (m - n) (all_locals xs)) (sym (length-map xs locals)) (sym (length-map ys locals))
+    sym (drop-map locals (length xs - length ys) xs)
+    ∙ ap₂ (λ (m n : ℕ). drop (m - n) (all_locals xs)) (sym (length-map xs locals)) (sym (length-map ys locals))
 
 -- the same are left of both
 abbrev Leave : {T : Type 0} → List T → List T → Type 0
@@ -112,6 +113,7 @@ module _ (passes : ℕ) (body : List Stmt) (shared : SharedState) (t : Thread) (
 
   -- ---- a thread that does nothing, where the table has something without an event
 
+  -- atexit is something, whether there is room or not
   runs_something : (room : Bool) (next : ℕ) (result : Dest) (f : ℕ) → is_nothing (registers_if room next result f) ≡ false
   unfolding registers_if
   runs_something true next result f = refl
@@ -125,12 +127,14 @@ module _ (passes : ℕ) (body : List Stmt) (shared : SharedState) (t : Thread) (
   runs_nothing choice frame (statement.SelfId d) is = absurd (false≢true is)
   runs_nothing choice frame (statement.GetSpecific d key) is = absurd (false≢true is)
   runs_nothing choice frame (statement.AtFork result prepare parent child) is =
-      absurd (false≢true (sym (either_keeps is_nothing (nat_lt (length shared.fork_handlers) MAX_FORK_HANDLERS) _ _ (gets_self 0 result 0) refl refl) ∙ is))
-  runs_nothing choice frame (statement.AtExit result f) is = absurd (false≢true (sym (runs_something (may_register shared) (suc frame.pc) result f) ∙ is))
+      let room : Bool = nat_lt (length shared.fork_handlers) MAX_FORK_HANDLERS in
+      absurd (false≢true (sym (either_keeps is_nothing room _ _ (gets_self 0 result 0) refl refl) ∙ is))
+  runs_nothing choice frame (statement.AtExit result f) is =
+      absurd (false≢true (sym (runs_something (may_register shared) (suc frame.pc) result f) ∙ is))
   runs_nothing choice frame _ is = refl
 
-  stops_nothing : (frame : Frame) (s : Stmt) (stop : Option Why) (goes : Transition) → (is_nothing goes ≡ true → stored_at shared t frame s [] ≡ [])
-      → is_nothing (stops_or stop goes) ≡ true → stored_at shared t frame s [] ≡ []
+  stops_nothing : (frame : Frame) (s : Stmt) (stop : Option Why) (goes : Transition)
+      → (is_nothing goes ≡ true → stored_at shared t frame s [] ≡ []) → is_nothing (stops_or stop goes) ≡ true → stored_at shared t frame s [] ≡ []
   stops_nothing frame s (Some why) goes none is = absurd (false≢true is)
   stops_nothing frame s None goes none is = none is
 
@@ -140,7 +144,7 @@ module _ (passes : ℕ) (body : List Stmt) (shared : SharedState) (t : Thread) (
   does_nothing choice NoStatement s other is = refl
   does_nothing (alt.Act n) (StatementIn frame st) status.Running other is = absurd (false≢true is)
   does_nothing choice (StatementIn frame st) status.Running other is =
-      stops_nothing frame st (stop_at body shared t others frame st) (runs passes body shared t others choice frame st) (runs_nothing choice frame st) is
+      stops_nothing frame st (stop_at body shared t others frame st) _ (runs_nothing choice frame st) is
   does_nothing choice (StatementIn frame (statement.Join id d)) (status.Joining target) other is = refl
   does_nothing choice (StatementIn frame _) (status.Joining target) other is = refl
   does_nothing choice (StatementIn frame (statement.WaitPid result pid d)) (status.InWaitPid child) other is = refl
@@ -210,7 +214,8 @@ module _ (passes : ℕ) (body : List Stmt) (shared : SharedState) (t : Thread) (
   forking None Prepare index length answer (Some pid) next = with_event Prepare index length answer (what.Forked pid) next
   forking None Prepare index length answer None next = with_event Prepare index length answer (what.Answer caller.Fork 1) next
   forking None Parent index length answer new NoStatement = refl
-  forking None Parent index length answer new (StatementIn frame (statement.Fork result child)) = returned_in_parent frame result child index length answer
+  forking None Parent index length answer new (StatementIn frame (statement.Fork result child)) =
+      returned_in_parent frame result child index length answer
   forking None Parent index length answer new (StatementIn frame _) = refl
   forking None ChildPhase index length answer new NoStatement = refl
   forking None ChildPhase index length answer new (StatementIn frame (statement.Fork result child)) = refl
@@ -222,7 +227,8 @@ module _ (passes : ℕ) (body : List Stmt) (shared : SharedState) (t : Thread) (
   unfolding transition_at choices_at
   in_fork (alt.Act n) phase index length answer next offered = absurd (false≢true offered)
   in_fork _ phase index length answer NoStatement offered = forking _ phase index length answer others.family.new_pid NoStatement
-  in_fork _ phase index length answer (StatementIn frame s) offered = forking _ phase index length answer others.family.new_pid (StatementIn frame s)
+  in_fork _ phase index length answer (StatementIn frame s) offered =
+      forking _ phase index length answer others.family.new_pid (StatementIn frame s)
 
   stores_its : (choice : Alt) (next : NextStatement) (s : Status) → offers (choices_at body shared t others next s) choice ≡ true
       → TransitionCase passes body shared t others true next s (does choice next s) → StoresIts next s (does choice next s)
@@ -272,7 +278,8 @@ module _ (passes : ℕ) (body : List Stmt) (shared : SharedState) (t : Thread) (
 -- ---- each step of a run
 
 -- what does not see a pc is the same of a thread that goes on
-started : {V : Type 0} (view : List Frame → V) → ((pc : ℕ) (frame : Frame) (below : List Frame) → view (record frame { pc = pc } ∷ below) ≡ view (frame ∷ below))
+started : {V : Type 0} (view : List Frame → V)
+    → ((pc : ℕ) (frame : Frame) (below : List Frame) → view (record frame { pc = pc } ∷ below) ≡ view (frame ∷ below))
     → (next : Option ℕ) (t : Thread) → view (thread_at next t).frames ≡ view t.frames
 unfolding thread_at
 started view same None t = refl
@@ -329,8 +336,10 @@ module _ (script : Script) (config : Config) where
         → local_on_top i (thread_moved e.tid o t).frames ≡ option_map (after_stores (destination.Local i) its) (local_on_top i t.frames)
     local_after some i =
         let locals : HaveLocals script t.frames = (have.threads e.tid t (mover script config r.world p e t moves).found).locals in
-        ap (local_on_top i) (frames_stay some) ∙ local_with script o.writes (thread_at o.next t).frames in_variables (start_has script o.next t locals) i
-        ∙ ap₂ (λ (stores : List Store) (v : Option ℕ). option_map (after_stores (destination.Local i) stores) v) stores_are (started (local_on_top i) (λ pc frame below. refl) o.next t)
+        ap (local_on_top i) (frames_stay some)
+        ∙ local_with script o.writes (thread_at o.next t).frames in_variables (start_has script o.next t locals) i
+        ∙ ap₂ (λ (stores : List Store) (v : Option ℕ). option_map (after_stores (destination.Local i) stores) v) stores_are
+        (started (local_on_top i) (λ pc frame below. refl) o.next t)
 
     callers_after : is_empty its ≡ false → all_locals (without_first (thread_moved e.tid o t).frames) ≡ all_locals (without_first t.frames)
     callers_after some =
@@ -342,6 +351,7 @@ module _ (script : Script) (config : Config) where
     leaves : is_empty its ≡ true → Leave (all_locals (moved o t).frames) (all_locals t.frames)
     leaves none =
         let it : IsLive p e.tid t = mover script config r.world p e t moves in
+        let is_process = process_taken script config before r is e p t taken in
         let at : Thread = thread_at o.next t in
         let frames : List Frame = written frames_written o.writes at.frames in
         let same : all_locals frames ≡ all_locals t.frames =
@@ -349,9 +359,9 @@ module _ (script : Script) (config : Config) where
         ∙ started (λ (frames : List Frame). all_locals frames) (λ pc frame below. refl) o.next t in
         let has : is_empty (all_locals frames) ≡ has_no_frame t.status =
         ap (λ (locals : List (List ℕ)). is_empty locals) same ∙ no_locals t.frames
-        ∙ (threads_kept script config before r is e.pid e.tid p t (process_taken script config before r is e p t taken) it.found it.here).frames in
-        subst (λ (locals : List (List ℕ)). Leave (all_locals (moved o t).frames) locals) same (own_leaves o.own (record at { frames = frames }) (
-            ap (λ (none : Bool). not (is_alone o.own) || none) has
+        ∙ (threads_kept script config before r is e.pid e.tid p t is_process it.found it.here).frames in
+        subst (λ (locals : List (List ℕ)). Leave (all_locals (moved o t).frames) locals) same (own_leaves o.own (record at { frames = frames })
+            (ap (λ (none : Bool). not (is_alone o.own) || none) has
             ∙ case_alone config.passes (body_at script t.frames) p.shared t (others_of config.slots r.world p t.id) case))
       where
         no_stores : (stores : List Store) → is_empty stores ≡ true → stores ≡ []
@@ -362,7 +372,8 @@ module _ (script : Script) (config : Config) where
         no_locals [] = refl
         no_locals (frame ∷ below) = refl
 
-    kept_after : is_empty its ≡ true → all_locals (left_of (thread_moved e.tid o t).frames t.frames) ≡ all_locals (left_of t.frames (thread_moved e.tid o t).frames)
+    kept_after : is_empty its ≡ true
+        → all_locals (left_of (thread_moved e.tid o t).frames t.frames) ≡ all_locals (left_of t.frames (thread_moved e.tid o t).frames)
     kept_after none =
         subst (λ (frames : List Frame). all_locals (left_of frames t.frames) ≡ all_locals (left_of t.frames frames)) (sym frames_are)
         (locals_left (moved o t).frames t.frames ∙ leaves none ∙ sym (locals_left t.frames (moved o t).frames))

@@ -1,10 +1,11 @@
 -- What a transition stores in variables: the values that it writes, in order, and nothing else.
 use Rattle.pct_names.proofs.Names.{◌<◌, [], AllByRecursion, ap, Bool, cond, eqb-false, false, false≢true, Frame, frames_written}
-use Rattle.pct_names.proofs.Names.{globals_written, length, List, MAX_LOCALS, moved, nat_eq, None, Option, option_map, own_after, OwnAction}
-use Rattle.pct_names.proofs.Names.{refl, Script, shared_after, shared_moved, SharedAction, SharedState, slice_index, slice_set, Some, subst}
-use Rattle.pct_names.proofs.Names.{sym, Thread, thread_at, Transition, true, without_first, written, ℕ, ◌∙◌, ◌∷◌, ◌≡◌}
+use Rattle.pct_names.proofs.Names.{globals_written, length, List, moved, nat_eq, None, Option, option_map, own_after, OwnAction, refl}
+use Rattle.pct_names.proofs.Names.{Script, shared_after, shared_moved, SharedAction, SharedState, slice_index, slice_set, Some, subst, sym}
+use Rattle.pct_names.proofs.Names.{Thread, thread_at, Transition, true, without_first, written, ℕ, ◌∙◌, ◌∷◌, ◌≡◌}
 use Rattle.std.proofs.Common.{eqb-true}
 use Rattle.std.proofs.lemmas.List.{get_or-set_same, get_or-set_other, length-set}
+use Rattle.pct_model.specs.declared.limits.TheConstants.{MAX_LOCALS}
 use Rattle.pct_model.specs.declared.statement.Dest.TheVariants as destination
 use Rattle.pct_model.specs.declared.transition.OwnAction.TheVariants as own_action
 use Rattle.pct_model.specs.declared.transition.SharedAction.TheVariants as shared_action
@@ -42,7 +43,8 @@ frames_moved o is t = own_stays o.own is _
 pub below_with : (stores : List Store) (frames : List Frame) → without_first (written frames_written stores frames) ≡ without_first frames
 below_with [] frames = refl
 below_with ((destination.Local j, v) ∷ later) [] = below_with later []
-below_with ((destination.Local j, v) ∷ later) (frame ∷ below) = below_with later (record frame { locals = slice_set frame.locals j v } ∷ below)
+below_with ((destination.Local j, v) ∷ later) (frame ∷ below) =
+    below_with later (record frame { locals = slice_set frame.locals j v } ∷ below)
 below_with ((_, v) ∷ later) frames = below_with later frames
 
 -- ---- one number
