@@ -27,7 +27,10 @@ slot_changed change s = record s { here = filter holds_slot (map change s.here) 
 
 -- the process after the part of the thread on a slot, with what is written to globals
 abbrev pub own_made : ℕ → Transition → ProcessData → ProcessData
-own_made slot o p = record { slots = on_slot slot (slot_changed (moved o)) p.slots; shared = record p.shared { globals = written globals_written o.writes p.shared.globals } }
+own_made slot o p = record {
+  slots = on_slot slot (slot_changed (moved o)) p.slots;
+  shared = record p.shared { globals = written globals_written o.writes p.shared.globals };
+}
 
 -- the process after the actions on what its threads share, and on the threads that are named
 abbrev pub others_made : Transition → ProcessData → ProcessData
