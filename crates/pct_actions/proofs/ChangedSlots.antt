@@ -1,20 +1,19 @@
 -- The slots of a process after a change of one of them, and after a change of threads.
-use Rattle.pct_names.proofs.Names.{◌*◌, ◌+◌, ◌++◌, ◌<◌, [], Action, All, All-cons, All-head, All-tail, ap, arith, Bool, cond, false, filter}
-use Rattle.pct_names.proofs.Names.{for_each, get_or_from_slice_get, holds_slot, length, length-map, List, list_any, map, map-id}
-use Rattle.pct_names.proofs.Names.{named_after, nat_eq, NewThread, None, none-some, Option, option_map, option_map_or, or_right, refl}
-use Rattle.pct_names.proofs.Names.{same_Some, set-get_or, set-set, shared_after, SharedState, slice_get, slice_get-get_or, slice_get-map}
-use Rattle.pct_names.proofs.Names.{slice_get_within, slice_set, slot_of, Some, subst, suc, sym, Thread, true, zero, ◌||◌, ℕ, ◌∙◌, ◌∷◌, ◌≡◌}
-use Rattle.pct_names.proofs.Names.{◌≢◌}
+use Rattle.pct_names.proofs.Names.{◌*◌, ◌+◌, ◌++◌, ◌<◌, [], All, All-cons, All-head, All-tail, ap, arith, Bool, cond, false, filter}
+use Rattle.pct_names.proofs.Names.{holds_slot, length, length-map, List, list_any, map, map-id, nat_eq, NewThread, None, none-some, Option}
+use Rattle.pct_names.proofs.Names.{option_map, option_map_or, or_right, refl, same_Some, SharedState, slice_get, slice_get-get_or}
+use Rattle.pct_names.proofs.Names.{slice_get-map, slice_get_within, slice_set, slot_of, Some, subst, suc, sym, Thread, true, zero, ◌||◌, ℕ}
+use Rattle.pct_names.proofs.Names.{◌∙◌, ◌∷◌, ◌≡◌, ◌≢◌}
 use Rattle.std.proofs.Common.{ne_eqb}
 use Rattle.std.proofs.Math.Path.{fun_ext}
 use Rattle.std.proofs.lemmas.List.{length-set, get_or-set_same}
 use Rattle.pct_engine_laws.specs.Seen.{SeenSlot, on_slot}
 use Rattle.pct_engine_laws.specs.SeenSteps.{is_empty, new_ids_from}
 use Rattle.pct_engine_laws.proofs.ListFacts.{filter_changed, map-map}
-use Rattle.pct_engine_laws.proofs.ThreadChanges.{KeepsSlots, named_keeps}
+use Rattle.pct_engine_laws.proofs.ThreadChanges.{KeepsSlots}
 use Rattle.pct_process.specs.ProcessViews.{ProcessData}
 use Rattle.pct_actions.specs.ProcessChanges.{IsOnSlot, AreOnSlots}
-use Rattle.pct_actions.specs.ProcessParts.{on_threads, slot_changed, action_made, NewFits}
+use Rattle.pct_actions.specs.ProcessParts.{on_threads, slot_changed, NewFits}
 
 -- ---- a change of one slot
 
@@ -26,19 +25,6 @@ module _ (k : ℕ) (slots : List SeenSlot) (s : SeenSlot) (here : slice_get slot
   changed_here f =
       let inside : k < length (slice_set slots k (f s)) = rw (length-set slots k (f s)) (slice_get_within slots k s here) in
       ap (λ (xs : List SeenSlot). slice_get xs k) (on_slot-here f) ∙ slice_get-get_or (slice_set slots k (f s)) k s inside ∙ ap (λ (x : SeenSlot). Some x) (get_or-set_same slots k (f s) s (slice_get_within slots k s here))
-
-  -- a change that leaves the slot as it is
-  pub same_here : (f : SeenSlot → SeenSlot) → f s ≡ s → on_slot k f slots ≡ slots
-  same_here f same = on_slot-here f ∙ ap (slice_set slots k) (same ∙ sym (get_or_from_slice_get slots k s s here)) ∙ set-get_or slots k s
-
-  -- one change after another, which together are a third
-  pub then_here : (f g both : SeenSlot → SeenSlot) → g (f s) ≡ both s → on_slot k g (on_slot k f slots) ≡ on_slot k both slots
-  then_here f g both same =
-      ap (λ (o : Option SeenSlot). option_map_or (λ x. slice_set (on_slot k f slots) k (g x)) o (on_slot k f slots)) (changed_here f)
-      ∙ ap (λ (xs : List SeenSlot). slice_set xs k (g (f s))) (on_slot-here f)
-      ∙ set-set slots k (f s) (g (f s))
-      ∙ ap (slice_set slots k) same
-      ∙ sym (on_slot-here both)
 
 -- two changes of all slots that have one outcome
 each_agrees : (f g : SeenSlot → SeenSlot) (slots : List SeenSlot) → ((j : ℕ) (x : SeenSlot) → slice_get slots j ≡ Some x → f x ≡ g x) → map f slots ≡ map g slots
@@ -107,24 +93,14 @@ module _ (slots : List SeenSlot) (on : AreOnSlots slots) (f : Thread → Thread)
         subst (λ (n : ℕ). All (IsOnSlot n j) x.here) (sym (length-map slots (slot_changed f)))
         (subst (λ (y : SeenSlot). All (IsOnSlot (length slots) j) y.here) (same_Some (slot_changed f s) x is) (kept s.here (on j s before)))
 
--- ---- all actions
-
 -- one change of threads after another
-change_after : (f g : Thread → Thread) → KeepsSlots g → (slots : List SeenSlot) → map (slot_changed g) (map (slot_changed f) slots) ≡ map (slot_changed (λ t. g (f t))) slots
+pub change_after : (f g : Thread → Thread) → KeepsSlots g → (slots : List SeenSlot) → map (slot_changed g) (map (slot_changed f) slots) ≡ map (slot_changed (λ t. g (f t))) slots
 change_after f g keeps slots =
     map-map (slot_changed g) (slot_changed f) slots
     ∙ ap (λ (h : SeenSlot → SeenSlot). map h slots) (fun_ext (λ s i. record {
       made = s.made;
       here = (sym (filter_changed (λ t. true) holds_slot g (λ t. refl) keeps.reclaimed (map f s.here)) ∙ ap (filter holds_slot) (map-map g f s.here)) i;
     }))
-
--- the process after actions on what its threads share and on the threads that they name, where an earlier change was f
-pub all_made : (actions : List Action) (f : Thread → Thread) (slots : List SeenSlot) (shared : SharedState)
-    → for_each action_made actions (record { slots = map (slot_changed f) slots; shared = shared }) ≡ record { slots = map (slot_changed (λ t. for_each named_after actions (f t))) slots; shared = for_each shared_after actions shared }
-all_made [] f slots shared = refl
-all_made (a ∷ actions) f slots shared =
-    ap (λ (after : List SeenSlot). for_each action_made actions (record { slots = after; shared = shared_after a shared })) (change_after f (named_after a) (named_keeps a) slots)
-    ∙ all_made actions (λ t. named_after a (f t)) slots (shared_after a shared)
 
 -- ---- the ids that a new thread can get
 

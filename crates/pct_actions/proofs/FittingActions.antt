@@ -1,10 +1,12 @@
 -- A transition that fits a process: each of its parts fits the process as the parts before it left it.
-use Rattle.pct_names.proofs.Names.{◌&&◌, ◌<◌, [], Action, All-head, and_from, ap, Bool, cases_eq, cond, false, filter, find, for_each}
-use Rattle.pct_names.proofs.Names.{holds_slot, IfSome, inl, inr, is_ended_status, is_live_thread, length, length-map, List, map, moved}
-use Rattle.pct_names.proofs.Names.{named_after, nat_eq, None, Option, option_and_then, refl, shared_after, SharedState, slice_get}
-use Rattle.pct_names.proofs.Names.{slice_set, slot_of, Some, subst, suc, sym, Thread, Transition, true, zero, ℕ, ◌∙◌, ◌∷◌, ◌≡◌, ◌≢◌}
+use Rattle.pct_names.proofs.Names.{◌&&◌, ◌<◌, [], All-head, and_from, ap, Bool, cases_eq, cond, false, filter, find, holds_slot, IfSome}
+use Rattle.pct_names.proofs.Names.{inl, inr, is_ended_status, is_live_thread, length, length-map, List, map, moved, named_after}
+use Rattle.pct_names.proofs.Names.{NamedAction, nat_eq, None, Option, option_and_then, refl, shared_moved, SharedAction, SharedState}
+use Rattle.pct_names.proofs.Names.{slice_get, slice_set, slot_of, Some, subst, suc, sym, Thread, Transition, true, zero, ℕ, ◌∙◌, ◌∷◌, ◌≡◌}
+use Rattle.pct_names.proofs.Names.{◌≢◌}
 use Rattle.std.proofs.Common.{ne_eqb, eq-eqb}
-use Rattle.pct_model.specs.declared.transition.Action.TheVariants as action
+use Rattle.pct_model.specs.declared.transition.NamedAction.TheVariants as named_action
+use Rattle.pct_model.specs.declared.transition.SharedAction.TheVariants as shared_action
 use Rattle.pct_threads.specs.Slots.{Slot}
 use Rattle.pct_threads.specs.Tables.{slot_at}
 use Rattle.pct_keys.specs.Tables.{Table}
@@ -13,22 +15,21 @@ use Rattle.pct_engine_laws.specs.SeenSteps.{thread_on, thread_with}
 use Rattle.pct_engine_laws.proofs.ThreadChanges.{on_thread, on_thread_keeps, named_keeps, transition_keeps_id}
 use Rattle.pct_process.specs.ProcessViews.{slots_of, ProcessData}
 use Rattle.pct_process.proofs.ViewedSlots.{length-slots_of}
-use Rattle.pct_actions.specs.ProcessChanges.{IsOnSlot, AreOnSlots, FitsIn, FitsAnywhere, AllFitAnywhere, AllFitIn, Makes}
-use Rattle.pct_actions.specs.ProcessParts.{slot_changed, with_slot, action_made, OwnFits, ActionsFit}
-use Rattle.pct_actions.proofs.ChangedSlots.{on_slot-here, changed_here, one_changed, on_slots_kept, all_made}
-use Rattle.pct_actions.proofs.OwnThread.{kept_fit}
+use Rattle.pct_actions.specs.ProcessChanges.{IsOnSlot, AreOnSlots, Makes, NamedFits, SharedFits}
+use Rattle.pct_actions.specs.ProcessParts.{slot_changed, others_made, own_made, OthersFit, OwnFits}
+use Rattle.pct_actions.proofs.ChangedSlots.{change_after, changed_here, on_slot-here, on_slots_kept, one_changed}
 use Rattle.pct_actions.proofs.TableSlots.{alone_here}
 
 -- ---- the thread that makes it
 
--- the thread with an id is on this slot, and the actions fit it
-pub record IsOwn (tid : ℕ) (actions : List Action) (slot : ℕ) (p : ProcessData) : Type 0 where
-  pub fits : OwnFits slot actions p
+-- the thread with an id is on this slot, and its action fits it
+pub record IsOwn (tid : ℕ) (o : Transition) (slot : ℕ) (p : ProcessData) : Type 0 where
+  pub fits : OwnFits slot o p
   pub named : fits.thread.id ≡ tid
   pub at : slot ≡ slot_of (length p.slots) tid
 
 pub own_of : (keys : Table) (threads : List Slot) (fit : length keys.rows ≡ length threads) (shared : SharedState) (p : ProcessData) → record { slots = slots_of keys.rows threads; shared = shared } ≡ p
-    → (tid slot : ℕ) (o : Transition) → slot ≡ slot_of (length threads) tid → slot < length threads → Makes tid o p → IsOwn tid o.actions slot p
+    → (tid slot : ℕ) (o : Transition) → slot ≡ slot_of (length threads) tid → slot < length threads → Makes tid o p → IsOwn tid o slot p
 own_of keys threads fit shared p view tid slot o is inside needs =
     let slots : List SeenSlot = slots_of keys.rows threads in
     let at : slot ≡ slot_of (length slots) tid = is ∙ ap (λ (n : ℕ). slot_of n tid) (sym (length-slots_of keys threads fit)) in
@@ -40,34 +41,16 @@ own_of keys threads fit shared p view tid slot o is inside needs =
       at = at ∙ ap (λ (d : ProcessData). slot_of (length d.slots) tid) view;
     }
 
--- ---- actions that need nothing of the process
-
-fits_in : (tid : ℕ) (a : Action) (p : ProcessData) → FitsAnywhere a → FitsIn tid a p
-fits_in tid (action.EndJoin id) p anywhere = absurd anywhere
-fits_in tid (action.AddForkHandlers handlers) p anywhere = absurd anywhere
-fits_in tid (action.AddExit f) p anywhere = absurd anywhere
-fits_in tid _ p anywhere = tt
-
-all_fit_in : (tid : ℕ) (actions : List Action) (p : ProcessData) → AllFitAnywhere actions → AllFitIn tid actions p
-all_fit_in tid [] p anywhere = tt
-all_fit_in tid (a ∷ actions) p anywhere = (fits_in tid a p anywhere.0, anywhere.1)
-
-module _ (p : ProcessData) (a : Action) (actions : List Action) (fit : ActionsFit (a ∷ actions) p) where
-  pub first_fits : ActionsFit (a ∷ []) p
-  first_fits = record { on_slots = fit.on_slots; tid = fit.tid; specific = fit.specific; keys = (fit.keys.0, tt); in_process = (fit.in_process.0, tt) }
-
-  pub rest_fit : ActionsFit actions (action_made a p)
-  rest_fit = record {
-    on_slots = on_slots_kept p.slots fit.on_slots (named_after a) (named_keeps a);
-    tid = fit.tid;
-    specific = fit.specific;
-    keys = kept_fit actions (action_made a p).shared.keys fit.specific fit.keys.1;
-    in_process = all_fit_in fit.tid actions (action_made a p) fit.in_process.1;
-  }
+-- what the threads share fits the action on it with other globals too
+shared_kept : (a : Option SharedAction) (s : SharedState) (globals : List ℕ) → SharedFits a s → SharedFits a (record s { globals = globals })
+shared_kept (Some (shared_action.MakeKey k destructor)) s globals fits = fits
+shared_kept (Some (shared_action.AddForkHandlers handlers)) s globals fits = fits
+shared_kept (Some (shared_action.AddExit f)) s globals fits = fits
+shared_kept _ s globals fits = tt
 
 -- ---- after the thread's own part
 
-module _ (tid : ℕ) (o : Transition) (slot : ℕ) (p : ProcessData) (on : AreOnSlots p.slots) (it : IsOwn tid o.actions slot p) where
+module _ (tid : ℕ) (o : Transition) (slot : ℕ) (p : ProcessData) (on : AreOnSlots p.slots) (it : IsOwn tid o slot p) where
   abbrev t : Thread
   t = it.fits.thread
 
@@ -115,26 +98,22 @@ module _ (tid : ℕ) (o : Transition) (slot : ℕ) (p : ProcessData) (on : AreOn
       gone true = ap (λ (d : Bool). cond d (Some (moved o t)) None) (ne_eqb (moved o t).id id (λ same. other (sym (sym (transition_keeps_id o t ∙ it.named) ∙ same))))
       gone false = refl
 
-  fit_kept : (a : Action) → FitsIn tid a p → FitsIn tid a (with_slot slot change p)
-  fit_kept (action.EndJoin id) fits = (fits.0, other_stays (λ t. is_ended_status t.status ≡ true) id fits.0 fits.1)
-  fit_kept (action.AddForkHandlers handlers) fits = fits
-  fit_kept (action.AddExit f) fits = fits
-  fit_kept _ fits = tt
+  named_kept : (a : Option NamedAction) → NamedFits tid a p.slots → NamedFits tid a after
+  named_kept (Some (named_action.EndJoin id)) fits = (fits.0, other_stays (λ t. is_ended_status t.status ≡ true) id fits.0 fits.1)
+  named_kept _ fits = tt
 
-  all_fit_kept : (actions : List Action) → AllFitIn tid actions p → AllFitIn tid actions (with_slot slot change p)
-  all_fit_kept [] fits = tt
-  all_fit_kept (a ∷ actions) fits = (fit_kept a fits.0, fits.1)
-
-  -- the actions fit the process
-  pub actions_fit : Makes tid o p → ActionsFit o.actions (with_slot slot change p)
-  actions_fit needs = record {
+  -- the other actions fit the process
+  pub others_fit : Makes tid o p → OthersFit o (own_made slot o p)
+  others_fit needs = record {
     on_slots = subst AreOnSlots (sym own_is_all) (on_slots_kept p.slots on (on_thread tid (moved o)) (on_thread_keeps tid (moved o) (transition_keeps_id o)));
     tid = tid;
-    specific = needs.thread.specific;
-    keys = needs.keys;
-    in_process = all_fit_kept o.actions needs.in_process;
+    shared = shared_kept o.shared p.shared (own_made slot o p).shared.globals needs.shared;
+    named = named_kept o.named needs.named;
+    forgets = needs.forgets;
   }
 
   -- and after them it is that of the transition, but for the thread that it creates
-  pub parts_made : for_each action_made o.actions (with_slot slot change p) ≡ record { slots = map (slot_after tid o) p.slots; shared = for_each shared_after o.actions p.shared }
-  parts_made = ap (λ (slots : List SeenSlot). for_each action_made o.actions (record { slots = slots; shared = p.shared })) own_is_all ∙ all_made o.actions (on_thread tid (moved o)) p.slots p.shared
+  pub parts_made : others_made o (own_made slot o p) ≡ record { slots = map (slot_after tid o) p.slots; shared = shared_moved o p.shared }
+  parts_made =
+      (λ i. record { slots = map (slot_changed (named_after o.named)) (own_is_all i); shared = shared_moved o p.shared })
+      ∙ ap (λ (slots : List SeenSlot). record { slots = slots; shared = shared_moved o p.shared }) (change_after (on_thread tid (moved o)) (named_after o.named) (named_keeps o.named) p.slots)

@@ -1,5 +1,5 @@
 pub mod RestItems
-mod TwoChanges
+mod OwnChanges
 pub mod ChangedSlots
 mod TableSlots
 mod OwnThread

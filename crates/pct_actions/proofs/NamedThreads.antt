@@ -1,11 +1,11 @@
--- The slots of a process after a change of the threads that an action names, and after a key was deleted.
-use Rattle.pct_names.proofs.Names.{◌&&◌, ◌-◌, ◌<◌, [], Action, All, All-head, and_from, ap, arith, Bool, Broadcast, cases_lt, cond, false}
+-- The slots of a process after a change of the threads that are named, and after a key was deleted.
+use Rattle.pct_names.proofs.Names.{◌&&◌, ◌-◌, ◌<◌, [], All, All-head, and_from, ap, arith, Bool, Broadcast, cases_lt, cond, false}
 use Rattle.pct_names.proofs.Names.{false≢true, filter, holds_slot, IfSome, inl, inr, is_ended_status, is_live_thread, is_some}
-use Rattle.pct_names.proofs.Names.{is_waiting_on, KeyValues, length, List, map, map-id, named_after, nat_eq, None, not, Option}
-use Rattle.pct_names.proofs.Names.{option_and_then, option_map, option_map_or, refl, set-get_or, Signalled, slot_of, Some, subst, sym}
-use Rattle.pct_names.proofs.Names.{Thread, true, unblocked, without_value, ◌||◌, ℕ, ◌∙◌, ◌∷◌, ◌≡◌, ◌≤◌}
+use Rattle.pct_names.proofs.Names.{is_waiting_on, key_place, KeyValues, length, List, map, map-id, named_after, NamedAction, nat_eq, None}
+use Rattle.pct_names.proofs.Names.{not, Option, option_and_then, option_map, option_map_or, refl, set-get_or, Signalled, slot_of, Some}
+use Rattle.pct_names.proofs.Names.{subst, sym, Thread, true, unblocked, without_value, ◌||◌, ℕ, ◌∙◌, ◌∷◌, ◌≡◌, ◌≤◌}
 use Rattle.std.proofs.Common.{mod-lt}
-use Rattle.pct_model.specs.declared.transition.Action.TheVariants as action
+use Rattle.pct_model.specs.declared.transition.NamedAction.TheVariants as named_action
 use Rattle.pct_threads.specs.Slots.{Held, Slot, unused, has_id, is_reclaimable, after_detach, after_change, with_change, freed}
 use Rattle.pct_threads.specs.Tables.{slot_at, held_at, is_reclaimable_at, on_slot}
 use Rattle.pct_threads.proofs.TableLemmas.{within-occupied, occupied-test}
@@ -16,7 +16,7 @@ use Rattle.pct_engine_laws.proofs.ThreadChanges.{unblocked_ended}
 use Rattle.pct_process.specs.ThreadViews.{thread_of, threads_of, slot_view, with_specific}
 use Rattle.pct_process.specs.ProcessViews.{with_row, slots_of, thread_on_slot, ProcessData}
 use Rattle.pct_process.proofs.ViewedSlots.{own, length-slots_of, slot_here, thread_on_slot-is, thread_with-is}
-use Rattle.pct_actions.specs.ProcessChanges.{IsOnSlot, AreOnSlots, JoinFits, FitsIn}
+use Rattle.pct_actions.specs.ProcessChanges.{IsOnSlot, AreOnSlots, JoinFits, NamedFits, forgotten_key}
 use Rattle.pct_actions.specs.ProcessParts.{on_threads, slot_changed}
 use Rattle.pct_actions.specs.SharedChanges.{forgotten, slot_named, on_named, requested, woken, woken_from, named_on, NameFits}
 use Rattle.pct_actions.proofs.ChangedSlots.{none_changed, none_leaves, one_changed}
@@ -40,15 +40,15 @@ forgotten_here place row made None = refl
 forgotten_here place row made (Some h) = refl
 
 -- all slots
-pub key_forgotten : (place : ℕ) (rows : List KeyValues) (threads : List Slot) → length rows ≡ length threads
-    → slots_of (map (without_value place) rows) threads ≡ map (on_threads (λ t. record t { specific = without_value place t.specific })) (slots_of rows threads)
-key_forgotten place rows threads fit =
+pub key_forgotten : (k : ℕ) (rows : List KeyValues) (threads : List Slot) → length rows ≡ length threads → slots_of (map (without_value (key_place k)) rows) threads ≡ forgotten (Some k) (slots_of rows threads)
+key_forgotten k rows threads fit =
+    let place : ℕ = key_place k in
     ap (slots_of (map (without_value place) rows)) (sym (map-id threads))
     ∙ all_with (without_value place) (λ s. s) (λ t. record t { specific = without_value place t.specific }) (λ row s. forgotten_here place row s.made s.here) rows threads fit
 
 -- a slot whose thread is unblocked by a broadcast, if it waits on a condition variable
 broadcast_here : (c : ℕ) (row : KeyValues) (made : ℕ) (o : Option Held)
-    → with_row row (record { made = made; here = threads_of (option_map (woken_from c) o) }) ≡ on_threads (named_after (action.WakeAll c)) (with_row row (record { made = made; here = threads_of o }))
+    → with_row row (record { made = made; here = threads_of (option_map (woken_from c) o) }) ≡ on_threads (named_after (Some (named_action.WakeAll c))) (with_row row (record { made = made; here = threads_of o }))
 unfolding named_after
 broadcast_here c row made None = refl
 broadcast_here c row made (Some h) = λ i. record { made = made; here = by (is_waiting_on c h.thread.status) i } where
@@ -57,7 +57,7 @@ broadcast_here c row made (Some h) = λ i. record { made = made; here = by (is_w
   by false = refl
 
 -- a thread keeps its slot after it was unblocked
-still_holds : (c : ℕ) (t : Thread) → holds_slot (named_after (action.WakeAll c) t) ≡ holds_slot t
+still_holds : (c : ℕ) (t : Thread) → holds_slot (named_after (Some (named_action.WakeAll c)) t) ≡ holds_slot t
 unfolding named_after
 still_holds c t = by (is_waiting_on c t.status) where
   by : (b : Bool) → holds_slot (cond b (record t { status = unblocked Broadcast t.status }) t) ≡ holds_slot t
@@ -74,26 +74,26 @@ module _ (row : KeyValues) (id : ℕ) (h : Held) (named : nat_eq h.id id ≡ tru
   live : is_live_thread id t ≡ true
   live = and_from (nat_eq h.id id) (holds_slot t) named holds
 
-  joined_here : is_ended_status h.thread.status ≡ true → [] ≡ filter holds_slot (named_after (action.EndJoin id) t ∷ [])
+  joined_here : is_ended_status h.thread.status ≡ true → [] ≡ filter holds_slot (named_after (Some (named_action.EndJoin id)) t ∷ [])
   unfolding named_after
   joined_here ended =
       sym (ap (λ (b : Bool). filter holds_slot (cond b (record t { joined = true }) t ∷ [])) live ∙ ap (λ (e : Bool). cond (not (e && true)) (record t { joined = true } ∷ []) []) ended)
 
-  detached_here : map (with_specific row) (threads_of (after_detach h)) ≡ filter holds_slot (named_after (action.Detach id) t ∷ [])
+  detached_here : map (with_specific row) (threads_of (after_detach h)) ≡ filter holds_slot (named_after (Some (named_action.Detach id)) t ∷ [])
   unfolding named_after
   detached_here = by (is_ended_status h.thread.status) ∙ sym (ap (λ (b : Bool). filter holds_slot (cond b (record t { detached = true }) t ∷ [])) live) where
     by : (e : Bool) → map (with_specific row) (threads_of (cond e None (Some (record h { detached = true })))) ≡ cond (not (e && true)) (record t { detached = true } ∷ []) []
     by true = refl
     by false = refl
 
-  requested_here : map (with_specific row) (thread_of (requested h) ∷ []) ≡ filter holds_slot (named_after (action.Request id) t ∷ [])
+  requested_here : map (with_specific row) (thread_of (requested h) ∷ []) ≡ filter holds_slot (named_after (Some (named_action.Request id)) t ∷ [])
   unfolding named_after
   requested_here = by h.thread.ended ∙ sym (ap (λ (b : Bool). filter holds_slot (cond (b && not h.thread.ended) (record t { pending = true }) t ∷ [])) live) where
     by : (e : Bool) → map (with_specific row) (thread_of (cond e h (record h { thread = record h.thread { cancel = record h.thread.cancel { pending = true } } })) ∷ []) ≡ filter holds_slot (cond (not e) (record t { pending = true }) t ∷ [])
     by true = sym (ap (λ (b : Bool). cond b (t ∷ []) []) holds)
     by false = sym (ap (λ (b : Bool). cond b (record t { pending = true } ∷ []) []) holds)
 
-  woken_here : map (with_specific row) (thread_of (woken Signalled h) ∷ []) ≡ filter holds_slot (named_after (action.Wake id) t ∷ [])
+  woken_here : map (with_specific row) (thread_of (woken Signalled h) ∷ []) ≡ filter holds_slot (named_after (Some (named_action.Wake id)) t ∷ [])
   unfolding named_after
   woken_here =
       sym (ap (λ (b : Bool). filter holds_slot (cond b (record t { status = unblocked Signalled t.status }) t ∷ [])) live
@@ -179,48 +179,47 @@ module _ (keys : Table) (threads : List Slot) (fit : length keys.rows ≡ length
       by_has true has = ready (held_at threads place) refl has
       by_has false has = tt
 
--- ---- an action, where the table has forgotten a key that it deletes
+-- ---- the action, where the table has forgotten the key that is deleted
 
 module _ (keys : Table) (threads : List Slot) (fit : length keys.rows ≡ length threads) (tid : ℕ) (p : ProcessData) (before : AreOnSlots p.slots) where
   abbrev on : slots_of keys.rows threads ≡ p.slots → AreOnSlots (slots_of keys.rows threads)
   on same = subst AreOnSlots (sym same) before
 
-  -- an action that fits the data fits the table
-  pub name_fits : (a : Action) → slots_of keys.rows threads ≡ forgotten a p.slots → FitsIn tid a p → NameFits a threads
-  unfolding forgotten
-  name_fits (action.EndJoin id) same fits = reclaimable_here keys threads fit (on same) id tid (subst (JoinFits tid id) (sym same) fits)
+  -- the action fits the table, if it fits the data
+  pub name_fits : (a : Option NamedAction) → slots_of keys.rows threads ≡ forgotten (forgotten_key a) p.slots → NamedFits tid a p.slots → NameFits a threads
+  name_fits (Some (named_action.EndJoin id)) same fits = reclaimable_here keys threads fit (on same) id tid (subst (JoinFits tid id) (sym same) fits)
   name_fits _ same fits = tt
 
   -- the slots after it
-  pub named_is : (a : Action) → slots_of keys.rows threads ≡ forgotten a p.slots → FitsIn tid a p → slots_of keys.rows (named_on a threads) ≡ map (slot_changed (named_after a)) p.slots
-  unfolding named_on named_after forgotten
-  named_is (action.EndJoin id) same fits =
-      on_named_is keys threads fit (on same) id freed (named_after (action.EndJoin id)) refl
+  pub named_is : (a : Option NamedAction) → slots_of keys.rows threads ≡ forgotten (forgotten_key a) p.slots → NamedFits tid a p.slots → slots_of keys.rows (named_on a threads) ≡ map (slot_changed (named_after a)) p.slots
+  unfolding named_on named_after
+  named_is (Some (named_action.EndJoin id)) same fits =
+      on_named_is keys threads fit (on same) id freed (named_after (Some (named_action.EndJoin id))) refl
       (λ x other. ap (λ (b : Bool). cond (b && holds_slot x) (record x { joined = true }) x) other)
       (λ h here named holds. joined_here (row_at keys (slot_of (length threads) id)) id h named holds (ended_here keys threads fit (on same) id tid (subst (JoinFits tid id) (sym same) fits) h here named))
-      ∙ ap (map (slot_changed (named_after (action.EndJoin id)))) same
-  named_is (action.Request id) same fits =
+      ∙ ap (map (slot_changed (named_after (Some (named_action.EndJoin id))))) same
+  named_is (Some (named_action.Request id)) same fits =
       let row : KeyValues = row_at keys (slot_of (length threads) id) in
-      on_named_is keys threads fit (on same) id (with_change requested) (named_after (action.Request id)) refl
+      on_named_is keys threads fit (on same) id (with_change requested) (named_after (Some (named_action.Request id))) refl
       (λ x other. ap (λ (b : Bool). cond ((b && holds_slot x) && not x.ended) (record x { pending = true }) x) other)
       (λ h here named holds. ap (λ (o : Option Held). map (with_specific row) (threads_of (option_map requested o))) here ∙ requested_here row id h named holds)
-      ∙ ap (map (slot_changed (named_after (action.Request id)))) same
-  named_is (action.Detach id) same fits =
+      ∙ ap (map (slot_changed (named_after (Some (named_action.Request id))))) same
+  named_is (Some (named_action.Detach id)) same fits =
       let row : KeyValues = row_at keys (slot_of (length threads) id) in
-      on_named_is keys threads fit (on same) id (after_change after_detach) (named_after (action.Detach id)) refl
+      on_named_is keys threads fit (on same) id (after_change after_detach) (named_after (Some (named_action.Detach id))) refl
       (λ x other. ap (λ (b : Bool). cond (b && holds_slot x) (record x { detached = true }) x) other)
       (λ h here named holds. ap (λ (o : Option Held). map (with_specific row) (threads_of (option_and_then after_detach o))) here ∙ detached_here row id h named holds)
-      ∙ ap (map (slot_changed (named_after (action.Detach id)))) same
-  named_is (action.Wake id) same fits =
+      ∙ ap (map (slot_changed (named_after (Some (named_action.Detach id))))) same
+  named_is (Some (named_action.Wake id)) same fits =
       let row : KeyValues = row_at keys (slot_of (length threads) id) in
-      on_named_is keys threads fit (on same) id (with_change (woken Signalled)) (named_after (action.Wake id)) refl
+      on_named_is keys threads fit (on same) id (with_change (woken Signalled)) (named_after (Some (named_action.Wake id))) refl
       (λ x other. ap (λ (b : Bool). cond (b && holds_slot x) (record x { status = unblocked Signalled x.status }) x) other)
       (λ h here named holds. ap (λ (o : Option Held). map (with_specific row) (threads_of (option_map (woken Signalled) o))) here ∙ woken_here row id h named holds)
-      ∙ ap (map (slot_changed (named_after (action.Wake id)))) same
-  named_is (action.WakeAll c) same fits =
+      ∙ ap (map (slot_changed (named_after (Some (named_action.Wake id))))) same
+  named_is (Some (named_action.WakeAll c)) same fits =
       ap (λ (rows : List KeyValues). slots_of rows (map (with_change (woken_from c)) threads)) (sym (map-id keys.rows))
-      ∙ all_with (λ row. row) (with_change (woken_from c)) (named_after (action.WakeAll c)) (λ row s. broadcast_here c row s.made s.here) keys.rows threads fit
-      ∙ ap (map (on_threads (named_after (action.WakeAll c)))) same
-      ∙ none_leaves p.slots before (named_after (action.WakeAll c)) (still_holds c)
-  named_is (action.DeleteKey k) same fits = same ∙ none_leaves p.slots before (named_after (action.DeleteKey k)) (λ t. refl)
+      ∙ all_with (λ row. row) (with_change (woken_from c)) (named_after (Some (named_action.WakeAll c))) (λ row s. broadcast_here c row s.made s.here) keys.rows threads fit
+      ∙ ap (map (on_threads (named_after (Some (named_action.WakeAll c))))) same
+      ∙ none_leaves p.slots before (named_after (Some (named_action.WakeAll c))) (still_holds c)
+  named_is (Some (named_action.ForgetKey k)) same fits = same ∙ none_leaves p.slots before (named_after (Some (named_action.ForgetKey k))) (λ t. refl)
   named_is _ same fits = same ∙ sym (none_changed p.slots before (λ t. t) (λ t. refl))

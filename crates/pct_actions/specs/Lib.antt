@@ -1,4 +1,3 @@
-pub mod KeysFit
 pub mod ProcessChanges
 pub mod ProcessParts
 pub mod OwnChanges

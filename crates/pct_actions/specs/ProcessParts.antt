@@ -1,19 +1,17 @@
--- The parts of a transition of a thread, in words of the data of its process: what it changes in the thread itself, then each action in what
--- the threads share and in the threads that it names, then the thread that it creates.
-use Rattle.std.specs.Prelude.{◌≡◌, ℕ, true, List, [], ◌∷◌, length, map, filter, Option, Some, IfSome, nat_eq, slice_get}
+-- The parts of a transition of a thread, in words of the data of its process: what it changes in the thread itself and in the globals, then
+-- its actions on what the threads share and on the threads that it names, then the thread that it creates.
+use Rattle.std.specs.Prelude.{◌≡◌, ℕ, true, [], ◌∷◌, length, map, filter, Option, Some, IfSome, nat_eq, slice_get}
 use Rattle.std.specs.List.{list_any}
-use Rattle.pct_model.specs.declared.transition.Action.{Action}
 use Rattle.pct_model.specs.declared.transition.NewThread.{NewThread}
-use Rattle.pct_model.specs.Actions.{named_after, shared_after}
-use Rattle.pct_model.specs.Keys.{KeyValues}
+use Rattle.pct_model.specs.declared.transition.Transition.{Transition}
+use Rattle.pct_model.specs.Actions.{globals_written, moved, named_after, shared_after, written}
 use Rattle.pct_model.specs.ThreadSlots.{holds_slot}
 use Rattle.pct_model.specs.World.{Thread}
-use Rattle.pct_engine_laws.specs.Fitting.{AllFit}
+use Rattle.pct_engine_laws.specs.Fitting.{Fits}
 use Rattle.pct_engine_laws.specs.Seen.{SeenSlot, on_slot, with_created}
 use Rattle.pct_engine_laws.specs.SeenSteps.{new_ids_from}
 use Rattle.pct_process.specs.ProcessViews.{ProcessData}
-use Rattle.pct_actions.specs.KeysFit.{KeysFit}
-use Rattle.pct_actions.specs.ProcessChanges.{AreOnSlots, AllFitIn}
+use Rattle.pct_actions.specs.ProcessChanges.{deleted_key, forgotten_key, AreOnSlots, KeyFits, NamedFits, SharedFits}
 
 -- ---- slots
 
@@ -21,23 +19,22 @@ use Rattle.pct_actions.specs.ProcessChanges.{AreOnSlots, AllFitIn}
 abbrev pub on_threads : (Thread → Thread) → SeenSlot → SeenSlot
 on_threads change s = record s { here = map change s.here }
 
--- a slot, once the threads that were reclaimed have left it
-abbrev pub settled : SeenSlot → SeenSlot
-settled s = record s { here = filter holds_slot s.here }
-
 -- a slot with a change of its threads, once those that were reclaimed have left it
 abbrev pub slot_changed : (Thread → Thread) → SeenSlot → SeenSlot
-slot_changed change s = settled (on_threads change s)
-
--- the process with a change of one slot
-abbrev pub with_slot : ℕ → (SeenSlot → SeenSlot) → ProcessData → ProcessData
-with_slot k change p = record p { slots = on_slot k change p.slots }
+slot_changed change s = record s { here = filter holds_slot (map change s.here) }
 
 -- ---- the parts
 
--- the process after an action on what its threads share, and on the threads that it names
-abbrev pub action_made : Action → ProcessData → ProcessData
-action_made a p = record { slots = map (slot_changed (named_after a)) p.slots; shared = shared_after a p.shared }
+-- the process after the part of the thread on a slot, with what is written to globals
+abbrev pub own_made : ℕ → Transition → ProcessData → ProcessData
+own_made slot o p = record {
+  slots = on_slot slot (slot_changed (moved o)) p.slots;
+  shared = record p.shared { globals = written globals_written o.writes p.shared.globals };
+}
+
+-- the process after the actions on what its threads share, and on the threads that are named
+abbrev pub others_made : Transition → ProcessData → ProcessData
+others_made o p = record { slots = map (slot_changed (named_after o.named)) p.slots; shared = shared_after o.shared p.shared }
 
 -- the process with the thread that a transition creates, if it does
 abbrev pub created_made : Option NewThread → ProcessData → ProcessData
@@ -45,21 +42,21 @@ created_made created p = record p { slots = with_created (length p.slots) create
 
 -- ---- what they need
 
--- one thread is on a slot, and it has room and the keys for these actions
-pub record OwnFits (slot : ℕ) (actions : List Action) (p : ProcessData) : Type 0 where
+-- one thread is on a slot, and it has room and the key for its action
+pub record OwnFits (slot : ℕ) (o : Transition) (p : ProcessData) : Type 0 where
   pub made : ℕ
   pub thread : Thread
   pub here : slice_get p.slots slot ≡ Some (record { made = made; here = thread ∷ [] })
-  pub fits : AllFit (length thread.frames) (length thread.handlers) thread.pass actions
-  pub keys : KeysFit actions p.shared.keys thread.specific
+  pub fits : Fits (length thread.frames) (length thread.handlers) thread.pass o.own
+  pub keys : KeyFits o.own p.shared.keys thread.specific
 
--- these actions of a thread with this id and this data fit what the threads share, and the threads that they name
-pub record ActionsFit (actions : List Action) (p : ProcessData) : Type 0 where
+-- the actions of a thread with this id fit what the threads share, and the threads that they name
+pub record OthersFit (o : Transition) (p : ProcessData) : Type 0 where
   pub on_slots : AreOnSlots p.slots
   pub tid : ℕ
-  pub specific : KeyValues
-  pub keys : KeysFit actions p.shared.keys specific
-  pub in_process : AllFitIn tid actions p
+  pub shared : SharedFits o.shared p.shared
+  pub named : NamedFits tid o.named p.slots
+  pub forgets : deleted_key o.shared ≡ forgotten_key o.named
 
 -- the thread that a transition creates has an id that a new thread can get
 abbrev pub NewFits : Option NewThread → ProcessData → Type 0

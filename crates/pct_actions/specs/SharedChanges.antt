@@ -1,10 +1,10 @@
--- What an action changes in the tables beside the thread that makes it: in what the threads share, and in the threads that it names.
+-- What actions change in the tables beside the thread that makes it: in what the threads share, and in the threads that it names.
 use Rattle.std.specs.Prelude.{◌≡◌, ℕ, true, if◌then◌else◌, List, map, length, Option, Some, None, IfSome}
 use Rattle.std.specs.Option.{option_map_or}
 use Rattle.pct_model.specs.declared.state.Cause.{Cause}
 use Rattle.pct_model.specs.declared.state.Cause.TheVariants as cause
-use Rattle.pct_model.specs.declared.transition.Action.{Action}
-use Rattle.pct_model.specs.declared.transition.Action.TheVariants as action
+use Rattle.pct_model.specs.declared.transition.NamedAction.{NamedAction}
+use Rattle.pct_model.specs.declared.transition.NamedAction.TheVariants as named_action
 use Rattle.pct_model.specs.CondCalls.{is_waiting_on, unblocked}
 use Rattle.pct_model.specs.Keys.{key_place, without_value}
 use Rattle.pct_model.specs.ThreadSlots.{slot_of}
@@ -15,10 +15,10 @@ use Rattle.pct_actions.specs.ProcessParts.{on_threads}
 
 -- ---- keys
 
--- the slots after an action on the keys: no thread keeps its value of a key that is deleted
-unfoldable pub forgotten : Action → List SeenSlot → List SeenSlot
-forgotten (action.DeleteKey k) slots = map (on_threads (λ t. record t { specific = without_value (key_place k) t.specific })) slots
-forgotten _ slots = slots
+-- the slots, where no thread keeps its value of the key that is deleted, if one is
+abbrev pub forgotten : Option ℕ → List SeenSlot → List SeenSlot
+forgotten None slots = slots
+forgotten (Some k) slots = map (on_threads (λ t. record t { specific = without_value (key_place k) t.specific })) slots
 
 -- ---- threads that are named
 
@@ -42,16 +42,16 @@ woken why h = record h { thread = record h.thread { status = unblocked why h.thr
 abbrev pub woken_from : ℕ → Held → Held
 woken_from c h = if is_waiting_on c h.thread.status then woken cause.Broadcast h else h
 
--- the table of threads after an action, which may name a thread, or the threads that wait on a condition variable
-unfoldable pub named_on : Action → List Slot → List Slot
-named_on (action.EndJoin id) threads = on_named id freed threads
-named_on (action.Request id) threads = on_named id (with_change requested) threads
-named_on (action.Detach id) threads = on_named id (after_change after_detach) threads
-named_on (action.Wake id) threads = on_named id (with_change (woken cause.Signalled)) threads
-named_on (action.WakeAll c) threads = map (with_change (woken_from c)) threads
+-- the table of threads after the action that names threads, if there is one
+unfoldable pub named_on : Option NamedAction → List Slot → List Slot
+named_on (Some (named_action.EndJoin id)) threads = on_named id freed threads
+named_on (Some (named_action.Request id)) threads = on_named id (with_change requested) threads
+named_on (Some (named_action.Detach id)) threads = on_named id (after_change after_detach) threads
+named_on (Some (named_action.Wake id)) threads = on_named id (with_change (woken cause.Signalled)) threads
+named_on (Some (named_action.WakeAll c)) threads = map (with_change (woken_from c)) threads
 named_on _ threads = threads
 
--- an action fits the table of threads: a thread that was joined has ended, and is not detached
-abbrev pub NameFits : Action → List Slot → Type 0
-NameFits (action.EndJoin id) threads = IfSome (slot_named id threads) (λ target. is_reclaimable_at threads target ≡ true)
+-- the action fits the table of threads: a thread that was joined has ended, and is not detached
+abbrev pub NameFits : Option NamedAction → List Slot → Type 0
+NameFits (Some (named_action.EndJoin id)) threads = IfSome (slot_named id threads) (λ target. is_reclaimable_at threads target ≡ true)
 NameFits _ threads = Unit {0}

@@ -5,7 +5,7 @@ ghost use Rattle.pct_actions.specs.ProcessChanges.{data_moved, Makes};
 ghost use Rattle.pct_actions.specs.ProcessParts.{created_made, NewFits};
 
 use crate::own_thread::make_own;
-use crate::shared_actions::act_all;
+use crate::shared_actions::act_on_others;
 use pct_model::{NewThread, Transition};
 use pct_process::ProcessState;
 
@@ -17,7 +17,7 @@ pub fn make(process: &mut ProcessState, tid: u32, transition: &Transition)
 {
     let slot = process.threads.slot_of(tid);
     make_own(process, slot, transition);
-    act_all(process, &transition.actions, 0);
+    act_on_others(process, transition);
     create(process, transition.created);
 }
 

@@ -1,4 +1,4 @@
-//! What an action changes in the threads that it names.
+//! What a transition changes in the threads that it names.
 
 ghost use Rattle.std.specs.Prelude.{◌≡◌, IfSome, length, map, true};
 ghost use Rattle.pct_model.specs.declared.state.Cause.TheVariants as cause;
@@ -7,23 +7,24 @@ ghost use Rattle.pct_threads.specs.Slots.{after_detach, after_change, with_chang
 ghost use Rattle.pct_threads.specs.Tables.{is_occupied_at, is_reclaimable_at, on_held};
 ghost use Rattle.pct_actions.specs.SharedChanges.{slot_named, named_on, on_named, requested, woken, woken_from, NameFits};
 
-use pct_model::{Action, Cause, Status};
+use pct_model::{Cause, NamedAction, Status};
 use pct_threads::Threads;
 
-/// Makes the change of an action in the threads that it names, if it names some. Whom a thread joins is known by its status.
+/// Makes the change of an action, if there is one, in the threads that it names. Whom a thread joins is known by its status, and the
+/// values of a key are deleted with it.
 #[tactic(auto, unfolding(crate::specs::SharedChanges::named_on))]
-pub(crate) fn name(threads: &mut Threads, action: Action)
+pub(crate) fn name(threads: &mut Threads, action: Option<NamedAction>)
     requires { NameFits action threads.old }
     ensures table { threads.new ≡ named_on action threads.old }
     ensures length { length threads.new ≡ length threads.old }
 {
     match action {
-        Action::EndJoin(id) => end_join(threads, id),
-        Action::Request(id) => request(threads, id),
-        Action::Detach(id) => detach(threads, id),
-        Action::Wake(id) => wake(threads, id),
-        Action::WakeAll(cond) => wake_all(threads, cond),
-        _ => {}
+        None | Some(NamedAction::ForgetKey(_)) => {}
+        Some(NamedAction::EndJoin(id)) => end_join(threads, id),
+        Some(NamedAction::Request(id)) => request(threads, id),
+        Some(NamedAction::Detach(id)) => detach(threads, id),
+        Some(NamedAction::Wake(id)) => wake(threads, id),
+        Some(NamedAction::WakeAll(cond)) => wake_all(threads, cond),
     }
 }
 

@@ -1,25 +1,40 @@
-//! What a transition changes in the thread that makes it.
+//! What a transition changes in the thread that makes it, in the table of threads.
 
 ghost use Rattle.std.specs.Prelude.{◌≡◌, ◌<◌, ◌≤◌, ◌∷◌, [], ℕ, suc, List, length, Some, None, true};
+ghost use Rattle.std.specs.Option.{option_to_list};
 ghost use Rattle.pct_model.specs.declared.limits.TheConstants.{MAX_FRAMES, MAX_HANDLERS, MAX_PASSES};
-ghost use Rattle.pct_model.specs.declared.state.Cause.TheVariants as cause;
+ghost use Rattle.pct_model.specs.declared.state.FrameKind.TheVariants as kind;
 ghost use Rattle.pct_model.specs.declared.state.Status.TheVariants as status;
-ghost use Rattle.pct_model.specs.Actions.{frames_written, at_pc, without_first, thread_at, thread_after};
+ghost use Rattle.pct_model.specs.Actions.{at_pc, own_after, thread_at, without_first};
 ghost use Rattle.pct_model.specs.Cancelability.{ending_state, ending_mode};
-ghost use Rattle.pct_model.specs.ForkCalls.{in_fork};
 ghost use Rattle.pct_model.specs.World.{new_frame};
 ghost use Rattle.pct_threads.specs.Slots.{Held, after_change};
 ghost use Rattle.pct_threads.specs.Tables.{held_at, is_occupied_at, on_slot};
 ghost use Rattle.pct_engine_laws.specs.Fitting.{Fits};
-ghost use Rattle.pct_actions.specs.OwnChanges.{on_own, unless_reclaimed};
+ghost use Rattle.pct_actions.specs.OwnChanges.{locals_written, on_own, own_moved, unless_reclaimed};
 
 use pct_cleanup::Handlers;
-use pct_model::{Action, Cause, Dest, ForkAt, FrameKind, Mode, Reason, State, Status};
+use pct_model::{
+    Dest, ForkAt, FrameKind, Mode, OwnAction, Reason, State, Status, Transition, UpToThree,
+};
 use pct_threads::Threads;
 
-/// The thread on a slot goes on at a program counter, if there is one.
+/// Makes the changes of a transition in the thread on a slot, which makes it. The thread gives back its slot if it has ended and is
+/// detached.
+pub(crate) fn move_own(threads: &mut Threads, slot: u32, transition: &Transition)
+    requires occupied { is_occupied_at threads.old slot ≡ true }
+    requires fits { (held : Held) → held_at threads.old slot ≡ Some held → Fits (length held.frames) (length held.thread.handlers) held.thread.pass transition.now.own }
+    ensures { threads.new ≡ own_moved slot transition.now threads.old }
+{
+    go_on(threads, slot, transition.next);
+    write_locals(threads, slot, &transition.writes);
+    act(threads, slot, transition.own);
+    settle(threads, slot);
+}
+
+// The thread goes on at a program counter, if there is one.
 #[tactic(auto, unfolding(pct_model::specs::Actions::thread_at))]
-pub(crate) fn go_on(threads: &mut Threads, slot: u32, next: Option<u32>)
+fn go_on(threads: &mut Threads, slot: u32, next: Option<u32>)
     requires { is_occupied_at threads.old slot ≡ true }
     ensures { threads.new ≡ on_own slot (thread_at next) threads.old }
 {
@@ -29,42 +44,52 @@ pub(crate) fn go_on(threads: &mut Threads, slot: u32, next: Option<u32>)
     }
 }
 
-/// Makes an action's change in the thread on a slot.
-#[tactic(auto, unfolding(pct_model::specs::Actions::thread_after))]
-pub(crate) fn act(threads: &mut Threads, slot: u32, action: Action)
+// Writes these values, in order, to their destinations that are locals of the newest frame.
+fn write_locals(threads: &mut Threads, slot: u32, writes: &UpToThree<(Dest, u32)>)
+    requires { is_occupied_at threads.old slot ≡ true }
+    ensures { threads.new ≡ on_own slot (locals_written writes.now) threads.old }
+{
+    write_local(threads, slot, writes.get(0));
+    write_local(threads, slot, writes.get(1));
+    write_local(threads, slot, writes.get(2));
+}
+
+// Makes the thread's own action, if it has one.
+#[tactic(auto, unfolding(pct_model::specs::Actions::own_after))]
+fn act(threads: &mut Threads, slot: u32, action: Option<OwnAction>)
     requires occupied { is_occupied_at threads.old slot ≡ true }
     requires fits { (held : Held) → held_at threads.old slot ≡ Some held → Fits (length held.frames) (length held.thread.handlers) held.thread.pass action }
-    ensures table { threads.new ≡ on_own slot (thread_after action) threads.old }
-    ensures length { length threads.new ≡ length threads.old }
+    ensures { threads.new ≡ on_own slot (own_after action) threads.old }
 {
     match action {
-        Action::Write(dest, value) => write_local(threads, slot, dest, value),
-        Action::Call { func, arg, kind } => call(threads, slot, func, arg, kind),
-        Action::CallAlone { func, arg, kind } => call_alone(threads, slot, func, arg, kind),
-        Action::Leave(status) => leave(threads, slot, status),
-        Action::PushHandler(func, arg) => push_handler(threads, slot, func, arg),
-        Action::PopHandler => pop_handler(threads, slot),
-        Action::SetState(state) => set_state(threads, slot, state),
-        Action::SetMode(mode) => set_mode(threads, slot, mode),
-        Action::BeginPoint(index) => set_status(threads, slot, Status::AtPoint(index)),
-        Action::BeginJoin(id) => set_status(threads, slot, Status::Joining(id)),
-        Action::BeginWait(cond, mutex) => set_status(threads, slot, Status::Waiting(cond, mutex)),
-        Action::LeaveWait(cond, mutex) => leave_wait(threads, slot, cond, mutex),
-        Action::BeginSem(sem) => set_status(threads, slot, Status::InSem(sem)),
-        Action::BeginWaitPid(pid) => set_status(threads, slot, Status::InWaitPid(pid)),
-        Action::EnterFork(at) => enter_fork(threads, slot, at),
-        Action::KeepFork(at) => keep_fork(threads, slot, at),
-        Action::BeginPass => begin_pass(threads, slot),
-        Action::BeginEnd(why) => begin_end(threads, slot, why),
-        Action::EndThread(value) => end_thread(threads, slot, value),
-        Action::MarkEnded => mark_ended(threads, slot),
-        Action::BeginExit(_) => begin_exit(threads, slot),
-        _ => {}
+        None => {}
+        Some(OwnAction::Call { func, arg, kind }) => call(threads, slot, func, arg, kind),
+        Some(OwnAction::CallHandler(func, arg)) => call_handler(threads, slot, func, arg),
+        Some(OwnAction::RunHandler(func, arg)) => run_handler(threads, slot, func, arg),
+        Some(OwnAction::RunDestructor { func, value, .. }) => {
+            call_alone(threads, slot, func, value, FrameKind::Destructor);
+        }
+        Some(OwnAction::RunExitFunction(func)) => {
+            call_alone(threads, slot, func, 0, FrameKind::ExitFn);
+        }
+        Some(OwnAction::CallForkHandler(at, func)) => call_fork_handler(threads, slot, at, func),
+        Some(OwnAction::Leave(status)) => leave(threads, slot, status),
+        Some(OwnAction::SetStatus(status)) => set_status(threads, slot, status),
+        Some(OwnAction::PushHandler(func, arg)) => push_handler(threads, slot, func, arg),
+        Some(OwnAction::PopHandler) => pop_handler(threads, slot),
+        Some(OwnAction::SetState(state)) => set_state(threads, slot, state),
+        Some(OwnAction::SetMode(mode)) => set_mode(threads, slot, mode),
+        Some(OwnAction::SetSpecific(_, _)) => {}
+        Some(OwnAction::BeginPass) => begin_pass(threads, slot),
+        Some(OwnAction::BeginEnd(why)) => begin_end(threads, slot, why),
+        Some(OwnAction::EndThread(value)) => end_thread(threads, slot, value),
+        Some(OwnAction::BeginExit) => begin_exit(threads, slot),
+        Some(OwnAction::EndLast) => end_last(threads, slot),
     }
 }
 
-/// The thread on a slot gives the slot back if it has ended and is detached.
-pub(crate) fn settle(threads: &mut Threads, slot: u32)
+// The thread gives its slot back if it has ended and is detached.
+fn settle(threads: &mut Threads, slot: u32)
     requires { is_occupied_at threads.old slot ≡ true }
     ensures { threads.new ≡ on_slot slot (after_change unless_reclaimed) threads.old }
 {
@@ -86,14 +111,13 @@ fn run_at(threads: &mut Threads, slot: u32, pc: u32)
     set_status(threads, slot, Status::Running);
 }
 
-// A value is written to a destination, if it is a local of the newest frame.
-fn write_local(threads: &mut Threads, slot: u32, dest: Dest, value: u32)
+// A value is written to its destination, if there is one, and it is a local of the newest frame.
+fn write_local(threads: &mut Threads, slot: u32, write: Option<(Dest, u32)>)
     requires { is_occupied_at threads.old slot ≡ true }
-    ensures { threads.new ≡ on_own slot (λ t. record t { frames = frames_written dest value t.frames }) threads.old }
+    ensures { threads.new ≡ on_own slot (locals_written (option_to_list write)) threads.old }
 {
-    match dest {
-        Dest::Local(i) => threads.set_local(slot, i, value),
-        Dest::Global(_) | Dest::Drop => {}
+    if let Some((Dest::Local(i), value)) = write {
+        threads.set_local(slot, i, value);
     }
 }
 
@@ -116,6 +140,35 @@ fn call_alone(threads: &mut Threads, slot: u32, func: u32, arg: u32, kind: Frame
     set_status(threads, slot, Status::Running);
 }
 
+// The thread's newest cleanup handler, this function with this argument, is removed and called.
+fn call_handler(threads: &mut Threads, slot: u32, func: u32, arg: u32)
+    requires occupied { is_occupied_at threads.old slot ≡ true }
+    requires room { (held : Held) → held_at threads.old slot ≡ Some held → length held.frames ≤ MAX_FRAMES }
+    ensures { threads.new ≡ on_own slot (λ t. record t { status = status.Running; frames = new_frame func arg kind.PopHandler ∷ t.frames; handlers = without_first t.handlers }) threads.old }
+{
+    call(threads, slot, func, arg, FrameKind::PopHandler);
+    pop_handler(threads, slot);
+}
+
+// The same, as the thread ends: the new frame is its only one.
+fn run_handler(threads: &mut Threads, slot: u32, func: u32, arg: u32)
+    requires { is_occupied_at threads.old slot ≡ true }
+    ensures { threads.new ≡ on_own slot (λ t. record t { status = status.Running; frames = new_frame func arg kind.Handler ∷ []; handlers = without_first t.handlers }) threads.old }
+{
+    call_alone(threads, slot, func, arg, FrameKind::Handler);
+    pop_handler(threads, slot);
+}
+
+// The thread calls a fork handler, and keeps these values of its fork.
+fn call_fork_handler(threads: &mut Threads, slot: u32, at: ForkAt, func: u32)
+    requires occupied { is_occupied_at threads.old slot ≡ true }
+    requires room { (held : Held) → held_at threads.old slot ≡ Some held → length held.frames ≤ MAX_FRAMES }
+    ensures { threads.new ≡ on_own slot (λ t. record t { status = status.Running; frames = new_frame func 0 kind.ForkFn ∷ t.frames; kept = Some at }) threads.old }
+{
+    call(threads, slot, func, 0, FrameKind::ForkFn);
+    keep_fork(threads, slot, at);
+}
+
 // The thread leaves its newest frame, and gets a status. It keeps no values of a fork.
 fn leave(threads: &mut Threads, slot: u32, status: Status)
     requires { is_occupied_at threads.old slot ≡ true }
@@ -123,24 +176,6 @@ fn leave(threads: &mut Threads, slot: u32, status: Status)
 {
     leave_frame(threads, slot);
     resume(threads, slot, status);
-}
-
-// The thread acts upon a request in a condition wait.
-fn leave_wait(threads: &mut Threads, slot: u32, cond: u32, mutex: u32)
-    requires { is_occupied_at threads.old slot ≡ true }
-    ensures { threads.new ≡ on_own slot (λ t. record t { status = status.Reacquire cond mutex cause.Canceled }) threads.old }
-{
-    let status = Status::Reacquire(cond, mutex, Cause::Canceled);
-    set_status(threads, slot, status);
-}
-
-// The thread is in fork, with these values.
-fn enter_fork(threads: &mut Threads, slot: u32, at: ForkAt)
-    requires { is_occupied_at threads.old slot ≡ true }
-    ensures { threads.new ≡ on_own slot (λ t. record t { status = in_fork at }) threads.old }
-{
-    let status = Status::Forking(at.phase, at.next, at.length, at.answer);
-    set_status(threads, slot, status);
 }
 
 // The thread keeps these values of its fork.
@@ -221,6 +256,15 @@ fn end_thread(threads: &mut Threads, slot: u32, value: u32)
     let thread = threads.write(slot);
     thread.status = Status::Ended(value);
     thread.ended = true;
+}
+
+// The thread counts as ended, leaves all its frames, and begins to exit its process. It keeps no values of a fork.
+fn end_last(threads: &mut Threads, slot: u32)
+    requires { is_occupied_at threads.old slot ≡ true }
+    ensures { threads.new ≡ on_own slot (λ t. record t { status = status.Exiting; ended = true; frames = []; state = ending_state; mode = ending_mode; kept = None }) threads.old }
+{
+    mark_ended(threads, slot);
+    begin_exit(threads, slot);
 }
 
 // The thread counts as ended.

@@ -1,4 +1,4 @@
-use Rattle.pct_actions.proofs.TwoChanges.{then_held}
+use Rattle.pct_actions.proofs.OwnChanges.{then_held}
 use Rattle.pct_actions.proofs.own_actions.call.Goals as goal
 
 pub returns : goal.returns

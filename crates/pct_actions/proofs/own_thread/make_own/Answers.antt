@@ -1,26 +1,41 @@
-use Rattle.pct_names.proofs.Names.{[], ap, for_each, subst, sym, thread_after, thread_at, ◌∙◌}
-use Rattle.pct_actions.specs.ProcessParts.{on_threads, settled, with_slot, OwnFits}
-use Rattle.pct_actions.proofs.OwnThread.{own_changed, next_actions, own_parts}
+use Rattle.pct_names.proofs.Names.{◌<◌, ap, length, List, moved, subst, sym, ◌∙◌}
+use Rattle.pct_threads.specs.Slots.{Slot, after_change}
+use Rattle.pct_threads.proofs.TableLemmas.{length-on_slot}
+use Rattle.pct_process.specs.ThreadViews.{thread_of}
+use Rattle.pct_process.specs.ProcessViews.{slots_of, shared_of}
+use Rattle.pct_actions.specs.OwnChanges.{held_of, unless_reclaimed}
+use Rattle.pct_actions.proofs.OwnThread.{occupied, inside, room, keys_fit, after_own}
 use Rattle.pct_actions.proofs.own_thread.make_own.Goals as goal
 
-pub go_on-requires : goal.go_on-requires
-go_on-requires c = record { made = c.requires.made; thread = c.requires.thread; here = c.requires.here; fits = tt; keys = tt }
+pub move_own-requires-clause-occupied : goal.move_own-requires-clause-occupied
+move_own-requires-clause-occupied c =
+    let s = c.process.inside in
+    occupied s.keys s.threads c.process.invariant _ c.args.process.now c.process.view_is c.args.slot c.args.transition.now c.requires
 
-pub act_all-requires : goal.act_all-requires
-act_all-requires c =
-    let o = c.args.transition.now in
-    subst (OwnFits c.args.slot o.actions) (sym c.go_on.ensures) (next_actions c.args.slot c.args.process.now o.next o.actions c.requires)
+pub move_own-requires-clause-fits : goal.move_own-requires-clause-fits
+move_own-requires-clause-fits c =
+    let s = c.process.inside in
+    room s.keys s.threads c.process.invariant _ c.args.process.now c.process.view_is c.args.slot c.args.transition.now c.requires
 
-pub settle-requires : goal.settle-requires
-settle-requires c =
-    let o = c.args.transition.now in
-    let p = c.args.process.now in
-    subst (OwnFits c.args.slot []) (sym (c.act_all.ensures ∙ ap (with_slot c.args.slot (on_threads (for_each thread_after o.actions))) c.go_on.ensures))
-    (own_changed c.args.slot (with_slot c.args.slot (on_threads (thread_at o.next)) p) (for_each thread_after o.actions) o.actions [] (next_actions c.args.slot p o.next o.actions c.requires) tt tt)
+pub change_data-requires-clause-row : goal.change_data-requires-clause-row
+change_data-requires-clause-row c =
+    let s = c.process.inside in
+    subst (λ n. c.args.slot < n) (sym c.process.invariant) (inside s.keys s.threads c.process.invariant _ c.args.process.now c.process.view_is c.args.slot c.args.transition.now c.requires)
+
+pub change_data-requires-clause-fits : goal.change_data-requires-clause-fits
+change_data-requires-clause-fits c =
+    let s = c.process.inside in
+    keys_fit s.keys s.threads c.process.invariant _ c.args.process.now c.process.view_is c.args.slot c.args.transition.now c.requires
+
+pub invariant_of-process : goal.invariant_of-process
+invariant_of-process c =
+    let slots = c.process.inside.threads in
+    c.change_data.ensures.length ∙ c.process.invariant ∙ sym (ap (λ (threads : List Slot). length threads) c.move_own.ensures ∙ length-on_slot c.args.slot (after_change (λ h. unless_reclaimed (held_of (moved c.args.transition.now (thread_of h))))) slots)
 
 pub returns : goal.returns
 returns c =
-    let o = c.args.transition.now in
-    c.settle.ensures
-    ∙ ap (with_slot c.args.slot settled) (c.act_all.ensures ∙ ap (with_slot c.args.slot (on_threads (for_each thread_after o.actions))) c.go_on.ensures)
-    ∙ own_parts c.args.slot o c.args.process.now c.requires
+    let s = c.process.inside in
+    let rows = c.change_data.new.keys.rows in
+    let threads = c.move_own.new.threads in
+    (λ i. record { slots = slots_of rows threads; shared = shared_of (c.write_globals.ensures i) s.owners s.counts (ap (λ keys. keys.places) c.change_data.ensures.table i) s.fork_handlers s.exit_functions s.exit_value s.restricted })
+    ∙ after_own s.keys s.threads c.process.invariant _ c.args.process.now c.process.view_is c.args.slot c.args.transition.now c.requires rows threads (ap (λ keys. keys.rows) c.change_data.ensures.table) c.move_own.ensures
