@@ -1,22 +1,21 @@
--- The list of processes after a transition, by the one change that its actions make.
-use Rattle.pct_names.proofs.Names.{◌+◌, ◌++◌, [], ap, Bool, cond, false, flat_map, flat_map-map, for_each, length, List, map, None, Option}
-use Rattle.pct_names.proofs.Names.{option_map_or, refl, Some, sym, Transition, true, ℕ, ◌∙◌, ◌∷◌, ◌≡◌}
+-- The list of processes after a transition, by the change that it makes.
+use Rattle.pct_names.proofs.Names.{◌+◌, ◌++◌, [], ap, Bool, cond, false, flat_map, flat_map-map, flat_map_single, length, List, map, map-id}
+use Rattle.pct_names.proofs.Names.{None, Option, option_map_or, ProcessAction, refl, Some, sym, Transition, true, ℕ, ◌∙◌, ◌∷◌, ◌≡◌}
 use Rattle.std.proofs.Common.{append-nil, add-zero}
-use Rattle.pct_engine_laws.specs.Seen.{SeenProcess, own_kept, other_kept, own_process_seen, other_process_seen, is_live_seen, child_seen_by, children_seen, process_seen, processes_kept}
+use Rattle.pct_model.specs.declared.transition.ProcessAction.TheVariants as process_action
+use Rattle.pct_engine_laws.specs.Seen.{SeenProcess, own_kept, other_kept, own_process_seen, other_process_seen, is_live_seen, child_seen_by}
+use Rattle.pct_engine_laws.specs.Seen.{children_seen, process_seen, processes_kept}
 use Rattle.pct_engine_laws.proofs.ListFacts.{flat_map_agree}
-use Rattle.pct_machine.specs.declared.changes.Change.{Change}
-use Rattle.pct_machine.specs.declared.changes.Change.TheVariants as change
 use Rattle.pct_machine.specs.Places.{ProcessList}
-use Rattle.pct_machine.specs.ListChanges.{change_after, action_of, process_moved, list_moved, process_changed, list_changed}
-use Rattle.pct_machine.proofs.SingleChanges.{at_most_one, each_alone, own_left, other_left, child_left}
+use Rattle.pct_machine.specs.ListChanges.{process_moved, list_moved, process_changed, list_changed}
 
 -- what is kept of a process after a change, if there is one
-abbrev kept_by : ℕ → Option Change → SeenProcess → List SeenProcess
+abbrev kept_by : ℕ → Option ProcessAction → SeenProcess → List SeenProcess
 kept_by pid o p = option_map_or (λ c. process_changed pid c p) o (p ∷ [])
 
 -- the child of a process that is made
-abbrev made_by : ℕ → ℕ → Option Change → SeenProcess → List SeenProcess
-made_by pid tid o p = cond (is_live_seen pid p) (option_map_or (λ c. child_seen_by tid p (action_of c)) o []) []
+abbrev made_by : ℕ → ℕ → Option ProcessAction → SeenProcess → List SeenProcess
+made_by pid tid o p = cond (is_live_seen pid p) (child_seen_by tid p o) []
 
 no_processes : (f : SeenProcess → List SeenProcess) → ((p : SeenProcess) → f p ≡ []) → (ps : List SeenProcess) → flat_map f ps ≡ []
 no_processes f none [] = refl
@@ -26,47 +25,50 @@ cond_same : {A : Type 0} (b : Bool) (x : A) → cond b x x ≡ x
 cond_same true x = refl
 cond_same false x = refl
 
+each_alone : (ps : List SeenProcess) → flat_map (λ p. p ∷ []) ps ≡ ps
+each_alone ps = flat_map_single (λ p. p) ps ∙ map-id ps
+
 -- a change that makes no child
-without_child : (pid tid : ℕ) (o : Option Change) → ((p : SeenProcess) → option_map_or (λ c. child_seen_by tid p (action_of c)) o [] ≡ []) → (ps : List SeenProcess) → flat_map (made_by pid tid o) ps ≡ []
+without_child : (pid tid : ℕ) (o : Option ProcessAction) → ((p : SeenProcess) → child_seen_by tid p o ≡ []) → (ps : List SeenProcess) → flat_map (made_by pid tid o) ps ≡ []
 without_child pid tid o none ps = no_processes (made_by pid tid o) (λ p. ap (λ (made : List SeenProcess). cond (is_live_seen pid p) made []) (none p) ∙ cond_same (is_live_seen pid p) []) ps
 
 -- the list after a change, by each process
-list_by : (pid tid : ℕ) (o : Option Change) (list : ProcessList) → record { processes = flat_map (kept_by pid o) list.processes ++ flat_map (made_by pid tid o) list.processes; made = list.made + length (flat_map (made_by pid tid o) list.processes) } ≡ list_changed pid tid o list
+list_by : (pid tid : ℕ) (o : Option ProcessAction) (list : ProcessList) → record { processes = flat_map (kept_by pid o) list.processes ++ flat_map (made_by pid tid o) list.processes; made = list.made + length (flat_map (made_by pid tid o) list.processes) } ≡ list_changed pid tid o list
 unfolding own_kept other_kept child_seen_by
 list_by pid tid None list =
     let none = without_child pid tid None (λ p. refl) list.processes in
     λ i. record { processes = (ap (λ (made : List SeenProcess). flat_map (λ p. p ∷ []) list.processes ++ made) none ∙ append-nil (flat_map (λ p. p ∷ []) list.processes) ∙ each_alone list.processes) i; made = (ap (λ (made : List SeenProcess). list.made + length made) none ∙ add-zero list.made) i }
-list_by pid tid (Some (change.Make child)) list =
-    λ i. record { processes = (flat_map_agree (process_changed pid (change.Make child)) (λ p. p ∷ []) (λ p. cond_same (is_live_seen pid p) (p ∷ [])) list.processes ∙ each_alone list.processes) i ++ flat_map (made_by pid tid (Some (change.Make child))) list.processes; made = list.made + length (flat_map (made_by pid tid (Some (change.Make child))) list.processes) }
+list_by pid tid (Some (process_action.Make child)) list =
+    λ i. record { processes = (flat_map_agree (process_changed pid (process_action.Make child)) (λ p. p ∷ []) (λ p. cond_same (is_live_seen pid p) (p ∷ [])) list.processes ∙ each_alone list.processes) i ++ flat_map (made_by pid tid (Some (process_action.Make child))) list.processes; made = list.made + length (flat_map (made_by pid tid (Some (process_action.Make child))) list.processes) }
 list_by pid tid (Some c) list =
     let none = without_child pid tid (Some c) (λ p. refl) list.processes in
     λ i. record { processes = (ap (λ (made : List SeenProcess). flat_map (process_changed pid c) list.processes ++ made) none ∙ append-nil (flat_map (process_changed pid c) list.processes)) i; made = (ap (λ (made : List SeenProcess). list.made + length made) none ∙ add-zero list.made) i }
 
-module _ (slots pid tid : ℕ) (o : Transition) (single : at_most_one o.actions ≡ true) where
-  abbrev made : Option Change
-  made = for_each change_after o.actions None
-
+module _ (slots pid tid : ℕ) (o : Transition) where
   abbrev next : SeenProcess → SeenProcess
   next p = process_moved slots pid tid o p
 
   -- what is kept of a process, and the child that it makes, by the process after the step of its thread
-  kept_is : (p : SeenProcess) → cond (is_live_seen pid p) (own_process_seen slots tid o p) (other_process_seen pid o p) ≡ kept_by pid made (next p)
-  kept_is p = by (is_live_seen pid p) refl where
-    by : (live : Bool) → is_live_seen pid p ≡ live → cond live (own_process_seen slots tid o p) (other_process_seen pid o p) ≡ kept_by pid made (cond live (process_seen slots tid o p) p)
-    by true live = own_left o.actions single (process_seen slots tid o p) ∙ sym (ap (λ (b : Bool). option_map_or (λ c. cond b (own_kept (action_of c) (process_seen slots tid o p)) (other_kept pid (action_of c) (process_seen slots tid o p))) made (process_seen slots tid o p ∷ [])) live)
-    by false other = other_left o.actions single pid p ∙ sym (ap (λ (b : Bool). option_map_or (λ c. cond b (own_kept (action_of c) p) (other_kept pid (action_of c) p)) made (p ∷ [])) other)
+  kept_is : (p : SeenProcess) → cond (is_live_seen pid p) (own_process_seen slots tid o p) (other_process_seen pid o p) ≡ kept_by pid o.process (next p)
+  unfolding own_kept other_kept
+  kept_is p = by (is_live_seen pid p) refl o.process where
+    by : (live : Bool) → is_live_seen pid p ≡ live → (a : Option ProcessAction) → cond live (own_kept a (process_seen slots tid o p)) (other_kept pid a p) ≡ kept_by pid a (cond live (process_seen slots tid o p) p)
+    by true live None = refl
+    by false other None = refl
+    by true live (Some c) = sym (ap (λ (b : Bool). cond b (own_kept (Some c) (process_seen slots tid o p)) (other_kept pid (Some c) (process_seen slots tid o p))) live)
+    by false other (Some c) = sym (ap (λ (b : Bool). cond b (own_kept (Some c) p) (other_kept pid (Some c) p)) other)
 
-  made_is : (p : SeenProcess) → cond (is_live_seen pid p) (flat_map (child_seen_by tid (process_seen slots tid o p)) o.actions) [] ≡ made_by pid tid made (next p)
+  made_is : (p : SeenProcess) → cond (is_live_seen pid p) (child_seen_by tid (process_seen slots tid o p) o.process) [] ≡ made_by pid tid o.process (next p)
   made_is p = by (is_live_seen pid p) refl where
-    by : (live : Bool) → is_live_seen pid p ≡ live → cond live (flat_map (child_seen_by tid (process_seen slots tid o p)) o.actions) [] ≡ made_by pid tid made (cond live (process_seen slots tid o p) p)
-    by true live = child_left tid (process_seen slots tid o p) o.actions single ∙ sym (ap (λ (b : Bool). cond b (option_map_or (λ c. child_seen_by tid (process_seen slots tid o p) (action_of c)) made []) []) live)
-    by false other = sym (ap (λ (b : Bool). cond b (option_map_or (λ c. child_seen_by tid p (action_of c)) made []) []) other)
+    by : (live : Bool) → is_live_seen pid p ≡ live → cond live (child_seen_by tid (process_seen slots tid o p) o.process) [] ≡ made_by pid tid o.process (cond live (process_seen slots tid o p) p)
+    by true live = sym (ap (λ (b : Bool). cond b (child_seen_by tid (process_seen slots tid o p) o.process) []) live)
+    by false other = sym (ap (λ (b : Bool). cond b (child_seen_by tid p o.process) []) other)
 
   -- the list after the transition
-  pub list_after : (list : ProcessList) → list_changed pid tid made (list_moved slots pid tid o list) ≡ record { processes = processes_kept slots pid tid o list.processes ++ children_seen slots pid tid o list.processes; made = list.made + length (children_seen slots pid tid o list.processes) }
+  pub list_after : (list : ProcessList) → list_changed pid tid o.process (list_moved slots pid tid o list) ≡ record { processes = processes_kept slots pid tid o list.processes ++ children_seen slots pid tid o list.processes; made = list.made + length (children_seen slots pid tid o list.processes) }
   list_after list =
       let ps : List SeenProcess = list.processes in
-      let kept : flat_map (kept_by pid made) (map next ps) ≡ processes_kept slots pid tid o ps = flat_map-map (kept_by pid made) next ps ∙ sym (flat_map_agree (λ p. cond (is_live_seen pid p) (own_process_seen slots tid o p) (other_process_seen pid o p)) (λ p. kept_by pid made (next p)) kept_is ps) in
-      let children : flat_map (made_by pid tid made) (map next ps) ≡ children_seen slots pid tid o ps = flat_map-map (made_by pid tid made) next ps ∙ sym (flat_map_agree (λ p. cond (is_live_seen pid p) (flat_map (child_seen_by tid (process_seen slots tid o p)) o.actions) []) (λ p. made_by pid tid made (next p)) made_is ps) in
-      sym (list_by pid tid made (list_moved slots pid tid o list))
+      let kept : flat_map (kept_by pid o.process) (map next ps) ≡ processes_kept slots pid tid o ps = flat_map-map (kept_by pid o.process) next ps ∙ sym (flat_map_agree (λ p. cond (is_live_seen pid p) (own_process_seen slots tid o p) (other_process_seen pid o p)) (λ p. kept_by pid o.process (next p)) kept_is ps) in
+      let children : flat_map (made_by pid tid o.process) (map next ps) ≡ children_seen slots pid tid o ps = flat_map-map (made_by pid tid o.process) next ps ∙ sym (flat_map_agree (λ p. cond (is_live_seen pid p) (child_seen_by tid (process_seen slots tid o p) o.process) []) (λ p. made_by pid tid o.process (next p)) made_is ps) in
+      sym (list_by pid tid o.process (list_moved slots pid tid o list))
       ∙ (λ i. record { processes = kept i ++ children i; made = list.made + length (children i) })

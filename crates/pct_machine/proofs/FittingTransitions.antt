@@ -3,16 +3,16 @@ use Rattle.pct_names.proofs.Names.{Alt, and_parts, ap, body_at, false, false≢t
 use Rattle.pct_names.proofs.Names.{length, List, list_any, nat_eq, next_of, NextStatement, None, offers, Option, Others, refl, same_Some}
 use Rattle.pct_names.proofs.Names.{Script, Some, Status, Stmt, subst, sym, Thread, Transition, true, ℕ, ◌∙◌, ◌≡◌}
 use Rattle.std.proofs.lemmas.Bool.{true≢false, ltb-true}
-use Rattle.pct_engine_laws.specs.Fitting.{AllFit}
+use Rattle.pct_engine_laws.specs.Fitting.{Fits}
 use Rattle.pct_engine_laws.specs.SeenSteps.{thread_with, new_ids_from, others_in, choices_in, transition_in}
 use Rattle.pct_transition_cases.proofs.CaseOfTransition.{case_of}
-use Rattle.pct_transition_cases.proofs.TransitionCases.{TransitionCase, thread_made, join_ended, key_made, key_deleted, specific_set, destructor_called, fork_registered, exit_registered}
+use Rattle.pct_transition_cases.proofs.TransitionCases.{TransitionCase, thread_made, join_ended, key_made, key_deleted, specific_set}
+use Rattle.pct_transition_cases.proofs.TransitionCases.{destructor_called, fork_registered, exit_registered}
 use Rattle.pct_process.specs.ProcessViews.{ProcessData}
 use Rattle.pct_transitions.specs.Numbers.{AreOnPlaces}
 use Rattle.pct_transitions.specs.ProcessSteps.{with_data}
 use Rattle.pct_transitions.proofs.KeyChoices.{new_fits, left_fits}
-use Rattle.pct_actions.specs.KeysFit.{KeysFit}
-use Rattle.pct_actions.specs.ProcessChanges.{AreOnSlots, AllFitIn, Makes}
+use Rattle.pct_actions.specs.ProcessChanges.{AreOnSlots, KeyFits, SharedFits, NamedFits, deleted_key, forgotten_key, Makes}
 
 -- ---- keys
 
@@ -34,26 +34,29 @@ module _ (script : Script) (passes tid : ℕ) (family : Family) (d : ProcessData
   abbrev Case : Others → NextStatement → Status → Transition → Type 0
   Case others next s o = TransitionCase passes (body_at script t.frames) d.shared t others true next s o
 
-  keys_fit : AreOnPlaces d.shared.keys → {others : Others} {next : NextStatement} {s : Status} {o : Transition} → Case others next s o → KeysFit o.actions d.shared.keys t.specific
-  keys_fit on (key_made frame result key destructor k among) = (new_fits d.shared.keys k (among refl), (tt, (tt, tt)))
-  keys_fit on (key_deleted frame key named) = (is_there _ named, tt)
-  keys_fit on (specific_set frame key v named) = (is_there _ named, tt)
-  keys_fit on (destructor_called next k f key none is destructor among) = (left_fits d.shared.keys t.specific k on (among refl), (tt, tt))
-  keys_fit on _ = assumption
+  key_fits : AreOnPlaces d.shared.keys → {others : Others} {next : NextStatement} {s : Status} {o : Transition} → Case others next s o → KeyFits o.own d.shared.keys t.specific
+  key_fits on (specific_set frame key v named) = is_there _ named
+  key_fits on (destructor_called next k f key none is destructor among) = left_fits d.shared.keys t.specific k on (among refl)
+  key_fits on _ = tt
 
-  all_fit_in : {next : NextStatement} {s : Status} {o : Transition} → t.status ≡ s → Case (others_in slots family d.slots t.id) next s o → AllFitIn tid o.actions d
+  shared_fits : {others : Others} {next : NextStatement} {s : Status} {o : Transition} → Case others next s o → SharedFits o.shared d.shared
+  shared_fits (key_made frame result key destructor k among) = new_fits d.shared.keys k (among refl)
+  shared_fits (fork_registered frame result handlers room) = room
+  shared_fits (exit_registered frame result f may) = ltb-true (length d.shared.exit_functions) 32 (and_parts _ _ may).0
+  shared_fits _ = tt
+
+  named_fits : {next : NextStatement} {s : Status} {o : Transition} → t.status ≡ s → Case (others_in slots family d.slots t.id) next s o → NamedFits tid o.named d.slots
   unfolding others_in
-  all_fit_in at (join_ended frame operand e id v target is ended) =
+  named_fits at (join_ended frame operand e id v target is ended) =
       let has_ended : is_ended_status target.status ≡ true = ap is_ended_status ended in (
-        (
-          λ same. let mover : target ≡ t = same_Some target t (sym is ∙ ap (λ (k : ℕ). thread_with slots k d.slots) same ∙ found) in false≢true (sym (ap is_ended_status at) ∙ ap (λ (u : Thread). is_ended_status u.status) (sym mover) ∙ has_ended),
-          subst (λ (o : Option Thread). IfSome o (λ u. is_ended_status u.status ≡ true)) (sym is) has_ended,
-        ),
-        (tt, tt),
+        λ same. let mover : target ≡ t = same_Some target t (sym is ∙ ap (λ (k : ℕ). thread_with slots k d.slots) same ∙ found) in false≢true (sym (ap is_ended_status at) ∙ ap (λ (u : Thread). is_ended_status u.status) (sym mover) ∙ has_ended),
+        subst (λ (o : Option Thread). IfSome o (λ u. is_ended_status u.status ≡ true)) (sym is) has_ended,
       )
-  all_fit_in at (fork_registered frame result handlers room) = (room, (tt, tt))
-  all_fit_in at (exit_registered frame result f may) = (ltb-true (length d.shared.exit_functions) 32 (and_parts _ _ may).0, (tt, tt))
-  all_fit_in at _ = assumption
+  named_fits at _ = tt
+
+  forgets : {others : Others} {next : NextStatement} {s : Status} {o : Transition} → Case others next s o → deleted_key o.shared ≡ forgotten_key o.named
+  forgets (key_deleted frame key named) = refl
+  forgets _ = refl
 
   created_fits : {next : NextStatement} {s : Status} {o : Transition} → Case (others_in slots family d.slots t.id) next s o → IfSome o.created (λ new. list_any (nat_eq new.id) (new_ids_from slots 0 d.slots) ≡ true)
   unfolding others_in
@@ -61,7 +64,7 @@ module _ (script : Script) (passes tid : ℕ) (family : Family) (d : ProcessData
   created_fits _ = tt
 
   -- the transition that it takes fits the process
-  pub taken_fits : AreOnSlots d.slots → AreOnPlaces d.shared.keys → AllFit (length t.frames) (length t.handlers) t.pass taken.actions → offers (choices_in script slots family (with_data d) t) choice ≡ true → Makes tid taken d
+  pub taken_fits : AreOnSlots d.slots → AreOnPlaces d.shared.keys → Fits (length t.frames) (length t.handlers) t.pass taken.own → offers (choices_in script slots family (with_data d) t) choice ≡ true → Makes tid taken d
   taken_fits placed on fits offered =
       let others : Others = others_in slots family d.slots t.id in
       let next : NextStatement = next_of script t.frames in
@@ -72,7 +75,9 @@ module _ (script : Script) (passes tid : ℕ) (family : Family) (d : ProcessData
         thread = t;
         here = found;
         fits = fits;
-        keys = keys_fit on its_case;
-        in_process = all_fit_in refl its_case;
+        keys = key_fits on its_case;
+        shared = shared_fits its_case;
+        named = named_fits refl its_case;
+        forgets = forgets its_case;
         created = created_fits its_case;
       }

@@ -1,14 +1,15 @@
 -- The change of the list of processes that a transition makes can be made: a child has the next id, there is room for it, and the thread
 -- that forks holds its slot.
 use Rattle.pct_names.proofs.Names.{◌&&◌, ◌<◌, [], acts, and_parts, ap, body_at, Bool, cond, cond_some, Config, Entry, false, Family}
-use Rattle.pct_names.proofs.Names.{family_among, find, for_each, holds_slot, IfSome, is_ended_status, is_live_thread, length, length-map}
+use Rattle.pct_names.proofs.Names.{family_among, find, holds_slot, IfSome, in_fork, is_ended_status, is_live_thread, length, length-map}
 use Rattle.pct_names.proofs.Names.{List, map, moved, named_after, nat_eq, nat_lt, next_of, NextStatement, None, not, offers, Option}
-use Rattle.pct_names.proofs.Names.{option_and_then, option_and_then_some, option_map, Others, Parent, pid_after, position, refl, Relative}
-use Rattle.pct_names.proofs.Names.{Script, SharedState, slice_get, slice_get-map, slot_of, Some, Status, Stmt, subst, suc, sym, Thread}
-use Rattle.pct_names.proofs.Names.{thread_after, thread_at, thread_moved, Transition, true, ◌||◌, ℕ, ◌∙◌, ◌∷◌, ◌≡◌}
+use Rattle.pct_names.proofs.Names.{option_and_then, option_and_then_some, option_map, Others, own_after, Parent, pid_after, position}
+use Rattle.pct_names.proofs.Names.{ProcessAction, refl, Relative, Script, SharedState, slice_get, slice_get-map, slot_of, Some, Status}
+use Rattle.pct_names.proofs.Names.{Stmt, subst, suc, sym, Thread, thread_at, thread_moved, Transition, true, ◌||◌, ℕ, ◌∙◌, ◌∷◌, ◌≡◌}
 use Rattle.std.proofs.lemmas.Bool.{ltb-true}
 use Rattle.pct_model.specs.declared.event.What.TheVariants as what
-use Rattle.pct_model.specs.declared.transition.Action.TheVariants as action
+use Rattle.pct_model.specs.declared.transition.OwnAction.TheVariants as own_action
+use Rattle.pct_model.specs.declared.transition.ProcessAction.TheVariants as process_action
 use Rattle.pct_transition_cases.proofs.CaseOfTransition.{case_of}
 use Rattle.pct_transition_cases.proofs.TransitionCases.{TransitionCase, process_forked}
 use Rattle.pct_engine_laws.specs.Seen.{SeenSlot, SeenProcess, relative_in, slot_after, slots_moved, process_seen, is_live_seen}
@@ -18,33 +19,24 @@ use Rattle.pct_engine_laws.proofs.ProcessNumbers.{new_pid_is_next}
 use Rattle.pct_engine_laws.proofs.ThreadChanges.{transition_keeps}
 use Rattle.pct_actions.specs.ProcessParts.{on_threads}
 use Rattle.pct_actions.proofs.ChangedSlots.{on_slots_kept, none_leaves}
-use Rattle.pct_machine.specs.declared.changes.Change.{Change}
-use Rattle.pct_machine.specs.declared.changes.Change.TheVariants as change
 use Rattle.pct_machine.specs.Places.{ProcessList, families}
 use Rattle.pct_machine.specs.ProcessSteps.{CanStep, AllCanStep, HasThread, taken_in}
-use Rattle.pct_machine.specs.ListChanges.{taken_among, change_after, list_moved, process_moved, ChangeFits, ChildFits}
+use Rattle.pct_machine.specs.ListChanges.{taken_among, list_moved, process_moved, ChangeFits, ChildFits}
 use Rattle.pct_machine.proofs.LegalEntries.{found_at, test_passes}
-use Rattle.pct_machine.proofs.SingleChanges.{at_most_one}
 
 -- the transition that makes a child with an id, by a fork with this number of fork handlers
 abbrev fork_of : ℕ → ℕ → Transition
-fork_of count child = acts (action.EnterFork (record { phase = Parent; next = 0; length = count; answer = child }) ∷ action.MakeChild child ∷ []) (what.Forked child ∷ [])
+fork_of count child = record (acts (what.Forked child ∷ [])) { own = Some (own_action.SetStatus (in_fork (record { phase = Parent; next = 0; length = count; answer = child }))); process = Some (process_action.Make child) }
 
 -- a transition that makes a child is that of fork, and the child has the id of a new process
-abbrev MakesBy : Family → Transition → Option Change → Type 0
-MakesBy family o (Some (change.Make child)) = (count : ℕ) × (family.new_pid ≡ Some child) × (o ≡ fork_of count child)
+abbrev MakesBy : Family → Transition → Option ProcessAction → Type 0
+MakesBy family o (Some (process_action.Make child)) = (count : ℕ) × (family.new_pid ≡ Some child) × (o ≡ fork_of count child)
 MakesBy family o _ = Unit {0}
 
--- what a transition changes in the list: at most one of its actions changes it
-pub record ChangesList (family : Family) (o : Transition) : Type 0 where
-  pub single : at_most_one o.actions ≡ true
-  pub child : MakesBy family o (for_each change_after o.actions None)
-
 module _ (passes : ℕ) (body : List Stmt) (shared : SharedState) (t : Thread) (others : Others) where
-  by_case : {next : NextStatement} {s : Status} {o : Transition} → TransitionCase passes body shared t others true next s o → ChangesList others.family o
-  unfolding change_after
-  by_case (process_forked next index count answer child is) = record { single = refl; child = (count, is, refl) }
-  by_case _ = record { single = refl; child = tt }
+  by_case : {next : NextStatement} {s : Status} {o : Transition} → TransitionCase passes body shared t others true next s o → MakesBy others.family o o.process
+  by_case (process_forked next index count answer child is) = (count, is, refl)
+  by_case _ = tt
 
 -- ---- the thread that forks
 
@@ -54,7 +46,7 @@ module _ (tid count child : ℕ) where
 
   -- it holds its slot afterwards, as do the others
   holds_if : (t : Thread) (live : Bool) → is_live_thread tid t ≡ live → holds_slot (cond live (moved (fork_of count child) t) t) ≡ holds_slot t
-  unfolding thread_after thread_at
+  unfolding own_after thread_at
   holds_if t true live =
       let holds : holds_slot t ≡ true = (and_parts (nat_eq t.id tid) (holds_slot t) live).1 in
       let here : not t.gone ≡ true = (and_parts (not t.gone) (not (is_ended_status t.status && (t.joined || t.detached))) holds).0 in
@@ -97,7 +89,7 @@ module _ (tid count child : ℕ) where
 pub record IsTaken (slots tid : ℕ) (family : Family) (p : SeenProcess) (o : Transition) : Type 0 where
   pub thread : Thread
   pub holds : thread_with slots tid p.slots ≡ Some thread
-  pub changes : ChangesList family o
+  pub makes : MakesBy family o o.process
 
 is_taken : (script : Script) (config : Config) (family : Family) (p : SeenProcess) (e : Entry) (o : Transition) → taken_in script config family p e ≡ Some o → IsTaken config.slots e.tid family p o
 unfolding others_in
@@ -109,14 +101,8 @@ is_taken script config family p e o taken =
     record {
       thread = t;
       holds = holds;
-      changes = subst (ChangesList family) parts.1 (by_case config.passes body p.shared t others (case_of config.passes body p.shared t others true e.alt (next_of script t.frames) t.status (λ known. parts.0)));
+      makes = subst (λ (x : Transition). MakesBy family x x.process) parts.1 (by_case config.passes body p.shared t others (case_of config.passes body p.shared t others true e.alt (next_of script t.frames) t.status (λ known. parts.0)));
     })
-
--- of the actions of a transition that an entry takes, at most one changes the list of processes
-pub single_change : (script : Script) (config : Config) (list : ProcessList) (e : Entry) (o : Transition) → taken_among script config list e ≡ Some o → at_most_one o.actions ≡ true
-single_change script config list e o taken =
-    option_and_then_some (λ p. taken_in script config (families list p.pid) p e) (find (is_live_seen e.pid) list.processes) o taken
-    (λ p found takes. (is_taken script config (families list p.pid) p e o takes).changes.single)
 
 -- there is room for a new process
 room_for : (made child : ℕ) (relatives : List Relative) → pid_after made relatives ≡ Some child → length relatives < 8
@@ -154,14 +140,14 @@ module _ (script : Script) (config : Config) (list : ProcessList) (e : Entry) (o
           thread = subst (λ (b : Bool). HasThread e.tid (cond b (process_seen config.slots e.tid o p) p).slots) (sym live) after;
         }
 
-    change_fits : (made : Option Change) → MakesBy (families list p.pid) o made → IfSome made (λ c. ChangeFits e.pid e.tid c (list_moved config.slots e.pid e.tid o list))
+    change_fits : (made : Option ProcessAction) → MakesBy (families list p.pid) o made → IfSome made (λ c. ChangeFits e.pid e.tid c (list_moved config.slots e.pid e.tid o list))
     change_fits None makes = tt
-    change_fits (Some (change.Make child)) makes = child_fits makes.0 child makes.1 makes.2
+    change_fits (Some (process_action.Make child)) makes = child_fits makes.0 child makes.1 makes.2
     change_fits (Some c) makes = tt
 
   -- the change that a transition of an entry makes can be made
-  pub made_fits : taken_among script config list e ≡ Some o → IfSome (for_each change_after o.actions None) (λ c. ChangeFits e.pid e.tid c (list_moved config.slots e.pid e.tid o list))
+  pub made_fits : taken_among script config list e ≡ Some o → IfSome o.process (λ c. ChangeFits e.pid e.tid c (list_moved config.slots e.pid e.tid o list))
   made_fits taken =
       option_and_then_some (λ p. taken_in script config (families list p.pid) p e) (find (is_live_seen e.pid) list.processes) o taken (λ p found takes.
       let it : IsTaken config.slots e.tid (families list p.pid) p o = is_taken script config (families list p.pid) p e o takes in
-      change_fits p found it (for_each change_after o.actions None) it.changes.child)
+      change_fits p found it o.process it.makes)

@@ -2,7 +2,6 @@ mod FittingTransitions
 mod StepsOfProcess
 mod LegalEntries
 mod HeldSlots
-mod SingleChanges
 mod ChangedLists
 mod ForkedChildren
 mod PlacesAfter

@@ -5,12 +5,10 @@ use Rattle.pct_model.specs.declared.limits.TheConstants.{MAX_PROCESSES}
 use Rattle.pct_model.specs.declared.schedule.Config.{Config}
 use Rattle.pct_model.specs.declared.schedule.Entry.{Entry}
 use Rattle.pct_model.specs.declared.script.Script.{Script}
-use Rattle.pct_model.specs.declared.transition.Action.{Action}
-use Rattle.pct_model.specs.declared.transition.Action.TheVariants as action
+use Rattle.pct_model.specs.declared.transition.ProcessAction.{ProcessAction}
+use Rattle.pct_model.specs.declared.transition.ProcessAction.TheVariants as process_action
 use Rattle.pct_model.specs.declared.transition.Transition.{Transition}
 use Rattle.pct_engine_laws.specs.Seen.{SeenProcess, own_kept, other_kept, process_seen, is_live_seen, child_seen}
-use Rattle.pct_machine.specs.declared.changes.Change.{Change}
-use Rattle.pct_machine.specs.declared.changes.Change.TheVariants as change
 use Rattle.pct_machine.specs.Places.{ProcessList, families}
 use Rattle.pct_machine.specs.ProcessSteps.{HasThread, taken_in}
 
@@ -30,22 +28,9 @@ list_moved slots pid tid o list = record list { processes = map (process_moved s
 
 -- ---- the changes of the list
 
--- the change after one more action, where those before it make this one
-unfoldable pub change_after : Action → Option Change → Option Change
-change_after (action.EndProcess n) before = Some (change.End n)
-change_after (action.Reap child) before = Some (change.Reap child)
-change_after (action.MakeChild child) before = Some (change.Make child)
-change_after _ before = before
-
--- the action that makes a change
-abbrev pub action_of : Change → Action
-action_of (change.End n) = action.EndProcess n
-action_of (change.Reap child) = action.Reap child
-action_of (change.Make child) = action.MakeChild child
-
 -- what is kept of a process after a change by a thread of process pid: it may be that process, or another one
-abbrev pub process_changed : ℕ → Change → SeenProcess → List SeenProcess
-process_changed pid c p = if is_live_seen pid p then own_kept (action_of c) p else other_kept pid (action_of c) p
+abbrev pub process_changed : ℕ → ProcessAction → SeenProcess → List SeenProcess
+process_changed pid c p = if is_live_seen pid p then own_kept (Some c) p else other_kept pid (Some c) p
 
 -- the child with an id of process pid, which inherits the thread with an id
 abbrev pub child_with : ℕ → ℕ → ℕ → List SeenProcess → List SeenProcess
@@ -58,9 +43,9 @@ list_with_child pid tid child list =
     record { processes = list.processes ++ children; made = list.made + length children }
 
 -- the processes after a change by the thread with an id of process pid, if there is one
-abbrev pub list_changed : ℕ → ℕ → Option Change → ProcessList → ProcessList
+abbrev pub list_changed : ℕ → ℕ → Option ProcessAction → ProcessList → ProcessList
 list_changed pid tid None list = list
-list_changed pid tid (Some (change.Make child)) list = list_with_child pid tid child list
+list_changed pid tid (Some (process_action.Make child)) list = list_with_child pid tid child list
 list_changed pid tid (Some c) list = record list { processes = flat_map (process_changed pid c) list.processes }
 
 -- ---- what they need
@@ -74,6 +59,6 @@ pub record ChildFits (pid tid child : ℕ) (list : ProcessList) : Type 0 where
   pub thread : HasThread tid parent.slots
 
 -- the change can be made
-abbrev pub ChangeFits : ℕ → ℕ → Change → ProcessList → Type 0
-ChangeFits pid tid (change.Make child) list = ChildFits pid tid child list
+abbrev pub ChangeFits : ℕ → ℕ → ProcessAction → ProcessList → Type 0
+ChangeFits pid tid (process_action.Make child) list = ChildFits pid tid child list
 ChangeFits pid tid _ list = Unit {0}

@@ -2,7 +2,6 @@
 #![tactic(auto)]
 
 mod candidates;
-mod changes;
 mod machine;
 mod place;
 mod process_view;

@@ -1,7 +1,6 @@
 //! The state of a run.
 
 use crate::candidates::{all_ended, any_ready, pick};
-use crate::changes::act_all;
 use crate::process_view::ProcessView;
 use crate::processes::Processes;
 use crate::scheduler::{Draw, Pick};
@@ -64,9 +63,9 @@ impl Machine {
         if !self.processes.step(program, entry, transition) {
             return false;
         }
-        let mut change = None;
-        act_all(&mut change, &mut self.stop, &transition.actions, 0);
-        self.processes.change(entry.pid, entry.tid, change);
+        self.processes
+            .change(entry.pid, entry.tid, transition.process);
+        self.stop = transition.stop;
         true
     }
 

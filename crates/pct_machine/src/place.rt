@@ -1,11 +1,10 @@
 //! A process of a machine.
 
-use crate::changes::Change;
 use crate::process_view::ProcessView;
 use crate::scheduler::{Draw, ready_slots};
 use pct_actions::make;
 use pct_io::NoMemory;
-use pct_model::{Entry, Relative, Script, Transition};
+use pct_model::{Entry, ProcessAction, Relative, Script, Transition};
 use pct_process::ProcessState;
 use pct_set::SlotSet;
 use pct_transitions::{Surroundings, choice_by, takes};
@@ -47,7 +46,7 @@ impl Place {
     ghost use Rattle.pct_engine_laws.specs.SeenSteps.{ready_in, has_ready_in, candidate_in};
     ghost use Rattle.pct_process.specs.FamilyViews.{other_processes};
     ghost use Rattle.pct_process.specs.ProcessViews.{thread_on_slot};
-    ghost use Rattle.pct_machine.specs.declared.changes.Change.TheVariants as change;
+    ghost use Rattle.pct_model.specs.declared.transition.ProcessAction.TheVariants as process_action;
     ghost use Rattle.pct_machine.specs.Candidates.{takes_in};
     ghost use Rattle.pct_machine.specs.ListChanges.{process_changed};
     ghost use Rattle.pct_machine.specs.ProcessSteps.{CanStep, HasThread, taken_in, some_if};
@@ -199,20 +198,20 @@ impl Place {
     /// Makes a change of the list of processes by a thread of the process with this id in this process, which may be that process or
     /// another one. The result is false exactly if this process is reaped by it.
     #[tactic(auto, unfolding(pct_engine_laws::specs::Seen::own_kept, pct_engine_laws::specs::Seen::other_kept))]
-    pub fn change(&mut self, pid: u32, change: Change) -> bool
+    pub fn change(&mut self, pid: u32, change: ProcessAction) -> bool
         ensures { process_changed pid change self.old ≡ (if result then self.new ∷ [] else []) }
     {
         match change {
-            Change::End(status) => self.end(pid, status),
-            Change::Reap(child) => !self.is_ended(child),
-            Change::Make(_) => true,
+            ProcessAction::End(status) => self.end(pid, status),
+            ProcessAction::Reap(child) => !self.is_ended(child),
+            ProcessAction::Make(_) => true,
         }
     }
 
     // Makes the changes of the end of the process with this id, with a status.
     #[tactic(auto, unfolding(pct_engine_laws::specs::Seen::own_kept, pct_engine_laws::specs::Seen::other_kept))]
     fn end(&mut self, pid: u32, status: u32) -> bool
-        ensures { process_changed pid (change.End status) self.old ≡ (if result then self.new ∷ [] else []) }
+        ensures { process_changed pid (process_action.End status) self.old ≡ (if result then self.new ∷ [] else []) }
     {
         if self.is_live(pid) {
             self.entry.ended = Some(status);

@@ -10,10 +10,9 @@ ghost use Rattle.pct_process.specs.FamilyViews.{other_processes};
 ghost use Rattle.pct_machine.specs.ProcessSteps.{HasThread};
 ghost use Rattle.pct_machine.specs.ListChanges.{process_changed};
 
-use crate::changes::Change;
 use crate::place::Place;
 use pct_io::NoMemory;
-use pct_model::{Entry, MAX_PROCESSES, Relative, Script, Transition};
+use pct_model::{Entry, MAX_PROCESSES, ProcessAction, Relative, Script, Transition};
 use pct_process::{Family, Relatives};
 use pct_transitions::{Program, Surroundings};
 use std::alloc::Global;
@@ -109,20 +108,20 @@ impl Processes {
     }
 
     /// Makes a change of the list by the thread with an id of the process with an id, if there is such a change.
-    pub fn change(&mut self, pid: u32, tid: u32, change: Option<Change>)
+    pub fn change(&mut self, pid: u32, tid: u32, change: Option<ProcessAction>)
         requires { IfSome change (λ c. ChangeFits pid tid c self.old) }
         ensures { self.new ≡ list_changed pid tid change self.old }
     {
         match change {
             None => {}
-            Some(Change::End(status)) => self.keep(pid, Change::End(status)),
-            Some(Change::Reap(child)) => self.keep(pid, Change::Reap(child)),
-            Some(Change::Make(child)) => self.fork(pid, tid, child),
+            Some(ProcessAction::End(status)) => self.keep(pid, ProcessAction::End(status)),
+            Some(ProcessAction::Reap(child)) => self.keep(pid, ProcessAction::Reap(child)),
+            Some(ProcessAction::Make(child)) => self.fork(pid, tid, child),
         }
     }
 
     // Makes a change that makes no process. The processes that are kept stay in their order.
-    fn keep(&mut self, pid: u32, change: Change)
+    fn keep(&mut self, pid: u32, change: ProcessAction)
         ensures { self.new ≡ record self.old { processes = flat_map (process_changed pid change) self.old.processes } }
     {
         self.live = keep_places(&mut self.places, self.live, pid, change);
@@ -186,7 +185,7 @@ fn first_places(alloc: Global, script: &Script, slots: u32) -> Result<Vec<Place>
 
 // Makes a change that makes no process, where the processes are on the first `live` places. Those that are kept are then on the first
 // places, in their order. Their number is the result.
-fn keep_places(places: &mut Vec<Place>, live: usize, pid: u32, change: Change) -> usize
+fn keep_places(places: &mut Vec<Place>, live: usize, pid: u32, change: ProcessAction) -> usize
     requires { live ≤ length places.old.items }
     ensures kept { take result places.new.items ≡ flat_map (process_changed pid change) (take live places.old.items) }
     ensures few { result ≤ live }
