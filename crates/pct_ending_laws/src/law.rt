@@ -16,6 +16,10 @@ ghost use Rattle.pct_ending_laws.specs.EndingLaws.{RunsKeepLaws, StatesAreKept};
 ///   with a request to act upon it calls no function that shall be a cancellation point.
 /// - A running thread makes the events of its next statement, with the values of its operands, unless it acts upon a request or
 ///   the statement is a stop; and a call suspends it for what the operands name.
+/// - A call that has a result stores it in the variable that its statement names, as do `set` and `add`: the number that its event
+///   reports, or one of the state before. Each other global keeps its value, and so does each other local of a function that goes on.
+/// - pthread_setspecific gives its thread the value of the operand; a new thread has NULL for each key, and each thread for a new key;
+///   a step changes no other value of another thread, and no thread of another process.
 /// - Each join that returns gets the value of a thread that has ended, no thread is joined twice or while it is detached, and no
 ///   request and no detach names a thread that is not known, or that has both ended and been joined or detached.
 /// - Each mutex is acquired while no thread owns it, and released by its owner; a condition wait that released its mutex goes on
