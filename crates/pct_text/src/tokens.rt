@@ -14,7 +14,7 @@ fn is_blank(byte: u8) -> bool
 fn is_allowed(byte: u8) -> bool
     ensures { result ≡ is_allowed byte }
 {
-    is_blank(byte) || 33 <= byte && byte <= 126
+    33 <= byte && byte <= 126 || is_blank(byte)
 }
 
 /// Whether each of the bytes is a tab, a CR, a space or a printable ASCII character.
