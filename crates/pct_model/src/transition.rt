@@ -22,7 +22,11 @@ pub enum OwnAction {
     RunHandler(u32, u32),
     /// The key with this number is taken out of its pass, its value of the key becomes NULL, and the destructor is called with the value:
     /// the new frame is its only one.
-    RunDestructor { key: u32, func: u32, value: u32 },
+    RunDestructor {
+        key: u32,
+        func: u32,
+        value: u32,
+    },
     /// A function that was registered with atexit is called: the new frame is its only one.
     RunExitFunction(u32),
     /// A fork handler is called. The thread keeps these values of its fork while it is in it.

@@ -106,7 +106,7 @@ other_local ((destination.Local j, n) ∷ later) named i v =
 keeps : (pc : ℕ) (s : Status) (events : List What) (g x y : ℕ) → list_all is_named (stored script (step pc s events g x y)) ≡ true
     → (is_empty (stored script (step pc s events g x y)) ≡ true → (x ≡ 7) × (y ≡ 7))
     → GlobalIs (step pc s events g x y) 0 → LocalIs (step pc s events g x y) 0 → LocalIs (step pc s events g x y) 1
-        → StoresResults script (step pc s events g x y)
+    → StoresResults script (step pc s events g x y)
 keeps pc s events g x y named same g_is x_is y_is =
     record { globals = by_global; locals = λ some. by_local; callers = λ some. refl; kept = λ none. ap₂ (λ (n m : ℕ). (n ∷ m ∷ 0 ∷ 0 ∷ 0 ∷ 0 ∷ 0 ∷ 0 ∷ []) ∷ []) (same none).0 (same none).1 }
   where

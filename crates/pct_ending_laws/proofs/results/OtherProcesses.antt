@@ -49,8 +49,8 @@ module _ (script : Script) (config : Config) where
       let o : Transition = transition_by script config r.world p t e.alt in
       let moves : Moves script config r.world p e t = moves_of_run script config before r is e p t taken in
       ap (λ (own : KeyValues). own.values) (
-          data_moved e.tid o t ∙ ap (λ (live : Bool). named_data o.named (cond live (own_data o.own t.specific) t.specific)) (mover script config r.world p e t moves).live
-          ∙ case_forks (case_of_step script config r.world p e t moves) said t.specific)
+      data_moved e.tid o t ∙ ap (λ (live : Bool). named_data o.named (cond live (own_data o.own t.specific) t.specific)) (mover script config r.world p e t moves).live
+      ∙ case_forks (case_of_step script config r.world p e t moves) said t.specific)
 
   forker_of_run : EveryStep script config KeepsItsValues
   forker_of_run = every_step script config KeepsItsValues forker_of_step

@@ -361,8 +361,8 @@ module _ (script : Script) (config : Config) where
         ap (λ (locals : List (List ℕ)). is_empty locals) same ∙ no_locals t.frames
         ∙ (threads_kept script config before r is e.pid e.tid p t is_process it.found it.here).frames in
         subst (λ (locals : List (List ℕ)). Leave (all_locals (moved o t).frames) locals) same (own_leaves o.own (record at { frames = frames })
-            (ap (λ (none : Bool). not (is_alone o.own) || none) has
-            ∙ case_alone config.passes (body_at script t.frames) p.shared t (others_of config.slots r.world p t.id) case))
+        (ap (λ (none : Bool). not (is_alone o.own) || none) has
+        ∙ case_alone config.passes (body_at script t.frames) p.shared t (others_of config.slots r.world p t.id) case))
       where
         no_stores : (stores : List Store) → is_empty stores ≡ true → stores ≡ []
         no_stores [] is = refl

@@ -60,7 +60,6 @@ module _ (place : ℕ) where
       unchanged : (own : KeyValues) (live : Bool) → value_at place (cond live own own) ≡ value_at place own
       unchanged own true = refl
       unchanged own false = refl
-
   case_makes (fork_handler_called next at call is) said =
       absurd (false≢true (of_each_phase (λ (w : What). list_any (makes_at place) (w ∷ []) ≡ true → false ≡ true) call.func (λ is. is) (λ is. is) (λ is. is) at.phase said))
   case_makes _ said = absurd (false≢true said)

@@ -77,9 +77,9 @@ module _ (script : Script) (passes : ℕ) where
     unfolding thread_at
     going_on_keeps status reported pc o goes same within quiet unchanged lawful fits = record {
       own =
-        let frames : List Frame = record frame { pc = pc } ∷ below in
-        subst (λ (next : Option ℕ). Fits script passes (moved (record o { next = next }) (record t { status = status; frames = frame ∷ below })) (after_all summary (reverse o.events) reported)) (sym goes)
-        (own_fits o.own quiet t (written frames_written o.writes frames) (after_all summary (reverse o.events) reported)
-        (all_written_fit o.writes t frames (after_all summary (reverse o.events) reported) (subst (λ (s : ThreadSummary). Fits script passes (running t frames) s) (sym unchanged) (at_pc_fits pc same within reported fits))));
+          let frames : List Frame = record frame { pc = pc } ∷ below in
+          subst (λ (next : Option ℕ). Fits script passes (moved (record o { next = next }) (record t { status = status; frames = frame ∷ below })) (after_all summary (reverse o.events) reported)) (sym goes)
+          (own_fits o.own quiet t (written frames_written o.writes frames) (after_all summary (reverse o.events) reported)
+          (all_written_fit o.writes t frames (after_all summary (reverse o.events) reported) (subst (λ (s : ThreadSummary). Fits script passes (running t frames) s) (sym unchanged) (at_pc_fits pc same within reported fits))));
       lawful = lawful;
     }
