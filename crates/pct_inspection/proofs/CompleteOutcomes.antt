@@ -69,9 +69,9 @@ followed_code input code valid f code_is =
 legal_code : (words : List (List ℕ)) (input : List ℕ) (code : ℕ) (text : List ℕ) → IsValidPrefix input → Continues words input code text → code < 4
 legal_code words input code text valid goes_on =
     let legal : goes_on.illegal ≡ None = none_illegal input valid goes_on.script goes_on.config goes_on.entries goes_on.illegal goes_on.spelled goes_on.read goes_on.illegal_is in
-    let same_run : goes_on.continued.after ≡ goes_on.after = same_Some goes_on.continued.after goes_on.after (sym goes_on.continued.is_run ∙ goes_on.is_run) in
+    let same_run : goes_on.continued.whole.after ≡ goes_on.after = same_Some goes_on.continued.whole.after goes_on.after (sym goes_on.continued.whole.is_run ∙ goes_on.is_run) in
     let v : Verdict = verdict_of goes_on.script goes_on.config goes_on.after.world (length goes_on.schedule) in
-    let closed : ¬ (v ≡ verdict.Open) = λ is_open. goes_on.continued.is_closed (ap (λ (r : Run). verdict_of goes_on.script goes_on.config r.world (length goes_on.schedule)) same_run ∙ is_open) in
+    let closed : ¬ (v ≡ verdict.Open) = λ is_open. goes_on.continued.whole.is_closed (ap (λ (r : Run). verdict_of goes_on.script goes_on.config r.world (length goes_on.schedule)) same_run ∙ is_open) in
     let code_is : code ≡ code_of_verdict v = goes_on.code_is ∙ ap (λ (illegal : Option ℕ). code_by illegal (code_of_verdict v)) legal in
     rw code_is (closed_code v closed)
 
