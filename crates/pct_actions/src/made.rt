@@ -9,8 +9,8 @@ use crate::shared_actions::act_on_others;
 use pct_model::{NewThread, Transition};
 use pct_process::ProcessState;
 
-/// Makes the changes of a transition of the thread with an id, which fits the process. The end of the process and the stop of the
-/// run are not among them.
+/// Makes the changes of a transition of the thread with an id, which fits the process. The end of the process, a process that is made
+/// or reaped, and the stop of the run are not among them.
 pub fn make(process: &mut ProcessState, tid: u32, transition: &Transition)
     requires { Makes tid transition.now process.old }
     ensures { process.new ≡ data_moved tid transition.now process.old }

@@ -66,8 +66,7 @@ impl Engine {
         ensures legal { IsOk result ↔ IsRunWith self.old entry }
         ensures cause { (after : Run) → IsRunOf self.old after → IsOk result ↔ IsAllowed self.old after entry }
         ensures same { OnErr result (self.new ≡ self.old) }
-        // Of every legal schedule: the events keep the laws of cleanup handlers and destructors, of joins, requests and detaches, of
-        // mutexes and condition waits, and of the ids of threads, and the state keeps the invariant.
+        // Of every legal schedule: the run keeps the laws, and its state keeps the invariant.
         ensures laws { (after : Run) → IsRunOf self.new after → KeepsLaws self.new after }
     {
         step_with(&self.program, &mut self.machine, &mut self.trace, entry)

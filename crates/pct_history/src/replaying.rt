@@ -26,8 +26,7 @@ pub fn replay(
     requires few { length entries.now ≤ config.budget }
     ensures ran { IfOk result (λ engine. engine ≡ record { script = script; config = config; history = entries.now }) }
     ensures runs { IfOk result (λ engine. (after : Run) × IsRunOf engine after) }
-    // Of every legal schedule: no cleanup handler is removed twice, the newest is removed first, a thread that has ended has none
-    // left, and the state keeps the invariant.
+    // Of every legal schedule: the run keeps the laws, and its state keeps the invariant.
     ensures laws { IfOk result (λ engine. (after : Run) → IsRunOf engine after → KeepsLaws engine after) }
     ensures stopped { IfErr result (λ fault. StopsReplay script config entries.now fault) }
 {

@@ -1,8 +1,9 @@
 //! Scripts and their texts: `parse` returns the script that a text spells or the first fault of the text. `Jumps` is the jump
 //! table of a script. `statement_lines` are the numbers of the lines of a text's statements.
 //!
-//! A text passes the modules in this order: scan, spelling, line and arguments, nesting, limits, sections, duplicates,
-//! symbols and resolve, push_returns, plain_functions, checks.
+//! A text passes the modules in this order, in which checks calls them: scan, with line and arguments, and spelling at a line that
+//! is misspelled; nesting; limits; duplicates; symbols and sections, resolve and decode; push_returns; plain_functions; and the
+//! check of `main` in checks. line_numbers stands beside them.
 #![tactic(auto)]
 
 mod argument_kind;

@@ -264,11 +264,12 @@ fn nth_id(threads: &Threads, held: &SlotSet, n: usize) -> Option<u32>
 /// new key, where a place is free, and at pthread_cond_signal the id of a thread that waits, where one does; at pthread_mutex_lock it
 /// has none while the mutex has an owner; where it may act upon a pending request it has `go` and
 /// `act`, and where it must, `act` alone. One that is suspended at a cancellation point has `go`, if what it waits for may occur
-/// at any time, one that joins another, once that has ended, and one in sem_wait, while the count is above 0; one that waits on a
-/// condition variable has none, and once it was unblocked it has `go` while its mutex has no owner. Each of them has `act`, if a request
-/// is pending and cancelability is enabled, unless a request unblocked it; one that a signal unblocked hands it on to a thread that
-/// waits, where one does. One that is ending has the keys that are left in its pass, after its cleanup handlers, and else `go`; one
-/// that exits its process has `go`. A thread that has ended has none.
+/// at any time, one that joins another, once that has ended, one in sem_wait, while the count is above 0, and one in waitpid, unless
+/// it has the child and the child has not ended; one that waits on a condition variable has none, and once it was unblocked it has `go`
+/// while its mutex has no owner. Each of them has `act`, if a request is pending and cancelability is enabled, unless a request
+/// unblocked it; one that a signal unblocked hands it on to a thread that waits, where one does. One that is ending has the keys that
+/// are left in its pass, after its cleanup handlers, and else `go`; one in fork and one that exits its process have `go`. A thread that
+/// has ended has none.
 #[tactic(auto, unfolding(pct_model::specs::ChoiceTable::choices_at))]
 #[inline(always)]
 pub(crate) fn choices_at(context: &Context) -> Choices
