@@ -14,6 +14,7 @@ use Rattle.pct_laws.specs.ValueLaw.{sets_its_value, KeepsThreads}
 use Rattle.pct_thread_invariants.proofs.lift.EachAllowed.{each_both}
 use Rattle.pct_ending_laws.specs.EndingLaws.{RunsKeepLaws, StatesAreKept}
 use Rattle.pct_thread_invariants.proofs.exits.RegisteredFunctions.{registered_of_run}
+use Rattle.pct_frame_laws.proofs.frames.LawfulFrames.{frame_law}
 use Rattle.pct_process_laws.proofs.ForksOfRun.{forks_of_run}
 use Rattle.pct_thread_invariants.proofs.ThreadsOfRun.{once_of_run, keys_kept, threads_kept, last_kept}
 use Rattle.pct_ending_laws.proofs.ends.AfterTheEnd.{after_end_of_run}
@@ -109,6 +110,7 @@ every_run_keeps_laws script config entries r is = record {
     threads = each_step script config KeepsThreads (threads_of_run script config) entries;
     processes = other_processes_of_run script config entries;
   };
+  frames = frame_law script config entries;
   joins = joins_of_run script config entries r is;
   conds = each_both (λ e earlier. owners_allow e earlier && waits_allow e earlier) hand_ons_allow r.events (each_both owners_allow waits_allow r.events (owners_of_run script config entries r is) (waits_of_run script config entries r is)) (hand_ons_of_run script config entries r is);
   creations = slots_of_run script config entries r is;

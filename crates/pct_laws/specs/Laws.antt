@@ -11,6 +11,7 @@ use Rattle.pct_laws.specs.Once as Once
 use Rattle.pct_laws.specs.SlotLaw as SlotLaw
 use Rattle.pct_laws.specs.CondLaw as CondLaw
 use Rattle.pct_laws.specs.Ends.{Ends}
+use Rattle.pct_laws.specs.FrameLaw.{FrameLaw}
 use Rattle.pct_laws.specs.JoinLaw as JoinLaw
 use Rattle.pct_laws.specs.ProcessLaw as ProcessLaw
 use Rattle.pct_laws.specs.RanAll as RanAll
@@ -46,6 +47,9 @@ pub record Laws (script : Script) (config : Config) (entries : List Entry) (r : 
   -- pthread_setspecific gives its thread the value of the operand; a new thread has NULL for each key, and each thread for a new key; and
   -- a step changes no other value of another thread, and no thread of another process
   pub values : ValueLaw script config entries
+  -- a function is called at its first statement, on top of its callers, executes its statements in turn, and goes by a return of its own, or
+  -- with all others as its thread begins to end or to exit its process; and a step changes no frame of another thread
+  pub frames : FrameLaw script config entries
   -- each join that returns gets the value of a thread that has ended, no thread is joined twice or while it is detached, and no
   -- request or detach names a thread outside the lifetime of its id
   pub joins : each JoinLaw.allows r.events ≡ true

@@ -24,6 +24,7 @@ pub mod StatementLaw
 pub mod ResultLaw
 pub mod ProcessSteps
 pub mod ValueLaw
+pub mod FrameLaw
 pub mod JoinLaw
 pub mod CondLaw
 pub mod SlotLaw

@@ -1,0 +1,224 @@
+-- A thread that is in a function always has something to do: each choice that it is offered goes on, acts, or has an event.
+use Rattle.pct_names.proofs.Names.{◌++◌, [], acts_on_request, acts_or, adds, Alt, begins_fork, begins_join, begins_sem_wait, begins_wait}
+use Rattle.pct_names.proofs.Names.{begins_waitpid, Bool, broadcasts, calls, calls_handler, calls_point, choices_at, cond, creates}
+use Rattle.pct_names.proofs.Names.{creates_by, creates_key, creates_key_by, deletes_key, Dest, detaches, emits, ends_block, ends_by_exit}
+use Rattle.pct_names.proofs.Names.{ends_join, ends_now, exit_value_with, exits, fails_to_create, fails_to_create_key, false, false≢true}
+use Rattle.pct_names.proofs.Names.{finds_no_child, ForkAt, forks_by, Frame, FrameKind, gets_self, gets_specific, go_if, goes_on_forking}
+use Rattle.pct_names.proofs.Names.{HandlerCall, hands_on, has_no_frame, is_deliverable, is_fork_kind, is_free_mutex, is_none, is_some}
+use Rattle.pct_names.proofs.Names.{joins_at, jumps, leaves_handler, leaves_wait, length, List, locks, MAX_FORK_HANDLERS, may_register}
+use Rattle.pct_names.proofs.Names.{nat_eq, nat_lt, NextStatement, None, NoStatement, not, offers, open_of, Operand, Option, Optional}
+use Rattle.pct_names.proofs.Names.{Others, Parent, passes_point, Phase, point_kind, PointKind, pops, posts, Prepare, pushes, Reacquire}
+use Rattle.pct_names.proofs.Names.{reacquires, reaps, reaps_if, refl, registers_fork, registers_if, requests, Required, returns_by}
+use Rattle.pct_names.proofs.Names.{returns_in_child, returns_in_parent, runs, sets, sets_mode, sets_specific, sets_state, SharedState}
+use Rattle.pct_names.proofs.Names.{signals_by, Some, StatementIn, Status, Stmt, stop_at, stops_or, subst, suc, sym, takes, tests_cancel}
+use Rattle.pct_names.proofs.Names.{Thread, Transition, transition_at, true, unlocks, waits_at, Why, ℕ, ◌∙◌, ◌∷◌, ◌≡◌}
+use Rattle.std.specs.Option.{option_map_or}
+use Rattle.std.proofs.lemmas.Bool.{true≢false}
+use Rattle.pct_model.specs.declared.process.Child.{Child}
+use Rattle.pct_model.specs.declared.schedule.Alt.TheVariants as alt
+use Rattle.pct_model.specs.declared.state.Cause.TheVariants as cause
+use Rattle.pct_model.specs.declared.state.FrameKind.TheVariants as kind
+use Rattle.pct_model.specs.declared.state.Phase.TheVariants.{Child as ChildPhase}
+use Rattle.pct_model.specs.declared.state.Status.TheVariants as status
+use Rattle.pct_model.specs.declared.statement.Stmt.TheVariants as statement
+use Rattle.pct_model.specs.LineParsing.{is_empty}
+use Rattle.pct_laws.specs.Kept.{is_call_of, is_join, IsSuspendedAt}
+use Rattle.pct_transition_cases.proofs.OfferedChoices.{is_acting, may_act, may_create, may_go, may_go_on, may_make_key, may_pick, Offered}
+use Rattle.pct_transition_cases.proofs.OfferedChoices.{offered_of}
+use Rattle.pct_frame_laws.proofs.frames.FrameCases.{is_idle}
+
+-- ---- what a thread has, by its status and its next statement
+
+-- a running thread has a handler at a pop, a point at a call of one, and the values of its fork where it returns from a fork handler; a thread in
+-- a call is at this call
+abbrev pub IsBusy : List (ℕ × ℕ) → Option ForkAt → Status → NextStatement → Type 0
+IsBusy handlers kept status.Running (StatementIn frame (statement.Pop v)) = is_empty handlers ≡ false
+IsBusy handlers kept status.Running (StatementIn frame (statement.PointCall index)) = is_some (point_kind index) ≡ true
+IsBusy handlers kept status.Running (StatementIn frame (statement.Return v)) = is_fork_kind frame.kind ≡ true → is_some kept ≡ true
+IsBusy handlers kept status.Running (StatementIn frame statement.End) = is_fork_kind frame.kind ≡ true → is_some kept ≡ true
+IsBusy handlers kept status.Running next = Unit {0}
+IsBusy handlers kept (status.AtPoint index) next = is_call_of index next ≡ true
+IsBusy handlers kept (status.Joining id) next = is_join next ≡ true
+IsBusy handlers kept s next = IsSuspendedAt next s
+
+-- ---- its choices
+
+-- the transition goes on, acts, or has an event
+abbrev DoesSome : Transition → Type 0
+DoesSome o = is_idle o ≡ false
+
+-- each of two transitions does
+either_does : (b : Bool) (first second : Transition) → DoesSome first → DoesSome second → DoesSome (cond b first second)
+either_does true first second one other = one
+either_does false first second one other = other
+
+module _ (passes : ℕ) (body : List Stmt) (shared : SharedState) (t : Thread) (others : Others) where
+  -- ---- a running thread
+
+  leave_busy : (kept : Option ForkAt) → is_some kept ≡ true → DoesSome (leaves_handler kept)
+  unfolding leaves_handler
+  leave_busy (Some at) keeps = refl
+  leave_busy None keeps = absurd (false≢true keeps)
+
+  return_busy : (kept : Option ForkAt) (k : FrameKind) (v : ℕ) → (is_fork_kind k ≡ true → is_some kept ≡ true) → DoesSome (returns_by kept k v)
+  unfolding returns_by exits ends_by_exit
+  return_busy kept kind.ForkFn v keeps = leave_busy kept (keeps refl)
+  return_busy kept _ v keeps = refl
+
+  end_busy : (opened : Option ℕ) (kept : Option ForkAt) (frame : Frame) → (is_fork_kind frame.kind ≡ true → is_some kept ≡ true) → DoesSome (ends_block opened kept body frame)
+  unfolding jumps
+  end_busy (Some opening) kept frame keeps = refl
+  end_busy None kept frame keeps = return_busy kept frame.kind 0 keeps
+
+  pop_busy : (next v : ℕ) (handlers : List (ℕ × ℕ)) → is_empty handlers ≡ false → DoesSome (pops next v handlers)
+  unfolding pops
+  pop_busy next v [] some = absurd (true≢false some)
+  pop_busy next v ((f, a) ∷ handlers) some = either_does (nat_eq v 0) _ _ refl refl
+
+  point_busy : (next index : ℕ) (k : Option PointKind) → is_some k ≡ true → DoesSome (calls_point next index k)
+  unfolding calls_point
+  point_busy next index (Some Required) is = refl
+  point_busy next index (Some Optional) is = refl
+  point_busy next index None is = absurd (false≢true is)
+
+  create_busy : {frame : Frame} {result id : Dest} {f : ℕ} {v : Operand} {detached : Bool} {choice : Alt} (next a : ℕ)
+      → Offered shared t others (StatementIn frame (statement.Create result id f v detached)) status.Running choice → is_acting choice ≡ false
+      → DoesSome (creates_by choice next result id f a detached)
+  unfolding creates fails_to_create
+  create_busy next a (may_go _ _ goes) other = refl
+  create_busy next a (may_act _ _ alive delivered where_it_may) other = absurd (true≢false other)
+  create_busy next a (may_create _ _ _ _ _ _ n among) other = refl
+
+  create_key_busy : {frame : Frame} {result key : Dest} {destructor : Option ℕ} {choice : Alt} (next : ℕ)
+      → Offered shared t others (StatementIn frame (statement.KeyCreate result key destructor)) status.Running choice → is_acting choice ≡ false
+      → DoesSome (creates_key_by choice next result key destructor)
+  unfolding creates_key fails_to_create_key
+  create_key_busy next (may_go _ _ goes) other = refl
+  create_key_busy next (may_act _ _ alive delivered where_it_may) other = absurd (true≢false other)
+  create_key_busy next (may_make_key _ _ _ _ n among) other = refl
+
+  signal_busy : {frame : Frame} {c : ℕ} {choice : Alt} (next : ℕ)
+      → Offered shared t others (StatementIn frame (statement.Signal c)) status.Running choice → is_acting choice ≡ false → DoesSome (signals_by choice next c)
+  unfolding signals_by
+  signal_busy next (may_go _ _ goes) other = refl
+  signal_busy next (may_act _ _ alive delivered where_it_may) other = absurd (true≢false other)
+  signal_busy next (may_pick _ _ u among) other = refl
+
+  waitpid_busy : (next pid : ℕ) (result : Dest) (found : Option Child) → DoesSome (begins_waitpid found pid next result)
+  unfolding finds_no_child
+  waitpid_busy next pid result (Some child) = refl
+  waitpid_busy next pid result None = refl
+
+  register_busy : (may : Bool) (next : ℕ) (result : Dest) (f : ℕ) → DoesSome (registers_if may next result f)
+  unfolding registers_if
+  register_busy true next result f = refl
+  register_busy false next result f = refl
+
+  runs_busy : (choice : Alt) (frame : Frame) (s : Stmt) → Offered shared t others (StatementIn frame s) status.Running choice → is_acting choice ≡ false
+      → IsBusy t.handlers t.kept status.Running (StatementIn frame s) → DoesSome (runs passes body shared t others choice frame s)
+  unfolding runs emits sets adds jumps calls gets_self ends_by_exit pushes requests detaches begins_join sets_state sets_mode tests_cancel deletes_key sets_specific gets_specific locks unlocks begins_wait broadcasts begins_sem_wait posts registers_fork begins_fork exits ends_now
+  runs_busy choice frame statement.End may other busy = end_busy (open_of body frame.pc) t.kept frame busy
+  runs_busy choice frame (statement.Return v) may other busy = return_busy t.kept frame.kind _ busy
+  runs_busy choice frame (statement.Pop v) may other busy = pop_busy (suc frame.pc) _ t.handlers busy
+  runs_busy choice frame (statement.PointCall index) may other busy = point_busy (suc frame.pc) index (point_kind index) busy
+  runs_busy choice frame (statement.Create result id f v detached) may other busy = create_busy (suc frame.pc) _ may other
+  runs_busy choice frame (statement.KeyCreate result key destructor) may other busy = create_key_busy (suc frame.pc) may other
+  runs_busy choice frame (statement.Signal c) may other busy = signal_busy (suc frame.pc) may other
+  runs_busy choice frame (statement.AtFork result prepare parent child) may other busy = either_does (nat_lt (length shared.fork_handlers) MAX_FORK_HANDLERS) _ _ refl refl
+  runs_busy choice frame (statement.WaitPid result pid d) may other busy = waitpid_busy (suc frame.pc) _ result _
+  runs_busy choice frame (statement.AtExit result f) may other busy = register_busy (may_register shared) (suc frame.pc) result f
+  runs_busy choice frame _ may other busy = refl
+
+  stop_busy : (stop : Option Why) (goes : Transition) → DoesSome goes → DoesSome (stops_or stop goes)
+  stop_busy (Some why) goes does = refl
+  stop_busy None goes does = does
+
+  -- ---- a thread in a call
+
+  join_busy : (v : Option ℕ) (id : ℕ) (next : NextStatement) → is_some v ≡ true → is_join next ≡ true → DoesSome (joins_at v id next)
+  unfolding ends_join
+  join_busy (Some v) id (StatementIn frame (statement.Join operand d)) some at = refl
+  join_busy (Some v) id _ some at = absurd (false≢true at)
+  join_busy None id next some at = absurd (false≢true some)
+
+  reap_busy : (frame : Frame) (result d : Dest) (operand : Operand) (pid : ℕ) (found : Option Child)
+      → not (option_map_or (λ (child : Child). is_none child.ended) found false) ≡ true → DoesSome (waits_at found pid (StatementIn frame (statement.WaitPid result operand d)))
+  unfolding finds_no_child reaps
+  reap_busy frame result d operand pid None ended = refl
+  reap_busy frame result d operand pid (Some child) ended = by_end child.ended ended
+    where
+      by_end : (end : Option ℕ) → not (is_none end) ≡ true → DoesSome (reaps_if end pid (suc frame.pc) result d)
+      by_end (Some n) ended = refl
+      by_end None ended = absurd (false≢true ended)
+
+  fork_by : (new : Option ℕ) (length : ℕ) → DoesSome (forks_by length new)
+  unfolding forks_by
+  fork_by (Some pid) length = refl
+  fork_by None length = refl
+
+  fork_busy : (found : Option HandlerCall) (phase : Phase) (index length answer : ℕ) (new : Option ℕ) (next : NextStatement) → IsSuspendedAt next (status.Forking phase index length answer)
+      → DoesSome (goes_on_forking found (record { phase = phase; next = index; length = length; answer = answer }) new next)
+  unfolding calls_handler returns_in_parent returns_in_child
+  fork_busy (Some call) phase index length answer new next at = refl
+  fork_busy None Prepare index length answer new next at = fork_by new length
+  fork_busy None Parent index length answer new (StatementIn frame (statement.Fork result child)) at = either_does (nat_eq answer 0) _ _ refl refl
+  fork_busy None Parent index length answer new _ at = absurd (false≢true at)
+  fork_busy None ChildPhase index length answer new (StatementIn frame (statement.Fork result child)) at = refl
+  fork_busy None ChildPhase index length answer new _ at = absurd (false≢true at)
+
+  -- a thread that acted upon a request in its wait acts upon no other one
+  acts_once : (free delivered : Bool) (n : ℕ) → offers (go_if free ++ cond delivered [] []) (alt.Act n) ≡ false
+  acts_once true true n = refl
+  acts_once true false n = refl
+  acts_once false true n = refl
+  acts_once false false n = refl
+
+  -- ---- any thread
+
+  -- what the thread does by a choice
+  abbrev does : Alt → NextStatement → Status → Transition
+  does choice next s = acts_or choice s (transition_at passes body shared t others choice next s)
+
+  act_busy : (n : ℕ) (next : NextStatement) (s : Status) → offers (choices_at body shared t others next s) (alt.Act n) ≡ true → has_no_frame s ≡ false → DoesSome (acts_on_request n s)
+  unfolding acts_on_request choices_at leaves_wait hands_on
+  act_busy n next status.Running offered inside = refl
+  act_busy n next (status.AtPoint index) offered inside = refl
+  act_busy n next (status.Joining id) offered inside = refl
+  act_busy n next (status.InSem sem) offered inside = refl
+  act_busy n next (status.InWaitPid pid) offered inside = refl
+  act_busy n next (status.Waiting c m) offered inside = refl
+  act_busy n next (status.Reacquire c m cause.Signalled) offered inside = either_does (nat_eq n 0) _ _ refl refl
+  act_busy n next (status.Reacquire c m cause.Broadcast) offered inside = refl
+  act_busy n next (status.Reacquire c m cause.Canceled) offered inside = absurd (true≢false (sym offered ∙ acts_once (is_free_mutex m shared) (is_deliverable t.state t.pending) n))
+  act_busy n next (status.Forking phase index length answer) offered inside = absurd (false≢true offered)
+  act_busy n next _ offered inside = absurd (true≢false inside)
+
+  go_busy : (choice : Alt) (next : NextStatement) (s : Status) → Offered shared t others next s choice → is_acting choice ≡ false → IsBusy t.handlers t.kept s next → has_no_frame s ≡ false
+      → (next ≡ NoStatement → s ≡ status.Running → ⊥) → DoesSome (transition_at passes body shared t others choice next s)
+  unfolding transition_at passes_point takes reacquires
+  go_busy choice (StatementIn frame s) status.Running may other at inside some = stop_busy (stop_at body shared t others frame s) _ (runs_busy choice frame s may other at)
+  go_busy choice NoStatement status.Running may other at inside some = absurd (some refl refl)
+  go_busy choice (StatementIn frame (statement.PointCall i)) (status.AtPoint index) may other at inside some = refl
+  go_busy choice _ (status.AtPoint index) may other at inside some = absurd (false≢true at)
+  go_busy choice next (status.Joining id) may other at inside some = join_busy (exit_value_with id others) id next (may_go_on may other) at
+  go_busy choice (StatementIn frame (statement.SemWait i)) (status.InSem sem) may other at inside some = refl
+  go_busy choice _ (status.InSem sem) may other at inside some = absurd (false≢true at)
+  go_busy choice (StatementIn frame (statement.WaitPid result operand d)) (status.InWaitPid pid) may other at inside some = reap_busy frame result d operand pid (others.family.child pid) (may_go_on may other)
+  go_busy choice _ (status.InWaitPid pid) may other at inside some = absurd (false≢true at)
+  go_busy choice next (status.Waiting c m) may other at inside some = absurd (false≢true (may_go_on may other))
+  go_busy choice next (status.Reacquire c m cause.Canceled) may other at inside some = refl
+  go_busy choice (StatementIn frame (statement.CondWait cond mutex)) (status.Reacquire c m _) may other at inside some = refl
+  go_busy choice _ (status.Reacquire c m why) may other at inside some = absurd (false≢true at)
+  go_busy choice next (status.Forking phase index length answer) may other at inside some = fork_busy _ phase index length answer others.family.new_pid next at
+  go_busy choice next _ may other at inside some = absurd (true≢false inside)
+
+  -- a running thread has a next statement
+  has_next : (choice : Alt) (next : NextStatement) (s : Status) → offers (choices_at body shared t others next s) choice ≡ true → next ≡ NoStatement → s ≡ status.Running → ⊥
+  unfolding choices_at
+  has_next choice next s offered none running =
+      false≢true (subst (λ (n : NextStatement). offers (choices_at body shared t others n status.Running) choice ≡ true) none (subst (λ (x : Status). offers (choices_at body shared t others next x) choice ≡ true) running offered))
+
+  pub always_busy : (choice : Alt) (next : NextStatement) (s : Status) → offers (choices_at body shared t others next s) choice ≡ true → IsBusy t.handlers t.kept s next → has_no_frame s ≡ false
+      → DoesSome (does choice next s)
+  always_busy (alt.Act n) next s offered at inside = act_busy n next s offered inside
+  always_busy choice next s offered at inside = go_busy choice next s (offered_of body shared t others choice next s offered) refl at inside (has_next choice next s offered)

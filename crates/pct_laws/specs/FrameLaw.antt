@@ -1,0 +1,135 @@
+-- The law of frames: in which functions a thread is, newest first, and where it goes on in each. A call, by `do` or as an event reports, puts
+-- its function on top, at the first statement; the statements of the top function are executed in turn, with the jumps of the script language;
+-- it goes by `return`, or by the `end` that closes it; and all go as the thread begins to end or to exit its process. A step changes no frame
+-- of another thread (XSH 2.9.5.3, pthread_exit, pthread_cleanup_pop, pthread_key_create, pthread_atfork, fork, exit).
+--
+-- It leaves open which functions the events report (Calls.antt), and the locals of functions that go on (ResultLaw.antt).
+use Rattle.std.specs.Prelude.{◌≡◌, ◌≢◌, ℕ, suc, if◌then◌else◌, Bool, true, false, ◌||◌, List, [], ◌∷◌, ◌++◌, length, map, flat_map, take, nat_eq}
+use Rattle.std.specs.Prelude.{Some, is_none, slice_index, unwrap_or}
+use Rattle.std.specs.List.{list_any}
+use Rattle.std.specs.Option.{option_map_or}
+use Rattle.pct_model.specs.declared.event.Caller.TheVariants as caller
+use Rattle.pct_model.specs.declared.event.What.{What}
+use Rattle.pct_model.specs.declared.event.What.TheVariants as what
+use Rattle.pct_model.specs.declared.frame.Frame.{Frame}
+use Rattle.pct_model.specs.declared.schedule.Config.{Config}
+use Rattle.pct_model.specs.declared.schedule.Entry.{Entry}
+use Rattle.pct_model.specs.declared.script.Script.{Script}
+use Rattle.pct_model.specs.declared.state.FrameKind.{FrameKind}
+use Rattle.pct_model.specs.declared.state.FrameKind.TheVariants as kind
+use Rattle.pct_model.specs.declared.statement.Stmt.{Stmt}
+use Rattle.pct_model.specs.declared.statement.Stmt.TheVariants as statement
+use Rattle.pct_model.specs.Jumps.{close_of, holds, is_while, open_of}
+use Rattle.pct_model.specs.NextStatement.{NextStatement, NoStatement, StatementIn, next_of, body_at}
+use Rattle.pct_model.specs.World.{Thread, thread_with, value_of}
+use Rattle.pct_laws.specs.ResultLaw.{calls_fork}
+use Rattle.pct_laws.specs.ThreadSteps.{ThreadStep, EachStep}
+
+-- ---- calls
+
+-- a call: the function, its argument, and the kind of its frame
+abbrev pub Call : Type 0
+Call = ℕ × ℕ × FrameKind
+
+-- the call that an event reports, if it reports one
+abbrev pub reported_by : What → List Call
+reported_by (what.HandlerRun f a) = (f, a, kind.Handler) ∷ []
+reported_by (what.Popped f a true) = (f, a, kind.PopHandler) ∷ []
+reported_by (what.DtorRun pass key f v) = (f, v, kind.Destructor) ∷ []
+reported_by (what.ExitRun f) = (f, 0, kind.ExitFn) ∷ []
+reported_by (what.PrepareRun f) = (f, 0, kind.ForkFn) ∷ []
+reported_by (what.ParentRun f) = (f, 0, kind.ForkFn) ∷ []
+reported_by (what.ChildRun f) = (f, 0, kind.ForkFn) ∷ []
+reported_by _ = []
+
+-- the call in a step with these events, at this next statement: that of `do`, which has no event, or the one that is reported
+abbrev pub calls_of : List ℕ → List What → NextStatement → List Call
+calls_of globals [] (StatementIn frame (statement.Do f v)) = (f, value_of globals frame v, kind.Call) ∷ []
+calls_of globals events next = flat_map reported_by events
+
+-- ---- statements
+
+-- where a thread is in a function: the function, the pc of its next statement, and the kind of the frame
+abbrev pub Place : Type 0
+Place = ℕ × ℕ × FrameKind
+
+-- the places of the functions of some frames
+abbrev pub places : List Frame → List Place
+places frames = map (λ frame. (frame.func, frame.pc, frame.kind)) frames
+
+module _ (body : List Stmt) (globals : List ℕ) where
+  -- the pc past the block that is opened at a pc: past the `else` of an `if` that has one, or else past the `end`
+  abbrev pub past_block : ℕ → ℕ
+  past_block pc = suc (unwrap_or (close_of body pc) pc)
+
+  -- the pc after a statement
+  abbrev pub pc_after : Frame → Stmt → ℕ
+  pc_after frame (statement.If v) = if nat_eq (value_of globals frame v) 0 then past_block frame.pc else suc frame.pc
+  pc_after frame statement.Else = past_block frame.pc
+  pc_after frame (statement.While v) = if nat_eq (value_of globals frame v) 0 then past_block frame.pc else suc frame.pc
+  pc_after frame statement.End = option_map_or (λ opening. if holds body is_while opening then opening else suc frame.pc) (open_of body frame.pc) (suc frame.pc)
+  pc_after frame _ = suc frame.pc
+
+  -- the statement returns from its function: an `end` does if it closes no block
+  abbrev pub returns : Frame → Stmt → Bool
+  returns frame (statement.Return v) = true
+  returns frame statement.End = is_none (open_of body frame.pc)
+  returns frame _ = false
+
+  -- where a thread in these functions is once it has executed its next statement
+  abbrev pub past : List Frame → NextStatement → List Place
+  past [] next = []
+  past (frame ∷ below) NoStatement = places (frame ∷ below)
+  past (frame ∷ below) (StatementIn top s) = if returns frame s then places below else (frame.func, pc_after frame s, frame.kind) ∷ places below
+
+-- ---- the law of a step
+
+-- by this event the thread leaves all functions: it begins to end, or to exit its process
+abbrev pub leaves_all : What → Bool
+leaves_all (what.EndingExit v) = true
+leaves_all what.EndingCanceled = true
+leaves_all (what.EndingInWait c m) = true
+leaves_all (what.ExitBegun v) = true
+leaves_all _ = false
+
+-- after this event the thread is still at its statement: in a call that has not returned, or its process or the run has ended
+abbrev pub stays : What → Bool
+stays (what.Called index) = true
+stays (what.WaitCanceled c) = true
+stays (what.PrepareRun f) = true
+stays (what.Forked pid) = true
+stays (what.Answer caller.Fork n) = true
+stays (what.ParentRun f) = true
+stays (what.ChildRun f) = true
+stays (what.ProcessEnded n) = true
+stays (what.Stopped why) = true
+stays _ = false
+
+-- where the thread of a step is in the functions that go on; one that calls fork stays, too, and this call has no event
+abbrev pub places_left : Script → ThreadStep → List Place
+places_left script s =
+    if list_any stays s.events || calls_fork (next_of script s.before.frames) s.before.status then places s.before.frames
+    else past (body_at script s.before.frames) s.process.shared.globals s.before.frames (next_of script s.before.frames)
+
+-- the call in a step
+abbrev pub its_calls : Script → ThreadStep → List Call
+its_calls script s = calls_of s.process.shared.globals s.events (next_of script s.before.frames)
+
+-- what a step does to the frames of its thread
+pub record MovesFrames (script : Script) (s : ThreadStep) : Type 0 where
+  pub places : places s.after.frames ≡ (if list_any leaves_all s.events then [] else map (λ call. (call.0, 0, call.2)) (its_calls script s) ++ places_left script s)
+  -- a function that is called has its argument
+  pub arguments : map (λ frame. slice_index frame.locals 0) (take (length (its_calls script s)) s.after.frames) ≡ map (λ call. call.1) (its_calls script s)
+
+-- a step changes no frame of another thread of its process
+abbrev pub KeepsOtherFrames : ThreadStep → Type 0
+KeepsOtherFrames s =
+    (tid : ℕ) (before after : Thread) → tid ≢ s.tid → thread_with tid s.process ≡ Some before → thread_with tid s.process_after ≡ Some after
+    → after.frames ≡ before.frames
+
+-- ---- the law
+
+-- the law of frames, of the run of a schedule
+pub record FrameLaw (script : Script) (config : Config) (entries : List Entry) : Type 0 where
+  pub frames : EachStep script config entries (MovesFrames script)
+  pub others : EachStep script config entries KeepsOtherFrames

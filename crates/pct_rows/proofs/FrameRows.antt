@@ -1,0 +1,291 @@
+-- The law of frames: made steps that keep it, and made steps that do not. Each step that does not differs from one that does in one thing, and
+-- has the name of the sentence that it breaks.
+use Rattle.pct_names.proofs.Names.{[], ap, arith, codes, false, first_process, Frame, FrameKind, Func, is_static, IsTrue, length, List}
+use Rattle.pct_names.proofs.Names.{new_frame, new_thread, refl, Script, slice_index, Status, Stmt, Thread, true, What, ℕ, ◌∷◌, ◌≡◌}
+use Rattle.pct_model.specs.declared.event.What.TheVariants as what
+use Rattle.pct_model.specs.declared.state.FrameKind.TheVariants as kind
+use Rattle.pct_model.specs.declared.state.Phase.TheVariants as phase
+use Rattle.pct_model.specs.declared.state.Status.TheVariants as status
+use Rattle.pct_model.specs.declared.statement.Dest.TheVariants as destination
+use Rattle.pct_model.specs.declared.statement.Operand.TheVariants as operand
+use Rattle.pct_model.specs.declared.statement.Stmt.TheVariants as statement
+use Rattle.pct_model.specs.declared.stop.Why.TheVariants as why
+use Rattle.pct_laws.specs.FrameLaw.{KeepsOtherFrames, MovesFrames, Place}
+use Rattle.pct_laws.specs.ThreadSteps.{ThreadStep}
+use Rattle.pct_rows.proofs.OnLiterals.{checks_on_literals, runs_on_literals}
+
+-- ---- a script in which `main` calls `work`
+
+abbrev statements : List Stmt
+statements =
+    statement.Set (destination.Local 0) (operand.Num 3)
+    ∷ statement.If (operand.Num 0)
+    ∷ statement.Nop
+    ∷ statement.Else
+    ∷ statement.Nop
+    ∷ statement.End
+    ∷ statement.Do 1 (operand.Num 7)
+    ∷ statement.While (operand.Num 0)
+    ∷ statement.Nop
+    ∷ statement.End
+    ∷ statement.Join (operand.Num 2) destination.Drop
+    ∷ statement.Fork destination.Drop destination.Drop
+    ∷ statement.Push 1 (operand.Num 4)
+    ∷ statement.Pop (operand.Num 1)
+    ∷ statement.End ∷ []
+
+abbrev functions : List Func
+functions =
+    record { name = codes "main"; locals = codes "x" ∷ []; body = statements }
+    ∷ record { name = codes "work"; locals = codes "x" ∷ []; body = statement.Emit (operand.Local 0) ∷ statement.End ∷ [] } ∷ []
+
+passes : IsTrue (is_static (record { globals = []; mutexes = []; conds = []; sems = []; funcs = functions }))
+unfolding checks_on_literals
+passes = refl
+
+abbrev script : Script
+script = record { globals = []; mutexes = []; conds = []; sems = []; funcs = functions; passes_checks = passes }
+
+-- ---- steps
+
+-- `main` at a statement, and `work` at one, with an argument, called by this
+abbrev main : ℕ → Frame
+main pc = record (new_frame 0 0 kind.Main) { pc = pc }
+
+abbrev work : ℕ → ℕ → FrameKind → Frame
+work pc a k = record (new_frame 1 a k) { pc = pc }
+
+-- thread 1 with this status and these frames
+abbrev thread : Status → List Frame → Thread
+thread s frames = record (new_thread 1 false (main 0)) { status = s; frames = frames }
+
+-- a step of thread 1 with these events. The law asks nothing of its status after it
+abbrev step : Status → List Frame → List What → List Frame → ThreadStep
+step s before events after = record {
+  pid = 1;
+  tid = 1;
+  earlier = [];
+  process = first_process script;
+  before = thread s before;
+  process_after = first_process script;
+  after = thread status.Running after;
+  events = events;
+}
+
+abbrev Moves : Status → List Frame → List What → List Frame → Type 0
+Moves s before events after = MovesFrames script (step s before events after)
+
+-- the function on top, and the pc in it
+abbrev top_function : List Place → ℕ
+top_function [] = 0
+top_function (place ∷ below) = place.0
+
+abbrev top_pc : List Place → ℕ
+top_pc [] = 0
+top_pc (place ∷ below) = place.1
+
+-- the pc in the function below
+abbrev lower_pc : List Place → ℕ
+lower_pc [] = 0
+lower_pc (place ∷ below) = top_pc below
+
+abbrev depth : List Place → ℕ
+depth places = length places
+
+-- ---- the script language
+
+a_statement_is_followed_by_the_next : Moves status.Running (main 0 ∷ []) [] (main 1 ∷ [])
+unfolding runs_on_literals
+a_statement_is_followed_by_the_next = record { places = refl; arguments = refl }
+
+no_statement_is_skipped : Moves status.Running (main 0 ∷ []) [] (main 2 ∷ []) → ⊥
+unfolding runs_on_literals
+no_statement_is_skipped law = let n : ◌≡◌ {A = ℕ} 2 1 = ap top_pc law.places in omega (arith, n)
+
+none_is_executed_again : Moves status.Running (main 0 ∷ []) [] (main 0 ∷ []) → ⊥
+unfolding runs_on_literals
+none_is_executed_again law = let n : ◌≡◌ {A = ℕ} 0 1 = ap top_pc law.places in omega (arith, n)
+
+if_0_goes_past_the_else : Moves status.Running (main 1 ∷ []) [] (main 4 ∷ [])
+unfolding runs_on_literals
+if_0_goes_past_the_else = record { places = refl; arguments = refl }
+
+and_not_into_its_block : Moves status.Running (main 1 ∷ []) [] (main 2 ∷ []) → ⊥
+unfolding runs_on_literals
+and_not_into_its_block law = let n : ◌≡◌ {A = ℕ} 2 4 = ap top_pc law.places in omega (arith, n)
+
+else_goes_past_the_end : Moves status.Running (main 3 ∷ []) [] (main 6 ∷ [])
+unfolding runs_on_literals
+else_goes_past_the_end = record { places = refl; arguments = refl }
+
+while_0_goes_past_the_end : Moves status.Running (main 7 ∷ []) [] (main 10 ∷ [])
+unfolding runs_on_literals
+while_0_goes_past_the_end = record { places = refl; arguments = refl }
+
+the_end_of_a_while_goes_to_it : Moves status.Running (main 9 ∷ []) [] (main 7 ∷ [])
+unfolding runs_on_literals
+the_end_of_a_while_goes_to_it = record { places = refl; arguments = refl }
+
+and_not_on : Moves status.Running (main 9 ∷ []) [] (main 10 ∷ []) → ⊥
+unfolding runs_on_literals
+and_not_on law = let n : ◌≡◌ {A = ℕ} 10 7 = ap top_pc law.places in omega (arith, n)
+
+-- ---- do, and returns
+
+do_calls_the_function : Moves status.Running (main 6 ∷ []) [] (work 0 7 kind.Call ∷ main 7 ∷ [])
+unfolding runs_on_literals
+do_calls_the_function = record { places = refl; arguments = refl }
+
+and_no_other_function : Moves status.Running (main 6 ∷ []) [] (record (main 0) { kind = kind.Call; locals = 7 ∷ [] } ∷ main 7 ∷ []) → ⊥
+unfolding runs_on_literals
+and_no_other_function law = let n : ◌≡◌ {A = ℕ} 0 1 = ap top_function law.places in omega (arith, n)
+
+with_no_other_argument : Moves status.Running (main 6 ∷ []) [] (work 0 8 kind.Call ∷ main 7 ∷ []) → ⊥
+unfolding runs_on_literals
+with_no_other_argument law = let n : ◌≡◌ {A = ℕ} 8 7 = ap (λ (arguments : List ℕ). slice_index arguments 0) law.arguments in omega (arith, n)
+
+at_no_other_statement : Moves status.Running (main 6 ∷ []) [] (work 1 7 kind.Call ∷ main 7 ∷ []) → ⊥
+unfolding runs_on_literals
+at_no_other_statement law = let n : ◌≡◌ {A = ℕ} 1 0 = ap top_pc law.places in omega (arith, n)
+
+a_call_keeps_its_caller : Moves status.Running (main 6 ∷ []) [] (work 0 7 kind.Call ∷ []) → ⊥
+unfolding runs_on_literals
+a_call_keeps_its_caller law = let n : ◌≡◌ {A = ℕ} 1 2 = ap depth law.places in omega (arith, n)
+
+which_does_not_call_again : Moves status.Running (main 6 ∷ []) [] (work 0 7 kind.Call ∷ main 6 ∷ []) → ⊥
+unfolding runs_on_literals
+which_does_not_call_again law = let n : ◌≡◌ {A = ℕ} 6 7 = ap lower_pc law.places in omega (arith, n)
+
+do_calls_a_function : Moves status.Running (main 6 ∷ []) [] (main 7 ∷ []) → ⊥
+unfolding runs_on_literals
+do_calls_a_function law = let n : ◌≡◌ {A = ℕ} 1 2 = ap depth law.places in omega (arith, n)
+
+a_return_goes_to_the_caller : Moves status.Running (work 1 7 kind.Call ∷ main 7 ∷ []) [] (main 7 ∷ [])
+unfolding runs_on_literals
+a_return_goes_to_the_caller = record { places = refl; arguments = refl }
+
+and_no_further : Moves status.Running (work 1 7 kind.Call ∷ main 7 ∷ []) [] (main 8 ∷ []) → ⊥
+unfolding runs_on_literals
+and_no_further law = let n : ◌≡◌ {A = ℕ} 8 7 = ap top_pc law.places in omega (arith, n)
+
+no_caller_is_lost : Moves status.Running (work 1 7 kind.Call ∷ work 1 7 kind.Call ∷ main 7 ∷ []) [] (main 7 ∷ []) → ⊥
+unfolding runs_on_literals
+no_caller_is_lost law = let n : ◌≡◌ {A = ℕ} 1 2 = ap depth law.places in omega (arith, n)
+
+none_is_lost_by_another_statement : Moves status.Running (work 0 7 kind.Call ∷ main 7 ∷ []) (what.Emit 7 ∷ []) (work 1 7 kind.Call ∷ []) → ⊥
+unfolding runs_on_literals
+none_is_lost_by_another_statement law = let n : ◌≡◌ {A = ℕ} 1 2 = ap depth law.places in omega (arith, n)
+
+-- ---- handlers
+
+a_handler_is_called : Moves status.Ending [] (what.HandlerRun 1 4 ∷ []) (work 0 4 kind.Handler ∷ [])
+a_handler_is_called = record { places = refl; arguments = refl }
+
+with_its_argument : Moves status.Ending [] (what.HandlerRun 1 4 ∷ []) (work 0 0 kind.Handler ∷ []) → ⊥
+with_its_argument law = let n : ◌≡◌ {A = ℕ} 0 4 = ap (λ (arguments : List ℕ). slice_index arguments 0) law.arguments in omega (arith, n)
+
+its_statements_are_executed : Moves status.Running (work 0 4 kind.Handler ∷ []) (what.Emit 4 ∷ []) (work 1 4 kind.Handler ∷ [])
+unfolding runs_on_literals
+its_statements_are_executed = record { places = refl; arguments = refl }
+
+no_handler_returns_at_once : Moves status.Running (work 0 4 kind.Handler ∷ []) [] [] → ⊥
+unfolding runs_on_literals
+no_handler_returns_at_once law = let n : ◌≡◌ {A = ℕ} 0 1 = ap depth law.places in omega (arith, n)
+
+nor_after_its_first_statement : Moves status.Running (work 0 4 kind.Handler ∷ []) (what.Emit 4 ∷ []) [] → ⊥
+unfolding runs_on_literals
+nor_after_its_first_statement law = let n : ◌≡◌ {A = ℕ} 0 1 = ap depth law.places in omega (arith, n)
+
+it_returns_at_its_end : Moves status.Running (work 1 4 kind.Handler ∷ []) [] []
+unfolding runs_on_literals
+it_returns_at_its_end = record { places = refl; arguments = refl }
+
+a_pop_calls_a_handler : Moves status.Running (main 13 ∷ []) (what.Popped 1 4 true ∷ []) (work 0 4 kind.PopHandler ∷ main 14 ∷ [])
+unfolding runs_on_literals
+a_pop_calls_a_handler = record { places = refl; arguments = refl }
+
+or_only_removes_it : Moves status.Running (main 13 ∷ []) (what.Popped 1 4 false ∷ []) (main 14 ∷ [])
+unfolding runs_on_literals
+or_only_removes_it = record { places = refl; arguments = refl }
+
+no_pop_is_executed_again : Moves status.Running (main 13 ∷ []) (what.Popped 1 4 true ∷ []) (work 0 4 kind.PopHandler ∷ main 13 ∷ []) → ⊥
+unfolding runs_on_literals
+no_pop_is_executed_again law = let n : ◌≡◌ {A = ℕ} 13 14 = ap lower_pc law.places in omega (arith, n)
+
+-- ---- the end of a thread, and the exit of its process
+
+an_end_leaves_all_functions : Moves status.Running (work 0 7 kind.Call ∷ main 7 ∷ []) (what.EndingCanceled ∷ []) []
+an_end_leaves_all_functions = record { places = refl; arguments = refl }
+
+and_not_the_top_one_alone : Moves status.Running (work 0 7 kind.Call ∷ main 7 ∷ []) (what.EndingCanceled ∷ []) (main 7 ∷ []) → ⊥
+and_not_the_top_one_alone law = let n : ◌≡◌ {A = ℕ} 1 0 = ap depth law.places in omega (arith, n)
+
+so_does_an_exit : Moves status.Running (work 0 7 kind.Call ∷ main 7 ∷ []) (what.ExitBegun 0 ∷ []) (work 0 7 kind.Call ∷ main 7 ∷ []) → ⊥
+so_does_an_exit law = let n : ◌≡◌ {A = ℕ} 2 0 = ap depth law.places in omega (arith, n)
+
+a_stop_leaves_none : Moves status.Running (main 6 ∷ []) (what.Stopped why.StackFull ∷ []) (main 6 ∷ [])
+unfolding runs_on_literals
+a_stop_leaves_none = record { places = refl; arguments = refl }
+
+-- ---- calls that suspend the thread
+
+a_call_that_waits_stays : Moves status.Running (main 10 ∷ []) (what.Called 62 ∷ []) (main 10 ∷ [])
+unfolding runs_on_literals
+a_call_that_waits_stays = record { places = refl; arguments = refl }
+
+and_does_not_go_on : Moves status.Running (main 10 ∷ []) (what.Called 62 ∷ []) (main 11 ∷ []) → ⊥
+unfolding runs_on_literals
+and_does_not_go_on law = let n : ◌≡◌ {A = ℕ} 11 10 = ap top_pc law.places in omega (arith, n)
+
+until_it_returns : Moves (status.Joining 2) (main 10 ∷ []) (what.Joined 2 5 ∷ []) (main 11 ∷ [])
+unfolding runs_on_literals
+until_it_returns = record { places = refl; arguments = refl }
+
+it_is_not_called_again : Moves (status.Joining 2) (main 10 ∷ []) (what.Joined 2 5 ∷ []) (main 10 ∷ []) → ⊥
+unfolding runs_on_literals
+it_is_not_called_again law = let n : ◌≡◌ {A = ℕ} 10 11 = ap top_pc law.places in omega (arith, n)
+
+a_call_of_fork_stays : Moves status.Running (main 11 ∷ []) [] (main 11 ∷ [])
+unfolding runs_on_literals
+a_call_of_fork_stays = record { places = refl; arguments = refl }
+
+while_its_handlers_are_called : Moves (status.Forking phase.Prepare 1 1 0) (main 11 ∷ []) (what.PrepareRun 1 ∷ []) (work 0 0 kind.ForkFn ∷ main 11 ∷ [])
+unfolding runs_on_literals
+while_its_handlers_are_called = record { places = refl; arguments = refl }
+
+and_a_process_is_made : Moves (status.Forking phase.Prepare 0 1 0) (main 11 ∷ []) (what.Forked 2 ∷ []) (main 11 ∷ [])
+unfolding runs_on_literals
+and_a_process_is_made = record { places = refl; arguments = refl }
+
+until_fork_returns : Moves (status.Forking phase.Parent 1 1 2) (main 11 ∷ []) [] (main 12 ∷ [])
+unfolding runs_on_literals
+until_fork_returns = record { places = refl; arguments = refl }
+
+-- ---- other threads
+
+-- a step of thread 1, before and after which thread 2 has these frames
+abbrev beside : List Frame → List Frame → ThreadStep
+beside before after = record (step status.Running (main 0 ∷ []) [] (main 1 ∷ [])) {
+  process = record (first_process script) { threads = thread status.Running (main 0 ∷ []) ∷ record (thread status.Running before) { id = 2 } ∷ [] };
+  process_after = record (first_process script) { threads = thread status.Running (main 1 ∷ []) ∷ record (thread status.Running after) { id = 2 } ∷ [] };
+}
+
+no_frame_of_another_thread_goes : KeepsOtherFrames (beside (work 0 7 kind.Start ∷ []) []) → ⊥
+no_frame_of_another_thread_goes law =
+    let n : ◌≡◌ {A = ℕ} 0 1 = ap (λ (frames : List Frame). length frames) (law 2 (record (thread status.Running (work 0 7 kind.Start ∷ [])) { id = 2 }) (record (thread status.Running []) { id = 2 }) differs refl refl) in
+    omega (arith, n)
+  where
+    differs : ◌≡◌ {A = ℕ} 2 1 → ⊥
+    differs same = omega (arith, same)
+
+no_other_thread_goes_on : KeepsOtherFrames (beside (work 0 7 kind.Start ∷ []) (work 1 7 kind.Start ∷ [])) → ⊥
+no_other_thread_goes_on law =
+    let n : ◌≡◌ {A = ℕ} 1 0 = ap pc_of (law 2 (record (thread status.Running (work 0 7 kind.Start ∷ [])) { id = 2 }) (record (thread status.Running (work 1 7 kind.Start ∷ [])) { id = 2 }) differs refl refl) in
+    omega (arith, n)
+  where
+    differs : ◌≡◌ {A = ℕ} 2 1 → ⊥
+    differs same = omega (arith, same)
+
+    pc_of : List Frame → ℕ
+    pc_of [] = 0
+    pc_of (frame ∷ below) = frame.pc
