@@ -26,6 +26,7 @@ pub mod ProcessSteps
 pub mod ValueLaw
 pub mod JoinLaw
 pub mod CondLaw
+pub mod WakeLaw
 pub mod SlotLaw
 pub mod ProcessLaw
 pub mod Laws
