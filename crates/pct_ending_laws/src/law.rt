@@ -29,6 +29,8 @@ ghost use Rattle.pct_ending_laws.specs.EndingLaws.{RunsKeepLaws, StatesAreKept};
 ///   mutex of its wait, and no other thread is unblocked. A thread that a signal unblocked, and that acts upon a request, hands the
 ///   signal on if another one waits. A step changes nothing of another thread but its status by these events, a request, that it is
 ///   detached or joined, and its values of a deleted key.
+/// - Owners of mutexes and counts of semaphores change by the events that say so; atexit and pthread_atfork register what they name,
+///   unless they fail, and no other step registers anything; each exit takes the newest exit function away as it calls it.
 /// - A new thread gets an id that no thread of its process had, on a slot on which each earlier thread has ended and was joined
 ///   or is detached.
 /// - A process makes no event after its end, and is made by one fork, before its first event; exit begins once in it, and the

@@ -16,6 +16,7 @@ use Rattle.pct_model.specs.declared.state.Status.{Status}
 use Rattle.pct_model.specs.declared.state.Status.TheVariants as status
 use Rattle.pct_model.specs.NextStatement.{NextStatement, next_of}
 use Rattle.pct_model.specs.World.{Thread, thread_with}
+use Rattle.pct_laws.specs.AfterAll.{after_all}
 use Rattle.pct_laws.specs.CancelLaw.{is_running}
 use Rattle.pct_laws.specs.CondLaw.{leaves_wait}
 use Rattle.pct_laws.specs.Kept.{is_cond_wait_of}
@@ -58,17 +59,12 @@ unblocked why (status.Waiting c m) = status.Reacquire c m why
 unblocked why s = s
 
 -- the status of thread tid, which was s, after an event of another thread
-abbrev pub status_after : ℕ → Status → What → Status
-status_after tid s (what.Signalled c u) = if nat_eq u tid then unblocked cause.Signalled s else s
-status_after tid s (what.HandedOn c u) = if nat_eq u tid then unblocked cause.Signalled s else s
-status_after tid s (what.BroadcastTo c n) = if is_blocked_on c s then unblocked cause.Broadcast s else s
+abbrev pub status_after : ℕ → What → Status → Status
+status_after tid (what.Signalled c u) s = if nat_eq u tid then unblocked cause.Signalled s else s
+status_after tid (what.HandedOn c u) s = if nat_eq u tid then unblocked cause.Signalled s else s
+status_after tid (what.BroadcastTo c n) s = if is_blocked_on c s then unblocked cause.Broadcast s else s
 -- no other event unblocks it
-status_after tid s _ = s
-
--- and after the events of a step
-abbrev pub status_after_all : ℕ → Status → List What → Status
-status_after_all tid s [] = s
-status_after_all tid s (w ∷ events) = status_after_all tid (status_after tid s w) events
+status_after tid _ s = s
 
 -- the event is that a request is sent to thread tid, that this thread is detached, that it is joined
 abbrev pub requests : ℕ → What → Bool
@@ -86,7 +82,7 @@ joins tid _ = false
 -- what the events of another thread do to thread tid
 pub record KeepsOther (events : List What) (tid : ℕ) (before after : Thread) : Type 0 where
   -- it is unblocked by them, or keeps its status
-  pub unblocks : after.status ≡ status_after_all tid before.status events
+  pub unblocks : after.status ≡ after_all (status_after tid) events before.status
   -- a request is pending by pthread_cancel alone; one for a thread that has ended changes nothing, which is a choice of this host
   pub pending : after.pending ≡ ((list_any (requests tid) events && not before.ended) || before.pending)
   -- it is detached by pthread_detach, and joined by pthread_join

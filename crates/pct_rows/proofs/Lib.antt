@@ -21,6 +21,7 @@ mod StatementRows
 mod ResultRows
 mod ValueRows
 mod WakeRows
+mod SharedRows
 mod OneLawRows
 mod OptionRows
 mod EventRows

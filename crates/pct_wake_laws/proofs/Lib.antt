@@ -5,3 +5,4 @@ pub mod OwnWaits
 pub mod HandedOnSignals
 pub mod NamedWaiters
 pub mod WakeLawKept
+pub mod SharedChanges

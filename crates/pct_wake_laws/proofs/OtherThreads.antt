@@ -12,7 +12,7 @@ use Rattle.pct_model.specs.declared.event.What.TheVariants as what
 use Rattle.pct_model.specs.declared.state.Cause.TheVariants as cause
 use Rattle.pct_model.specs.declared.state.Status.TheVariants as status
 use Rattle.pct_laws.specs.StatementLaw.{waits_on}
-use Rattle.pct_laws.specs.WakeLaw.{is_blocked_on, unblocked, status_after_all, requests, detaches, joins, KeepsOther, KeepsOthers}
+use Rattle.pct_laws.specs.WakeLaw.{is_blocked_on, unblocked, requests, detaches, joins, KeepsOther, KeepsOthers}
 use Rattle.pct_transition_cases.proofs.TransitionCases.{TransitionCase, join_ended, thread_detached, request_sent, signal_handed_on, signal_sent, signal_lost, broadcast_sent, fork_handler_called, key_deleted}
 use Rattle.pct_thread_invariants.proofs.lift.EveryProcess.{moves_of_run}
 use Rattle.pct_thread_invariants.proofs.lift.HandlerEvents.{of_each_phase}
